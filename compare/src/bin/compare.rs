@@ -1,0 +1,89 @@
+//! Compares the text leaves of the static library `lubiksan` with the Rust.
+//!
+//! The schemas for the last source of texts stand in LUBIKSAN_SCHEMAS, or else in
+//! ../../shared/schemas beside the manifest; without them that source is passed over.
+
+use std::env;
+use std::path::{Path, PathBuf};
+use std::process::ExitCode;
+
+use judge::cases;
+use judge::checks;
+use judge::tally::Tally;
+
+fn main() -> ExitCode {
+    let mut groups = Groups::new();
+    groups.take("short texts", cases::short_texts());
+    groups.take("number texts", cases::numbers());
+    groups.take("built-in names", cases::builtin_names());
+    groups.take("random texts", cases::random_texts());
+    take_schemas(&mut groups);
+    groups.take_pairs(&cases::short_names());
+    groups.print()
+}
+
+fn take_schemas(groups: &mut Groups) {
+    let folder = schemas_folder();
+    if !folder.is_dir() {
+        println!("schema texts: passed over, there is no folder of schemas");
+        return;
+    }
+    let texts = cases::schema_texts(&folder).expect("the schemas can be read");
+    groups.take("schema texts", texts);
+}
+
+fn schemas_folder() -> PathBuf {
+    let named = env::var_os("LUBIKSAN_SCHEMAS").unwrap_or_else(|| "../../shared/schemas".into());
+    Path::new(env!("CARGO_MANIFEST_DIR")).join(named)
+}
+
+/// The groups of cases: the leaves for each source of texts; over all texts the rooms of the
+/// conversions and the pairs of names.
+struct Groups {
+    sources: Vec<Tally>,
+    rooms: Tally,
+    pairs: Tally,
+}
+
+impl Groups {
+    fn new() -> Self {
+        Groups {
+            sources: Vec::new(),
+            rooms: Tally::new("conversions in five rooms"),
+            pairs: Tally::new("same_normalized"),
+        }
+    }
+
+    fn take(&mut self, source: &'static str, texts: Vec<String>) {
+        let mut tally = Tally::new(source);
+        let mut previous = "";
+        for text in &texts {
+            checks::leaves(&mut tally, text);
+            checks::rooms(&mut self.rooms, text);
+            checks::neighbours(&mut self.pairs, previous, text);
+            previous = text;
+        }
+        self.sources.push(tally);
+    }
+
+    fn take_pairs(&mut self, texts: &[String]) {
+        for a in texts {
+            for b in texts {
+                checks::same_normalized(&mut self.pairs, a, b);
+            }
+        }
+    }
+
+    fn print(self) -> ExitCode {
+        let groups: Vec<Tally> = self
+            .sources
+            .into_iter()
+            .chain([self.rooms, self.pairs])
+            .collect();
+        groups.iter().for_each(|group| println!("{group}"));
+        let cases: u64 = groups.iter().map(Tally::cases).sum();
+        let differences: u64 = groups.iter().map(Tally::differences).sum();
+        println!("compared {cases} cases, {differences} differences");
+        ExitCode::from(u8::from(differences > 0))
+    }
+}

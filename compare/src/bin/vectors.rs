@@ -1,0 +1,82 @@
+//! The fixed sample behind crates/vectors.
+//!
+//! `vectors inputs` prints the texts, one per line. `vectors answers` reads texts, one per line, and
+//! prints for each the answers of the Rust.
+
+use std::env;
+use std::io::{self, Read, Write};
+use std::process::ExitCode;
+
+use judge::leaves;
+use judge::samples;
+
+fn main() -> ExitCode {
+    let words: Vec<String> = env::args().skip(1).collect();
+    let done = match words.iter().map(String::as_str).collect::<Vec<_>>()[..] {
+        ["inputs"] => print_inputs(),
+        ["answers"] => print_answers(),
+        _ => Err(io::Error::other("usage: vectors inputs | vectors answers")),
+    };
+    match done {
+        Ok(()) => ExitCode::SUCCESS,
+        Err(error) => {
+            eprintln!("vectors: {error}");
+            ExitCode::from(2)
+        }
+    }
+}
+
+fn print_inputs() -> io::Result<()> {
+    let lines: String = samples::texts()
+        .iter()
+        .map(|text| format!("{text}\n"))
+        .collect();
+    io::stdout().write_all(lines.as_bytes())
+}
+
+fn print_answers() -> io::Result<()> {
+    let mut input = Vec::new();
+    io::stdin().read_to_end(&mut input)?;
+    let mut previous = "";
+    let mut lines = String::new();
+    for text in lines_of(&input)? {
+        lines.push_str(&answer(text, previous));
+        previous = text;
+    }
+    io::stdout().write_all(lines.as_bytes())
+}
+
+/// The lines of `input`, each without its line end. The input is ASCII and ends with a line end.
+fn lines_of(input: &[u8]) -> io::Result<Vec<&str>> {
+    let text = std::str::from_utf8(input)
+        .ok()
+        .filter(|text| text.is_ascii());
+    let text = text.ok_or_else(|| io::Error::other("a byte of the input is above 127"))?;
+    if !text.is_empty() && !text.ends_with('\n') {
+        return Err(io::Error::other(
+            "the last line of the input has no line end",
+        ));
+    }
+    Ok(text.split_terminator('\n').collect())
+}
+
+/// The line with the answers of the Rust on `text`.
+fn answer(text: &str, previous: &str) -> String {
+    let normal = leaves::normalize_type_name(text);
+    let same = normal == leaves::normalize_type_name(previous);
+    format!(
+        "local={} u32={} u64={} builtin={} normal={} snake={} pascal={} same={}\n",
+        leaves::local_name(text),
+        number_or_dash(leaves::parse_u32(text)),
+        number_or_dash(leaves::parse_u64(text)),
+        leaves::builtin_number(leaves::map_builtin(text)),
+        normal,
+        leaves::xml_to_snake_case(text),
+        leaves::code_to_pascal_case(text),
+        u8::from(same),
+    )
+}
+
+fn number_or_dash<N: ToString>(value: Option<N>) -> String {
+    value.map_or_else(|| "-".to_owned(), |v| v.to_string())
+}

@@ -1,0 +1,29 @@
+//! The judge: parser.rs and lower.rs of mx20022-codegen, unchanged, and the texts on which the
+//! proved leaves are compared with them.
+//!
+//! | module | holds |
+//! |---|---|
+//! | `xsd`, `ir` | the four Rust files as published |
+//! | `leaves` | the seven text leaves of these files as functions over `&str` |
+//! | `names` | names of the field and changed forms of names |
+//! | `random` | a fixed-seed generator |
+//! | `samples` | the fixed sample behind crates/vectors |
+//! | `cases` | the texts of the comparison with the static library |
+//! | `ours` | the functions of the static library (feature `ours`) |
+//! | `checks`, `tally` | one text compared, and the count of cases and differences |
+
+#![deny(unsafe_code)]
+
+pub mod cases;
+#[cfg(feature = "ours")]
+pub mod checks;
+mod derived;
+pub mod ir;
+pub mod leaves;
+pub mod names;
+#[cfg(feature = "ours")]
+pub mod ours;
+pub mod random;
+pub mod samples;
+pub mod tally;
+pub mod xsd;

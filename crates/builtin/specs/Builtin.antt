@@ -1,0 +1,49 @@
+-- The built-in names: 001 (lower.rs), `map_builtin`, and 003 (ir/types.rs), `RustType`. XML Schema Part 2, section 3, has all 38.
+--     RustType      the type that a built-in name becomes
+--     builtins      the 38 names, each with its type
+--     firstMatch    the type beside the first name of the list that is the word
+--     mapBuiltin    the type of a name, after its last colon; none where it is no built-in name
+--     reference     paper 01's number of a type reference: 0 named, 1 String, 2 Bool, 3 Decimal, 4 Date, 5 DateTime
+use Prim.Native.Nat.{ℕ}
+use Prim.Native.String.{String}
+use mathlib.Core.List.{List, [], _∷_}
+use mathlib.Core.Option.{Option, some, none}
+use Rattle.text.specs.Text.{Text, if_then_else_, is, localName}
+
+pub data RustType : Type 0 where
+  string bool decimal date dateTime : RustType
+
+unfoldable pub builtins : List (String × RustType)
+builtins =
+    ("string", string) ∷ ("normalizedString", string) ∷ ("token", string) ∷ ("ID", string) ∷ ("IDREF", string)
+    ∷ ("NMTOKEN", string) ∷ ("anyURI", string) ∷ ("language", string) ∷ ("Name", string) ∷ ("NCName", string)
+    ∷ ("base64Binary", string) ∷ ("hexBinary", string) ∷ ("time", string) ∷ ("gYear", string) ∷ ("gYearMonth", string)
+    ∷ ("gMonth", string) ∷ ("gMonthDay", string) ∷ ("gDay", string) ∷ ("duration", string)
+    ∷ ("boolean", bool)
+    ∷ ("decimal", decimal) ∷ ("integer", decimal) ∷ ("int", decimal) ∷ ("long", decimal) ∷ ("short", decimal)
+    ∷ ("byte", decimal) ∷ ("nonNegativeInteger", decimal) ∷ ("positiveInteger", decimal) ∷ ("unsignedInt", decimal)
+    ∷ ("unsignedLong", decimal) ∷ ("unsignedShort", decimal) ∷ ("unsignedByte", decimal)
+    ∷ ("nonPositiveInteger", decimal) ∷ ("negativeInteger", decimal) ∷ ("float", decimal) ∷ ("double", decimal)
+    ∷ ("date", date)
+    ∷ ("dateTime", dateTime)
+    ∷ []
+
+unfoldable pub firstMatch : Text → List (String × RustType) → Option RustType
+firstMatch word [] = none
+firstMatch word (entry ∷ rest) = if is word (entry .0) then some (entry .1) else firstMatch word rest
+
+-- 001: let local = name.split(':').next_back().unwrap_or(name); match local { .. }
+unfoldable pub mapBuiltin : Text → Option RustType
+mapBuiltin name = firstMatch (localName name) builtins
+
+-- "A reference is a: 0 named (the pair, normalised), 1 String, 2 Bool, 3 Decimal, 4 Date, 5 DateTime (pair unused)."
+abbrev pub rustTypeNumber : RustType → ℕ
+rustTypeNumber string = 1
+rustTypeNumber bool = 2
+rustTypeNumber decimal = 3
+rustTypeNumber date = 4
+rustTypeNumber dateTime = 5
+
+abbrev pub reference : Option RustType → ℕ
+reference none = 0
+reference (some t) = rustTypeNumber t

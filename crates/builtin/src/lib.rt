@@ -1,0 +1,157 @@
+// The built-in names: 001, `map_builtin`. The names stand one behind the other in one text, with a
+// table of where each begins; the kinds are in a table beside it.
+ghost use mathlib.Core.Path.{_≡_};
+ghost use mathlib.Core.Option.{some};
+ghost use Prim.Native.Nat.{_≤_, _<_};
+ghost use lib.ListN.{length};
+ghost use lib.Seq.{slice};
+ghost use Rattle.text.specs.Text.{is, same};
+ghost use Rattle.builtin.specs.Builtin.{mapBuiltin};
+ghost use Rattle.builtin.specs.Answers.{entryAt, ofBuiltin};
+use text::local_name;
+use text::same_text;
+
+pub enum Builtin {
+    String,
+    Bool,
+    Decimal,
+    Date,
+    DateTime,
+    Unknown,
+}
+
+// Where each name begins in NAMES, and where the last one ends.
+const STARTS: [usize; 39] = [
+    0,
+    6,
+    22,
+    27,
+    29,
+    34,
+    41,
+    47,
+    55,
+    59,
+    65,
+    77,
+    86,
+    90,
+    95,
+    105,
+    111,
+    120,
+    124,
+    132,
+    139,
+    146,
+    153,
+    156,
+    160,
+    165,
+    169,
+    187,
+    202,
+    213,
+    225,
+    238,
+    250,
+    268,
+    283,
+    288,
+    294,
+    298,
+    306,
+];
+
+// The kind of each name: 1 String, 2 Bool, 3 Decimal, 4 Date, 5 DateTime.
+const KINDS: [u8; 38] = [
+    1,
+    1,
+    1,
+    1,
+    1,
+    1,
+    1,
+    1,
+    1,
+    1,
+    1,
+    1,
+    1,
+    1,
+    1,
+    1,
+    1,
+    1,
+    1,
+    2,
+    3,
+    3,
+    3,
+    3,
+    3,
+    3,
+    3,
+    3,
+    3,
+    3,
+    3,
+    3,
+    3,
+    3,
+    3,
+    3,
+    4,
+    5,
+];
+
+// Whether word is the part of names from start to end.
+fn part_is(word: &[u8], names: &[u8], start: usize, end: usize) -> bool
+    requires { ⌜ (start ≤ end) × (end ≤ length (now names)) ⌝ }
+    ensures { λ r. ⌜ r ≡ same (now (word .entry)) (slice start end (now (names .entry))) ⌝ }
+{
+    same_text(word, &names[start..end])
+}
+
+// Whether word is the built-in name at k of the list.
+fn is_name(word: &[u8], k: usize) -> bool
+    requires { ⌜ k < 38 ⌝ }
+    ensures { λ r. ⌜ r ≡ is (now (word .entry)) (entryAt k .0) ⌝ }
+{
+    part_is(
+        word,
+        b"stringnormalizedStringtokenIDIDREFNMTOKENanyURIlanguageNameNCNamebase64BinaryhexBinarytimegYeargYearMonthgMonthgMonthDaygDaydurationbooleandecimalintegerintlongshortbytenonNegativeIntegerpositiveIntegerunsignedIntunsignedLongunsignedShortunsignedBytenonPositiveIntegernegativeIntegerfloatdoubledatedateTime",
+        STARTS[k],
+        STARTS[k + 1],
+    )
+}
+
+// The kind of the built-in name at k of the list.
+fn kind_at(k: usize) -> Builtin
+    requires { ⌜ k < 38 ⌝ }
+    ensures { λ r. ⌜ ofBuiltin r ≡ some (entryAt k .1) ⌝ }
+{
+    let kind = KINDS[k];
+    match kind {
+        1 => Builtin::String,
+        2 => Builtin::Bool,
+        3 => Builtin::Decimal,
+        4 => Builtin::Date,
+        _ => Builtin::DateTime,
+    }
+}
+
+// The type of a name, after its last colon.
+pub fn map_builtin(name: &[u8]) -> Builtin
+    ensures { λ r. ⌜ ofBuiltin r ≡ mapBuiltin (now (name .entry)) ⌝ }
+{
+    let word = local_name(name);
+    let mut k = 0;
+    while k < 38 {
+        if is_name(word, k) {
+            return kind_at(k);
+        }
+        k += 1;
+    }
+    Builtin::Unknown
+}

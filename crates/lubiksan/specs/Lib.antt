@@ -1,0 +1,2 @@
+-- What the exported calls return, as numbers.
+pub mod Exported

@@ -1,0 +1,6 @@
+-- Laws of the definitions in specs/: Writing of what a writer leaves, Scans of the private scans, Names of the conversions,
+-- Examples of values that the conversions give.
+pub mod Writing
+pub mod Scans
+pub mod Names
+pub mod Examples

@@ -1,0 +1,5 @@
+-- The definitions of the crate `names`: Names has the conversions, Answers what a writer answers and leaves, Scans what the private functions compute.
+pub mod Names
+pub mod Answers
+pub mod Scans
+pub mod Unfold

@@ -1,0 +1,59 @@
+-- Paper 01, "Specimens": the ones marked ● stand in one list, under one sentence: each holds, by computation on the definitions.
+--     Specimen      what a specimen says: a conversion's, a type's or a number's text and its answer
+--     holds         the test of a specimen
+--     specimens     the list
+--     all-hold      the sentence
+use Prim.Native.Nat.{ℕ}
+use Prim.Native.String.{String}
+use mathlib.Core.Path.{_≡_, refl}
+use mathlib.Core.Bool.{Bool, true, false, _&&_}
+use mathlib.Core.List.{List, [], _∷_}
+use lib.Dec.{eqb}
+use Rattle.text.specs.Text.{Text, bytes, same, every}
+use Rattle.text.specs.Unfold.{computes as texts}
+use Rattle.number.specs.Number.{Parsed, parsed, refused, number}
+use Rattle.number.specs.Unfold.{computes as numbers}
+use Rattle.builtin.specs.Builtin.{mapBuiltin, reference}
+use Rattle.builtin.specs.Unfold.{computes as builtins}
+use Rattle.names.specs.Names.{normalizeTypeName, xmlToSnakeCase, codeToPascalCase}
+use Rattle.names.specs.Unfold.{computes as conversions}
+
+pub data Specimen : Type 0 where
+  snake : String → String → Specimen
+  pascal : String → String → Specimen
+  normalised : String → String → Specimen
+  builtin : String → ℕ → Specimen
+  u32 : String → ℕ → Specimen
+
+unfoldable pub gives : Parsed → ℕ → Bool
+gives (parsed v) n = eqb v n
+gives (refused r) n = false
+
+unfoldable pub holds : Specimen → Bool
+holds (snake name answer) = same (xmlToSnakeCase (bytes name)) (bytes answer)
+holds (pascal value answer) = same (codeToPascalCase (bytes value)) (bytes answer)
+holds (normalised name answer) = same (normalizeTypeName (bytes name)) (bytes answer)
+holds (builtin name answer) = eqb (reference (mapBuiltin (bytes name))) answer
+holds (u32 s answer) = gives (number 32 (bytes s)) answer
+
+unfoldable pub specimens : List Specimen
+specimens =
+    -- "● `FIToFICstmrCdtTrf`: `fi_to_fi_cstmr_cdt_trf`. ● `BICFI`: `bicfi`. ● `Dt2Nm`: `dt2nm`."
+    snake "FIToFICstmrCdtTrf" "fi_to_fi_cstmr_cdt_trf"
+    ∷ snake "BICFI" "bicfi"
+    ∷ snake "Dt2Nm" "dt2nm"
+    -- "● `TEST-VALUE`: `TestValue`. ● `TestValue`: `Testvalue`, against the comment in 001."
+    ∷ pascal "TEST-VALUE" "TestValue"
+    ∷ pascal "TestValue" "Testvalue"
+    -- "● `Amount_SimpleType`: "AmountSimpleType". ● "a_b": "AB"."
+    ∷ normalised "Amount_SimpleType" "AmountSimpleType"
+    ∷ normalised "a_b" "AB"
+    -- "● `my:date` is Date", type 4
+    ∷ builtin "my:date" 4
+    -- "● `+7` is 7"
+    ∷ u32 "+7" 7
+    ∷ []
+
+pub all-hold : every holds specimens ≡ true
+unfolding texts numbers builtins conversions gives holds specimens
+all-hold = refl

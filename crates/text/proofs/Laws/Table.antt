@@ -1,0 +1,30 @@
+-- A rule of a table, proved at all of its places by one test that antt computes; and a part of a list. Assumes nothing.
+use mathlib.Core.Path.{_≡_, ap, _∙_}
+use mathlib.Core.Bool.{Bool, true, _&&_}
+use mathlib.Core.Logic.{⊎-elim}
+use mathlib.Core.List.{List, [], _∷_}
+use Prim.Native.Nat.{ℕ, zero, suc, _-_, _≤_, _<_}
+use native.Mathlib.Nat.{sub-zero, suc-sub-suc, le-of-suc-le-suc, not-suc-le-zero, eq-or-lt-of-le}
+use lib.ListN.{take, drop}
+use lib.Seq.{slice, take-nil}
+use Rattle.text.proofs.Laws.Tests.{and-true-left, and-true-right}
+
+-- the test passes at each place below n
+abbrev pub passes : (ℕ → Bool) → ℕ → Bool
+passes f zero = true
+passes f (suc n) = f n && passes f n
+
+pub at : (f : ℕ → Bool) (n : ℕ) → passes f n ≡ true → (k : ℕ) → k < n → f k ≡ true
+at f zero e k h = absurd (not-suc-le-zero h)
+at f (suc n) e k h =
+    ⊎-elim
+    (λ s. ap f s ∙ and-true-left (f n) (passes f n) e)
+    (λ l. at f n (and-true-right (f n) (passes f n) e) k l)
+    (eq-or-lt-of-le (le-of-suc-le-suc h))
+
+-- a part as the code takes it, and as a slice
+pub part-slice : (f t : ℕ) (l : List ℕ) → f ≤ t → take (t - f) (drop f l) ≡ slice f t l
+part-slice zero t l h = rw (sub-zero t)
+part-slice (suc f) zero l h = absurd (not-suc-le-zero h)
+part-slice (suc f) (suc t) [] h = take-nil {A = ℕ} (suc t - suc f)
+part-slice (suc f) (suc t) (x ∷ l) h = rw (suc-sub-suc t f) (part-slice f t l (le-of-suc-le-suc h))

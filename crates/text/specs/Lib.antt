@@ -1,0 +1,3 @@
+-- The definitions of the crate `text`.
+pub mod Text
+pub mod Unfold
