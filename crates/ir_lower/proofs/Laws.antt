@@ -1,0 +1,10 @@
+-- Laws of the definitions in specs/.
+pub mod Cardinality
+pub mod References
+pub mod Types
+pub mod Refusals
+pub mod GraphOk
+pub mod Left
+pub mod Members
+pub mod Outcome
+pub mod Form

@@ -1,0 +1,68 @@
+-- Every lowering comes under one condition of the table, with that condition's number, place, graph and scratch. Assumes nothing.
+use Prim.Native.Nat.{ℕ, _≤_}
+use mathlib.Core.Path.{_≡_, refl}
+use mathlib.Core.Logic.{⊎-elim}
+use mathlib.Core.Bool.{true, false, _&&_}
+use mathlib.Core.List.{List}
+use mathlib.Core.Option.{Option, some, none}
+use lib.Dec.{leb}
+use lib.ListN.{length}
+use borrow.Author.Tests.{leb-true, leb-false}
+use Rattle.sheet.specs.Rows.{Sheet}
+use Rattle.xsd_types.specs.State.{State}
+use Rattle.xsd_types.specs.Good.{good}
+use Rattle.xsd_types.specs.Back.{stateOf}
+use Rattle.ir_types.specs.Types.{TypeGraph}
+use Rattle.ir_types.specs.Sheet.{graphFits}
+use Rattle.ir_lower.specs.Lower.{lower, unknownRow, finishedTypes}
+use Rattle.ir_lower.specs.Call.{Lowered, unchanged, cleared, written, lowerState, lengthsOk, lowering}
+use Rattle.ir_lower.specs.Outcome.{Outcome}
+use Rattle.ir_lower.proofs.Laws.Refusals.{refused-exactly}
+use Rattle.text.proofs.Laws.Tests.{test-cases}
+
+-- 1 and 2, and then the state decides
+pub lowering-1 : (x graph : Sheet) (scratch : List ℕ) → lengthsOk x && lengthsOk graph ≡ false → lowering x graph scratch ≡ unchanged 1 graph scratch
+unfolding lowering
+lowering-1 x graph scratch h = rw h
+
+pub lowering-2 : (x graph : Sheet) (scratch : List ℕ) → lengthsOk x && lengthsOk graph ≡ true → good x ≡ false → lowering x graph scratch ≡ unchanged 2 graph scratch
+unfolding lowering
+lowering-2 x graph scratch h k = rw (h, k)
+
+pub lowering-state : (x graph : Sheet) (scratch : List ℕ) → lengthsOk x && lengthsOk graph ≡ true → good x ≡ true → lowering x graph scratch ≡ lowerState (stateOf x) graph scratch
+unfolding lowering
+lowering-state x graph scratch h k = rw (h, k)
+
+-- the state's call, branch by branch
+abbrev lowered : State → Sheet → List ℕ → Option TypeGraph → Lowered
+lowered s graph scratch o = elim o [ none ↦ cleared 13 (unknownRow 2 (s .reader .schema .items)) graph scratch | some g ↦ written g graph scratch ]
+
+state-short : (s : State) (graph : Sheet) (scratch : List ℕ) → leb (finishedTypes (s .reader .schema)) (length scratch) ≡ false → lowerState s graph scratch ≡ unchanged 14 graph scratch
+unfolding lowerState
+state-short s graph scratch h = rw h
+
+state-rootless : (s : State) (graph : Sheet) (scratch : List ℕ) → leb (finishedTypes (s .reader .schema)) (length scratch) ≡ true → s .reader .rootSeen ≡ false
+    → lowerState s graph scratch ≡ cleared 12 0 graph scratch
+unfolding lowerState
+state-rootless s graph scratch h k = rw (h, k)
+
+state-lowered : (s : State) (graph : Sheet) (scratch : List ℕ) → leb (finishedTypes (s .reader .schema)) (length scratch) ≡ true → s .reader .rootSeen ≡ true
+    → lowerState s graph scratch ≡ lowered s graph scratch (lower (s .reader .schema))
+unfolding lowerState
+state-lowered s graph scratch h k = rw (h, k)
+
+lowered-outcome : (s : State) (graph : Sheet) (scratch : List ℕ) → finishedTypes (s .reader .schema) ≤ length scratch → s .reader .rootSeen ≡ true
+    → (o : Option TypeGraph) → lower (s .reader .schema) ≡ o → Outcome s graph scratch (lowered s graph scratch o)
+unfolding written
+lowered-outcome s graph scratch h k none e = Outcome.unknown h k (refused-exactly (s .reader .schema) .0 e) refl
+lowered-outcome s graph scratch h k (some g) e =
+    ⊎-elim (λ f. rw f (Outcome.fitting h k g e f refl)) (λ f. rw f (Outcome.tight h k g e f refl))
+    (test-cases (graphFits (length (graph .rows)) (length (graph .names)) g))
+
+pub outcome : (s : State) (graph : Sheet) (scratch : List ℕ) → Outcome s graph scratch (lowerState s graph scratch)
+outcome s graph scratch =
+    ⊎-elim (λ h. let le = leb-true (finishedTypes (s .reader .schema)) (length scratch) h in
+    ⊎-elim (λ k. rw (state-lowered s graph scratch h k) (lowered-outcome s graph scratch le k (lower (s .reader .schema)) refl))
+    (λ k. Outcome.rootless le k (state-rootless s graph scratch h k)) (test-cases (s .reader .rootSeen)))
+    (λ h. Outcome.short (leb-false (finishedTypes (s .reader .schema)) (length scratch) h) (state-short s graph scratch h))
+    (test-cases (leb (finishedTypes (s .reader .schema)) (length scratch)))

@@ -1,0 +1,23 @@
+-- What a lowering leaves under each number. Paper 01, "Returned numbers", the column Left.
+--     changesNothing    1, 2 and 14: "nothing changed"
+--     clearsGraph       12, 13 and 15: "graph and scratch zero"
+--     clearsScratch     these and 0: the scratch is "zero afterwards"
+--     noGraph           a graph sheet of zeros, as long as the one lent
+use Prim.Native.Nat.{ℕ}
+use mathlib.Core.Bool.{Bool, _||_}
+use lib.Dec.{eqb}
+use Rattle.text.specs.Text.{between}
+use Rattle.sheet.specs.Rows.{Sheet}
+use Rattle.ir_lower.specs.Call.{zeros}
+
+unfoldable pub changesNothing : ℕ → Bool
+changesNothing n = between 1 2 n || eqb n 14
+
+unfoldable pub clearsGraph : ℕ → Bool
+clearsGraph n = between 12 13 n || eqb n 15
+
+unfoldable pub clearsScratch : ℕ → Bool
+clearsScratch n = eqb n 0 || clearsGraph n
+
+unfoldable pub noGraph : Sheet → Sheet
+noGraph x = record { rows = zeros (x .rows); names = zeros (x .names) }

@@ -1,0 +1,155 @@
+-- Lowering: 001 (lower.rs), `lower` and its helpers, clause by clause.
+use Prim.Native.Nat.{ℕ, zero, suc, _+_}
+use mathlib.Core.List.{List, [], _∷_, map}
+use mathlib.Core.Bool.{Bool, true, false, not, _&&_}
+use mathlib.Core.Option.{Option, some, none}
+use lib.Dec.{eqb, leb, ltb}
+use lib.ListN.{length}
+use Rattle.text.specs.Text.{Text, if_then_else_, every}
+use Rattle.builtin.specs.Builtin.{RustType, mapBuiltin}
+use Rattle.names.specs.Names.{normalizeTypeName, xmlToSnakeCase, codeToPascalCase}
+use Rattle.xsd_types.specs.Types.{Element, Facet, SimpleType, MaxOccurs, SequenceElement, ChoiceVariant, Attribute, ComplexContent, ComplexType, Item, Schema, elements, simpleTypes, complexTypes}
+use Rattle.xsd_types.specs.State.{isEmpty}
+use Rattle.xsd_types.specs.Rows.{itemRows}
+use Rattle.ir_types.specs.Types.{TypeRef, Cardinality, FieldDef, VariantDef, Constraint, CodeValue, AttrDef, TypeDef, RootElement, TypeGraph, insert}
+
+-- 001, `resolve_type_ref`: built-in names win
+unfoldable pub resolved : Text → Option RustType → TypeRef
+resolved name none = TypeRef.named (normalizeTypeName name)
+resolved name (some t) = TypeRef.builtin t
+
+unfoldable pub resolveTypeRef : Text → TypeRef
+resolveTypeRef name = resolved name (mapBuiltin name)
+
+-- ---- simple types
+
+unfoldable pub isEnumeration : Facet → Bool
+isEnumeration (Facet.enumeration v) = true
+isEnumeration (Facet.pattern v) = false
+isEnumeration (Facet.minLength n) = false
+isEnumeration (Facet.maxLength n) = false
+isEnumeration (Facet.minInclusive v) = false
+isEnumeration (Facet.maxInclusive v) = false
+isEnumeration (Facet.totalDigits n) = false
+isEnumeration (Facet.fractionDigits n) = false
+
+-- "Facets all enumerations and not none: code enum"
+unfoldable pub allEnums : List Facet → Bool
+allEnums fs = not (isEmpty fs) && every isEnumeration fs
+
+-- 001, `lower_code_enum`: filter_map over the enumerations
+unfoldable pub codes : List Facet → List CodeValue
+codes [] = []
+codes (Facet.enumeration v ∷ fs) = record { xmlValue = v; rustName = codeToPascalCase v } ∷ codes fs
+codes (Facet.pattern v ∷ fs) = codes fs
+codes (Facet.minLength n ∷ fs) = codes fs
+codes (Facet.maxLength n ∷ fs) = codes fs
+codes (Facet.minInclusive v ∷ fs) = codes fs
+codes (Facet.maxInclusive v ∷ fs) = codes fs
+codes (Facet.totalDigits n ∷ fs) = codes fs
+codes (Facet.fractionDigits n ∷ fs) = codes fs
+
+-- 001, `lower_facet`: "else newtype, enumerations dropped"
+unfoldable pub constraints : List Facet → List Constraint
+constraints [] = []
+constraints (Facet.enumeration v ∷ fs) = constraints fs
+constraints (Facet.pattern v ∷ fs) = Constraint.pattern v ∷ constraints fs
+constraints (Facet.minLength n ∷ fs) = Constraint.minLength n ∷ constraints fs
+constraints (Facet.maxLength n ∷ fs) = Constraint.maxLength n ∷ constraints fs
+constraints (Facet.minInclusive v ∷ fs) = Constraint.minInclusive v ∷ constraints fs
+constraints (Facet.maxInclusive v ∷ fs) = Constraint.maxInclusive v ∷ constraints fs
+constraints (Facet.totalDigits n ∷ fs) = Constraint.totalDigits n ∷ constraints fs
+constraints (Facet.fractionDigits n ∷ fs) = Constraint.fractionDigits n ∷ constraints fs
+
+-- 001, `lower_newtype`: none is `UnknownBase`
+unfoldable pub lowerNewtype : SimpleType → Option RustType → Option TypeDef
+lowerNewtype t none = none
+lowerNewtype t (some inner) = some (TypeDef.newtype (normalizeTypeName (t .name)) inner (constraints (t .facets)))
+
+unfoldable pub lowerSimpleType : SimpleType → Option TypeDef
+lowerSimpleType t =
+    if allEnums (t .facets)
+    then some (TypeDef.codeEnum (normalizeTypeName (t .name)) (codes (t .facets)))
+    else lowerNewtype t (mapBuiltin (t .base))
+
+-- a simple type that lowering refuses
+unfoldable pub isNone : {A : Type 0} → Option A → Bool
+isNone none = true
+isNone (some x) = false
+
+unfoldable pub unknownBase : SimpleType → Bool
+unknownBase t = isNone (lowerSimpleType t)
+
+-- ---- complex types
+
+-- 001, `lower_cardinality`: "unbounded gives vec; max above 1 bounded; min 0 and max 1 optional; all else required"
+unfoldable pub lowerCardinality : ℕ → MaxOccurs → Cardinality
+lowerCardinality min MaxOccurs.unbounded = Cardinality.vec
+lowerCardinality min (MaxOccurs.bounded n) =
+    if ltb 1 n then Cardinality.boundedVec n else
+    if eqb min 0 && eqb n 1 then Cardinality.optional else Cardinality.required
+
+unfoldable pub lowerField : SequenceElement → FieldDef
+lowerField e =
+    record {
+      xmlName = e .name;
+      rustName = xmlToSnakeCase (e .name);
+      typeRef = resolveTypeRef (e .typeName);
+      cardinality = lowerCardinality (e .minOccurs) (e .maxOccurs);
+    }
+
+-- 001, `lower_enum`: variant names are kept
+unfoldable pub lowerVariant : ChoiceVariant → VariantDef
+lowerVariant v = record { xmlName = v .name; rustName = v .name; typeRef = resolveTypeRef (v .typeName) }
+
+unfoldable pub lowerAttribute : Attribute → AttrDef
+lowerAttribute x =
+    record { xmlName = x .name; rustName = xmlToSnakeCase (x .name); typeRef = resolveTypeRef (x .typeName); required = x .required }
+
+unfoldable pub lowerContent : Text → ComplexContent → TypeDef
+lowerContent name (ComplexContent.sequence es) = TypeDef.struct name (map lowerField es)
+lowerContent name (ComplexContent.choice vs) = TypeDef.enum name (map lowerVariant vs)
+lowerContent name (ComplexContent.simpleContent base xs) = TypeDef.valueWithAttr name (resolveTypeRef base) (map lowerAttribute xs)
+lowerContent name (ComplexContent.any n) = TypeDef.opaque name n
+
+unfoldable pub lowerComplexType : ComplexType → TypeDef
+lowerComplexType t = lowerContent (normalizeTypeName (t .name)) (t .content)
+
+-- ---- lower
+
+unfoldable pub lowerSimpleTypes : List SimpleType → List TypeDef → Option (List TypeDef)
+lowerSimpleTypes [] types = some types
+lowerSimpleTypes (t ∷ ts) types = elim (lowerSimpleType t) [ none ↦ none | some d ↦ lowerSimpleTypes ts (insert d types) ]
+
+unfoldable pub lowerComplexTypes : List ComplexType → List TypeDef → List TypeDef
+lowerComplexTypes [] types = types
+lowerComplexTypes (t ∷ ts) types = lowerComplexTypes ts (insert (lowerComplexType t) types)
+
+unfoldable pub rootOf : Element → RootElement
+rootOf e = record { xmlName = e .name; typeName = e .typeName }
+
+unfoldable pub graphOf : Schema → List TypeDef → TypeGraph
+graphOf s types =
+    record {
+      namespace = s .targetNamespace;
+      rootElements = map rootOf (elements (s .items));
+      types = lowerComplexTypes (complexTypes (s .items)) types;
+    }
+
+-- "Only finished types are lowered, simple ones before complex."
+unfoldable pub lower : Schema → Option TypeGraph
+lower s = elim (lowerSimpleTypes (simpleTypes (s .items)) []) [ none ↦ none | some types ↦ some (graphOf s types) ]
+
+-- 13: "place is the row of the first such simple type": row is the first item's row in the schema sheet
+unfoldable pub isUnknown : Item → Bool
+isUnknown (Item.element e) = false
+isUnknown (Item.simpleType t) = unknownBase t
+isUnknown (Item.complexType t) = false
+
+unfoldable pub unknownRow : ℕ → List Item → ℕ
+unknownRow row [] = 0
+unknownRow row (i ∷ is) = if isUnknown i then row else unknownRow (row + length (itemRows i)) is
+
+-- 14: "scratch below one number for each finished type"
+unfoldable pub finishedTypes : Schema → ℕ
+finishedTypes s = length (simpleTypes (s .items)) + length (complexTypes (s .items))

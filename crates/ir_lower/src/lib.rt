@@ -1,0 +1,1 @@
+// Lowering (001, ir/lower.rs). Definitions only (specs/).

@@ -1,0 +1,10 @@
+-- Laws of the definitions in specs/.
+pub mod Insert
+pub mod Order
+pub mod GraphRows
+pub mod GraphOrder
+pub mod GraphForm
+pub mod Label
+pub mod Members
+pub mod Refuses
+pub mod GraphSmall

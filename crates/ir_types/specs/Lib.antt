@@ -1,0 +1,12 @@
+-- The definitions of the crate `ir_types`: Types has 003's values, Rows the graph as rows, Sheet the graph sheet, Form the test of a graph's form,
+-- Label the label call, Refuses its refusal as the table lists it, Distinct names in a list of definitions, Ok the widths of a graph's texts and numbers.
+pub mod Types
+pub mod Rows
+pub mod Sheet
+pub mod Form
+pub mod Label
+pub mod Refuses
+pub mod Distinct
+pub mod Ok
+pub mod Unfold
+pub mod Examples

@@ -1,0 +1,76 @@
+-- The type graph: 003 (ir/types.rs), with its names. `RustType` is in the crate `builtin`.
+--     TypeRef, Cardinality, FieldDef, VariantDef, Constraint, CodeValue, AttrDef, TypeDef, RootElement, TypeGraph    as in 003
+--     nameOf        a definition's name (003, `TypeDef::name`)
+--     insert        003's IndexMap under the definition's name: "Each normalised name holds its last definition at the place where it first came."
+use Prim.Native.Nat.{ℕ}
+use mathlib.Core.List.{List, [], _∷_}
+use mathlib.Core.Bool.{Bool}
+use mathlib.Core.Option.{Option}
+use Rattle.text.specs.Text.{Text, if_then_else_, same}
+use Rattle.builtin.specs.Builtin.{RustType}
+
+pub data TypeRef : Type 0 where
+  named : Text → TypeRef
+  builtin : RustType → TypeRef
+
+pub data Cardinality : Type 0 where
+  required : Cardinality
+  optional : Cardinality
+  vec : Cardinality
+  boundedVec : ℕ → Cardinality
+
+pub record FieldDef : Type 0 where
+  pub xmlName : Text
+  pub rustName : Text
+  pub typeRef : TypeRef
+  pub cardinality : Cardinality
+
+pub record VariantDef : Type 0 where
+  pub xmlName : Text
+  pub rustName : Text
+  pub typeRef : TypeRef
+
+pub data Constraint : Type 0 where
+  pattern : Text → Constraint
+  minLength maxLength : ℕ → Constraint
+  minInclusive maxInclusive : Text → Constraint
+  totalDigits fractionDigits : ℕ → Constraint
+
+pub record CodeValue : Type 0 where
+  pub xmlValue : Text
+  pub rustName : Text
+
+pub record AttrDef : Type 0 where
+  pub xmlName : Text
+  pub rustName : Text
+  pub typeRef : TypeRef
+  pub required : Bool
+
+pub data TypeDef : Type 0 where
+  struct : Text → List FieldDef → TypeDef
+  enum : Text → List VariantDef → TypeDef
+  newtype : Text → RustType → List Constraint → TypeDef
+  codeEnum : Text → List CodeValue → TypeDef
+  valueWithAttr : Text → TypeRef → List AttrDef → TypeDef
+  opaque : Text → Option Text → TypeDef
+
+pub record RootElement : Type 0 where
+  pub xmlName : Text
+  pub typeName : Text
+
+pub record TypeGraph : Type 0 where
+  pub namespace : Text
+  pub rootElements : List RootElement
+  pub types : List TypeDef
+
+unfoldable pub nameOf : TypeDef → Text
+nameOf (TypeDef.struct n fs) = n
+nameOf (TypeDef.enum n vs) = n
+nameOf (TypeDef.newtype n i cs) = n
+nameOf (TypeDef.codeEnum n cs) = n
+nameOf (TypeDef.valueWithAttr n v xs) = n
+nameOf (TypeDef.opaque n ns) = n
+
+unfoldable pub insert : TypeDef → List TypeDef → List TypeDef
+insert d [] = d ∷ []
+insert d (e ∷ es) = if same (nameOf e) (nameOf d) then d ∷ es else e ∷ insert d es

@@ -1,0 +1,96 @@
+-- The outer claims, each under the paper's words. What a call says of itself is `ClearIs`, `ReadIs`, `LowerIs`, `LabelIs` and `LabelNumberIs` (specs/ of
+-- xsd_types, xsd_parser, ir_lower, ir_types); a `Trace` is a list of calls by these. Every claim is proved below this file. Assumes nothing.
+use Prim.Native.Nat.{ℕ, _+_}
+use mathlib.Core.Path.{_≡_}
+use mathlib.Core.Logic.{_↔_}
+use mathlib.Core.Bool.{Bool, true}
+use mathlib.Core.List.{List, _++_}
+use mathlib.Core.Option.{some, none}
+use lib.ListN.{length}
+use Rattle.text.specs.Text.{Text}
+use Rattle.sheet.specs.Rows.{Sheet}
+use Rattle.sheet.specs.Form.{words}
+use Rattle.sheet.specs.Lengths.{tapeLengths}
+use Rattle.xsd_types.specs.Types.{Schema, MaxOccurs}
+use Rattle.xsd_types.specs.State.{State, proper}
+use Rattle.xsd_types.specs.Sheet.{sheetOf, stateFits}
+use Rattle.xsd_types.specs.Good.{good}
+use Rattle.xsd_types.specs.Back.{stateOf}
+use Rattle.xsd_types.proofs.Laws.SheetOf.{stateOf-sheetOf}
+use Rattle.xsd_types.proofs.Laws.StateOf.{good-exactly, sheetOf-stateOf}
+use Rattle.xsd_parser.specs.Event.{Event}
+use Rattle.xsd_parser.specs.EventText.{eventOk}
+use Rattle.xsd_parser.specs.Handlers.{ok}
+use Rattle.xsd_parser.specs.Step.{Lengths, step}
+use Rattle.xsd_parser.specs.Read.{read, readState, lengthsOf, goodLengths}
+use Rattle.xsd_parser.specs.Whole.{wholeRecords}
+use Rattle.xsd_parser.proofs.Laws.Steps.{step-proper}
+use Rattle.xsd_parser.proofs.Laws.Reads.{readState-place}
+use Rattle.ir_types.specs.Types.{Cardinality, TypeGraph}
+use Rattle.ir_types.specs.Distinct.{typeNames, distinct, firsts, find, lastOf}
+use Rattle.ir_types.specs.Form.{graphForm}
+use Rattle.ir_lower.specs.Lower.{lower, lowerCardinality}
+use Rattle.ir_lower.specs.Finished.{finishedNames, finishedDefinitions}
+use Rattle.ir_lower.specs.Call.{lowering}
+use Rattle.ir_lower.proofs.Laws.Cardinality.{optional-exactly, vec-exactly}
+use Rattle.ir_lower.proofs.Laws.Types.{lower-distinct, lower-order, lower-last}
+use Rattle.ir_lower.proofs.Laws.Form.{lowering-form}
+use Rattle.runs.specs.Runs.{Call, Answered, Ran, run}
+use Rattle.runs.specs.Trace.{Trace}
+use Rattle.runs.specs.Cut.{onwardRead}
+use Rattle.runs.proofs.NoTwo.{NoneTwo, no-two}
+use Rattle.runs.proofs.Runs.{runs}
+use Rattle.runs.proofs.Cut.{cut}
+
+-- "A sheet is good if it has this form, ..": exactly the sheets of proper states
+pub claim-good : (x : Sheet) → words (x .rows) ≡ true → (good x ≡ true) ↔ ((s : State) × (proper s ≡ true) × (stateFits (length (x .rows)) (length (x .names)) s ≡ true) × (sheetOf s (length (x .rows)) (length (x .names)) ≡ x))
+claim-good = good-exactly
+
+-- the state can be read back, and reading back and writing gives the same sheet
+pub claim-back : (s : State) (r n : ℕ) → proper s ≡ true → stateFits r n s ≡ true → stateOf (sheetOf s r n) ≡ s
+claim-back = stateOf-sheetOf
+
+pub claim-again : (x : Sheet) → words (x .rows) ≡ true → good x ≡ true → sheetOf (stateOf x) (length (x .rows)) (length (x .names)) ≡ x
+claim-again = sheetOf-stateOf
+
+-- each event keeps a proper state proper
+pub claim-event : (lent : Lengths) (s : State) (e : Event) (s′ : State) → proper s ≡ true → eventOk e ≡ true → step lent s e ≡ ok s′ → proper s′ ≡ true
+claim-event = step-proper
+
+-- "Demand 3 is one claim about the list": the answers of the calls made and the last sheet are the definition's, from every first sheet
+pub claim-runs : {x x′ : Sheet} {calls : List Call} {answers : List Answered} → words (x .rows) ≡ true → Trace x calls answers x′ → _≡_ {A = Ran} (record { answers = answers; last = x′ }) (run x calls)
+claim-runs = runs
+
+-- "From a good sheet no call of the run gives 2."
+pub claim-no-two : (x : Sheet) (calls : List Call) → goodLengths (lengthsOf x) ≡ true → good x ≡ true → NoneTwo (run x calls .answers)
+claim-no-two = no-two
+
+-- "Added to events done before the call, it is the number in the run."
+pub claim-number : (lent : Lengths) (s : State) (text : Text) (marks : List ℕ) → s .events + readState lent s text marks .answer .place ≡ readState lent s text marks .state .events
+claim-number = readState-place
+
+-- "where no reading meets 1, a tape may be cut between any events over the same text: up to its first refused event the sheet is the same, and that
+-- event has the same refusal and the same number in the run"
+pub claim-cut : (x : Sheet) (text : Text) (m₁ m₂ : List ℕ) → words (x .rows) ≡ true → goodLengths (lengthsOf x) ≡ true → good x ≡ true → tapeLengths (length text) (length (m₁ ++ m₂)) ≡ true → tapeLengths (length text) (length m₁) ≡ true → tapeLengths (length text) (length m₂) ≡ true → wholeRecords text m₁ ≡ true → read x text (m₁ ++ m₂) ≡ onwardRead (read x text m₁) (read (read x text m₁ .sheet) text m₂)
+claim-cut = cut
+
+-- "min 0 and max 1 optional", and nothing else is; "unbounded gives vec", and nothing else does
+pub claim-optional : (min : ℕ) (max : MaxOccurs) → (lowerCardinality min max ≡ Cardinality.optional) ↔ ((min ≡ 0) × (max ≡ MaxOccurs.bounded 1))
+claim-optional = optional-exactly
+
+pub claim-vec : (min : ℕ) (max : MaxOccurs) → (lowerCardinality min max ≡ Cardinality.vec) ↔ (max ≡ MaxOccurs.unbounded)
+claim-vec = vec-exactly
+
+-- "Each normalised name holds its last definition at the place where it first came."
+pub claim-once : (s : Schema) (g : TypeGraph) → lower s ≡ some g → distinct (g .types) ≡ true
+claim-once = lower-distinct
+
+pub claim-order : (s : Schema) (g : TypeGraph) → lower s ≡ some g → typeNames (g .types) ≡ firsts (finishedNames s)
+claim-order = lower-order
+
+pub claim-last : (s : Schema) (g : TypeGraph) (t : Text) → lower s ≡ some g → find t (g .types) ≡ lastOf t (finishedDefinitions s)
+claim-last = lower-last
+
+-- what lowering writes has the graph's form
+pub claim-form : (x graph : Sheet) (scratch : List ℕ) → words (x .rows) ≡ true → lowering x graph scratch .answer .number ≡ 0 → graphForm (lowering x graph scratch .graph) ≡ true
+claim-form = lowering-form

@@ -1,0 +1,81 @@
+-- "From a good sheet no call of the run gives 2." Assumes nothing.
+use Prim.Native.Nat.{ℕ}
+use mathlib.Core.Path.{_≡_, refl, sym, _∙_}
+use mathlib.Core.Bool.{Bool, true, false}
+use mathlib.Core.List.{List, [], _∷_}
+use mathlib.Core.Option.{Option, some, none}
+use native.Mathlib.Omega.{arith}
+use lib.Dec.{leb}
+use lib.ListN.{length}
+use Rattle.text.specs.Text.{Text, if_then_else_}
+use Rattle.text.proofs.Laws.Tests.{if-cases}
+use Rattle.sheet.specs.Rows.{Sheet}
+use Rattle.sheet.specs.Lengths.{tapeLengths}
+use Rattle.xsd_types.specs.State.{State}
+use Rattle.xsd_types.specs.Good.{good}
+use Rattle.xsd_types.specs.Back.{stateOf}
+use Rattle.xsd_parser.specs.Step.{Lengths}
+use Rattle.xsd_parser.specs.Read.{readState, lengthsOf, goodLengths}
+use Rattle.xsd_parser.proofs.Laws.Answers.{reading-not-two}
+use Rattle.ir_types.specs.Types.{TypeGraph}
+use Rattle.ir_types.specs.Sheet.{graphFits}
+use Rattle.ir_lower.specs.Lower.{lower, finishedTypes, unknownRow}
+use Rattle.ir_lower.specs.Call.{Lowered, unchanged, cleared, written, lengthsOk, lowerState}
+use Rattle.runs.specs.Runs.{Call, Answered, Held, Stepped, hold, runCalls, answeredFirst, run, readHeld, lowerHeld, heldAfter, refusedWith}
+
+-- the number of an answer
+abbrev pub numberOf : Answered → ℕ
+numberOf (Answered.readAs a) = a .number
+numberOf (Answered.loweredAs l) = l .answer .number
+
+-- each answer of a list is not 2
+pub data NoneTwo : List Answered → Type 0 where
+  noneLeft : NoneTwo []
+  oneMore : {a : Answered} {rest : List Answered} → (numberOf a ≡ 2 → ⊥) → NoneTwo rest → NoneTwo (a ∷ rest)
+
+read-not-two : (lent : Lengths) (s : State) (text : Text) (marks : List ℕ) → readHeld (Held.holding lent s) text marks .answer .number ≡ 2 → ⊥
+unfolding readHeld heldAfter refusedWith
+read-not-two lent s text marks =
+    if-cases (λ (st : Stepped). st .answer .number ≡ 2 → ⊥) (tapeLengths (length text) (length marks)) (λ t e. reading-not-two lent s text marks e) (λ t e. omega arith)
+
+written-not-two : (g : TypeGraph) (graph : Sheet) (scratch : List ℕ) → written g graph scratch .answer .number ≡ 2 → ⊥
+unfolding written cleared
+written-not-two g graph scratch =
+    if-cases (λ (l : Lowered). l .answer .number ≡ 2 → ⊥) (graphFits (length (graph .rows)) (length (graph .names)) g) (λ t e. omega arith) (λ t e. omega arith)
+
+lowered-not-two : (s : State) (graph : Sheet) (scratch : List ℕ) (o : Option TypeGraph) → (elim o as (λ (x : Option TypeGraph). Lowered) [ none ↦ cleared 13 (unknownRow 2 (s .reader .schema .items)) graph scratch | some g ↦ written g graph scratch ]) .answer .number ≡ 2 → ⊥
+unfolding cleared
+lowered-not-two s graph scratch none e = omega arith
+lowered-not-two s graph scratch (some g) e = written-not-two g graph scratch e
+
+state-not-two : (s : State) (graph : Sheet) (scratch : List ℕ) → lowerState s graph scratch .answer .number ≡ 2 → ⊥
+unfolding lowerState unchanged cleared
+state-not-two s graph scratch =
+    if-cases (λ (l : Lowered). l .answer .number ≡ 2 → ⊥) (leb (finishedTypes (s .reader .schema)) (length scratch))
+    (λ t. if-cases (λ (l : Lowered). l .answer .number ≡ 2 → ⊥) (s .reader .rootSeen)
+    (λ r. lowered-not-two s graph scratch (lower (s .reader .schema))) (λ r e. omega arith))
+    (λ t e. omega arith)
+
+lower-not-two : (lent : Lengths) (s : State) (graph : Sheet) (scratch : List ℕ) → lowerHeld (Held.holding lent s) graph scratch .answer .number ≡ 2 → ⊥
+unfolding lowerHeld unchanged
+lower-not-two lent s graph scratch =
+    if-cases (λ (l : Lowered). l .answer .number ≡ 2 → ⊥) (lengthsOk graph) (λ t. state-not-two s graph scratch) (λ t e. omega arith)
+
+-- a reading on a state leaves a state
+read-holds : (lent : Lengths) (s : State) (text : Text) (marks : List ℕ) → (s′ : State) × (readHeld (Held.holding lent s) text marks .held ≡ Held.holding lent s′)
+unfolding readHeld heldAfter refusedWith
+read-holds lent s text marks =
+    if-cases (λ (st : Stepped). (s′ : State) × (st .held ≡ Held.holding lent s′)) (tapeLengths (length text) (length marks)) (λ t. (readState lent s text marks .state, refl)) (λ t. (s, refl))
+
+pub no-two-from : (calls : List Call) (lent : Lengths) (s : State) → NoneTwo (runCalls calls (Held.holding lent s) .answers)
+unfolding runCalls answeredFirst
+no-two-from [] lent s = noneLeft
+no-two-from (Call.reading text marks ∷ calls) lent s =
+    let k = read-holds lent s text marks in
+    let rest : NoneTwo (runCalls calls (readHeld (Held.holding lent s) text marks .held) .answers) = rw (k .1) (no-two-from calls lent (k .0)) in
+    oneMore (read-not-two lent s text marks) rest
+no-two-from (Call.lowering graph scratch ∷ calls) lent s = oneMore (lower-not-two lent s graph scratch) (no-two-from calls lent s)
+
+pub no-two : (x : Sheet) (calls : List Call) → goodLengths (lengthsOf x) ≡ true → good x ≡ true → NoneTwo (run x calls .answers)
+unfolding run hold
+no-two x calls l g = rw (l, g) (no-two-from calls (lengthsOf x) (stateOf x))

@@ -1,0 +1,5 @@
+-- The definitions of the crate `sheet`: what the schema sheet and the graph sheet share.
+pub mod Rows
+pub mod Lengths
+pub mod Form
+pub mod Unfold

@@ -1,0 +1,20 @@
+-- Laws of the definitions in specs/.
+pub mod EventTexts
+pub mod Outcomes
+pub mod Contents
+pub mod Readers
+pub mod Starts
+pub mod Empties
+pub mod Closes
+pub mod Steps
+pub mod Refusals
+pub mod Records
+pub mod Reads
+pub mod Answers
+pub mod Accepts
+pub mod Appended
+pub mod Cut
+pub mod CutRefused
+pub mod Facts
+pub mod Pieces
+pub mod CloseRoom

@@ -1,0 +1,175 @@
+-- The numbers of refusals: a record's are 3 to 5, an event's 6 to 11, of which 9 and 10 are the handlers'. Assumes nothing.
+--     Within low high k    the number k is one of low to high
+use mathlib.Core.Path.{_≡_}
+use mathlib.Core.Bool.{Bool, true, false}
+use mathlib.Core.List.{List, [], _∷_}
+use mathlib.Core.Option.{Option, some, none}
+use Prim.Native.Nat.{ℕ, zero, suc, _≤_, _*_, _^_}
+use native.Mathlib.Omega.{arith}
+use lib.Dec.{eqb, ltb}
+use lib.ListN.{length, drop}
+use Rattle.text.specs.Text.{Text, if_then_else_}
+use Rattle.number.specs.Number.{Parsed, parsed, refused, number, numeral, below, isNumeral, value as digitsValue, afterPlus}
+use Rattle.xsd_types.specs.Types.{MaxOccurs, SequenceElement}
+use Rattle.xsd_types.specs.State.{SimpleTypeBuilder, ComplexContentBuilder, ComplexTypeBuilder, Context, Reader, State}
+use Rattle.xsd_types.specs.Sheet.{stateFits}
+use Rattle.xsd_parser.specs.Event.{Tag, Event, tagIs, attrValue}
+use Rattle.xsd_parser.specs.Tape.{Pair, allInside, allAscii, Recorded, finished, bad, formTest, pairCount, pairsOf, tagRecord, record1}
+use Rattle.xsd_parser.specs.Handlers.{Outcome, refuse, onParsed, parseMinOccurs, parseMaxOccurs, isUnbounded, sequenceElement, onElementInsideComplex, contentAtTwo, onStartInSchema, onStartInComplexType, raisedComplex, onStart, facetValue, onEmptyInSimpleType, onEmptyInComplexType, onEmpty}
+use Rattle.xsd_parser.specs.Step.{Lengths, handled, closed, tagsAfter, counted, roomFor, step}
+use Rattle.xsd_parser.proofs.Laws.Outcomes.{Gives, value, refusal, Any, gives-if, gives-andThen, gives-parsed, gives-name, gives-refusal, gives-wider}
+use Rattle.text.proofs.Laws.Tests.{if-either}
+
+-- a number's refusal is 10, `InvalidAttributeValue`
+pub if-refused : (b : Bool) (p : Parsed) (r : ℕ) → ((k : ℕ) → p ≡ refused k → k ≡ 10) → _≡_ {A = Parsed} (if b then p else refused 10) (refused r) → r ≡ 10
+if-refused true p r h e = h r e
+if-refused false p r h e = cc
+
+pub below-refusal : (limit w r : ℕ) → below limit w ≡ refused r → r ≡ 10
+unfolding below
+below-refusal limit w r e = if-refused (ltb w limit) (parsed w) r (λ k q. let z : _≡_ {A = ℕ} 0 1 = cc in absurd (omega arith)) e
+
+pub number-refusal : (w : ℕ) (s : Text) (r : ℕ) → number w s ≡ refused r → r ≡ 10
+unfolding number numeral
+number-refusal w s r e = if-refused (isNumeral (afterPlus s)) _ r (below-refusal (2 ^ w) (digitsValue 0 (afterPlus s))) e
+
+abbrev pub Within : ℕ → ℕ → ℕ → Type 0
+Within low high k = (low ≤ k) × (k ≤ high)
+
+-- the handlers refuse with 9, `MissingAttribute`, or 10, `InvalidAttributeValue`
+abbrev pub HandlerRefusal : {A : Type 0} → Outcome A → Type 0
+HandlerRefusal o = Gives Any (Within 9 10) o
+
+pub parsed-refusal : {A : Type 0} (w : ℕ) (v : Text) (f : ℕ → A) → HandlerRefusal (onParsed (number w v) f)
+parsed-refusal w v f = gives-parsed (number w v) f (λ n q. tt) (λ r q. let h = number-refusal w v r q in omega arith)
+
+pub min-refusal : (o : Option Text) → HandlerRefusal (onParsed (parseMinOccurs o) (λ min. min))
+unfolding parseMinOccurs onParsed
+min-refusal none = value tt
+min-refusal (some v) = parsed-refusal 32 v (λ min. min)
+
+pub max-refusal : (o : Option Text) → HandlerRefusal (parseMaxOccurs o)
+unfolding parseMaxOccurs
+max-refusal none = value tt
+max-refusal (some v) = gives-if (isUnbounded v) (value tt) (parsed-refusal 32 v MaxOccurs.bounded)
+
+pub sequenceElement-refusal : (t : Tag) (name typeName : Option Text) (es : List SequenceElement) → HandlerRefusal (sequenceElement t name typeName es)
+unfolding sequenceElement
+sequenceElement-refusal t none typeName es = value tt
+sequenceElement-refusal t (some name) none es = value tt
+sequenceElement-refusal t (some name) (some typeName) es =
+    gives-andThen (min-refusal (attrValue t "minOccurs")) λ min p. gives-andThen (max-refusal (attrValue t "maxOccurs")) λ max q. value tt
+
+pub elementInside-refusal : (t : Tag) (c : ComplexContentBuilder) → HandlerRefusal (onElementInsideComplex t c)
+unfolding onElementInsideComplex
+elementInside-refusal t ComplexContentBuilder.empty = value tt
+elementInside-refusal t (ComplexContentBuilder.sequence es) = sequenceElement-refusal t (attrValue t "name") (attrValue t "type") es
+elementInside-refusal t (ComplexContentBuilder.choice vs) = value tt
+elementInside-refusal t (ComplexContentBuilder.simpleContent base xs flag) = value tt
+elementInside-refusal t (ComplexContentBuilder.any n) = value tt
+
+pub startInSchema-refusal : (t : Tag) (r : Reader) → HandlerRefusal (onStartInSchema t r)
+unfolding onStartInSchema
+startInSchema-refusal t r =
+    gives-if (tagIs t "simpleType") (gives-name t _ (λ v q. tt) (omega arith))
+    (gives-if (tagIs t "complexType") (gives-name t _ (λ v q. tt) (omega arith))
+    (gives-if (tagIs t "element") (value tt) (value tt)))
+
+pub startInComplex-refusal : (t : Tag) (b : ComplexTypeBuilder) → HandlerRefusal (onStartInComplexType t b)
+unfolding onStartInComplexType contentAtTwo
+startInComplex-refusal t b =
+    gives-if (eqb (b .nestingDepth) 1) (value tt)
+    (gives-if (eqb (b .nestingDepth) 2)
+    (gives-if (tagIs t "extension") (value tt) (gives-if (tagIs t "element") (elementInside-refusal t (b .content)) (value tt)))
+    (value tt))
+
+pub start-refusal : (t : Tag) (r : Reader) (x : Context) → HandlerRefusal (onStart t r x)
+unfolding onStart
+start-refusal t r Context.noContext = value tt
+start-refusal t r Context.inSchema = startInSchema-refusal t r
+start-refusal t r (Context.inSimpleType b) = value tt
+start-refusal t r (Context.inComplexType b) = gives-andThen (startInComplex-refusal t (raisedComplex b)) λ c p. value tt
+
+pub emptyInSimple-refusal : (t : Tag) (b : SimpleTypeBuilder) → HandlerRefusal (onEmptyInSimpleType t b)
+unfolding onEmptyInSimpleType
+emptyInSimple-refusal t b =
+    gives-if (tagIs t "restriction") (value tt)
+    (gives-if (tagIs t "enumeration") (value tt)
+    (gives-if (tagIs t "pattern") (value tt)
+    (gives-if (tagIs t "minLength") (parsed-refusal 64 (facetValue t) _)
+    (gives-if (tagIs t "maxLength") (parsed-refusal 64 (facetValue t) _)
+    (gives-if (tagIs t "minInclusive") (value tt)
+    (gives-if (tagIs t "maxInclusive") (value tt)
+    (gives-if (tagIs t "totalDigits") (parsed-refusal 32 (facetValue t) _)
+    (gives-if (tagIs t "fractionDigits") (parsed-refusal 32 (facetValue t) _) (value tt)))))))))
+
+pub emptyInComplex-refusal : (t : Tag) (c : ComplexContentBuilder) → HandlerRefusal (onEmptyInComplexType t c)
+unfolding onEmptyInComplexType
+emptyInComplex-refusal t c =
+    gives-if (tagIs t "element") (elementInside-refusal t c)
+    (gives-if (tagIs t "any") (value tt) (gives-if (tagIs t "attribute") (value tt) (value tt)))
+
+pub empty-refusal : (t : Tag) (r : Reader) (x : Context) → HandlerRefusal (onEmpty t r x)
+unfolding onEmpty
+empty-refusal t r Context.noContext = value tt
+empty-refusal t r Context.inSchema = value tt
+empty-refusal t r (Context.inSimpleType b) = gives-andThen (emptyInSimple-refusal t b) λ c p. value tt
+empty-refusal t r (Context.inComplexType b) = gives-andThen (emptyInComplex-refusal t (b .content)) λ c p. value tt
+
+pub handled-refusal : (e : Event) (r : Reader) → HandlerRefusal (handled e r)
+unfolding handled
+handled-refusal (Event.start t) r = start-refusal t r (r .context)
+handled-refusal (Event.empty t) r = empty-refusal t r (r .context)
+handled-refusal Event.close r = value tt
+
+-- 6 and 7 are the open tags'
+pub closed-refusal : (n : ℕ) → Gives Any (Within 6 11) (closed n)
+unfolding closed
+closed-refusal zero = refusal {r = 6} (omega arith)
+closed-refusal (suc n) = value tt
+
+pub tags-refusal : (e : Event) (n : ℕ) → Gives Any (Within 6 11) (tagsAfter e n)
+unfolding tagsAfter
+tags-refusal (Event.start t) n = gives-if (ltb n 255) (value tt) (refusal (omega arith))
+tags-refusal (Event.empty t) n = value tt
+tags-refusal Event.close n = closed-refusal n
+
+-- 11 is the room's, 8 the events'
+pub room-refusal : (lent : Lengths) (s : State) → Gives Any (Within 6 11) (roomFor lent s)
+unfolding roomFor
+room-refusal lent s = gives-if (stateFits (lent .rows) (lent .names) s) (value tt) (refusal (omega arith))
+
+pub step-gives : (lent : Lengths) (s : State) (e : Event) → Gives Any (Within 6 11) (step lent s e)
+unfolding step
+step-gives lent s e =
+    gives-if (ltb (s .events) 1000000)
+    (gives-andThen (tags-refusal e (s .openTags)) λ n p.
+    gives-andThen (gives-wider (λ r q. omega arith) (handled-refusal e (s .reader))) λ r q. room-refusal lent (counted s n r))
+    (refusal (omega arith))
+
+pub step-refusal : (lent : Lengths) (s : State) (e : Event) (k : ℕ) → step lent s e ≡ refuse k → Within 6 11 k
+step-refusal lent s e k q = gives-refusal (step-gives lent s e) q
+
+-- a record's refusal
+abbrev pub RecordRefusal : Recorded → Type 0
+RecordRefusal r = (k : ℕ) → r ≡ bad k → Within 3 5 k
+
+pub no-refusal : (r : Recorded) → ((k : ℕ) → r ≡ bad k → _≡_ {A = ℕ} 0 1) → RecordRefusal r
+no-refusal r h k q = let z = h k q in absurd (omega arith)
+
+pub tagRecord-refusal : (text : Text) (kind : ℕ) (ps : List Pair) (rest : List ℕ) → RecordRefusal (tagRecord text kind ps rest)
+unfolding tagRecord
+tagRecord-refusal text kind ps rest =
+    if-either RecordRefusal (allInside (length text) 0 ps)
+    (if-either RecordRefusal (allAscii text ps) (no-refusal _ λ k q. cc) (λ k q. let h : 5 ≡ k = cc in omega arith))
+    (λ k q. let h : 4 ≡ k = cc in omega arith)
+
+pub record-refusal : (text : Text) (marks : List ℕ) (k : ℕ) → record1 text marks ≡ bad k → Within 3 5 k
+unfolding record1
+record-refusal text [] = no-refusal finished λ k q. cc
+record-refusal text (kind ∷ []) = λ k q. let h : 3 ≡ k = cc in omega arith
+record-refusal text (kind ∷ count ∷ rest) =
+    if-either RecordRefusal (formTest kind count (length rest))
+    (if-either RecordRefusal (eqb kind 3) (no-refusal _ λ k q. cc)
+    (tagRecord-refusal text kind (pairsOf (pairCount count) rest) (drop (2 * pairCount count) rest)))
+    (λ k q. let h : 3 ≡ k = cc in omega arith)

@@ -1,0 +1,113 @@
+-- A start tag keeps a proper reader proper, with one open tag more. Assumes nothing.
+use mathlib.Core.Path.{_≡_, refl}
+use mathlib.Core.Bool.{true, _&&_}
+use mathlib.Core.Option.{Option, some, none}
+use Prim.Native.Nat.{ℕ, suc, _≤_}
+use native.Mathlib.Omega.{arith}
+use lib.Dec.{eqb}
+use Rattle.text.specs.Text.{Text, every, isText}
+use Rattle.xsd_types.specs.Types.{Item}
+use Rattle.xsd_types.specs.State.{SimpleTypeBuilder, ComplexContentBuilder, ComplexTypeBuilder, Context, Reader, contentOk, namespaceOk, elementOk, itemOk, schemaOk, contextOk, isNoContext}
+use Rattle.xsd_parser.specs.Event.{Tag, tagIs, attrValue}
+use Rattle.xsd_parser.specs.EventText.{tagOk}
+use Rattle.xsd_parser.specs.Handlers.{withItem, foundRoot, keptElement, onTopLevelElement, withBase, withContent, openSimpleType, openComplexType, onStartInSchema, raisedSimple, onStartInSimpleType, raisedComplex, onStart}
+use Rattle.xsd_parser.proofs.Laws.EventTexts.{value-text, value-or-empty-text}
+use Rattle.xsd_parser.proofs.Laws.Outcomes.{Gives, value, Any, gives-if, gives-andThen, gives-name}
+use Rattle.xsd_parser.proofs.Laws.Contents.{startInComplex-kept}
+use Rattle.xsd_parser.proofs.Laws.Readers.{ReaderOk, root-seen, seen-root, context-set, item-added, SimpleOk, simple-parts, simple-whole, ComplexOk, complex-parts, complex-whole, schema-tags, schema-whole, one-tag-more}
+use Rattle.text.proofs.Laws.Tests.{and-true, two, if-either}
+
+-- the namespace set anew
+pub namespace-set : (t : Tag) (r : Reader) → tagOk t ≡ true → schemaOk (r .schema) ≡ true → schemaOk (foundRoot t r .schema) ≡ true
+unfolding foundRoot schemaOk
+namespace-set t r e h = and-true (value-or-empty-text t "targetNamespace" e) (two (isText (r .schema .targetNamespace)) (every itemOk (r .schema .items)) h .1)
+
+-- a value that a lookup found
+pub found-text : (t : Tag) (v : Text) → tagOk t ≡ true → attrValue t "name" ≡ some v → isText v ≡ true
+unfolding namespaceOk
+found-text t v e q = let h : namespaceOk (some v) ≡ true = rw q at (value-text t "name" e) in h
+
+-- an element at the top
+pub keptElement-kept : (name typeName : Option Text) (r : Reader) (n : ℕ) → namespaceOk name ≡ true → namespaceOk typeName ≡ true → r .rootSeen ≡ true
+    → ReaderOk r n → ReaderOk (keptElement name typeName r) n
+unfolding keptElement namespaceOk withItem elementOk itemOk
+keptElement-kept none typeName r n p q h o = o
+keptElement-kept (some name) none r n p q h o = o
+keptElement-kept (some name) (some typeName) r n p q h o =
+    let i = Item.element (record { name = name; typeName = typeName }) in
+    record { root = seen-root (withItem i r) h; context = o .context; schema = item-added r i (and-true p q) (o .schema) }
+
+pub topLevel-kept : (t : Tag) (r : Reader) (n : ℕ) → tagOk t ≡ true → r .rootSeen ≡ true → ReaderOk r n → ReaderOk (onTopLevelElement t r) n
+unfolding onTopLevelElement
+topLevel-kept t r n e h o = keptElement-kept (attrValue t "name") (attrValue t "type") r n (value-text t "name" e) (value-text t "type" e) h o
+
+-- a reader that stays as it is, with one open tag more
+pub unchanged-kept : (r : Reader) (n : ℕ) → ReaderOk r n → ReaderOk r (suc n)
+unchanged-kept r n o = record { root = o .root; context = one-tag-more (r .context) n (o .context); schema = o .schema }
+
+-- a type opened in the schema has nesting 0, and the schema and the type are open
+pub openSimple-kept : (name : Text) (n : ℕ) → 1 ≤ n → isText name ≡ true → contextOk (openSimpleType name) (suc n) ≡ true
+unfolding openSimpleType every isText
+openSimple-kept name n h e = simple-whole _ (suc n) (record { tags = omega arith; name = e; base = refl; facets = refl })
+
+pub openComplex-kept : (name : Text) (n : ℕ) → 1 ≤ n → isText name ≡ true → contextOk (openComplexType name) (suc n) ≡ true
+unfolding openComplexType contentOk
+openComplex-kept name n h e = complex-whole _ (suc n) (record { tags = omega arith; name = e; content = refl })
+
+pub startInSchema-kept : (t : Tag) (r : Reader) (n : ℕ) → tagOk t ≡ true → r .rootSeen ≡ true → 1 ≤ n → ReaderOk r n
+    → Gives (λ x. ReaderOk x (suc n)) Any (onStartInSchema t r)
+unfolding onStartInSchema
+startInSchema-kept t r n e h k o =
+    gives-if (tagIs t "simpleType")
+    (gives-name t _ (λ v q. context-set r _ (suc n) h (openSimple-kept v n k (found-text t v e q)) (o .schema)) tt)
+    (gives-if (tagIs t "complexType")
+    (gives-name t _ (λ v q. context-set r _ (suc n) h (openComplex-kept v n k (found-text t v e q)) (o .schema)) tt)
+    (gives-if (tagIs t "element") (value (unchanged-kept _ n (topLevel-kept t r n e h o))) (value (unchanged-kept r n o))))
+
+-- a start in a simple type
+pub startInSimple-kept : (t : Tag) (b : SimpleTypeBuilder) (n : ℕ) → tagOk t ≡ true → SimpleOk b n → SimpleOk (onStartInSimpleType t (raisedSimple b)) (suc n)
+unfolding onStartInSimpleType raisedSimple withBase
+startInSimple-kept t b n e o =
+    if-either (λ x. SimpleOk x (suc n)) (eqb (suc (b .nestingDepth)) 1 && tagIs t "restriction")
+    (record { tags = omega arith; name = o .name; base = value-or-empty-text t "base" e; facets = o .facets })
+    (record { tags = omega arith; name = o .name; base = o .base; facets = o .facets })
+
+-- the complex type with another content
+pub content-set : (b : ComplexTypeBuilder) (c : ComplexContentBuilder) (n : ℕ) → ComplexOk b n → contentOk c ≡ true → ComplexOk (withContent b c) n
+unfolding withContent
+content-set b c n o h = record { tags = o .tags; name = o .name; content = h }
+
+pub raised-kept : (b : ComplexTypeBuilder) (n : ℕ) → ComplexOk b n → ComplexOk (raisedComplex b) (suc n)
+unfolding raisedComplex
+raised-kept b n o = record { tags = omega arith; name = o .name; content = o .content }
+
+-- a start outside the schema, in a simple type, in a complex type
+pub startOutside-kept : (t : Tag) (r : Reader) (n : ℕ) → tagOk t ≡ true → ReaderOk r n → Gives (λ x. ReaderOk x (suc n)) Any (onStart t r Context.noContext)
+unfolding onStart foundRoot
+startOutside-kept t r n e o =
+    value (if-either (λ x. ReaderOk x (suc n)) (tagIs t "schema")
+    (context-set (foundRoot t r) Context.inSchema (suc n) refl (schema-whole (suc n) (omega arith)) (namespace-set t r e (o .schema)))
+    (unchanged-kept r n o))
+
+pub startInSimpleType-kept : (t : Tag) (r : Reader) (n : ℕ) (b : SimpleTypeBuilder) → tagOk t ≡ true → r .rootSeen ≡ true → SimpleOk b n → schemaOk (r .schema) ≡ true
+    → Gives (λ x. ReaderOk x (suc n)) Any (onStart t r (Context.inSimpleType b))
+unfolding onStart
+startInSimpleType-kept t r n b e h p k = value (context-set r _ (suc n) h (simple-whole _ (suc n) (startInSimple-kept t b n e p)) k)
+
+pub startInComplexType-kept : (t : Tag) (r : Reader) (n : ℕ) (b : ComplexTypeBuilder) → tagOk t ≡ true → r .rootSeen ≡ true → ComplexOk b n → schemaOk (r .schema) ≡ true
+    → Gives (λ x. ReaderOk x (suc n)) Any (onStart t r (Context.inComplexType b))
+unfolding onStart
+startInComplexType-kept t r n b e h p k =
+    let o = raised-kept b n p in
+    gives-andThen (startInComplex-kept t (raisedComplex b) e (o .content)) λ c q.
+    value (context-set r _ (suc n) h (complex-whole _ (suc n) (content-set _ c (suc n) o q)) k)
+
+pub start-kept : (t : Tag) (r : Reader) (n : ℕ) (x : Context) → r .context ≡ x → tagOk t ≡ true → ReaderOk r n → Gives (λ x. ReaderOk x (suc n)) Any (onStart t r x)
+unfolding onStart isNoContext
+start-kept t r n Context.noContext q e o = startOutside-kept t r n e o
+start-kept t r n Context.inSchema q e o =
+    startInSchema-kept t r n e (root-seen r Context.inSchema q refl (o .root)) (schema-tags n (rw q at (o .context))) o
+start-kept t r n (Context.inSimpleType b) q e o =
+    startInSimpleType-kept t r n b e (root-seen r (Context.inSimpleType b) q refl (o .root)) (simple-parts b n (rw q at (o .context))) (o .schema)
+start-kept t r n (Context.inComplexType b) q e o =
+    startInComplexType-kept t r n b e (root-seen r (Context.inComplexType b) q refl (o .root)) (complex-parts b n (rw q at (o .context))) (o .schema)

@@ -1,0 +1,245 @@
+-- What an event does: 000 (parser.rs), `on_start`, `on_empty`, `on_end` and their sub-handlers, clause by clause.
+--     Outcome       a value, or a refusal with its number
+--     9             `MissingAttribute`
+--     10            `InvalidAttributeValue`
+use Prim.Native.Nat.{ℕ, zero, suc, _+_}
+use Prim.Native.String.{String}
+use mathlib.Core.List.{List, [], _∷_, _++_}
+use mathlib.Core.Bool.{Bool, true, false, _&&_}
+use mathlib.Core.Option.{Option, some, none}
+use lib.Dec.{eqb}
+use Rattle.text.specs.Text.{Text, if_then_else_, is}
+use Rattle.number.specs.Number.{Parsed, parsed, refused, number}
+use Rattle.xsd_types.specs.Types.{Element, Facet, SimpleType, MaxOccurs, SequenceElement, ChoiceVariant, Attribute, ComplexContent, ComplexType, Item, Schema}
+use Rattle.xsd_types.specs.State.{SimpleTypeBuilder, ComplexContentBuilder, ComplexTypeBuilder, Context, Reader, State, finish}
+use Rattle.xsd_parser.specs.Event.{Tag, tagIs, attrValue, orEmpty}
+
+pub data Outcome (A : Type 0) : Type 0 where
+  ok : A → Outcome A
+  refuse : ℕ → Outcome A
+
+infixr 15 _andThen_
+unfoldable pub _andThen_ : {A B : Type 0} → Outcome A → (A → Outcome B) → Outcome B
+_andThen_ (ok x) f = f x
+_andThen_ (refuse r) f = refuse r
+
+unfoldable pub onParsed : {A : Type 0} → Parsed → (ℕ → A) → Outcome A
+onParsed (parsed v) f = ok (f v)
+onParsed (refused r) f = refuse r
+
+-- the reader in another context; with one more item; with the namespace set anew
+unfoldable pub inContext : Context → Reader → Reader
+inContext x r = record { schema = r .schema; rootSeen = r .rootSeen; context = x }
+
+unfoldable pub withItem : Item → Reader → Reader
+withItem i r =
+    record {
+      schema = record { targetNamespace = r .schema .targetNamespace; items = r .schema .items ++ i ∷ [] };
+      rootSeen = r .rootSeen;
+      context = r .context;
+    }
+
+-- "a start or empty `schema` sets root seen and the namespace anew (empty if absent)"
+unfoldable pub foundRoot : Tag → Reader → Reader
+foundRoot t r =
+    record {
+      schema = record { targetNamespace = orEmpty (attrValue t "targetNamespace"); items = r .schema .items };
+      rootSeen = true;
+      context = r .context;
+    }
+
+-- 000, `on_top_level_element`: "`element`, start or empty, is kept if it has name and type"
+unfoldable pub keptElement : Option Text → Option Text → Reader → Reader
+keptElement none typeName r = r
+keptElement (some name) none r = r
+keptElement (some name) (some typeName) r = withItem (Item.element (record { name = name; typeName = typeName })) r
+
+unfoldable pub onTopLevelElement : Tag → Reader → Reader
+onTopLevelElement t r = keptElement (attrValue t "name") (attrValue t "type") r
+
+-- 000, `require_attr`: 9 where it is absent
+unfoldable pub requireName : {A : Type 0} → Tag → (Text → A) → Outcome A
+requireName t f = elim (attrValue t "name") [ none ↦ refuse 9 | some name ↦ ok (f name) ]
+
+-- 000, `parse_min_occurs` and `parse_max_occurs`. XML Schema Part 1, 3.9.2: minOccurs and maxOccurs default to 1
+unfoldable pub parseMinOccurs : Option Text → Parsed
+parseMinOccurs none = parsed 1
+parseMinOccurs (some v) = number 32 v
+
+-- "a max of exactly `unbounded`"
+unfoldable pub isUnbounded : Text → Bool
+isUnbounded v = is v "unbounded"
+
+unfoldable pub parseMaxOccurs : Option Text → Outcome MaxOccurs
+parseMaxOccurs none = ok (MaxOccurs.bounded 1)
+parseMaxOccurs (some v) = if isUnbounded v then ok MaxOccurs.unbounded else onParsed (number 32 v) MaxOccurs.bounded
+
+-- a builder with another base or one more facet; with another content
+unfoldable pub withBase : Text → SimpleTypeBuilder → SimpleTypeBuilder
+withBase base t = record { name = t .name; base = base; facets = t .facets; nestingDepth = t .nestingDepth }
+
+unfoldable pub withFacet : SimpleTypeBuilder → Facet → SimpleTypeBuilder
+withFacet t f = record { name = t .name; base = t .base; facets = t .facets ++ f ∷ []; nestingDepth = t .nestingDepth }
+
+unfoldable pub withContent : ComplexTypeBuilder → ComplexContentBuilder → ComplexTypeBuilder
+withContent t content = record { name = t .name; content = content; nestingDepth = t .nestingDepth }
+
+-- 000, `on_element_inside_complex`: "Occurs are read only in a sequence and only then, min before max, default 1"
+unfoldable pub sequenceElement : Tag → Option Text → Option Text → List SequenceElement → Outcome ComplexContentBuilder
+sequenceElement t none typeName es = ok (ComplexContentBuilder.sequence es)
+sequenceElement t (some name) none es = ok (ComplexContentBuilder.sequence es)
+sequenceElement t (some name) (some typeName) es =
+    onParsed (parseMinOccurs (attrValue t "minOccurs")) (λ min. min) andThen λ min.
+    parseMaxOccurs (attrValue t "maxOccurs") andThen λ max.
+    ok (ComplexContentBuilder.sequence (es ++ record { name = name; typeName = typeName; minOccurs = min; maxOccurs = max } ∷ []))
+
+unfoldable pub choiceVariant : Option Text → Option Text → List ChoiceVariant → ComplexContentBuilder
+choiceVariant none typeName vs = ComplexContentBuilder.choice vs
+choiceVariant (some name) none vs = ComplexContentBuilder.choice vs
+choiceVariant (some name) (some typeName) vs = ComplexContentBuilder.choice (vs ++ record { name = name; typeName = typeName } ∷ [])
+
+unfoldable pub onElementInsideComplex : Tag → ComplexContentBuilder → Outcome ComplexContentBuilder
+onElementInsideComplex t ComplexContentBuilder.empty = ok ComplexContentBuilder.empty
+onElementInsideComplex t (ComplexContentBuilder.sequence es) = sequenceElement t (attrValue t "name") (attrValue t "type") es
+onElementInsideComplex t (ComplexContentBuilder.choice vs) = ok (choiceVariant (attrValue t "name") (attrValue t "type") vs)
+onElementInsideComplex t (ComplexContentBuilder.simpleContent base xs flag) = ok (ComplexContentBuilder.simpleContent base xs flag)
+onElementInsideComplex t (ComplexContentBuilder.any n) = ok (ComplexContentBuilder.any n)
+
+-- 000, `on_attribute_inside_complex`: "Empty `attribute` with name and type counts once the flag is set ..; required means `use` is exactly `required`."
+unfoldable pub isRequired : Option Text → Bool
+isRequired none = false
+isRequired (some v) = is v "required"
+
+unfoldable pub attributeAdded : Tag → Option Text → Option Text → List Attribute → List Attribute
+attributeAdded t none typeName xs = xs
+attributeAdded t (some name) none xs = xs
+attributeAdded t (some name) (some typeName) xs =
+    xs ++ record { name = name; typeName = typeName; required = isRequired (attrValue t "use") } ∷ []
+
+unfoldable pub onAttributeInsideComplex : Tag → ComplexContentBuilder → ComplexContentBuilder
+onAttributeInsideComplex t ComplexContentBuilder.empty = ComplexContentBuilder.empty
+onAttributeInsideComplex t (ComplexContentBuilder.sequence es) = ComplexContentBuilder.sequence es
+onAttributeInsideComplex t (ComplexContentBuilder.choice vs) = ComplexContentBuilder.choice vs
+onAttributeInsideComplex t (ComplexContentBuilder.simpleContent base xs false) = ComplexContentBuilder.simpleContent base xs false
+onAttributeInsideComplex t (ComplexContentBuilder.simpleContent base xs true) =
+    ComplexContentBuilder.simpleContent base (attributeAdded t (attrValue t "name") (attrValue t "type") xs) true
+onAttributeInsideComplex t (ComplexContentBuilder.any n) = ComplexContentBuilder.any n
+
+-- "start `extension` at 2 inside simple content sets base and flag": the content as it stands decides
+unfoldable pub onExtension : Tag → ComplexContentBuilder → ComplexContentBuilder
+onExtension t ComplexContentBuilder.empty = ComplexContentBuilder.empty
+onExtension t (ComplexContentBuilder.sequence es) = ComplexContentBuilder.sequence es
+onExtension t (ComplexContentBuilder.choice vs) = ComplexContentBuilder.choice vs
+onExtension t (ComplexContentBuilder.simpleContent base xs flag) = ComplexContentBuilder.simpleContent (orEmpty (attrValue t "base")) xs true
+onExtension t (ComplexContentBuilder.any n) = ComplexContentBuilder.any n
+
+-- ---- on_start
+
+-- 000: `Some(Context::Schema)`. "start `simpleType` or `complexType` needs a name and opens a type"
+unfoldable pub openSimpleType : Text → Context
+openSimpleType name = Context.inSimpleType (record { name = name; base = []; facets = []; nestingDepth = 0 })
+
+unfoldable pub openComplexType : Text → Context
+openComplexType name = Context.inComplexType (record { name = name; content = ComplexContentBuilder.empty; nestingDepth = 0 })
+
+unfoldable pub onStartInSchema : Tag → Reader → Outcome Reader
+onStartInSchema t r =
+    if tagIs t "simpleType" then requireName t (λ name. inContext (openSimpleType name) r) else
+    if tagIs t "complexType" then requireName t (λ name. inContext (openComplexType name) r) else
+    if tagIs t "element" then ok (onTopLevelElement t r) else ok r
+
+-- "Simple type: each start raises nesting; `restriction` at nesting 1 .. sets the base"
+unfoldable pub raisedSimple : SimpleTypeBuilder → SimpleTypeBuilder
+raisedSimple t = record { name = t .name; base = t .base; facets = t .facets; nestingDepth = suc (t .nestingDepth) }
+
+unfoldable pub onStartInSimpleType : Tag → SimpleTypeBuilder → SimpleTypeBuilder
+onStartInSimpleType t b =
+    if eqb (b .nestingDepth) 1 && tagIs t "restriction" then withBase (orEmpty (attrValue t "base")) b else b
+
+-- "Complex type: each start raises nesting; start `sequence`, `choice`, `simpleContent` at 1 replaces the content, flag 0"
+unfoldable pub raisedComplex : ComplexTypeBuilder → ComplexTypeBuilder
+raisedComplex t = record { name = t .name; content = t .content; nestingDepth = suc (t .nestingDepth) }
+
+unfoldable pub contentStarted : Tag → ComplexContentBuilder → ComplexContentBuilder
+contentStarted t content =
+    if tagIs t "sequence" then ComplexContentBuilder.sequence [] else
+    if tagIs t "choice" then ComplexContentBuilder.choice [] else
+    if tagIs t "simpleContent" then ComplexContentBuilder.simpleContent [] [] false else content
+
+unfoldable pub contentAtTwo : Tag → ComplexContentBuilder → Outcome ComplexContentBuilder
+contentAtTwo t content =
+    if tagIs t "extension" then ok (onExtension t content) else
+    if tagIs t "element" then onElementInsideComplex t content else ok content
+
+-- 000: match (b.nesting_depth, local), after the raise
+unfoldable pub onStartInComplexType : Tag → ComplexTypeBuilder → Outcome ComplexContentBuilder
+onStartInComplexType t b =
+    if eqb (b .nestingDepth) 1 then ok (contentStarted t (b .content)) else
+    if eqb (b .nestingDepth) 2 then contentAtTwo t (b .content) else ok (b .content)
+
+unfoldable pub onStart : Tag → Reader → Context → Outcome Reader
+onStart t r Context.noContext = ok (if tagIs t "schema" then inContext Context.inSchema (foundRoot t r) else r)
+onStart t r Context.inSchema = onStartInSchema t r
+onStart t r (Context.inSimpleType b) = ok (inContext (Context.inSimpleType (onStartInSimpleType t (raisedSimple b))) r)
+onStart t r (Context.inComplexType b) =
+    onStartInComplexType t (raisedComplex b) andThen λ content.
+    ok (inContext (Context.inComplexType (withContent (raisedComplex b) content)) r)
+
+-- ---- on_empty
+
+-- 000: "Empty facets count at any depth"; "an absent base or facet value is empty text"
+unfoldable pub facetValue : Tag → Text
+facetValue t = orEmpty (attrValue t "value")
+
+unfoldable pub onEmptyInSimpleType : Tag → SimpleTypeBuilder → Outcome SimpleTypeBuilder
+onEmptyInSimpleType t b =
+    let v = facetValue t in
+    if tagIs t "restriction" then ok (withBase (orEmpty (attrValue t "base")) b) else
+    if tagIs t "enumeration" then ok (withFacet b (Facet.enumeration v)) else
+    if tagIs t "pattern" then ok (withFacet b (Facet.pattern v)) else
+    if tagIs t "minLength" then onParsed (number 64 v) (λ n. withFacet b (Facet.minLength n)) else
+    if tagIs t "maxLength" then onParsed (number 64 v) (λ n. withFacet b (Facet.maxLength n)) else
+    if tagIs t "minInclusive" then ok (withFacet b (Facet.minInclusive v)) else
+    if tagIs t "maxInclusive" then ok (withFacet b (Facet.maxInclusive v)) else
+    if tagIs t "totalDigits" then onParsed (number 32 v) (λ n. withFacet b (Facet.totalDigits n)) else
+    if tagIs t "fractionDigits" then onParsed (number 32 v) (λ n. withFacet b (Facet.fractionDigits n)) else ok b
+
+-- "Empty `any` replaces the content, flag 0."
+unfoldable pub onEmptyInComplexType : Tag → ComplexContentBuilder → Outcome ComplexContentBuilder
+onEmptyInComplexType t content =
+    if tagIs t "element" then onElementInsideComplex t content else
+    if tagIs t "any" then ok (ComplexContentBuilder.any (attrValue t "namespace")) else
+    if tagIs t "attribute" then ok (onAttributeInsideComplex t content) else ok content
+
+unfoldable pub onEmpty : Tag → Reader → Context → Outcome Reader
+onEmpty t r Context.noContext = ok (if tagIs t "schema" then foundRoot t r else r)
+onEmpty t r Context.inSchema = ok (if tagIs t "element" then onTopLevelElement t r else r)
+onEmpty t r (Context.inSimpleType b) =
+    onEmptyInSimpleType t b andThen λ next. ok (inContext (Context.inSimpleType next) r)
+onEmpty t r (Context.inComplexType b) =
+    onEmptyInComplexType t (b .content) andThen λ content. ok (inContext (Context.inComplexType (withContent b content)) r)
+
+-- ---- on_end
+
+-- "A close lowers nesting, or at 0 finishes the type, flag 0, and returns to context 1."
+unfoldable pub closeSimpleType : SimpleTypeBuilder → ℕ → Reader → Reader
+closeSimpleType b zero r =
+    inContext Context.inSchema (withItem (Item.simpleType (record { name = b .name; base = b .base; facets = b .facets })) r)
+closeSimpleType b (suc n) r =
+    inContext (Context.inSimpleType (record { name = b .name; base = b .base; facets = b .facets; nestingDepth = n })) r
+
+unfoldable pub closeComplexType : ComplexTypeBuilder → ℕ → Reader → Reader
+closeComplexType b zero r =
+    inContext Context.inSchema (withItem (Item.complexType (record { name = b .name; content = finish (b .content) })) r)
+closeComplexType b (suc n) r =
+    inContext (Context.inComplexType (record { name = b .name; content = b .content; nestingDepth = n })) r
+
+-- "Any close leads to context 0." 000: `Some(Context::Schema)` pops the context
+unfoldable pub closeInSchema : Reader → Reader
+closeInSchema r = inContext Context.noContext r
+
+unfoldable pub onEnd : Reader → Context → Reader
+onEnd r Context.noContext = r
+onEnd r Context.inSchema = closeInSchema r
+onEnd r (Context.inSimpleType b) = closeSimpleType b (b .nestingDepth) r
+onEnd r (Context.inComplexType b) = closeComplexType b (b .nestingDepth) r

@@ -1,0 +1,48 @@
+-- One event on a state, with the refusals 6 to 11 in the paper's order. "Reading: .. event by event 3, 4, 5, 8, then 6 or 7, 9, 10, 11"
+--     Lengths       the lengths of the sheet's two buffers
+--     handled       the handlers of 000 on the reader
+--     tagsAfter     the open tags after an event; 6 "close with no tag open", 7 "start with 255 open"
+--     counted       the state with one event more done
+--     roomFor       the state where it has room; 11 "the state after the event needs more rows or names than lent"
+--     step          the state after the event, or the refusal
+use Prim.Native.Nat.{ℕ, zero, suc, _+_}
+use mathlib.Core.Bool.{Bool, true, false}
+use lib.Dec.{leb, ltb}
+use Rattle.text.specs.Text.{if_then_else_}
+use Rattle.xsd_types.specs.State.{Reader, State}
+use Rattle.xsd_types.specs.Sheet.{stateFits}
+use Rattle.xsd_parser.specs.Event.{Event}
+use Rattle.xsd_parser.specs.Handlers.{Outcome, ok, refuse, _andThen_, onStart, onEmpty, onEnd}
+
+pub record Lengths : Type 0 where
+  pub rows : ℕ
+  pub names : ℕ
+
+unfoldable pub handled : Event → Reader → Outcome Reader
+handled (Event.start t) r = onStart t r (r .context)
+handled (Event.empty t) r = onEmpty t r (r .context)
+handled Event.close r = ok (onEnd r (r .context))
+
+unfoldable pub closed : ℕ → Outcome ℕ
+closed zero = refuse 6
+closed (suc n) = ok n
+
+unfoldable pub tagsAfter : Event → ℕ → Outcome ℕ
+tagsAfter (Event.start t) n = if ltb n 255 then ok (suc n) else refuse 7
+tagsAfter (Event.empty t) n = ok n
+tagsAfter Event.close n = closed n
+
+unfoldable pub counted : State → ℕ → Reader → State
+counted s openTags r = record { reader = r; events = suc (s .events); openTags = openTags }
+
+unfoldable pub roomFor : Lengths → State → Outcome State
+roomFor lent s = if stateFits (lent .rows) (lent .names) s then ok s else refuse 11
+
+-- 8: "1,000,000 events done"
+unfoldable pub step : Lengths → State → Event → Outcome State
+step lent s e =
+    if ltb (s .events) 1000000
+    then tagsAfter e (s .openTags) andThen (λ openTags.
+    handled e (s .reader) andThen (λ r.
+    roomFor lent (counted s openTags r)))
+    else refuse 8

@@ -1,0 +1,20 @@
+-- Laws of the definitions in specs/. From a state: Order of tags behind heads, Groups of a head with its children, Sound rows of a proper state,
+-- Items and Back from rows to the state again, Made the tests of a good sheet, SheetOf both for a state's sheet, Clear for a cleared one.
+-- From a sheet: Shapes and Rows of a row by its tag, Heads with what stands behind them, Parse of rows in order, Open of the tests of row 0,
+-- Parts of a good sheet, Read its rows, StateOf its state.
+pub mod Order
+pub mod Groups
+pub mod Sound
+pub mod Items
+pub mod Back
+pub mod Made
+pub mod SheetOf
+pub mod Clear
+pub mod Shapes
+pub mod Rows
+pub mod Heads
+pub mod Parse
+pub mod Open
+pub mod Parts
+pub mod Read
+pub mod StateOf

@@ -1,0 +1,161 @@
+-- A row of a tag's form, with texts and numbers within their width, is the row of a child or the head of an item. Assumes nothing.
+use mathlib.Core.Path.{_≡_, refl}
+use mathlib.Core.Logic.{⊎-elim}
+use mathlib.Core.Bool.{Bool, true, false, _&&_, _||_}
+use mathlib.Core.List.{[], _∷_}
+use Prim.Native.Nat.{ℕ, zero, suc, _+_, _*_, _%_, _/_, _^_, _<_}
+use native.Mathlib.Omega.{arith}
+use lib.Dec.{eqb, ltb, eqb·suc-zero}
+use borrow.Author.Tests.{leb-true, ltb-true, lt-ltb}
+use Rattle.text.specs.Text.{isText, between}
+use Rattle.sheet.specs.Rows.{Row, row, bit}
+use Rattle.sheet.specs.Form.{isFlag}
+use Rattle.xsd_types.specs.Types.{Facet, MaxOccurs}
+use Rattle.xsd_types.specs.State.{facetOk, maxOccursOk, sequenceElementOk, choiceVariantOk, attributeOk}
+use Rattle.xsd_types.specs.Rows.{facetRow, occursRow, elementRow, variantRow, attributeRow}
+use Rattle.xsd_types.specs.Good.{usedPairs}
+use Rattle.xsd_types.specs.Back.{text0, text1}
+use Rattle.xsd_types.proofs.Laws.Sound.{soundRow}
+use Rattle.xsd_types.proofs.Laws.Shapes.{usesA, usesB, text-getD, tag-form, form-parts, zero-a, zero-b, shape, none-used, one-used, two-used}
+use Rattle.text.proofs.Laws.Tests.{and-true-left, and-true-right, and-true}
+use Rattle.text.proofs.Laws.Every.{between-split, between-none}
+
+-- a and b are u32
+unfoldable pub wordRow : Row → Bool
+wordRow r = ltb (r .a) (2 ^ 32) && ltb (r .b) (2 ^ 32)
+
+pub word-a : (r : Row) → wordRow r ≡ true → r .a < 2 ^ 32
+unfolding wordRow
+word-a r w = ltb-true (r .a) (2 ^ 32) (and-true-left _ _ w)
+
+pub word-b : (r : Row) → wordRow r ≡ true → r .b < 2 ^ 32
+unfolding wordRow
+word-b r w = ltb-true (r .b) (2 ^ 32) (and-true-right (ltb (r .a) (2 ^ 32)) _ w)
+
+pub text0-ok : (r : Row) → soundRow r ≡ true → isText (text0 r) ≡ true
+unfolding text0
+text0-ok r s = text-getD r 0 s
+
+pub text1-ok : (r : Row) → soundRow r ≡ true → isText (text1 r) ≡ true
+unfolding text1
+text1-ok r s = text-getD r 1 s
+
+module _ (r : Row) (s : soundRow r ≡ true) (w : wordRow r ≡ true) where
+  -- a row of one text, of two, with no numbers
+  pub plain-one : (k : ℕ) → r .tag ≡ k → usesA k ≡ false → usesB k ≡ false → usedPairs k 0 ≡ 1 → r ≡ row k (text0 r ∷ []) 0 0 0
+  plain-one k t f g u =
+      let a = zero-a r k t s f in
+      shape r k t s (text0 r ∷ []) 0 0 (one-used r k t s (rw a u)) a (zero-b r k t s g)
+
+  pub plain-two : (k : ℕ) → r .tag ≡ k → usesA k ≡ false → usesB k ≡ false → usedPairs k 0 ≡ 2 → r ≡ row k (text0 r ∷ text1 r ∷ []) 0 0 0
+  plain-two k t f g u =
+      let a = zero-a r k t s f in
+      shape r k t s (text0 r ∷ text1 r ∷ []) 0 0 (two-used r k t s (rw a u)) a (zero-b r k t s g)
+
+  pub low-half : (r .a + r .b * 2 ^ 32) % 2 ^ 32 ≡ r .a
+  low-half = omega (arith, word-a r w)
+
+  pub high-half : (r .a + r .b * 2 ^ 32) / 2 ^ 32 ≡ r .b
+  high-half = omega (arith, word-a r w)
+
+  pub whole : ltb (r .a + r .b * 2 ^ 32) (2 ^ 64) ≡ true
+  whole = lt-ltb (r .a + r .b * 2 ^ 32) (2 ^ 64) (omega (arith, word-a r w, word-b r w))
+
+-- the row of a value that passes the test
+pub record RowOf {A : Type 0} (ok : A → Bool) (f : A → Row) (r : Row) : Type 0 where
+  pub value : A
+  pub valueOk : ok value ≡ true
+  pub same : r ≡ f value
+
+pub data FacetTag : ℕ → Type 0 where
+  enumeration : FacetTag 4
+  pattern : FacetTag 5
+  minLength : FacetTag 6
+  maxLength : FacetTag 7
+  minInclusive : FacetTag 8
+  maxInclusive : FacetTag 9
+  totalDigits : FacetTag 10
+  fractionDigits : FacetTag 11
+
+module _ (k : ℕ) where
+  facets-from-11 : between 11 11 k ≡ true → FacetTag k
+  facets-from-11 e = ⊎-elim (λ w. rw w FacetTag.fractionDigits) (λ w. absurd (between-none 12 11 k (omega arith) w)) (between-split 11 11 k e)
+
+  facets-from-10 : between 10 11 k ≡ true → FacetTag k
+  facets-from-10 e = ⊎-elim (λ w. rw w FacetTag.totalDigits) facets-from-11 (between-split 10 11 k e)
+
+  facets-from-9 : between 9 11 k ≡ true → FacetTag k
+  facets-from-9 e = ⊎-elim (λ w. rw w FacetTag.maxInclusive) facets-from-10 (between-split 9 11 k e)
+
+  facets-from-8 : between 8 11 k ≡ true → FacetTag k
+  facets-from-8 e = ⊎-elim (λ w. rw w FacetTag.minInclusive) facets-from-9 (between-split 8 11 k e)
+
+  facets-from-7 : between 7 11 k ≡ true → FacetTag k
+  facets-from-7 e = ⊎-elim (λ w. rw w FacetTag.maxLength) facets-from-8 (between-split 7 11 k e)
+
+  facets-from-6 : between 6 11 k ≡ true → FacetTag k
+  facets-from-6 e = ⊎-elim (λ w. rw w FacetTag.minLength) facets-from-7 (between-split 6 11 k e)
+
+  facets-from-5 : between 5 11 k ≡ true → FacetTag k
+  facets-from-5 e = ⊎-elim (λ w. rw w FacetTag.pattern) facets-from-6 (between-split 5 11 k e)
+
+  pub facetTag : between 4 11 k ≡ true → FacetTag k
+  facetTag e = ⊎-elim (λ w. rw w FacetTag.enumeration) facets-from-5 (between-split 4 11 k e)
+
+-- a flag is the number of a test
+pub bit-again : (a : ℕ) → isFlag a ≡ true → bit (eqb a 1) ≡ a
+unfolding isFlag bit
+bit-again zero e = refl
+bit-again (suc zero) e = refl
+bit-again (suc (suc a)) e = absurd (omega (arith, leb-true (suc (suc a)) 1 e))
+
+pub flag-of : (a : ℕ) → eqb a 0 || false || false || false || isFlag a ≡ true → isFlag a ≡ true
+unfolding isFlag
+flag-of zero e = refl
+flag-of (suc a) e = rw (eqb·suc-zero a) at e
+
+module _ (r : Row) (s : soundRow r ≡ true) (w : wordRow r ≡ true) where
+  pub facet-row : {k : ℕ} → FacetTag k → r .tag ≡ k → RowOf facetOk facetRow r
+  unfolding facetRow facetOk usesA usesB usedPairs between
+  facet-row enumeration t = record { value = Facet.enumeration (text0 r); valueOk = text0-ok r s; same = plain-one r s w 4 t refl refl refl }
+  facet-row pattern t = record { value = Facet.pattern (text0 r); valueOk = text0-ok r s; same = plain-one r s w 5 t refl refl refl }
+  facet-row minLength t = record { value = Facet.minLength (r .a + r .b * 2 ^ 32); valueOk = whole r s w; same = rw (low-half r s w, high-half r s w) (shape r 6 t s [] (r .a) (r .b) (none-used r 6 t s refl) refl refl) }
+  facet-row maxLength t = record { value = Facet.maxLength (r .a + r .b * 2 ^ 32); valueOk = whole r s w; same = rw (low-half r s w, high-half r s w) (shape r 7 t s [] (r .a) (r .b) (none-used r 7 t s refl) refl refl) }
+  facet-row minInclusive t = record { value = Facet.minInclusive (text0 r); valueOk = text0-ok r s; same = plain-one r s w 8 t refl refl refl }
+  facet-row maxInclusive t = record { value = Facet.maxInclusive (text0 r); valueOk = text0-ok r s; same = plain-one r s w 9 t refl refl refl }
+  facet-row totalDigits t = record { value = Facet.totalDigits (r .a); valueOk = lt-ltb (r .a) (2 ^ 32) (word-a r w); same = shape r 10 t s [] (r .a) 0 (none-used r 10 t s refl) refl (zero-b r 10 t s refl) }
+  facet-row fractionDigits t = record { value = Facet.fractionDigits (r .a); valueOk = lt-ltb (r .a) (2 ^ 32) (word-a r w); same = shape r 11 t s [] (r .a) 0 (none-used r 11 t s refl) refl (zero-b r 11 t s refl) }
+
+  pub bounded-row : r .tag ≡ 17 → RowOf sequenceElementOk elementRow r
+  unfolding sequenceElementOk maxOccursOk elementRow occursRow usedPairs between
+  bounded-row t =
+      record {
+        value = record { name = text0 r; typeName = text1 r; minOccurs = r .a; maxOccurs = MaxOccurs.bounded (r .b) };
+        valueOk = and-true (and-true (and-true (text0-ok r s) (text1-ok r s)) (lt-ltb (r .a) (2 ^ 32) (word-a r w))) (lt-ltb (r .b) (2 ^ 32) (word-b r w));
+        same = shape r 17 t s (text0 r ∷ text1 r ∷ []) (r .a) (r .b) (two-used r 17 t s refl) refl refl;
+      }
+
+  pub unbounded-row : r .tag ≡ 18 → RowOf sequenceElementOk elementRow r
+  unfolding sequenceElementOk maxOccursOk elementRow occursRow usedPairs between usesB
+  unbounded-row t =
+      record {
+        value = record { name = text0 r; typeName = text1 r; minOccurs = r .a; maxOccurs = MaxOccurs.unbounded };
+        valueOk = and-true (and-true (and-true (text0-ok r s) (text1-ok r s)) (lt-ltb (r .a) (2 ^ 32) (word-a r w))) refl;
+        same = shape r 18 t s (text0 r ∷ text1 r ∷ []) (r .a) 0 (two-used r 18 t s refl) refl (zero-b r 18 t s refl);
+      }
+
+  pub element-row : between 17 18 (r .tag) ≡ true → RowOf sequenceElementOk elementRow r
+  element-row e = ⊎-elim bounded-row (λ f. ⊎-elim unbounded-row (λ g. absurd (between-none 19 18 (r .tag) (omega arith) g)) (between-split 18 18 (r .tag) f)) (between-split 17 18 (r .tag) e)
+
+  pub variant-row : r .tag ≡ 19 → RowOf choiceVariantOk variantRow r
+  unfolding choiceVariantOk variantRow usedPairs between usesA usesB
+  variant-row t = record { value = record { name = text0 r; typeName = text1 r }; valueOk = and-true (text0-ok r s) (text1-ok r s); same = plain-two r s w 19 t refl refl refl }
+
+  pub attribute-row : r .tag ≡ 20 → RowOf attributeOk attributeRow r
+  unfolding attributeOk attributeRow usedPairs between usesB
+  attribute-row t =
+      record {
+        value = record { name = text0 r; typeName = text1 r; required = eqb (r .a) 1 };
+        valueOk = and-true (text0-ok r s) (text1-ok r s);
+        same = rw (bit-again (r .a) (flag-of (r .a) (form-parts 20 (r .a) (r .b) (r .c) (tag-form r 20 t s) .3))) (shape r 20 t s (text0 r ∷ text1 r ∷ []) (r .a) 0 (two-used r 20 t s refl) refl (zero-b r 20 t s refl));
+      }

@@ -1,0 +1,139 @@
+-- A good sheet of u32 is the sheet of a proper state that has room in its buffers, and that state is the one read from it. Assumes nothing.
+use mathlib.Core.Path.{_≡_, refl, sym, ap, _∙_}
+use mathlib.Core.Logic.{⊎-elim, _↔_}
+use mathlib.Core.Bool.{true, _&&_, false≢true}
+use mathlib.Core.List.{List, [], _∷_, _++_}
+use Prim.Native.Nat.{_+_, _≤_}
+use native.Mathlib.Omega.{arith}
+use lib.Dec.{eqb}
+use lib.ListN.{length, length-append}
+use borrow.Author.Tests.{eqb-true}
+use Rattle.text.specs.Text.{Text, every, isText, join}
+use Rattle.text.proofs.Laws.Tests.{three, or-left, or-right, or-cases, and-true-left, and-true}
+use Rattle.sheet.specs.Rows.{Ten, Row, Sheet, row, namesOf}
+use Rattle.xsd_types.specs.Types.{Item}
+use Rattle.xsd_types.specs.State.{Context, State, schemaOk, isNoContext, isEmpty, rootOk, countersOk, proper}
+use Rattle.xsd_types.specs.Rows.{namespaceRow, row0Last, itemRows, itemsRows, contextRows, rowsOf, contextNumber, rowsUsed, namesUsed, row0}
+use Rattle.xsd_types.specs.Sheet.{stateFits, sheetOf}
+use Rattle.xsd_types.specs.Good.{limits, rootTest, good}
+use Rattle.xsd_types.specs.Back.{rowsIn, stateOf}
+use Rattle.xsd_types.proofs.Laws.Groups.{isGroup}
+use Rattle.xsd_types.proofs.Laws.Items.{group-item}
+use Rattle.xsd_types.proofs.Laws.Sound.{textRow}
+use Rattle.xsd_types.proofs.Laws.Rows.{bit-again}
+use Rattle.xsd_types.proofs.Laws.Parts.{Parts, parts-of, used-fits, first-of}
+use Rattle.xsd_types.proofs.Laws.Read.{names-length, names-text, sheet-again, rows-length, bodyIn, namespaceAt, rows-split, body-opened}
+use Rattle.xsd_types.proofs.Laws.SheetOf.{good-sheetOf, stateOf-sheetOf}
+use Rattle.text.proofs.Laws.Every.{every-head}
+use Rattle.sheet.specs.Form.{row0Of, words}
+
+-- a state of row 0's numbers
+unfoldable pub stateWith : Ten → Text → List Item → Context → State
+stateWith z ns is c =
+    record {
+      reader = record { schema = record { targetNamespace = ns; items = is }; rootSeen = eqb (z .at2) 1; context = c };
+      events = z .len2;
+      openTags = z .a;
+    }
+
+pub group-length : (rs : List Row) → isGroup rs ≡ true → 1 ≤ length rs
+unfolding isGroup
+group-length [] g = absurd (false≢true g)
+group-length (r ∷ rs) g = omega arith
+
+pub no-items : (is : List Item) (rest : List Row) → length (itemsRows is ++ rest) ≡ 0 → isEmpty is ≡ true
+unfolding isEmpty itemsRows
+no-items [] rest e = refl
+no-items (i ∷ is) rest e =
+    let l = simp length-append at e in
+    absurd (omega (arith, group-length (itemRows i) (group-item i)))
+
+pub no-name : (ns : Text) (rest : Text) → length (join (ns ∷ []) ++ rest) ≡ 0 → isEmpty ns ≡ true
+unfolding isEmpty join
+no-name [] rest e = refl
+no-name (b ∷ ns) rest e = absurd (omega arith)
+
+pub no-context : (c : Context) → contextNumber c ≡ 0 → isNoContext c ≡ true
+unfolding isNoContext contextNumber
+no-context Context.noContext e = refl
+no-context Context.inSchema e = absurd (omega arith)
+no-context (Context.inSimpleType t) e = absurd (omega arith)
+no-context (Context.inComplexType t) e = absurd (omega arith)
+
+module _ (x : Sheet) (p : Parts x) (w : words (x .rows) ≡ true) where
+  unfoldable pub held : State
+  held = let o = body-opened x p w in stateWith (row0Of x) (namespaceAt x p) (o .items) (o .context)
+
+  pub held-rows : rowsOf held ≡ rowsIn x
+  unfolding held stateWith rowsOf
+  held-rows = sym (rows-split x p ∙ ap (λ (l : List Row). namespaceRow (namespaceAt x p) ∷ l) (body-opened x p w .same))
+
+  pub held-rowsUsed : rowsUsed held ≡ row0Of x .at0
+  unfolding rowsUsed
+  held-rowsUsed = ap (λ (l : List Row). 1 + length l) held-rows ∙ rows-length x p
+
+  pub held-namesUsed : namesUsed held ≡ row0Of x .len0
+  unfolding namesUsed
+  held-namesUsed = ap (λ (l : List Row). length (namesOf l)) held-rows ∙ names-length x p
+
+  pub held-row0 : row0 held ≡ row0Of x
+  unfolding held stateWith row0 row0Last
+  held-row0 =
+      let o = body-opened x p w in
+      let f = first-of (row0Of x) (p .row0) in
+      λ i. record { tag = sym (f .tagIs) i; at0 = held-rowsUsed i; len0 = held-namesUsed i; at1 = o .numberIs i; len1 = o .depthIs i; at2 = bit-again (row0Of x .at2) (f .rootIs) i; len2 = row0Of x .len2; a = row0Of x .a; b = o .flagIs i; c = sym (f .cIs) i }
+
+  pub held-sheet : sheetOf held (length (x .rows)) (length (x .names)) ≡ x
+  unfolding sheetOf
+  held-sheet = rw (held-row0, held-rows) (sheet-again x p)
+
+  pub held-fits : stateFits (length (x .rows)) (length (x .names)) held ≡ true
+  unfolding stateFits
+  held-fits = rw (held-rowsUsed, held-namesUsed) (used-fits x p)
+
+  pub held-namespace : isText (namespaceAt x p) ≡ true
+  unfolding textRow namespaceRow row every
+  held-namespace = and-true-left _ _ (every-head textRow (namespaceRow (namespaceAt x p)) (bodyIn x p) (rw (rows-split x p) at (names-text x p)))
+
+  -- two rows and no names: no context, no items, no namespace
+  pub held-nothing : eqb (row0Of x .at1) 0 && eqb (row0Of x .at0) 2 && eqb (row0Of x .len0) 0 ≡ true → isNoContext (held .reader .context) && isEmpty (held .reader .schema .items) && isEmpty (held .reader .schema .targetNamespace) ≡ true
+  unfolding held stateWith rowsUsed namesUsed rowsOf namesOf namespaceRow row
+  held-nothing e =
+      let o = body-opened x p w in
+      let z = row0Of x in
+      let t = three (eqb (z .at1) 0) (eqb (z .at0) 2) (eqb (z .len0) 0) e in
+      let context = no-context (o .context) (o .numberIs ∙ eqb-true (z .at1) 0 (t .0)) in
+      let rows = eqb-true (z .at0) 2 (t .1) in
+      and-true (and-true context (no-items (o .items) (contextRows (o .context)) (omega (arith, held-rowsUsed)))) (no-name (namespaceAt x p) (namesOf (itemsRows (o .items) ++ contextRows (o .context))) (held-namesUsed ∙ eqb-true (z .len0) 0 (t .2)))
+
+  pub held-root : rootOk (held .reader) ≡ true
+  unfolding rootOk rootTest held stateWith
+  held-root = ⊎-elim (λ e. or-left _ e) (λ e. or-right (eqb (row0Of x .at2) 1) (held-nothing e)) (or-cases (eqb (row0Of x .at2) 1) (eqb (row0Of x .at1) 0 && eqb (row0Of x .at0) 2 && eqb (row0Of x .len0) 0) (p .root))
+
+  pub held-proper : proper held ≡ true
+  unfolding proper countersOk limits schemaOk held stateWith
+  held-proper =
+      let o = body-opened x p w in
+      and-true (and-true (and-true (p .limit) held-root) (o .contextIsOk)) (and-true held-namespace (o .itemsOk))
+
+-- the state of a good sheet: its sheet is the sheet, it is proper, it has room
+module _ (x : Sheet) (w : words (x .rows) ≡ true) (g : good x ≡ true) where
+  pub stateOf-held : stateOf x ≡ held x (parts-of x g) w
+  stateOf-held =
+      let p = parts-of x g in
+      ap stateOf (sym (held-sheet x p w)) ∙ stateOf-sheetOf (held x p w) (length (x .rows)) (length (x .names)) (held-proper x p w) (held-fits x p w)
+
+  pub sheetOf-stateOf : sheetOf (stateOf x) (length (x .rows)) (length (x .names)) ≡ x
+  sheetOf-stateOf = rw stateOf-held (held-sheet x (parts-of x g) w)
+
+  pub proper-stateOf : proper (stateOf x) ≡ true
+  proper-stateOf = rw stateOf-held (held-proper x (parts-of x g) w)
+
+  pub fits-stateOf : stateFits (length (x .rows)) (length (x .names)) (stateOf x) ≡ true
+  fits-stateOf = rw stateOf-held (held-fits x (parts-of x g) w)
+
+-- a sheet of u32 is good exactly if it is the sheet of a proper state in buffers of these lengths
+pub good-exactly : (x : Sheet) → words (x .rows) ≡ true
+    → (good x ≡ true) ↔ ((s : State) × (proper s ≡ true) × (stateFits (length (x .rows)) (length (x .names)) s ≡ true) × (sheetOf s (length (x .rows)) (length (x .names)) ≡ x))
+good-exactly x w =
+    (λ g. (stateOf x, proper-stateOf x w g, fits-stateOf x w g, sheetOf-stateOf x w g), λ h. rw (h .3) at (good-sheetOf (h .0) (length (x .rows)) (length (x .names)) (h .1) (h .2)))

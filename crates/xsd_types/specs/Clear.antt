@@ -1,0 +1,24 @@
+-- Clearing a sheet. Paper 01: "A cleared sheet is good with two rows, tag 1 in row 1, all else zero." "Clearing gives 0 or 1."
+--     Cleared       a clearing's answer and the sheet afterwards
+--     clear         the call; ClearIs: what it says of itself
+use mathlib.Core.Path.{_≡_}
+use lib.ListN.{length}
+use Rattle.text.specs.Text.{if_then_else_}
+use Rattle.sheet.specs.Rows.{Sheet}
+use Rattle.sheet.specs.Lengths.{sheetLengths, Answer}
+use Rattle.xsd_types.specs.State.{firstState}
+use Rattle.xsd_types.specs.Sheet.{sheetOf}
+
+pub record Cleared : Type 0 where
+  pub answer : Answer
+  pub sheet : Sheet
+
+unfoldable pub clear : Sheet → Cleared
+clear x =
+    if sheetLengths (length (x .rows)) (length (x .names))
+    then record { answer = record { number = 0; place = 0 }; sheet = sheetOf firstState (length (x .rows)) (length (x .names)) }
+    else record { answer = record { number = 1; place = 0 }; sheet = x }
+
+-- what a clearing says of itself: number, place and the sheet afterwards are the definition's
+abbrev pub ClearIs : Sheet → Answer → Sheet → Type 0
+ClearIs before answer after = _≡_ {A = Cleared} (record { answer = answer; sheet = after }) (clear before)

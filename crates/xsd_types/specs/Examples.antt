@@ -1,0 +1,60 @@
+-- Small sheets through the definitions, by computation.
+use mathlib.Core.Path.{_≡_, refl}
+use mathlib.Core.Bool.{true, false}
+use mathlib.Core.List.{List, [], _∷_}
+use mathlib.Core.Option.{some, none}
+use Prim.Native.Nat.{ℕ}
+use lib.Dec.{eqb}
+use lib.ListN.{replicate}
+use Rattle.text.specs.Text.{bytes}
+use Rattle.text.specs.Unfold.{computes as texts}
+use Rattle.sheet.specs.Unfold.{computes as sheets}
+use Rattle.xsd_types.specs.Unfold.{computes as schemas}
+use Rattle.sheet.specs.Rows.{Sheet}
+use Rattle.xsd_types.specs.Types.{Facet, ComplexContent, Item, MaxOccurs}
+use Rattle.xsd_types.specs.State.{State, firstState, Context, ComplexContentBuilder, proper}
+use Rattle.xsd_types.specs.Sheet.{sheetOf}
+use Rattle.xsd_types.specs.Good.{good}
+use Rattle.xsd_types.specs.Back.{stateOf}
+
+sampleState : State
+sampleState =
+    record {
+      reader =
+          record {
+            schema =
+                record {
+                  targetNamespace = bytes "urn:x";
+                  items =
+                      Item.element (record { name = bytes "D"; typeName = bytes "T" })
+                      ∷ Item.simpleType (record { name = bytes "S"; base = bytes "xs:string"; facets = Facet.minLength 5000000000 ∷ Facet.pattern (bytes "") ∷ [] })
+                      ∷ Item.complexType (record { name = bytes "A"; content = ComplexContent.any (some (bytes "")) })
+                      ∷ [];
+                };
+            rootSeen = true;
+            context =
+                Context.inComplexType
+                (record {
+                  name = bytes "C";
+                  content = ComplexContentBuilder.sequence (record { name = bytes "e"; typeName = bytes "S"; minOccurs = 0; maxOccurs = MaxOccurs.unbounded } ∷ []);
+                  nestingDepth = 1;
+                });
+          };
+      events = 12;
+      openTags = 3;
+    }
+
+sample-good : good (sheetOf sampleState 130 60) ≡ true
+unfolding sampleState texts sheets schemas
+sample-good = refl
+
+sample-back : stateOf (sheetOf sampleState 130 60) ≡ sampleState
+unfolding sampleState texts sheets schemas
+sample-back = refl
+
+hugeSheet : Sheet
+hugeSheet = record { rows = 0 ∷ 4294967295 ∷ 4294967295 ∷ 3 ∷ 4294967295 ∷ 1 ∷ 0 ∷ 0 ∷ 0 ∷ 0 ∷ replicate 30 5; names = [] }
+
+huge : good hugeSheet ≡ false
+unfolding hugeSheet texts sheets schemas
+huge = refl

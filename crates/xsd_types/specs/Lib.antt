@@ -1,0 +1,11 @@
+-- The definitions of the crate `xsd_types`: Types has 002's values, State the reader's state, Rows the state as rows, Sheet the sheet of a state,
+-- Good the test of a good sheet, Back the way back, Clear the clearing call.
+pub mod Types
+pub mod State
+pub mod Rows
+pub mod Sheet
+pub mod Good
+pub mod Back
+pub mod Clear
+pub mod Unfold
+pub mod Examples
