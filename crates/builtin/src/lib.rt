@@ -6,7 +6,7 @@ ghost use Prim.Native.Nat.{_≤_, _<_};
 ghost use lib.ListN.{length};
 ghost use lib.Seq.{slice};
 ghost use Rattle.text.specs.Text.{is, same};
-ghost use Rattle.builtin.specs.Builtin.{mapBuiltin};
+ghost use Rattle.builtin.specs.Builtin.{mapBuiltin, reference};
 ghost use Rattle.builtin.specs.Answers.{entryAt, ofBuiltin};
 use text::local_name;
 use text::same_text;
@@ -154,4 +154,18 @@ pub fn map_builtin(name: &[u8]) -> Builtin
         k += 1;
     }
     Builtin::Unknown
+}
+
+// The number of a type reference: 0 named, 1 String, 2 Bool, 3 Decimal, 4 Date, 5 DateTime.
+pub fn reference_number(b: Builtin) -> u32
+    ensures { λ n. ⌜ n ≡ reference (ofBuiltin b) ⌝ }
+{
+    match b {
+        Builtin::String => 1,
+        Builtin::Bool => 2,
+        Builtin::Decimal => 3,
+        Builtin::Date => 4,
+        Builtin::DateTime => 5,
+        Builtin::Unknown => 0,
+    }
 }

@@ -7,11 +7,9 @@ ghost use Rattle.text.specs.Text.{same, localName};
 ghost use Rattle.number.specs.Number.{number};
 ghost use Rattle.number.specs.Answers.{ofU32, ofU64};
 ghost use Rattle.builtin.specs.Builtin.{mapBuiltin, reference};
-ghost use Rattle.builtin.specs.Answers.{ofBuiltin};
 ghost use Rattle.names.specs.Names.{normalizeTypeName, xmlToSnakeCase, codeToPascalCase};
 ghost use Rattle.names.specs.Answers.{written, placed};
 ghost use Rattle.lubiksan.specs.Exported.{Exported, numberOf, valueOf, countOf, bitOf};
-use builtin::Builtin;
 use names::Written;
 use number::U32;
 use number::U64;
@@ -49,19 +47,6 @@ fn value_of_u64(r: U64, before: u64) -> u64
     match r {
         U64::Value(v) => v,
         U64::Invalid => before,
-    }
-}
-
-fn number_of_builtin(b: Builtin) -> u32
-    ensures { λ n. ⌜ n ≡ reference (ofBuiltin b) ⌝ }
-{
-    match b {
-        Builtin::String => 1,
-        Builtin::Bool => 2,
-        Builtin::Decimal => 3,
-        Builtin::Date => 4,
-        Builtin::DateTime => 5,
-        Builtin::Unknown => 0,
     }
 }
 
@@ -108,7 +93,7 @@ pub extern "C" fn lubiksan_parse_u64(s: &[u8], value: &mut u64) -> u32
 pub extern "C" fn lubiksan_map_builtin(name: &[u8]) -> u32
     ensures { λ r. ⌜ r ≡ reference (mapBuiltin (now (name .entry))) ⌝ }
 {
-    number_of_builtin(builtin::map_builtin(name))
+    builtin::reference_number(builtin::map_builtin(name))
 }
 
 // The writers return how many bytes the conversion has, or the largest number where out is shorter;

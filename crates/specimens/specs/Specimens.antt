@@ -17,6 +17,12 @@ use Rattle.builtin.specs.Builtin.{mapBuiltin, reference}
 use Rattle.builtin.specs.Unfold.{computes as builtins}
 use Rattle.names.specs.Names.{normalizeTypeName, xmlToSnakeCase, codeToPascalCase}
 use Rattle.names.specs.Unfold.{computes as conversions}
+use Rattle.xsd_types.specs.Types.{MaxOccurs}
+use Rattle.ir_types.specs.Types.{Cardinality}
+use Rattle.ir_types.specs.Rows.{cardinalityB, cardinalityC}
+use Rattle.ir_types.specs.Unfold.{computes as graphs}
+use Rattle.ir_lower.specs.Lower.{lowerCardinality}
+use Rattle.ir_lower.specs.Unfold.{computes as lowerings}
 
 pub data Specimen : Type 0 where
   snake : String → String → Specimen
@@ -24,10 +30,15 @@ pub data Specimen : Type 0 where
   normalised : String → String → Specimen
   builtin : String → ℕ → Specimen
   u32 : String → ℕ → Specimen
+  cardinality : ℕ → MaxOccurs → Cardinality → Specimen
 
 unfoldable pub gives : Parsed → ℕ → Bool
 gives (parsed v) n = eqb v n
 gives (refused r) n = false
+
+-- the two cardinalities have the same b and c in their rows
+unfoldable pub sameCardinality : Cardinality → Cardinality → Bool
+sameCardinality x y = eqb (cardinalityB x) (cardinalityB y) && eqb (cardinalityC x) (cardinalityC y)
 
 unfoldable pub holds : Specimen → Bool
 holds (snake name answer) = same (xmlToSnakeCase (bytes name)) (bytes answer)
@@ -35,6 +46,7 @@ holds (pascal value answer) = same (codeToPascalCase (bytes value)) (bytes answe
 holds (normalised name answer) = same (normalizeTypeName (bytes name)) (bytes answer)
 holds (builtin name answer) = eqb (reference (mapBuiltin (bytes name))) answer
 holds (u32 s answer) = gives (number 32 (bytes s)) answer
+holds (cardinality min max answer) = sameCardinality (lowerCardinality min max) answer
 
 unfoldable pub specimens : List Specimen
 specimens =
@@ -48,6 +60,10 @@ specimens =
     -- "● `Amount_SimpleType`: "AmountSimpleType". ● "a_b": "AB"."
     ∷ normalised "Amount_SimpleType" "AmountSimpleType"
     ∷ normalised "a_b" "AB"
+    -- "● Min 0, max 0: required. ● Min 0, max 1: optional. ● Min 5, unbounded: vec."
+    ∷ cardinality 0 (MaxOccurs.bounded 0) Cardinality.required
+    ∷ cardinality 0 (MaxOccurs.bounded 1) Cardinality.optional
+    ∷ cardinality 5 MaxOccurs.unbounded Cardinality.vec
     -- "● `my:date` is Date", type 4
     ∷ builtin "my:date" 4
     -- "● `+7` is 7"
@@ -55,5 +71,5 @@ specimens =
     ∷ []
 
 pub all-hold : every holds specimens ≡ true
-unfolding texts numbers builtins conversions gives holds specimens
+unfolding texts numbers builtins conversions graphs lowerings gives sameCardinality holds specimens
 all-hold = refl

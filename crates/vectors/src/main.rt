@@ -3,7 +3,6 @@
 use libc::STDOUT_FILENO;
 ghost use Prim.Native.Nat.{_≤_};
 ghost use lib.ListN.{length};
-use builtin::Builtin;
 use names::Written;
 use number::U32;
 use number::U64;
@@ -38,18 +37,6 @@ fn put_u64(line: &[u8]) {
     }
 }
 
-// The number of a built-in type, 0 for none.
-fn builtin_number(line: &[u8]) -> u64 {
-    match builtin::map_builtin(line) {
-        Builtin::String => 1,
-        Builtin::Bool => 2,
-        Builtin::Decimal => 3,
-        Builtin::Date => 4,
-        Builtin::DateTime => 5,
-        Builtin::Unknown => 0,
-    }
-}
-
 // The bytes of out that a writer counted.
 fn put_written(label: &[u8], written: Written, out: &[u8]) {
     match written {
@@ -80,7 +67,10 @@ fn put_line(before: &[u8], line: &[u8]) {
     put_u32(line);
     put_u64(line);
     io::write_all(STDOUT_FILENO, b" builtin=");
-    io::print_decimal(STDOUT_FILENO, builtin_number(line));
+    io::print_decimal(
+        STDOUT_FILENO,
+        builtin::reference_number(builtin::map_builtin(line)) as u64,
+    );
     put_names(line, &mut space);
     let same = names::same_normalized(before, line);
     if same {

@@ -17,4 +17,5 @@ pub mod Cut
 pub mod CutRefused
 pub mod Facts
 pub mod Pieces
+pub mod Room
 pub mod CloseRoom

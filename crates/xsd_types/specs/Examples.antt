@@ -1,4 +1,5 @@
--- Small sheets through the definitions, by computation.
+-- Small sheets through the definitions, by computation. Below: Sheets writes sheets by hand, Clearing has the clearing call, Judging the
+-- sentences of a good sheet one by one, GoodSheets the good sheets at the borders, BadRows, BadOrder and BadContext each sentence broken once.
 use mathlib.Core.Path.{_≡_, refl}
 use mathlib.Core.Bool.{true, false}
 use mathlib.Core.List.{List, [], _∷_}
@@ -16,6 +17,13 @@ use Rattle.xsd_types.specs.State.{State, firstState, Context, ComplexCon
 use Rattle.xsd_types.specs.Sheet.{sheetOf}
 use Rattle.xsd_types.specs.Good.{good}
 use Rattle.xsd_types.specs.Back.{stateOf}
+pub mod Sheets
+mod Clearing
+mod Judging
+mod GoodSheets
+mod BadRows
+mod BadOrder
+mod BadContext
 
 sampleState : State
 sampleState =

@@ -8,12 +8,12 @@ use Rattle.lubiksan.proofs.lubiksan_map_builtin.Tie as tie
 map-builtin-requires : tie.Need-map-builtin-requires
 map-builtin-requires c κs = search needs
 
-number-of-builtin-requires : tie.Need-number-of-builtin-requires
-number-of-builtin-requires c κs = search needs
+reference-number-requires : tie.Need-reference-number-requires
+reference-number-requires c κs = search needs
 
 returns : tie.Need-returns
-returns c = c .number-of-builtin .ensures ∙ ap reference (c .before .map-builtin .ensures)
+returns c = c .reference-number .ensures ∙ ap reference (c .before .map-builtin .ensures)
 
 pub lubiksan-map-builtin-spec : {M : Type 1} → statement M
 lubiksan-map-builtin-spec =
-    tie.close (tie.spec map-builtin-requires number-of-builtin-requires returns)
+    tie.close (tie.spec map-builtin-requires reference-number-requires returns)

@@ -118,3 +118,9 @@ pub isText-namesOf : (rs : List Row) → isText (namesOf rs) ≡ every (λ (r : 
 unfolding namesOf every isText
 isText-namesOf [] = refl
 isText-namesOf (r ∷ rs) = every-append isTextByte (join (r .texts)) (namesOf rs) ∙ rw (isText-join (r .texts), isText-namesOf rs)
+
+-- names of two lists of rows, one behind the other
+pub namesOf-append : (rs ts : List Row) → namesOf (rs ++ ts) ≡ namesOf rs ++ namesOf ts
+unfolding namesOf
+namesOf-append [] ts = refl
+namesOf-append (r ∷ rs) ts = rw (namesOf-append rs ts, append-assoc)

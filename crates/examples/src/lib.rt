@@ -1,0 +1,1 @@
+// Examples by computation that need reading and lowering together. Definitions only (specs/).
