@@ -1,5 +1,5 @@
 //! Writes copies of parser.rs and lower.rs whose private leaves can be called, and links the static
-//! library `lubiksan` where the feature `ours` is on.
+//! libraries `lubiksan` and `sheet_bench` where the features `ours` and `sheets` are on.
 
 use std::env;
 use std::fs;
@@ -14,7 +14,10 @@ fn main() {
     write_copy("src/xsd/parser.rs", "parser.rs", &PARSER_LEAVES);
     write_copy("src/ir/lower.rs", "lower.rs", &LOWER_LEAVES);
     if env::var_os("CARGO_FEATURE_OURS").is_some() {
-        link_ours();
+        link("lubiksan");
+    }
+    if env::var_os("CARGO_FEATURE_SHEETS").is_some() {
+        link("sheet_bench");
     }
 }
 
@@ -51,14 +54,14 @@ fn with_leaf_visible(text: &str, leaf: &str) -> String {
     text.replace(&private, &format!("\npub(crate) fn {leaf}("))
 }
 
-/// Says where the static library stands: LUBIKSAN_LIB_DIR, or else ../target/staticlib.
-fn link_ours() {
+/// Says where a static library stands: LUBIKSAN_LIB_DIR, or else ../target/staticlib.
+fn link(library: &str) {
     println!("cargo:rerun-if-env-changed=LUBIKSAN_LIB_DIR");
     let named = env::var_os("LUBIKSAN_LIB_DIR").unwrap_or_else(|| "../target/staticlib".into());
     let manifest = env::var_os("CARGO_MANIFEST_DIR").expect("cargo sets CARGO_MANIFEST_DIR");
     let folder = Path::new(&manifest).join(named);
-    let archive = folder.join("liblubiksan.a");
+    let archive = folder.join(format!("lib{library}.a"));
     println!("cargo:rerun-if-changed={}", archive.display());
     println!("cargo:rustc-link-search=native={}", folder.display());
-    println!("cargo:rustc-link-lib=static=lubiksan");
+    println!("cargo:rustc-link-lib=static={library}");
 }

@@ -1,5 +1,6 @@
 //! Copies of parser.rs and lower.rs that build.rs derives from the unchanged files: the private
-//! leaves are `pub(crate)` in them, and `//!` is `//`. Nothing else differs.
+//! leaves are `pub(crate)` in them, and `//!` is `//`. Nothing else differs. `handlers` is a child
+//! module of the copy of parser.rs and calls its handlers on any state.
 
 #![allow(dead_code)]
 
@@ -8,6 +9,8 @@ pub(crate) mod xsd {
 
     pub(crate) mod parser {
         include!(concat!(env!("OUT_DIR"), "/parser.rs"));
+
+        pub(crate) mod handlers;
     }
 }
 

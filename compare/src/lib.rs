@@ -11,19 +11,26 @@
 //! | `cases` | the texts of the comparison with the static library |
 //! | `ours` | the functions of the static library (feature `ours`) |
 //! | `checks`, `tally` | one text compared, and the count of cases and differences |
+//! | `tape`, `tapes` | schema events as tape and as XML, and lists of events to try |
+//! | `paper` | a model of paper 01, with the Rust as the judge of its handlers and of lowering |
+//! | `definitions` | cases for the definitions under crates/, as statements of the proof language |
 
 #![deny(unsafe_code)]
 
 pub mod cases;
 #[cfg(feature = "ours")]
 pub mod checks;
+pub mod definitions;
 mod derived;
 pub mod ir;
 pub mod leaves;
 pub mod names;
 #[cfg(feature = "ours")]
 pub mod ours;
+pub mod paper;
 pub mod random;
 pub mod samples;
 pub mod tally;
+pub mod tape;
+pub mod tapes;
 pub mod xsd;

@@ -1,6 +1,6 @@
 // Bytes and texts: classes and case of a letter, the local name, equality.
 ghost use mathlib.Core.Path.{_≡_};
-ghost use Rattle.text.specs.Text.{between, isUpper, isLower, isDigit, upper, lower, contains, first, same, localName};
+ghost use Rattle.text.specs.Text.{between, isUpper, isLower, isDigit, upper, lower, isText, contains, first, same, localName};
 ghost use lib.ListN.{drop};
 
 // Whether b is one of the bytes from low to high.
@@ -40,6 +40,20 @@ pub fn to_lower(b: u8) -> u8
     ensures { λ r. ⌜ r ≡ lower b ⌝ }
 {
     if is_upper(b) { b + 32 } else { b }
+}
+
+// Whether all bytes of s may stand in a text.
+pub fn is_text(s: &[u8]) -> bool
+    ensures { λ r. ⌜ r ≡ isText (now (s .entry)) ⌝ }
+{
+    let mut i = 0;
+    while i < s.len() {
+        if 128 <= s[i] {
+            return false;
+        }
+        i += 1;
+    }
+    true
 }
 
 // Whether the byte c stands in s.

@@ -88,3 +88,9 @@ unfolding tens ten every
 every-tens p z zero r e = refl
 every-tens p z (suc n) r e =
     and-true (and-true (every-getD p 0 z r 7 e) (every-getD p 0 z r 8 e)) (every-tens p z n (drop 10 r) (every-drop p 10 r e))
+
+-- rows put together
+pub numbers-append : (ts us : List Ten) → numbers (ts ++ us) ≡ numbers ts ++ numbers us
+unfolding numbers
+numbers-append [] us = refl
+numbers-append (t ∷ ts) us = rw (numbers-append ts us)

@@ -5,6 +5,7 @@ use mathlib.Core.Bool.{Bool, true, _&&_}
 use mathlib.Core.List.{List, [], _∷_, _++_, map, append-assoc}
 use Prim.Native.Nat.{ℕ, _+_, _≤_}
 use native.Mathlib.Omega.{arith}
+use native.Mathlib.Nat.{add-zero, add-assoc}
 use lib.Dec.{eqb, leb}
 use lib.ListN.{length, take, drop, length-append}
 use lib.Seq.{drop-at, take-at, drop-drop}
@@ -124,3 +125,8 @@ pub namesOf-append : (rs ts : List Row) → namesOf (rs ++ ts) ≡ namesOf rs ++
 unfolding namesOf
 namesOf-append [] ts = refl
 namesOf-append (r ∷ rs) ts = rw (namesOf-append rs ts, append-assoc)
+
+pub pack-append : (k : ℕ) (rs us : List Row) → pack k (rs ++ us) ≡ pack k rs ++ pack (k + length (namesOf rs)) us
+unfolding pack namesOf
+pack-append k [] us = rw add-zero
+pack-append k (r ∷ rs) us = rw (pack-append (k + length (join (r .texts))) rs us, length-append, add-assoc)

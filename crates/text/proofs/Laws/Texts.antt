@@ -8,10 +8,10 @@ use native.Mathlib.Omega.{arith}
 use native.Mathlib.Nat.{not-suc-le-zero, le-of-suc-le-suc}
 use lib.Dec.{eqb, leb}
 use lib.ListN.{length, getD, take, drop, drop-of-length-le}
-use lib.Seq.{drop-cons, drop-nil}
-use borrow.Author.Tests.{leb-true, lt-leb, le-leb, eqb-true, eq-eqb, ne-eqb, ltb-true, lt-ltb}
+use lib.Seq.{drop-cons, drop-nil, take-nil}
+use borrow.Author.Tests.{leb-true, lt-leb, le-leb, eqb-true, eq-eqb, ne-eqb, ltb-true, lt-ltb, le-ltb}
 use Rattle.text.proofs.Laws.Tests.{and-true-left, and-true-right, not-true-false, if-cases}
-use Rattle.text.specs.Text.{Text, if_then_else_, between, isUpper, isLower, upper, lower, isTextByte, contains, first, same, afterLast}
+use Rattle.text.specs.Text.{Text, if_then_else_, between, isUpper, isLower, upper, lower, isTextByte, contains, first, same, afterLast, every, isText}
 
 pub between-low : (low high b : ℕ) → between low high b ≡ true → low ≤ b
 unfolding between
@@ -126,3 +126,20 @@ upper-text b e =
 pub lower-text : (b : ℕ) → isTextByte b ≡ true → isTextByte (lower b) ≡ true
 unfolding lower isTextByte
 lower-text b e = if-cases (λ r. isTextByte r ≡ true) (isUpper b) (λ u. lt-ltb (b + 32) 128 (omega (arith, between-high 65 90 b u))) (λ u. e)
+
+-- which bytes may stand in a text, from place i on: the byte there decides, or the rest does
+pub text-hit : (s : Text) (i : ℕ) → i < length s → 128 ≤ getD s i 0 → isText (drop i s) ≡ false
+unfolding isText every isTextByte
+text-hit s i h k = rw (drop-cons s i 0 h, le-ltb (getD s i 0) 128 k)
+
+pub text-on : (s : Text) (i : ℕ) → i < length s → getD s i 0 < 128 → isText (drop i s) ≡ isText (drop (suc i) s)
+unfolding isText every isTextByte
+text-on s i h k = rw (drop-cons s i 0 h, lt-ltb (getD s i 0) 128 k)
+
+pub text-end : (s : Text) (i : ℕ) → length s ≤ i → isText (drop i s) ≡ true
+unfolding isText every
+text-end s i h = rw (drop-of-length-le s h)
+
+-- a part past the end
+pub part-past : (s : Text) (offset size : ℕ) → length s ≤ offset → take size (drop offset s) ≡ []
+part-past s offset size h = rw (drop-of-length-le s h) (take-nil {A = ℕ} size)

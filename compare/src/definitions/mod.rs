@@ -1,0 +1,47 @@
+//! Cases for the definitions under crates/: calls with the values that the model of the paper gives,
+//! written as statements that the proof checker computes.
+//!
+//! | module | holds |
+//! |---|---|
+//! | `call` | a call with its arguments, and what the model answers |
+//! | `print` | lists, sheets and statements in the proof language |
+//! | `readings` | tapes read with roomy and tight buffers, damaged, in pieces |
+//! | `sheets` | good sheets that no reading reaches, and bad sheets |
+//! | `graphs` | lowering and label calls |
+
+pub mod call;
+mod graphs;
+pub mod print;
+mod readings;
+mod sheets;
+
+use std::collections::HashSet;
+
+use crate::random::Random;
+use call::Call;
+
+/// A call with the group that it belongs to and what it shows.
+pub struct Case {
+    pub group: &'static str,
+    pub shows: String,
+    pub call: Call,
+}
+
+/// All cases, each call once. The random ones depend on `seed`.
+pub fn cases(seed: u64) -> Vec<Case> {
+    let mut seen = HashSet::new();
+    let all = [
+        readings::cases(seed),
+        sheets::cases(seed),
+        graphs::cases(seed),
+    ];
+    all.into_iter()
+        .flatten()
+        .filter(|case| seen.insert(print::statement(&case.call)))
+        .collect()
+}
+
+/// The generator of one group; the seed 0 gives the fixed sample.
+fn generator(group: u64, seed: u64) -> Random {
+    Random::new(group ^ (seed << 32))
+}

@@ -1,0 +1,119 @@
+//! The model against the Rust: the handlers of parser.rs on the state before an event, and
+//! `parse_str` on whole tapes.
+
+use super::lowering::{complex_type, simple_type};
+use super::sheet::{Lent, Row};
+use super::state::State;
+use crate::derived::xsd::parser::handlers::{handled, Open, OpenContent, Reader};
+use crate::tape::{is_writable, xml, Event};
+use crate::xsd::parser::{parse_str, ParseError};
+use crate::xsd::types::ComplexContent;
+
+/// Room for every state of the checks.
+const ROOMY: Lent = Lent {
+    rows: 40_960,
+    names: 65_536,
+};
+
+/// The event may be given to the handlers, and the added limits are not met.
+fn in_domain(state: &State, event: &Event) -> bool {
+    let limits = state.events < 1_000_000 && state.open_tags < 255;
+    limits
+        && match event {
+            Event::Start(tag) | Event::Empty(tag) => is_writable(tag),
+            Event::Close => state.open_tags > 0,
+        }
+}
+
+/// The model and the handlers give the same state or the same refusal. Events outside the domain
+/// are passed over.
+pub fn check_event(state: &State, event: &Event) -> Result<(), String> {
+    if !in_domain(state, event) {
+        return Ok(());
+    }
+    let model = state.after(event, ROOMY).map(|next| reader(&next));
+    let rust = handled(reader(state), event);
+    if model == rust {
+        return Ok(());
+    }
+    Err(format!(
+        "{event:?} on {state:?}: the model gives {model:?}, the Rust {rust:?}"
+    ))
+}
+
+/// The model and `parse_str` give the same schema or the same refusal on whole tapes.
+pub fn check_tape(events: &[Event]) -> Result<(), String> {
+    let Some(text) = xml(events) else {
+        return Ok(());
+    };
+    let model = run(events).and_then(|state| match state.root_seen {
+        true => Ok(state.schema()),
+        false => Err(12),
+    });
+    let rust = parse_str(&text).map_err(|error| refusal(&error));
+    if model == rust {
+        return Ok(());
+    }
+    Err(format!(
+        "{text}: the model gives {model:?}, the Rust {rust:?}"
+    ))
+}
+
+/// The state after the events from a cleared sheet, each checked against the handlers.
+pub fn run(events: &[Event]) -> Result<State, u32> {
+    let mut state = State::cleared();
+    for event in events {
+        check_event(&state, event).unwrap_or_else(|difference| panic!("{difference}"));
+        state = state.after(event, ROOMY)?;
+    }
+    Ok(state)
+}
+
+fn refusal(error: &ParseError) -> u32 {
+    match error {
+        ParseError::MissingAttribute { .. } => 9,
+        ParseError::InvalidAttributeValue { .. } => 10,
+        ParseError::MissingSchemaRoot => 12,
+        ParseError::Xml(error) => panic!("a tape in the domain was refused: {error}"),
+    }
+}
+
+/// The state as parser.rs holds it.
+fn reader(state: &State) -> Reader {
+    Reader {
+        schema: state.schema(),
+        root_seen: state.root_seen,
+        open: open(state),
+        nesting: state.nesting,
+    }
+}
+
+fn open(state: &State) -> Open {
+    match state.context {
+        0 => Open::Nothing,
+        1 => Open::Schema,
+        2 => Open::Simple(simple_type(open_rows(state))),
+        _ => open_complex(open_rows(state), state.extension),
+    }
+}
+
+/// The rows of the open type.
+fn open_rows(state: &State) -> &[Row] {
+    let is_head = |row: &Row| matches!(row.tag, 3 | 12..=16);
+    let head = state.rows.iter().rposition(is_head);
+    &state.rows[head.expect("a type is open")..]
+}
+
+fn open_complex(rows: &[Row], extension: bool) -> Open {
+    let name = rows[0].texts[0].clone();
+    let content = match complex_type(rows).content {
+        _ if rows[0].tag == 16 => OpenContent::Absent,
+        ComplexContent::SimpleContent { base, attributes } => OpenContent::SimpleContent {
+            base,
+            attributes,
+            extension,
+        },
+        other => OpenContent::Other(other),
+    };
+    Open::Complex { name, content }
+}

@@ -1,0 +1,63 @@
+//! The label call.
+
+/// The number, whether the label is a part of the word list, and its bytes.
+#[derive(Clone, Debug, PartialEq, Eq)]
+pub struct Label {
+    pub number: u32,
+    pub in_words: bool,
+    pub text: Vec<u8>,
+}
+
+/// The label of row `row`: 0, or 16 with the empty part of the names.
+pub fn label(rows: &[u32], names: &[u8], words: &[u8], row: u32) -> Label {
+    found(rows, names, words, row).unwrap_or(Label {
+        number: 16,
+        in_words: false,
+        text: Vec::new(),
+    })
+}
+
+fn found(rows: &[u32], names: &[u8], words: &[u8], row: u32) -> Option<Label> {
+    if !rows.len().is_multiple_of(10) {
+        return None;
+    }
+    let ten = rows.chunks(10).nth(row as usize)?;
+    let pair = reference_pair(ten)?;
+    match ten[7] {
+        0 if ten[0] == 5 => None,
+        0 => Some(part(false, under(names, pair)?)),
+        a @ 1..=5 => Some(part(true, word(words, a)?)),
+        _ => None,
+    }
+}
+
+fn part(in_words: bool, text: &[u8]) -> Label {
+    Label {
+        number: 0,
+        in_words,
+        text: text.to_vec(),
+    }
+}
+
+/// The reference's pair: the second of 7, the third of 9, 10 and 19; 5 has none.
+fn reference_pair(ten: &[u32]) -> Option<(u32, u32)> {
+    match ten[0] {
+        5 => Some((0, 0)),
+        7 => Some((ten[3], ten[4])),
+        9 | 10 | 19 => Some((ten[5], ten[6])),
+        _ => None,
+    }
+}
+
+fn under(names: &[u8], (offset, length): (u32, u32)) -> Option<&[u8]> {
+    names.get(offset as usize..)?.get(..length as usize)
+}
+
+/// Word `a`, from 1, of five words each ended by a newline byte, and nothing after.
+fn word(words: &[u8], a: u32) -> Option<&[u8]> {
+    let newlines = words.iter().filter(|&&byte| byte == b'\n').count();
+    if newlines != 5 || words.last() != Some(&b'\n') {
+        return None;
+    }
+    words.split(|&byte| byte == b'\n').nth(a as usize - 1)
+}

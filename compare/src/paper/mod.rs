@@ -1,0 +1,34 @@
+//! A model of paper 01, written from the paper: a state is the list of the sheet's rows with their
+//! texts, and an event changes these rows.
+//!
+//! | module | the paper's part |
+//! |---|---|
+//! | `sheet` | rows of ten numbers, how pairs are packed |
+//! | `state` | what a schema sheet says, and when it is good |
+//! | `event` | what an event does |
+//! | `reading` | the tape, clearing, the reading call |
+//! | `graph` | the graph sheet of a type graph |
+//! | `lowering` | the lowering call; the Rust's `lower` gives the graph |
+//! | `label` | the label call |
+//! | `agree` | the model against the handlers of parser.rs, event by event |
+
+pub mod agree;
+pub mod event;
+pub mod graph;
+pub mod label;
+pub mod lowering;
+pub mod reading;
+pub mod sheet;
+pub mod state;
+
+/// A returned number with its place.
+#[derive(Clone, Copy, Debug, PartialEq, Eq)]
+pub struct Answer {
+    pub number: u32,
+    pub place: u32,
+}
+
+/// The answer of `number` and `place`.
+pub fn answer(number: u32, place: u32) -> Answer {
+    Answer { number, place }
+}

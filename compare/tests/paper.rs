@@ -1,0 +1,83 @@
+//! The model of paper 01 against the Rust on many tapes and states, and on the paper's specimens.
+
+use judge::paper::agree;
+use judge::paper::answer;
+use judge::paper::lowering::lowering;
+use judge::paper::reading::{clear, events_of, read};
+use judge::paper::sheet::Sheet;
+use judge::random::Random;
+use judge::tape::{events, xml, Tape};
+use judge::tapes::{document, messed, odd_events, written};
+
+fn blank(rows: usize, names: usize) -> Sheet {
+    let sheet = Sheet {
+        rows: vec![7; rows],
+        names: vec![7; names],
+    };
+    let (cleared, sheet) = clear(&sheet);
+    assert_eq!(cleared, answer(0, 0));
+    sheet
+}
+
+#[test]
+fn printed_specimen() {
+    let tape = Tape {
+        text: b"schemaelementnameDtypeT".to_vec(),
+        marks: vec![1, 0, 0, 6, 2, 2, 6, 7, 13, 4, 17, 1, 18, 4, 22, 1, 3, 0],
+    };
+    assert_eq!(
+        tape,
+        Tape::of(&events("<schema><element name=D type=T/></>"))
+    );
+    let (read_answer, sheet) = read(&blank(16_000, 65_536), &tape);
+    assert_eq!(read_answer, answer(0, 3));
+    let lowered = lowering(&sheet, &blank(16_000, 65_536), &[0; 4_096]);
+    assert_eq!(lowered.answer, answer(0, 3));
+    let rows = [
+        [0, 3, 2, 1, 0, 0, 0, 0, 0, 0],
+        [1, 0, 0, 0, 0, 0, 0, 0, 0, 0],
+        [2, 0, 1, 1, 1, 0, 0, 0, 0, 0],
+    ];
+    assert_eq!(lowered.graph.rows[..30], rows.concat());
+    assert_eq!(lowered.graph.names[..3], *b"DT\0");
+}
+
+#[test]
+fn tapes_stand_for_their_events() {
+    let mut random = Random::new(11);
+    for _ in 0..2_000 {
+        let events = messed(&mut random);
+        assert_eq!(events_of(&Tape::of(&events)), events);
+        assert_eq!(events_of(&Tape::shared(&events)), events);
+    }
+}
+
+#[test]
+fn written_tapes_agree_with_the_rust() {
+    for list in written() {
+        agree::check_tape(&list.events).unwrap_or_else(|text| panic!("{}: {text}", list.shows));
+    }
+}
+
+#[test]
+fn random_tapes_agree_with_the_rust() {
+    let mut random = Random::new(12);
+    let mut compared = 0;
+    for _ in 0..20_000 {
+        for events in [document(&mut random), messed(&mut random)] {
+            compared += usize::from(xml(&events).is_some());
+            agree::check_tape(&events).unwrap_or_else(|text| panic!("{text}"));
+        }
+    }
+    assert!(compared > 20_000, "only {compared} tapes are in the domain");
+}
+
+#[test]
+fn events_of_any_words_agree_with_the_handlers() {
+    let mut random = Random::new(13);
+    for _ in 0..20_000 {
+        let mut events = events("<schema><complexType name=A>");
+        events.extend(odd_events(&mut random, 12));
+        let _ = agree::run(&events);
+    }
+}

@@ -1,0 +1,56 @@
+-- `xsd_sheet::buffers::clear_names` meets its contract. The loop's invariant: zeros up to i, then what stood there. The measure is how much is left.
+-- Assumes nothing.
+use Prim.Native.Nat.{_≤_, _-_}
+use mathlib.Core.List.{_++_}
+use mathlib.Core.Path.{_≡_, refl, _∙_}
+use native.Mathlib.Omega.{arith}
+use lib.ListN.{length, drop, replicate, length-set}
+use borrow.Author.Fill.{fill-more}
+use Rattle.xsd_sheet.proofs.Laws.Buffers.{filled-whole}
+use Rattle.xsd_sheet.proofs.buffers.clear_names.Statement.{statement}
+use Rattle.xsd_sheet.proofs.buffers.clear_names.Tie as tie
+
+abbrev Inv-loop : tie.InvT-loop
+Inv-loop names₀ i₀ names i = (i ≤ length names₀) × (length names ≡ length names₀) × (names ≡ replicate i 0 ++ drop i names₀)
+
+abbrev μ-loop : tie.MeasureT-loop
+μ-loop names₀ i₀ names i = length names - i
+
+loop-holds : tie.Need-loop-holds Inv-loop μ-loop
+loop-holds c = (omega arith, refl, refl)
+
+slice-write-names : tie.Need-slice-write-names Inv-loop μ-loop
+slice-write-names c = omega arith
+
+add-i : tie.Need-add-i Inv-loop μ-loop
+add-i c = omega arith
+
+loop-less : tie.Need-loop-less Inv-loop μ-loop
+loop-less c = simp length-set (omega arith)
+
+loop-again : tie.Need-loop-again Inv-loop μ-loop
+loop-again c =
+    let at = c .before in
+    (omega arith, simp length-set (at .loop .inv .1), rw (at .loop .inv .2) (fill-more (at .loop .i) 0 (at .before .args .names .now) (omega arith)))
+
+same-length : tie.Need-same-length Inv-loop μ-loop
+same-length c = c .before .loop .inv .1
+
+returns : tie.Need-returns Inv-loop μ-loop
+returns c =
+    let at = c .before in
+    at .loop .inv .2 ∙ filled-whole (at .before .args .names .now) (at .loop .i) (omega arith) (omega arith)
+
+pub clear-names-spec : {M : Type 1} → statement M
+clear-names-spec =
+    tie.close
+    (tie.spec
+    Inv-loop
+    μ-loop
+    loop-holds
+    slice-write-names
+    add-i
+    loop-less
+    loop-again
+    same-length
+    returns)

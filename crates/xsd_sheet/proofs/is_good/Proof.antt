@@ -1,0 +1,101 @@
+-- `xsd_sheet::is_good` meets its contract: the tests of the code are the parts of `good`, in its order, and where the used parts
+-- do not lie inside the buffers, `good` fails too. Assumes nothing.
+use Prim.Native.Nat.{_*_, _≤_}
+use mathlib.Core.Bool.{false}
+use mathlib.Core.Path.{_≡_, sym, _∙_}
+use lib.ListN.{length}
+use borrow.Author.Tests.{not-true, not-false}
+use borrow.Author.Needs.{needs}
+use Rattle.sheet.specs.Rows.{ten}
+use Rattle.xsd_sheet.specs.Scan.{asTen, partsFit}
+use Rattle.xsd_sheet.proofs.Laws.Good.{parts-in, not-inside, too-short, good-is}
+use Rattle.xsd_sheet.proofs.is_good.Statement.{statement}
+use Rattle.xsd_sheet.proofs.is_good.Tie as tie
+
+returns : tie.Need-returns
+returns c =
+    let a = c .before .before .before .args in
+    sym (too-short (a .rows .now) (a .names .now) (c .if1 .taken))
+
+ten-at-requires : tie.Need-ten-at-requires
+ten-at-requires c κs = search needs
+
+used-parts-requires : tie.Need-used-parts-requires
+used-parts-requires c κs = search needs
+
+returns-2 : tie.Need-returns-2
+returns-2 c =
+    let a = c .before .before .before .before .before .before .args in
+    let f : c .before .used-parts .result ≡ false = not-true _ (c .if2 .taken) in
+    let e : partsFit (ten (a .rows .now)) (length (a .rows .now)) (length (a .names .now)) ≡ false = cc in
+    sym (not-inside (a .rows .now) (a .names .now) e)
+
+-- behind the second test the used parts lie inside the buffers
+inside : (p : tie.Else2) → (2 ≤ p .before .before .ten-at .result .at0) × (10 * p .before .before .ten-at .result .at0 ≤ length (p .before .before .before .before .before .before .args .rows .now)) × (p .before .before .ten-at .result .len0 ≤ length (p .before .before .before .before .before .before .args .names .now))
+inside p =
+    let a = p .before .before .before .before .before .before .args in
+    parts-in (asTen (p .before .before .ten-at .result)) (length (a .rows .now)) (length (a .names .now)) (sym (p .before .used-parts .ensures) ∙ not-false _ (p .if2 .left))
+
+scan-sheet-requires : tie.Need-scan-sheet-requires
+scan-sheet-requires c κs =
+    let h = inside c in
+    (h .0, h .1)
+
+row0-form-requires : tie.Need-row0-form-requires
+row0-form-requires c κs = search needs
+
+wide-requires : tie.Need-wide-requires
+wide-requires c κs = search needs
+
+zeros-behind-requires : tie.Need-zeros-behind-requires
+zeros-behind-requires c κs =
+    let h = inside (c .before .before .before .before .before) in
+    (h .1, h .2)
+
+names-test-requires : tie.Need-names-test-requires
+names-test-requires c κs = inside (c .before .before .before .before .before .before) .2
+
+limits-requires : tie.Need-limits-requires
+limits-requires c κs = search needs
+
+root-test-requires : tie.Need-root-test-requires
+root-test-requires c κs = search needs
+
+nesting-test-requires : tie.Need-nesting-test-requires
+nesting-test-requires c κs = search needs
+
+context-test-requires : tie.Need-context-test-requires
+context-test-requires c κs = search needs
+
+extension-test-requires : tie.Need-extension-test-requires
+extension-test-requires c κs = search needs
+
+returns-3 : tie.Need-returns-3
+returns-3 c =
+    let p = c .before .before .before .before .before .before .before .before .before .before .before .before in
+    let a = p .before .before .before .before .before .before .args in
+    let z = asTen (p .before .before .ten-at .result) in
+    let h = sym (p .before .used-parts .ensures) ∙ not-false _ (p .if2 .left) in
+    let s = c .before .before .before .before .before .before .before .before .before .before .before .scan-sheet in
+    rw (c .before .before .before .before .before .before .before .before .before .before .row0-form .ensures, c .before .before .before .before .before .before .before .before .wide .ensures, c .before .before .before .before .before .before .zeros-behind .ensures, c .before .before .before .before .before .names-test .ensures, c .before .before .before .before .limits .ensures, c .before .before .before .root-test .ensures, c .before .before .nesting-test .ensures, c .before .context-test .ensures, c .extension-test .ensures)
+    (good-is (a .rows .now) (a .names .now) z (s .result) (p .before .before .ten-at .ensures) h (s .ensures))
+
+pub is-good-spec : {M : Type 1} → statement M
+is-good-spec =
+    tie.close
+    (tie.spec
+    returns
+    ten-at-requires
+    used-parts-requires
+    returns-2
+    scan-sheet-requires
+    row0-form-requires
+    wide-requires
+    zeros-behind-requires
+    names-test-requires
+    limits-requires
+    root-test-requires
+    nesting-test-requires
+    context-test-requires
+    extension-test-requires
+    returns-3)

@@ -1,0 +1,69 @@
+-- What the code's pass over the rows of a sheet computes. Only contracts of private functions cite it.
+--     asTen         the code's row as the definitions' row
+--     partsFit      the used parts lie inside buffers of the given lengths
+--     aForm         a's part of `rowForm`
+--     failed        what is left where a row fails
+--     firstPasses, firstRow    the namespace's row; its pairs end at the limit at most
+--     nextPasses, nextRow      a row behind it
+--     scanned       all rows behind it
+--     scannedSheet  all rows
+use Prim.Native.Nat.{ℕ}
+use mathlib.Core.List.{List, [], _∷_}
+use mathlib.Core.Bool.{Bool, true, false, _&&_, _||_}
+use lib.Dec.{eqb, leb}
+use Rattle.text.specs.Text.{if_then_else_, between}
+use Rattle.sheet.specs.Rows.{Ten}
+use Rattle.sheet.specs.Form.{isFlag, rowCovers, endOf}
+use Rattle.sheet.specs.Lengths.{fits}
+use Rattle.xsd_types.specs.Good.{usedPairs, tenForm, mayFollow, headAfter}
+use Rattle.xsd_sheet.specs.declared.row.Ten.{Ten as Numbers}
+use Rattle.xsd_sheet.specs.declared.scan.Scan.{Scan}
+
+abbrev pub asTen : Numbers → Ten
+asTen t =
+    record {
+      tag = t .tag;
+      at0 = t .at0;
+      len0 = t .len0;
+      at1 = t .at1;
+      len1 = t .len1;
+      at2 = t .at2;
+      len2 = t .len2;
+      a = t .a;
+      b = t .b;
+      c = t .c;
+    }
+
+unfoldable pub partsFit : Ten → ℕ → ℕ → Bool
+partsFit z rows names = leb 2 (z .at0) && fits (z .at0) (z .len0) rows names
+
+unfoldable pub aForm : ℕ → ℕ → Bool
+aForm tag a = eqb a 0 || between 6 7 tag || between 10 11 tag || between 17 18 tag || ((eqb tag 15 || eqb tag 20) && isFlag a)
+
+unfoldable pub failed : Scan
+failed = record { ok = false; end = 0; head = 0 }
+
+unfoldable pub firstPasses : ℕ → Ten → Bool
+firstPasses limit t =
+    eqb (t .tag) 1 && eqb (t .a) 0 && eqb (t .b) 0 && eqb (t .c) 0 && rowCovers usedPairs 0 t && leb (endOf 0 t) limit
+
+unfoldable pub firstRow : ℕ → Ten → Scan
+firstRow limit t = if firstPasses limit t then record { ok = true; end = endOf 0 t; head = 0 } else failed
+
+unfoldable pub nextPasses : ℕ → Scan → Ten → Bool
+nextPasses limit s t =
+    s .ok && tenForm t && mayFollow (s .head) (t .tag) && rowCovers usedPairs (s .end) t && leb (endOf (s .end) t) limit
+
+unfoldable pub nextRow : ℕ → Scan → Ten → Scan
+nextRow limit s t =
+    if nextPasses limit s t
+    then record { ok = true; end = endOf (s .end) t; head = headAfter (s .head) (t .tag) }
+    else failed
+
+unfoldable pub scanned : ℕ → Scan → List Ten → Scan
+scanned limit s [] = s
+scanned limit s (t ∷ ts) = scanned limit (nextRow limit s t) ts
+
+unfoldable pub scannedSheet : ℕ → List Ten → Scan
+scannedSheet limit [] = failed
+scannedSheet limit (t ∷ ts) = scanned limit (firstRow limit t) ts
