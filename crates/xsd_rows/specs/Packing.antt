@@ -1,15 +1,16 @@
--- A sheet that is the packing of rows behind a row 0, and what each writer makes of one.
+-- A sheet that is the packing of rows behind a row 0, and what each writer makes of one. What holds of every list of rows that the sheet was the packing
+-- of is a record's field, so that a caller names it.
 --     Packs         the two buffers are the packing of the rows rs behind the ten numbers z, zeros behind
 --     Holds         the same, and the used parts are as long as the rows say
 --     usedTexts, usedLength    the texts of a row that uses so many pairs, and their bytes
---     rowOf         the row of the numbers that a writer is handed
---     ZerothPut     another row 0
---     Appended      one row more
---     numbersAt     the numbers of row `place` that are not of its pairs
---     HeadAt        row `place` of the sheet is a row behind rs whose first text is name
---     HeadRoom      there is such a row, and so many bytes behind its name have room
---     Replaced      that row has other numbers and a second text, and is the last
+--     rowOf         the row of the numbers and texts that a writer is handed
 --     numbersOf     a row as ten numbers, its texts in the names from k
+--     numbersAt     the numbers of row `place` that are not of its pairs
+--     Row0Put       row 0 is another one
+--     Appended      there is one row more
+--     HeadAt        row `place` of the sheet stands behind rs and has name for its first text
+--     HeadRoom      there is such a row, and the texts of a row of so many pairs have room from there
+--     HeadReplaced  that row has other numbers and perhaps a second text, and is the last
 use Prim.Native.Nat.{ℕ, zero, suc, _+_, _*_, _≤_}
 use mathlib.Core.Path.{_≡_}
 use mathlib.Core.List.{List, [], _∷_, _++_}
@@ -48,7 +49,7 @@ abbrev pub numbersAt : List ℕ → ℕ → RowNumbers
 numbersAt rows place =
     record { tag = getD rows (10 * place) 0; a = getD rows (10 * place + 7) 0; b = getD rows (10 * place + 8) 0; c = getD rows (10 * place + 9) 0 }
 
-pub record ZerothPut (rows z′ rows′ : List ℕ) : Type 0 where
+pub record Row0Put (rows z′ rows′ : List ℕ) : Type 0 where
   pub rowsLength : length rows′ ≡ length rows
   pub packs : (names z : List ℕ) (rs : List Row) → Packs rows names z rs → Packs rows′ names z′ rs
 
@@ -74,7 +75,7 @@ pub record HeadRoom (rows names : List ℕ) (used : Used) (place pairs second : 
   pub head : HeadAt rows names used place z rs name
   pub room : length (namesOf rs) + usedLength pairs (length name) second ≤ length names
 
-pub record Replaced (rows names : List ℕ) (used : Used) (place : ℕ) (n : RowNumbers) (pairs : ℕ) (second : Text) (rows′ names′ : List ℕ) (used′ : Used) : Type 0 where
+pub record HeadReplaced (rows names : List ℕ) (used : Used) (place : ℕ) (n : RowNumbers) (pairs : ℕ) (second : Text) (rows′ names′ : List ℕ) (used′ : Used) : Type 0 where
   pub rowsLength : length rows′ ≡ length rows
   pub namesLength : length names′ ≡ length names
   pub holds : (z : List ℕ) (rs : List Row) (name : Text) → HeadAt rows names used place z rs name

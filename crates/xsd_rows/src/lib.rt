@@ -2,16 +2,15 @@
 // and of what it is the packing now.
 mod offsets;
 mod row;
-mod store;
 
 use crate::offsets::reoffset;
 use crate::row::pair_at;
 use crate::row::put_row;
 use crate::row::set_row;
-use crate::store::copy_text;
-use crate::store::replace_names;
-use crate::store::zero_names;
-use crate::store::zero_rows;
+use buffer::copy_text;
+use buffer::replace_names;
+use buffer::zero_names;
+use buffer::zero_rows;
 use number::CharacterCount;
 use number::DigitCount;
 ghost use mathlib.Core.Path.{_≡_};
@@ -22,7 +21,7 @@ ghost use lib.Seq.{paste};
 ghost use Rattle.text.specs.Text.{Text, join};
 ghost use Rattle.sheet.specs.Rows.{Row, row, namesOf};
 ghost use Rattle.sheet.specs.Lengths.{fits};
-ghost use Rattle.xsd_rows.specs.Packing.{usedTexts, usedLength, rowOf, ZerothPut, Appended, HeadAt, HeadRoom, Replaced};
+ghost use Rattle.xsd_rows.specs.Packing.{usedTexts, usedLength, rowOf, Row0Put, Appended, HeadAt, HeadRoom, HeadReplaced};
 ghost use Rattle.xsd_rows.specs.Offsets.{Spot, TextAt, TextRoom, TextReplaced};
 
 // How many rows, row 0 among them, and how many bytes of names are used.
@@ -42,7 +41,7 @@ pub struct RowNumbers {
 // Stores row 0.
 pub fn put_row0(rows: &mut [u32], row: [u32; 10])
     requires { ⌜ 10 ≤ length (now rows) ⌝ }
-    ensures { λ _. ⌜ ZerothPut (now (rows .entry)) row (now (rows .exit)) ⌝ }
+    ensures { λ _. ⌜ Row0Put (now (rows .entry)) row (now (rows .exit)) ⌝ }
 {
     put_row(rows, 0, row);
 }
@@ -184,7 +183,7 @@ pub fn replace_head(
     requires head { ⌜ HeadRoom (now rows) (now names) used place pairs (length (now second)) ⌝ }
     requires pairs { ⌜ (1 ≤ pairs) × (pairs ≤ 2) ⌝ }
     requires names { ⌜ length (now names) ≤ 65536 ⌝ }
-    ensures { λ r. ⌜ Replaced (now (rows .entry)) (now (names .entry)) used place n pairs (now (second .entry)) (now (rows .exit)) (now (names .exit)) r ⌝ }
+    ensures { λ r. ⌜ HeadReplaced (now (rows .entry)) (now (names .entry)) used place n pairs (now (second .entry)) (now (rows .exit)) (now (names .exit)) r ⌝ }
 {
     let name = pair_at(rows, 10 * place + 1);
     let end = name.at + name.len;
@@ -212,7 +211,8 @@ pub fn replace_text(
 {
     let first = pair_at(rows, 10 * place + 1);
     let i = 10 * place + 2 * pair + 1;
-    replace_names(names, used.names, pair_at(rows, i), new);
+    let old = pair_at(rows, i);
+    replace_names(names, used.names, old.at, old.len, new);
     rows[i + 1] = new.len() as u32;
     let end = reoffset(rows, place, used.rows, first.at);
     Used {

@@ -3,7 +3,7 @@ use crate::row::numbers_at;
 use crate::row::pair_at;
 use crate::row::set_row;
 use crate::row::texts_length;
-use xsd_sheet::row::used_pairs;
+use xsd_forms::row::used_pairs;
 ghost use mathlib.Core.Path.{_≡_};
 ghost use mathlib.Core.List.{List};
 ghost use Prim.Native.Nat.{ℕ, _+_, _<_};

@@ -1,7 +1,4 @@
 -- What the code's pass over the rows of a sheet computes. Only contracts of private functions cite it.
---     asTen         the code's row as the definitions' row
---     partsFit      the used parts lie inside buffers of the given lengths
---     aForm         a's part of `rowForm`
 --     failed        what is left where a row fails
 --     firstPasses, firstRow    the namespace's row; its pairs end at the limit at most
 --     nextPasses, nextRow      a row behind it
@@ -9,36 +6,13 @@
 --     scannedSheet  all rows
 use Prim.Native.Nat.{ℕ}
 use mathlib.Core.List.{List, [], _∷_}
-use mathlib.Core.Bool.{Bool, true, false, _&&_, _||_}
+use mathlib.Core.Bool.{Bool, true, false, _&&_}
 use lib.Dec.{eqb, leb}
-use Rattle.text.specs.Text.{if_then_else_, between}
+use Rattle.text.specs.Text.{if_then_else_}
 use Rattle.sheet.specs.Rows.{Ten}
-use Rattle.sheet.specs.Form.{isFlag, rowCovers, endOf}
-use Rattle.sheet.specs.Lengths.{fits}
+use Rattle.sheet.specs.Form.{rowCovers, endOf}
 use Rattle.xsd_types.specs.Good.{usedPairs, tenForm, mayFollow, headAfter}
-use Rattle.xsd_sheet.specs.declared.row.Ten.{Ten as Numbers}
 use Rattle.xsd_sheet.specs.declared.scan.Scan.{Scan}
-
-abbrev pub asTen : Numbers → Ten
-asTen t =
-    record {
-      tag = t .tag;
-      at0 = t .at0;
-      len0 = t .len0;
-      at1 = t .at1;
-      len1 = t .len1;
-      at2 = t .at2;
-      len2 = t .len2;
-      a = t .a;
-      b = t .b;
-      c = t .c;
-    }
-
-unfoldable pub partsFit : Ten → ℕ → ℕ → Bool
-partsFit z rows names = leb 2 (z .at0) && fits (z .at0) (z .len0) rows names
-
-unfoldable pub aForm : ℕ → ℕ → Bool
-aForm tag a = eqb a 0 || between 6 7 tag || between 10 11 tag || between 17 18 tag || ((eqb tag 15 || eqb tag 20) && isFlag a)
 
 unfoldable pub failed : Scan
 failed = record { ok = false; end = 0; head = 0 }

@@ -1,5 +1,5 @@
 // The two buffers: their lengths, filling them with zeros, and what stands in and behind their used parts.
-use crate::row::Ten;
+use xsd_forms::row::Ten;
 ghost use mathlib.Core.Path.{_≡_};
 ghost use mathlib.Core.Bool.{_&&_};
 ghost use Prim.Native.Nat.{_*_, _≤_};

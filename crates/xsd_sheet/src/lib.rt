@@ -1,9 +1,9 @@
 // The schema sheet of paper 01: clearing, the test of a good sheet, and the reading of row 0.
 mod buffers;
-pub mod row;
 mod scan;
-mod tests;
 
+use xsd_forms::row;
+use xsd_forms::tests;
 ghost use mathlib.Core.Path.{_≡_};
 ghost use Prim.Native.Nat.{_*_, _≤_};
 ghost use lib.ListN.{length};

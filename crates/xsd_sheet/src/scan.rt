@@ -1,11 +1,12 @@
 // One pass over the rows of a sheet: each row's form and place in the order, the end of its pairs, and the last head.
-use crate::row;
-use crate::row::Ten;
+use xsd_forms::row;
+use xsd_forms::row::Ten;
 ghost use mathlib.Core.Path.{_≡_};
 ghost use Prim.Native.Nat.{_-_, _*_, _≤_, _^_};
 ghost use lib.ListN.{length, drop};
 ghost use Rattle.sheet.specs.Rows.{tens};
-ghost use Rattle.xsd_sheet.specs.Scan.{asTen, failed as nothing, firstRow, nextRow, scanned, scannedSheet};
+ghost use Rattle.xsd_forms.specs.Forms.{asTen};
+ghost use Rattle.xsd_sheet.specs.Scan.{failed as nothing, firstRow, nextRow, scanned, scannedSheet};
 
 // ok: every row passed. Then end is where the pairs end, and head the tag of the last head, 0 if there is none.
 pub struct Scan {

@@ -4,9 +4,9 @@ use mathlib.Core.Bool.{Bool, true, _&&_}
 use mathlib.Core.Logic.{⊎-elim}
 use mathlib.Core.List.{List, [], _∷_}
 use Prim.Native.Nat.{ℕ, zero, suc, _-_, _≤_, _<_}
-use native.Mathlib.Nat.{sub-zero, suc-sub-suc, le-of-suc-le-suc, not-suc-le-zero, eq-or-lt-of-le}
-use lib.ListN.{take, drop}
-use lib.Seq.{slice, take-nil}
+use native.Mathlib.Nat.{sub-zero, suc-sub-suc, le-of-suc-le-suc, not-suc-le-zero, eq-or-lt-of-le, le-of-eq}
+use lib.ListN.{length, take, drop, length-drop}
+use lib.Seq.{slice, take-nil, take-all}
 use Rattle.text.proofs.Laws.Tests.{and-true-left, and-true-right}
 
 -- the test passes at each place below n
@@ -28,3 +28,7 @@ part-slice zero t l h = rw (sub-zero t)
 part-slice (suc f) zero l h = absurd (not-suc-le-zero h)
 part-slice (suc f) (suc t) [] h = take-nil {A = ℕ} (suc t - suc f)
 part-slice (suc f) (suc t) (x ∷ l) h = rw (suc-sub-suc t f) (part-slice f t l (le-of-suc-le-suc h))
+
+-- the part of a list from place i on
+pub part-from : (s : List ℕ) (i : ℕ) → take (length s - i) (drop i s) ≡ drop i s
+part-from s i = take-all _ (drop i s) (le-of-eq (length-drop i s))

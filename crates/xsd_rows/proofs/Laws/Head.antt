@@ -12,7 +12,7 @@ use Rattle.xsd_rows.specs.Packing.{Packs, Holds, HeadAt, usedTexts, used
 use Rattle.xsd_rows.specs.declared.Used.{Used}
 use Rattle.xsd_rows.specs.declared.RowNumbers.{RowNumbers}
 use Rattle.xsd_rows.proofs.Laws.Texts.{used-bytes, join-rest}
-use Rattle.xsd_rows.proofs.Laws.Buffer.{zeros, filled-fits, filled-cut, filled-append}
+use Rattle.buffer.proofs.Laws.Buffer.{zeros, filled-fits, filled-cut, filled-append}
 use Rattle.xsd_rows.proofs.Laws.Pack.{used-append, used-length}
 use Rattle.xsd_rows.proofs.Laws.Write.{length-numbersOf, length-more, names-one, rows-more, packs-of}
 use Rattle.sheet.proofs.Laws.Numbers.{length-numbers}

@@ -13,7 +13,7 @@ use Rattle.xsd_types.specs.Good.{usedPairs}
 use Rattle.xsd_rows.specs.Packing.{usedTexts, usedLength, rowOf, numbersOf, numbersAt}
 use Rattle.xsd_rows.specs.Offsets.{LikeRow, Like, Offsets}
 use Rattle.xsd_rows.specs.declared.RowNumbers.{RowNumbers}
-use Rattle.xsd_rows.proofs.Laws.Buffer.{paste-at}
+use Rattle.buffer.proofs.Laws.Buffer.{paste-at}
 use Rattle.xsd_rows.proofs.Laws.Texts.{used-bytes}
 use Rattle.xsd_rows.proofs.Laws.Write.{length-numbersOf}
 use Rattle.xsd_rows.proofs.Laws.Head.{getD-middle, pack-first}

@@ -15,7 +15,7 @@ use Rattle.xsd_rows.specs.declared.Used.{Used}
 use Rattle.xsd_rows.proofs.Laws.Pack.{used-length}
 use Rattle.xsd_rows.proofs.Laws.Write.{length-numbersOf, packs-of}
 use Rattle.xsd_rows.proofs.Laws.Head.{number-at, filled-around, pack-first, rows-fit, names-fit}
-use Rattle.xsd_rows.proofs.Laws.Buffer.{zeros}
+use Rattle.buffer.proofs.Laws.Buffer.{zeros}
 use Rattle.sheet.proofs.Laws.Packs.{namesOf-append}
 
 -- a store behind the first part of a list, and one in its middle

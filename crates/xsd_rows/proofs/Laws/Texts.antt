@@ -2,7 +2,7 @@
 use Prim.Native.Nat.{ℕ, zero, suc, _+_, _-_, _≤_}
 use mathlib.Core.Path.{_≡_, refl, ap, _∙_}
 use lib.Seq.{paste, paste-zero}
-use Rattle.xsd_rows.proofs.Laws.Copy.{paste-paste}
+use Rattle.buffer.proofs.Laws.Copy.{paste-paste}
 use mathlib.Core.List.{List, [], _∷_, _++_, append-nil}
 use native.Mathlib.Nat.{le-refl, le-add-right, add-zero}
 use native.Mathlib.Omega.{arith}

@@ -10,7 +10,7 @@ use Rattle.text.specs.Text.{join}
 use Rattle.sheet.specs.Rows.{Row, numbers, pack, namesOf, filled}
 use Rattle.xsd_rows.specs.Packing.{Packs, Holds, numbersOf}
 use Rattle.xsd_rows.specs.declared.Used.{Used}
-use Rattle.xsd_rows.proofs.Laws.Buffer.{zeros, paste-at, filled-fits, filled-own, filled-append}
+use Rattle.buffer.proofs.Laws.Buffer.{zeros, paste-at, filled-fits, filled-own, filled-append}
 use Rattle.xsd_rows.proofs.Laws.Pack.{used-append, used-length}
 use Rattle.sheet.proofs.Laws.Packs.{namesOf-append}
 
@@ -41,9 +41,9 @@ packs-of {rows} {names} {z} {rs} n m ten fitsRows fitsNames e f =
     }
 
 -- another row 0
-pub packs-zeroth : {rows names z rows′ : List ℕ} {rs : List Row} (z′ : List ℕ) → Packs rows names z rs → length z′ ≡ 10 → rows′ ≡ paste rows 0 z′ 10 → Packs rows′ names z′ rs
+pub packs-row0 : {rows names z rows′ : List ℕ} {rs : List Row} (z′ : List ℕ) → Packs rows names z rs → length z′ ≡ 10 → rows′ ≡ paste rows 0 z′ 10 → Packs rows′ names z′ rs
 unfolding filled
-packs-zeroth {rows} {names} {z} {rows′} {rs} z′ p ten e =
+packs-row0 {rows} {names} {z} {rows′} {rs} z′ p ten e =
     let x = numbers (pack 0 rs) in
     let same : length (z ++ x) ≡ length (z′ ++ x) = used-length z rs (p .ten) ∙ sym (used-length z′ rs ten) in
     let rest = zeros (length rows - length (z ++ x)) in

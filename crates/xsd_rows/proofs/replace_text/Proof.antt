@@ -39,12 +39,12 @@ add-i-2 : tie.Need-add-i-2
 add-i-2 c = omega (arith, facts (c .before .before .before .before .before))
 
 pair-at-requires-2 : tie.Need-pair-at-requires-2
-pair-at-requires-2 c κs = omega (arith, facts (c .before .before .before .before .before .before .before))
+pair-at-requires-2 c κs = omega (arith, facts (c .before .before .before .before .before .before))
 
 replace-names-requires : tie.Need-replace-names-requires
 replace-names-requires c κs =
     let start = c .before .before .before .before .before .before .before .before in
-    omega (arith, facts start, start .pre .0 .room, c .pair-at2 .ensures)
+    omega (arith, facts start, start .pre .0 .room, c .before .pair-at2 .ensures)
 
 cast-rows : tie.Need-cast-rows
 cast-rows c =
@@ -77,7 +77,7 @@ returns : tie.Need-returns
 returns c =
     let start = c .before .before .before .before .before .before .before .before .before .before .before .before .before .before .before in
     let a = start .args in
-    let found = c .before .before .before .before .before .before .before .pair-at2 in
+    let found = c .before .before .before .before .before .before .before .before .pair-at2 in
     let moved = c .before .before .before .before .before .before .replace-names in
     let set = c .before .before .reoffset in
     record {

@@ -1,12 +1,11 @@
--- Laws of zeros and of parts of lists: what stands at place i decides, or what is behind it does. Assumes nothing.
+-- Laws of zeros: what stands at place i decides, or what is behind it does. Assumes nothing.
 use mathlib.Core.Path.{_≡_}
 use mathlib.Core.Bool.{true, false}
 use mathlib.Core.List.{List, _++_, append-nil}
-use Prim.Native.Nat.{ℕ, suc, _-_, _≤_, _<_}
-use native.Mathlib.Nat.{le-of-eq}
+use Prim.Native.Nat.{ℕ, suc, _≤_, _<_}
 use native.Mathlib.Omega.{arith}
-use lib.ListN.{length, getD, take, drop, replicate, drop-of-length-le, length-drop}
-use lib.Seq.{drop-cons, take-all}
+use lib.ListN.{length, getD, drop, replicate, drop-of-length-le}
+use lib.Seq.{drop-cons}
 use borrow.Author.Tests.{eq-eqb, ne-eqb}
 use Rattle.sheet.specs.Rows.{allZero}
 
@@ -21,10 +20,6 @@ zero-on s i h e = rw (drop-cons s i 0 h, eq-eqb (getD s i 0) 0 e)
 pub zero-end : (s : List ℕ) (i : ℕ) → length s ≤ i → allZero (drop i s) ≡ true
 unfolding allZero
 zero-end s i h = rw (drop-of-length-le s h)
-
--- the part of a list from place i on
-pub part-from : (s : List ℕ) (i : ℕ) → take (length s - i) (drop i s) ≡ drop i s
-part-from s i = take-all _ (drop i s) (le-of-eq (length-drop i s))
 
 -- a list that is filled from the front, past its end
 pub filled-whole : (s : List ℕ) (i : ℕ) → i ≤ length s → length s ≤ i → replicate i 0 ++ drop i s ≡ replicate (length s) 0

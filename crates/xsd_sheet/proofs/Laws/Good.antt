@@ -15,7 +15,8 @@ use Rattle.sheet.specs.Lengths.{fits}
 use Rattle.xsd_types.specs.Good.{row0Form, rowsForm, namesForm, namesTest, limits, rootTest, nestingTest, contextTest, extensionTest, headOf, good}
 use Rattle.xsd_sheet.specs.declared.scan.Scan.{Scan}
 use Rattle.xsd_sheet.specs.Calls.{sheet}
-use Rattle.xsd_sheet.specs.Scan.{partsFit, scannedSheet}
+use Rattle.xsd_forms.specs.Forms.{partsFit}
+use Rattle.xsd_sheet.specs.Scan.{scannedSheet}
 use Rattle.xsd_sheet.proofs.Laws.Scan.{ends, sheet-ends}
 use Rattle.sheet.specs.Form.{row0Of, tensOf, usedParts, zerosBehind}
 

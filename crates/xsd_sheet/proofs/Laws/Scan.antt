@@ -17,7 +17,7 @@ use Rattle.sheet.specs.Form.{rowCovers, endOf, covers, covered}
 use Rattle.xsd_types.specs.Good.{usedPairs, tenForm, mayFollow, isHead, isChild, headAfter, inOrder, lastHead, rowsForm, namesForm, headOf}
 use Rattle.xsd_sheet.specs.declared.scan.Scan.{Scan}
 use Rattle.xsd_sheet.specs.Scan.{failed, firstPasses, firstRow, nextPasses, nextRow, scanned, scannedSheet}
-use Rattle.xsd_sheet.proofs.Laws.Buffers.{part-from}
+use Rattle.text.proofs.Laws.Table.{part-from}
 use Rattle.xsd_sheet.proofs.Laws.Rows.{tens-none, tens-more, tens-two}
 
 abbrev pub tags : List Ten → List ℕ

@@ -7,7 +7,7 @@ use lib.ListN.{length}
 use borrow.Author.Tests.{not-true, not-false}
 use borrow.Author.Needs.{needs}
 use Rattle.sheet.specs.Rows.{ten}
-use Rattle.xsd_sheet.specs.Scan.{asTen, partsFit}
+use Rattle.xsd_forms.specs.Forms.{asTen, partsFit}
 use Rattle.xsd_sheet.proofs.Laws.Good.{parts-in, not-inside, too-short, good-is}
 use Rattle.xsd_sheet.proofs.is_good.Statement.{statement}
 use Rattle.xsd_sheet.proofs.is_good.Tie as tie

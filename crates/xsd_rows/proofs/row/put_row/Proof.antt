@@ -5,7 +5,7 @@ use mathlib.Core.Path.{_≡_}
 use native.Mathlib.Omega.{arith}
 use borrow.Author.Needs.{needs}
 use lib.ListN.{length}
-use Rattle.xsd_rows.proofs.Laws.Copy.{Copying, copying-start, copying-more, copying-end}
+use Rattle.buffer.proofs.Laws.Copy.{Copying, copying-start, copying-more, copying-end}
 use Rattle.xsd_rows.proofs.row.put_row.Statement.{statement}
 use Rattle.xsd_rows.proofs.row.put_row.Tie as tie
 

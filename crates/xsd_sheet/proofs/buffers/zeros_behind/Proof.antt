@@ -1,7 +1,7 @@
 -- `xsd_sheet::buffers::zeros_behind` meets its contract: the part from a place on is what stands behind it. Assumes nothing.
 use Prim.Native.Nat.{_*_}
 use borrow.Author.Needs.{needs}
-use Rattle.xsd_sheet.proofs.Laws.Buffers.{part-from}
+use Rattle.text.proofs.Laws.Table.{part-from}
 use Rattle.xsd_sheet.proofs.buffers.zeros_behind.Statement.{statement}
 use Rattle.xsd_sheet.proofs.buffers.zeros_behind.Tie as tie
 

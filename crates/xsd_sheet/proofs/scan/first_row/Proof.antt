@@ -2,7 +2,8 @@
 use mathlib.Core.Bool.{true, false}
 use mathlib.Core.Path.{_≡_}
 use borrow.Author.Needs.{needs}
-use Rattle.xsd_sheet.specs.Scan.{asTen, firstPasses, firstRow}
+use Rattle.xsd_forms.specs.Forms.{asTen}
+use Rattle.xsd_sheet.specs.Scan.{firstPasses, firstRow}
 use Rattle.xsd_sheet.proofs.scan.first_row.Statement.{statement}
 use Rattle.xsd_sheet.proofs.scan.first_row.Tie as tie
 

@@ -3,7 +3,8 @@ use mathlib.Core.Bool.{true, false}
 use mathlib.Core.Path.{_≡_}
 use borrow.Author.Needs.{needs}
 use Rattle.xsd_types.specs.Good.{tenForm}
-use Rattle.xsd_sheet.specs.Scan.{asTen, nextPasses, nextRow}
+use Rattle.xsd_forms.specs.Forms.{asTen}
+use Rattle.xsd_sheet.specs.Scan.{nextPasses, nextRow}
 use Rattle.xsd_sheet.proofs.scan.next_row.Statement.{statement}
 use Rattle.xsd_sheet.proofs.scan.next_row.Tie as tie
 

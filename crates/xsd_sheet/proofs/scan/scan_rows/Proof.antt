@@ -5,7 +5,8 @@ use mathlib.Core.Path.{_≡_, refl, _∙_}
 use native.Mathlib.Omega.{arith}
 use lib.ListN.{length, drop}
 use Rattle.sheet.specs.Rows.{tens}
-use Rattle.xsd_sheet.specs.Scan.{asTen, scanned}
+use Rattle.xsd_forms.specs.Forms.{asTen}
+use Rattle.xsd_sheet.specs.Scan.{scanned}
 use Rattle.xsd_sheet.proofs.Laws.Scan.{next-end, scan-step, scan-stops}
 use Rattle.xsd_sheet.proofs.scan.scan_rows.Statement.{statement}
 use Rattle.xsd_sheet.proofs.scan.scan_rows.Tie as tie

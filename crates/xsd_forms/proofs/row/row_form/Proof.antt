@@ -1,0 +1,22 @@
+-- `xsd_forms::row::row_form` meets its contract: the code is the definition, test by test. Assumes nothing.
+use borrow.Author.Needs.{needs}
+use Rattle.xsd_types.specs.Good.{rowForm}
+use Rattle.xsd_forms.specs.Forms.{aForm}
+use Rattle.xsd_forms.proofs.row.row_form.Statement.{statement}
+use Rattle.xsd_forms.proofs.row.row_form.Tie as tie
+
+in-range-requires : tie.Need-in-range-requires
+in-range-requires c κs = search needs
+
+in-range-requires-2 : tie.Need-in-range-requires-2
+in-range-requires-2 c κs = search needs
+
+a-form-requires : tie.Need-a-form-requires
+a-form-requires c κs = search needs
+
+returns : tie.Need-returns
+unfolding rowForm aForm
+returns c = cc
+
+pub row-form-spec : {M : Type 1} → statement M
+row-form-spec = tie.close (tie.spec in-range-requires in-range-requires-2 a-form-requires returns)

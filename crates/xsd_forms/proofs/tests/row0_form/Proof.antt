@@ -1,0 +1,18 @@
+-- `xsd_forms::tests::row0_form` meets its contract: the code is the definition, test by test. Assumes nothing.
+use borrow.Author.Needs.{needs}
+use Rattle.xsd_types.specs.Good.{row0Form}
+use Rattle.xsd_forms.proofs.tests.row0_form.Statement.{statement}
+use Rattle.xsd_forms.proofs.tests.row0_form.Tie as tie
+
+is-flag-requires : tie.Need-is-flag-requires
+is-flag-requires c κs = search needs
+
+is-flag-requires-2 : tie.Need-is-flag-requires-2
+is-flag-requires-2 c κs = search needs
+
+returns : tie.Need-returns
+unfolding row0Form
+returns c = cc
+
+pub row0-form-spec : {M : Type 1} → statement M
+row0-form-spec = tie.close (tie.spec is-flag-requires is-flag-requires-2 returns)

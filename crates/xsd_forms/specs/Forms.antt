@@ -1,0 +1,33 @@
+-- What the contracts of the row tests cite beyond xsd_types' Good.
+--     asTen         the code's row as the definitions' row
+--     partsFit      the used parts lie inside buffers of the given lengths
+--     aForm         a's part of `rowForm`
+use Prim.Native.Nat.{ℕ}
+use mathlib.Core.Bool.{Bool, _&&_, _||_}
+use lib.Dec.{eqb, leb}
+use Rattle.text.specs.Text.{between}
+use Rattle.sheet.specs.Rows.{Ten}
+use Rattle.sheet.specs.Form.{isFlag}
+use Rattle.sheet.specs.Lengths.{fits}
+use Rattle.xsd_forms.specs.declared.row.Ten.{Ten as Numbers}
+
+abbrev pub asTen : Numbers → Ten
+asTen t =
+    record {
+      tag = t .tag;
+      at0 = t .at0;
+      len0 = t .len0;
+      at1 = t .at1;
+      len1 = t .len1;
+      at2 = t .at2;
+      len2 = t .len2;
+      a = t .a;
+      b = t .b;
+      c = t .c;
+    }
+
+unfoldable pub partsFit : Ten → ℕ → ℕ → Bool
+partsFit z rows names = leb 2 (z .at0) && fits (z .at0) (z .len0) rows names
+
+unfoldable pub aForm : ℕ → ℕ → Bool
+aForm tag a = eqb a 0 || between 6 7 tag || between 10 11 tag || between 17 18 tag || ((eqb tag 15 || eqb tag 20) && isFlag a)

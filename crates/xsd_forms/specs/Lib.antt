@@ -1,0 +1,2 @@
+-- The definitions of the crate `xsd_forms`.
+pub mod Forms
