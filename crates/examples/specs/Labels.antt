@@ -21,15 +21,15 @@ words = ended "String" ++ ended "Bool" ++ ended "Decimal" ++ ended "Date" ++ end
 names : List ℕ
 names = bytes "VBCxy"
 
-word : String → Labelled
-word w = record { number = 0; inWords = true; text = bytes w }
+word : ℕ → String → Labelled
+word at w = record { number = 0; inWords = true; at = at; text = bytes w }
 
-name : String → Labelled
-name w = record { number = 0; inWords = false; text = bytes w }
+name : ℕ → String → Labelled
+name at w = record { number = 0; inWords = false; at = at; text = bytes w }
 
 -- "the label is the empty part at the start of names"
 refused : Labelled
-refused = record { number = 16; inWords = false; text = [] }
+refused = record { number = 16; inWords = false; at = 0; text = [] }
 
 -- one name that unfolds them
 labels : Unit {0}
@@ -39,66 +39,66 @@ labels = tt
 -- ---- "a part of the word list .. word a, from 1, without the newline"
 
 -- newtype, a 3
-newtype : label (line 5 0 1 0 0 0 0 3 0 0) names words 0 ≡ word "Decimal"
+newtype : label (line 5 0 1 0 0 0 0 3 0 0) names words 0 ≡ word 12 "Decimal"
 unfolding labels
 newtype = refl
 
 -- the first and the last word
-first-word : label (line 9 0 1 1 1 0 0 1 0 0) names words 0 ≡ word "String"
+first-word : label (line 9 0 1 1 1 0 0 1 0 0) names words 0 ≡ word 0 "String"
 unfolding labels
 first-word = refl
 
-last-word : label (line 19 0 1 1 1 0 0 5 1 0) names words 0 ≡ word "DateTime"
+last-word : label (line 19 0 1 1 1 0 0 5 1 0) names words 0 ≡ word 25 "DateTime"
 unfolding labels
 last-word = refl
 
 -- no pair is looked at (L6)
-word-bad-pairs : label (line 10 9 9 9 9 9 9 2 0 0) names words 0 ≡ word "Bool"
+word-bad-pairs : label (line 10 9 9 9 9 9 9 2 0 0) names words 0 ≡ word 7 "Bool"
 unfolding labels
 word-bad-pairs = refl
 
 -- words may be empty (L5)
-empty-word : label (line 7 0 1 0 0 0 0 4 0 0) names (replicate 5 10) 0 ≡ word ""
+empty-word : label (line 7 0 1 0 0 0 0 4 0 0) names (replicate 5 10) 0 ≡ word 3 ""
 unfolding labels
 empty-word = refl
 
 -- ---- "a part of the graph's names"
 
 -- the second pair of 7; no other pair is looked at (L6)
-value-reference : label (line 7 9 9 1 2 9 9 0 0 0) names words 0 ≡ name "BC"
+value-reference : label (line 7 9 9 1 2 9 9 0 0 0) names words 0 ≡ name 1 "BC"
 unfolding labels
 value-reference = refl
 
 -- the third of 9, 10 and 19
-field-reference : label (line 9 9 9 9 9 3 2 0 0 0) names words 0 ≡ name "xy"
+field-reference : label (line 9 9 9 9 9 3 2 0 0 0) names words 0 ≡ name 3 "xy"
 unfolding labels
 field-reference = refl
 
-variant-reference : label (line 10 0 1 0 1 3 1 0 0 0) names words 0 ≡ name "x"
+variant-reference : label (line 10 0 1 0 1 3 1 0 0 0) names words 0 ≡ name 3 "x"
 unfolding labels
 variant-reference = refl
 
-attribute-reference : label (line 19 0 1 0 1 4 1 0 0 0) names words 0 ≡ name "y"
+attribute-reference : label (line 19 0 1 0 1 4 1 0 0 0) names words 0 ≡ name 4 "y"
 unfolding labels
 attribute-reference = refl
 
 -- the word list is not judged with a 0 (L4)
-no-words : label (line 7 0 1 1 2 0 0 0 0 0) names [] 0 ≡ name "BC"
+no-words : label (line 7 0 1 1 2 0 0 0 0 0) names [] 0 ≡ name 1 "BC"
 unfolding labels
 no-words = refl
 
 -- an empty reference at the end of the names
-empty-reference : label (line 7 0 1 5 0 0 0 0 0 0) names words 0 ≡ name ""
+empty-reference : label (line 7 0 1 5 0 0 0 0 0 0) names words 0 ≡ name 5 ""
 unfolding labels
 empty-reference = refl
 
 -- "Rows count from 0"
-row-2 : label (join (line 0 3 5 0 1 0 0 0 0 0 ∷ line 1 0 0 0 0 0 0 0 0 0 ∷ line 7 0 1 1 2 0 0 0 0 0 ∷ [])) names words 2 ≡ name "BC"
+row-2 : label (join (line 0 3 5 0 1 0 0 0 0 0 ∷ line 1 0 0 0 0 0 0 0 0 0 ∷ line 7 0 1 1 2 0 0 0 0 0 ∷ [])) names words 2 ≡ name 1 "BC"
 unfolding labels
 row-2 = refl
 
 -- no length is too long (L2): row 4,096
-long-rows : label (replicate 40960 0 ++ line 7 0 1 1 2 0 0 0 0 0) names words 4096 ≡ name "BC"
+long-rows : label (replicate 40960 0 ++ line 7 0 1 1 2 0 0 0 0 0) names words 4096 ≡ name 1 "BC"
 unfolding labels
 long-rows = refl
 

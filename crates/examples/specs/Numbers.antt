@@ -1,9 +1,30 @@
--- Lowering's numbers by computation. "Lowering: 1, 2, 14, 12, 13, 15."
+-- Lowering's numbers by computation. "Lowering: 1, 2, 14, 12, 13, 15." Where a buffer is long its length is computed by a law, and not by
+-- counting.
+use Prim.Native.Nat.{ℕ, _≤_}
+use Prim.Native.String.{String}
 use mathlib.Core.Path.{_≡_, refl}
+use mathlib.Core.Bool.{false, and-false}
 use mathlib.Core.List.{List, [], _∷_}
-use Rattle.xsd_types.specs.Examples.Sheets.{line, noNamespace, sheet, junk, blank}
+use lib.ListN.{length, length-replicate}
+use borrow.Author.Tests.{leb-true}
+use Rattle.text.specs.Text.{bytes, join}
+use Rattle.sheet.specs.Rows.{Sheet}
+use Rattle.sheet.specs.Lengths.{sheetLengths, lengthsOf, goodLengths}
+use Rattle.sheet.proofs.Laws.Numbers.{length-filled}
+use Rattle.xsd_types.specs.Examples.Sheets.{line, noNamespace, sheet, junk, blank, answer}
 use Rattle.xsd_parser.specs.Examples.Tapes.{Tag, start, empty, close, typed, based, valued, schema, simpleType, complexType}
 use Rattle.examples.specs.Calls.{lowers, lowered, unchanged, zeroed, compiles, compiled, called}
+use Rattle.ir_lower.specs.Call.{lowering, unchanged as refused}
+
+-- ---- buffers of any length, where one is above its limit
+
+schema-refused : (r n : ℕ) (rows : List (List ℕ)) (names : String) → length (join rows) ≤ r → length (bytes names) ≤ n → sheetLengths r n ≡ false → lowers (sheet r n rows names) 30 2 1 ≡ unchanged 1 30 2 1
+unfolding lowers unchanged lowering refused goodLengths lengthsOf sheet answer
+schema-refused r n rows names hr hn e = rw (length-filled r (join rows) hr, length-filled n (bytes names) hn, e)
+
+graph-refused : (x : Sheet) (r n : ℕ) → sheetLengths r n ≡ false → lowers x r n 1 ≡ unchanged 1 r n 1
+unfolding lowers unchanged lowering refused goodLengths lengthsOf junk answer
+graph-refused x r n e = rw (length-replicate {A = ℕ} r 7, length-replicate {A = ℕ} n 7, e, and-false (sheetLengths (length (x .rows)) (length (x .names))))
 
 -- ---- 0: "place is .. rows used"
 
@@ -36,12 +57,12 @@ schema-10 = refl
 -- "or above 40,960"
 schema-40970 : lowers (sheet 40970 0 (line 0 2 0 0 0 1 0 0 0 0 ∷ noNamespace ∷ []) "") 30 2 1 ≡ unchanged 1 30 2 1
 unfolding called
-schema-40970 = refl
+schema-40970 = schema-refused 40970 0 (line 0 2 0 0 0 1 0 0 0 0 ∷ noNamespace ∷ []) "" (leb-true 20 40970 refl) (leb-true 0 0 refl) refl
 
 -- "names above 65,536"
 schema-names : lowers (sheet 20 65537 (line 0 2 0 0 0 1 0 0 0 0 ∷ noNamespace ∷ []) "") 30 2 1 ≡ unchanged 1 30 2 1
 unfolding called
-schema-names = refl
+schema-names = schema-refused 20 65537 (line 0 2 0 0 0 1 0 0 0 0 ∷ noNamespace ∷ []) "" (leb-true 20 20 refl) (leb-true 0 65537 refl) refl
 
 -- the graph's
 graph-25 : lowers (sheet 30 2 (line 0 3 2 0 0 1 3 0 0 0 ∷ noNamespace ∷ line 2 0 1 1 1 0 0 0 0 0 ∷ []) "DT") 35 2 1 ≡ unchanged 1 35 2 1
@@ -53,12 +74,12 @@ unfolding called
 graph-10 = refl
 
 graph-40970 : lowers (sheet 20 0 (line 0 2 0 0 0 1 0 0 0 0 ∷ noNamespace ∷ []) "") 40970 0 1 ≡ unchanged 1 40970 0 1
-unfolding called
-graph-40970 = refl
+unfolding sheetLengths
+graph-40970 = graph-refused (sheet 20 0 (line 0 2 0 0 0 1 0 0 0 0 ∷ noNamespace ∷ []) "") 40970 0 refl
 
 graph-names : lowers (sheet 20 0 (line 0 2 0 0 0 1 0 0 0 0 ∷ noNamespace ∷ []) "") 20 65537 1 ≡ unchanged 1 20 65537 1
-unfolding called
-graph-names = refl
+unfolding sheetLengths
+graph-names = graph-refused (sheet 20 0 (line 0 2 0 0 0 1 0 0 0 0 ∷ noNamespace ∷ []) "") 20 65537 refl
 
 -- 1 before 2
 one-before-two : lowers (junk 20 0) 35 2 1 ≡ unchanged 1 35 2 1

@@ -12,7 +12,7 @@ use lib.Dec.{leb}
 use lib.ListN.{length, replicate}
 use Rattle.text.specs.Text.{if_then_else_}
 use Rattle.sheet.specs.Rows.{Sheet}
-use Rattle.sheet.specs.Lengths.{sheetLengths, Answer}
+use Rattle.sheet.specs.Lengths.{sheetLengths, Answer, lengthsOf, goodLengths}
 use Rattle.xsd_types.specs.State.{State}
 use Rattle.xsd_types.specs.Good.{good}
 use Rattle.xsd_types.specs.Back.{stateOf}
@@ -64,12 +64,9 @@ lowerState s graph scratch =
     else cleared 12 0 graph scratch
     else unchanged 14 graph scratch
 
-unfoldable pub lengthsOk : Sheet → Bool
-lengthsOk x = sheetLengths (length (x .rows)) (length (x .names))
-
 unfoldable pub lowering : Sheet → Sheet → List ℕ → Lowered
 lowering x graph scratch =
-    if lengthsOk x && lengthsOk graph
+    if goodLengths (lengthsOf x) && goodLengths (lengthsOf graph)
     then if good x then lowerState (stateOf x) graph scratch else unchanged 2 graph scratch
     else unchanged 1 graph scratch
 

@@ -5,6 +5,7 @@ pub mod GraphRows
 pub mod GraphOrder
 pub mod GraphForm
 pub mod Label
+pub mod Words
 pub mod Members
 pub mod Refuses
 pub mod GraphSmall

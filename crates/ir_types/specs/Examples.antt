@@ -103,20 +103,20 @@ word s = bytes s ++ (10 ∷ [])
 words : List ℕ
 words = word "String" ++ (word "Bool" ++ (word "Decimal" ++ (word "Date" ++ word "DateTime")))
 
-inNames : Text → Labelled
-inNames t = record { number = 0; inWords = false; text = t }
+inNames : ℕ → Text → Labelled
+inNames at t = record { number = 0; inWords = false; at = at; text = t }
 
-inWords : Text → Labelled
-inWords t = record { number = 0; inWords = true; text = t }
+inWords : ℕ → Text → Labelled
+inWords at t = record { number = 0; inWords = true; at = at; text = t }
 
 refused : Labelled
-refused = record { number = 16; inWords = false; text = [] }
+refused = record { number = 16; inWords = false; at = 0; text = [] }
 
 labelled : ℕ → Labelled
 labelled k = label (sampleSheet .rows) (sampleSheet .names) words k
 
 -- a newtype's inner type, a field's, a value's and an attribute's reference
-labels : (labelled 3 ≡ inWords (bytes "Decimal")) × (labelled 6 ≡ inNames (bytes "N")) × (labelled 7 ≡ inNames (bytes "N")) × (labelled 8 ≡ inWords (bytes "String"))
+labels : (labelled 3 ≡ inWords 12 (bytes "Decimal")) × (labelled 6 ≡ inNames 11 (bytes "N")) × (labelled 7 ≡ inNames 13 (bytes "N")) × (labelled 8 ≡ inWords 0 (bytes "String"))
 unfolding labelled inNames inWords word words sample sampleSheet texts builtinNames sheets graphs
 labels = (refl, refl, refl, refl)
 
@@ -130,17 +130,17 @@ oneRow : ℕ → ℕ → ℕ → ℕ → ℕ → ℕ → List ℕ
 oneRow tag at1 len1 at2 len2 a = tag ∷ 7 ∷ 7 ∷ at1 ∷ len1 ∷ at2 ∷ len2 ∷ a ∷ 9 ∷ 9 ∷ []
 
 -- a length that is no multiple of 10, and no row at all
-bad-length : (label (oneRow 5 0 0 0 0 1 ++ (0 ∷ [])) [] words 0 ≡ refused) × (label (oneRow 5 0 0 0 0 1) [] words 0 ≡ inWords (bytes "String")) × (label [] [] words 0 ≡ refused)
+bad-length : (label (oneRow 5 0 0 0 0 1 ++ (0 ∷ [])) [] words 0 ≡ refused) × (label (oneRow 5 0 0 0 0 1) [] words 0 ≡ inWords 0 (bytes "String")) × (label [] [] words 0 ≡ refused)
 unfolding oneRow refused inWords word words texts sheets graphs
 bad-length = (refl, refl, refl)
 
 -- a is 0 to 5, for tag 5 from 1 on
-bad-a : (label (oneRow 9 0 0 0 0 6) [] words 0 ≡ refused) × (label (oneRow 5 0 0 0 0 6) [] words 0 ≡ refused) × (label (oneRow 5 0 0 0 0 0) [] words 0 ≡ refused) × (label (oneRow 10 0 0 0 0 5) [] words 0 ≡ inWords (bytes "DateTime"))
+bad-a : (label (oneRow 9 0 0 0 0 6) [] words 0 ≡ refused) × (label (oneRow 5 0 0 0 0 6) [] words 0 ≡ refused) × (label (oneRow 5 0 0 0 0 0) [] words 0 ≡ refused) × (label (oneRow 10 0 0 0 0 5) [] words 0 ≡ inWords 25 (bytes "DateTime"))
 unfolding oneRow refused inWords word words texts sheets graphs
 bad-a = (refl, refl, refl, refl)
 
 -- with a 0 the reference's pair: the second of 7, the third of 9, 10, 19, within the names; the other pairs are not looked at, nor is the word list
-pair-inside : (label (oneRow 7 1 2 9 9 0) (bytes "abc") [] 0 ≡ inNames (bytes "bc")) × (label (oneRow 10 9 9 1 2 0) (bytes "abc") [] 0 ≡ inNames (bytes "bc")) × (label (oneRow 19 9 9 3 0 0) (bytes "abc") [] 0 ≡ inNames [])
+pair-inside : (label (oneRow 7 1 2 9 9 0) (bytes "abc") [] 0 ≡ inNames 1 (bytes "bc")) × (label (oneRow 10 9 9 1 2 0) (bytes "abc") [] 0 ≡ inNames 1 (bytes "bc")) × (label (oneRow 19 9 9 3 0 0) (bytes "abc") [] 0 ≡ inNames 3 [])
 unfolding oneRow inNames texts sheets graphs
 pair-inside = (refl, refl, refl)
 
@@ -156,6 +156,6 @@ bad-words : (withWords [] ≡ refused) × (withWords (bytes "a") ≡ refused) ×
 unfolding withWords oneRow refused word words texts sheets graphs
 bad-words = (refl, refl, refl, refl, refl)
 
-empty-words : (withWords (10 ∷ 10 ∷ 10 ∷ 10 ∷ 10 ∷ []) ≡ inWords []) × (withWords (bytes "ab" ++ (10 ∷ 10 ∷ 10 ∷ 10 ∷ 10 ∷ [])) ≡ inWords (bytes "ab"))
+empty-words : (withWords (10 ∷ 10 ∷ 10 ∷ 10 ∷ 10 ∷ []) ≡ inWords 0 []) × (withWords (bytes "ab" ++ (10 ∷ 10 ∷ 10 ∷ 10 ∷ 10 ∷ [])) ≡ inWords 0 (bytes "ab"))
 unfolding withWords oneRow inWords texts sheets graphs
 empty-words = (refl, refl)

@@ -1,25 +1,29 @@
 -- The label call: a row's type reference. Paper 01: "a part of the graph's names or a part of the word list, a lent buffer of five words each ended by
 -- a newline byte, and nothing after; there it is word a, from 1, without the newline. Rows count from 0."
---     Labelled      the number, 0 or 16, and the label's bytes; `inWords` says whether the part is one of the word list
+--     Labelled      the number, 0 or 16, and the label's part: whether it is one of the word list or of the names, where it starts there, its bytes
 --     wordsOf       the words of a list; goodWords: five words, each ended by a newline byte, and nothing after
+--     wordAt i ws   where word i, from 0, starts: behind the words before it and their newlines
 --     referenceAt, referenceLength    the reference's pair of a row
 --     label         the call
-use Prim.Native.Nat.{ℕ, _+_, _-_, _*_, _%_}
+--     LabelIs, LabelNumberIs    what the two calls say of themselves
+use Prim.Native.Nat.{ℕ, zero, suc, _+_, _-_, _*_, _%_}
 use mathlib.Core.Path.{_≡_}
 use mathlib.Core.List.{List, [], _∷_}
 use mathlib.Core.Bool.{Bool, true, false, _&&_, _||_}
 use lib.Dec.{eqb, leb, ltb}
 use lib.ListN.{length, getD, take, drop}
-use Rattle.text.specs.Text.{Text, if_then_else_, split}
+use Rattle.text.specs.Text.{Text, if_then_else_, split, startsAt}
 use Rattle.sheet.specs.Rows.{Ten, ten, textAt}
 
 pub record Labelled : Type 0 where
   pub number : ℕ
   pub inWords : Bool
+  pub at : ℕ
   pub text : Text
 
+-- 16: "the label is the empty part at the start of names"
 unfoldable pub noLabel : Labelled
-noLabel = record { number = 16; inWords = false; text = [] }
+noLabel = record { number = 16; inWords = false; at = 0; text = [] }
 
 unfoldable pub newline : ℕ
 newline = 10
@@ -29,6 +33,11 @@ wordsOf words = split newline words
 
 unfoldable pub goodWords : List ℕ → Bool
 goodWords words = eqb (length (wordsOf words)) 6 && eqb (length (getD (wordsOf words) 5 [])) 0
+
+unfoldable pub wordAt : ℕ → List Text → ℕ
+wordAt zero ws = 0
+wordAt (suc i) [] = 0
+wordAt (suc i) (w ∷ ws) = length w + 1 + wordAt i ws
 
 unfoldable pub rowTen : List ℕ → ℕ → Ten
 rowTen rows k = ten (drop (10 * k) rows)
@@ -48,11 +57,13 @@ referenceLength t = if eqb (t .tag) 7 then t .len1 else t .len2
 
 unfoldable pub namedLabel : List ℕ → ℕ → ℕ → Labelled
 namedLabel names at len =
-    if leb (at + len) (length names) then record { number = 0; inWords = false; text = textAt names at len } else noLabel
+    if leb (at + len) (length names) then record { number = 0; inWords = false; at = at; text = textAt names at len } else noLabel
 
 unfoldable pub wordLabel : List ℕ → ℕ → Labelled
 wordLabel words a =
-    if goodWords words then record { number = 0; inWords = true; text = getD (wordsOf words) (a - 1) [] } else noLabel
+    if goodWords words
+    then record { number = 0; inWords = true; at = wordAt (a - 1) (wordsOf words); text = getD (wordsOf words) (a - 1) [] }
+    else noLabel
 
 unfoldable pub rowLabel : List ℕ → List ℕ → Ten → Labelled
 rowLabel names words t =
@@ -65,9 +76,12 @@ unfoldable pub label : List ℕ → List ℕ → List ℕ → ℕ → Labelled
 label rows names words k =
     if eqb (length rows % 10) 0 && ltb (10 * k) (length rows) then rowLabel names words (rowTen rows k) else noLabel
 
--- what a label call says of itself: the bytes of the part that it returns, and the second call's number, are the definition's
-abbrev pub LabelIs : List ℕ → List ℕ → List ℕ → ℕ → Text → Type 0
-LabelIs rows names words k part = part ≡ label rows names words k .text
+-- what a label call says of itself: the bytes of the part that it returns, in which of the two lent buffers it lies and where it starts there, are the
+-- definition's; namesPlace, wordsPlace and place are where the two buffers and the part start in memory
+pub record LabelIs (rows names words : List ℕ) (k : ℕ) (namesPlace wordsPlace place : ℕ × ℕ) (part : Text) : Type 0 where
+  pub bytes : part ≡ label rows names words k .text
+  pub starts : startsAt (if label rows names words k .inWords then wordsPlace else namesPlace) (label rows names words k .at) place
 
+-- and the second call's number
 abbrev pub LabelNumberIs : List ℕ → List ℕ → List ℕ → ℕ → ℕ → Type 0
 LabelNumberIs rows names words k number = number ≡ label rows names words k .number

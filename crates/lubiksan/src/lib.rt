@@ -5,50 +5,13 @@ ghost use Prim.Native.Nat.{_-_};
 ghost use lib.ListN.{length};
 ghost use Rattle.text.specs.Text.{same, localName};
 ghost use Rattle.number.specs.Number.{number};
-ghost use Rattle.number.specs.Answers.{ofU32, ofU64};
 ghost use Rattle.builtin.specs.Builtin.{mapBuiltin, reference};
 ghost use Rattle.names.specs.Names.{normalizeTypeName, xmlToSnakeCase, codeToPascalCase};
 ghost use Rattle.names.specs.Answers.{written, placed};
-ghost use Rattle.lubiksan.specs.Exported.{Exported, numberOf, valueOf, countOf, bitOf};
+ghost use Rattle.lubiksan.specs.Exported.{Exported, countOf, bitOf};
 use names::Written;
 use number::U32;
 use number::U64;
-
-fn number_of_u32(r: U32) -> u32
-    ensures { λ n. ⌜ n ≡ numberOf (ofU32 r) ⌝ }
-{
-    match r {
-        U32::Value(_) => 0,
-        U32::Invalid => 10,
-    }
-}
-
-fn value_of_u32(r: U32, before: u32) -> u32
-    ensures { λ v. ⌜ v ≡ valueOf (ofU32 r) before ⌝ }
-{
-    match r {
-        U32::Value(v) => v,
-        U32::Invalid => before,
-    }
-}
-
-fn number_of_u64(r: U64) -> u32
-    ensures { λ n. ⌜ n ≡ numberOf (ofU64 r) ⌝ }
-{
-    match r {
-        U64::Value(_) => 0,
-        U64::Invalid => 10,
-    }
-}
-
-fn value_of_u64(r: U64, before: u64) -> u64
-    ensures { λ v. ⌜ v ≡ valueOf (ofU64 r) before ⌝ }
-{
-    match r {
-        U64::Value(v) => v,
-        U64::Invalid => before,
-    }
-}
 
 // The bytes written, or the largest number where the part is shorter than the conversion.
 fn count_of(w: Written) -> usize
@@ -74,18 +37,26 @@ pub extern "C" fn lubiksan_local_name(name: &[u8]) -> usize
 pub extern "C" fn lubiksan_parse_u32(s: &[u8], value: &mut u32) -> u32
     ensures { λ r. ⌜ Exported (number 32 (now (s .entry))) (now (value .entry)) r (now (value .exit)) ⌝ }
 {
-    let parsed = number::parse_u32(s);
-    *value = value_of_u32(parsed, *value);
-    number_of_u32(parsed)
+    match number::parse_u32(s) {
+        U32::Value(v) => {
+            *value = v;
+            0
+        }
+        U32::Invalid => 10,
+    }
 }
 
 #[no_mangle]
 pub extern "C" fn lubiksan_parse_u64(s: &[u8], value: &mut u64) -> u32
     ensures { λ r. ⌜ Exported (number 64 (now (s .entry))) (now (value .entry)) r (now (value .exit)) ⌝ }
 {
-    let parsed = number::parse_u64(s);
-    *value = value_of_u64(parsed, *value);
-    number_of_u64(parsed)
+    match number::parse_u64(s) {
+        U64::Value(v) => {
+            *value = v;
+            0
+        }
+        U64::Invalid => 10,
+    }
 }
 
 // 0 for a name that is not built in, 1 String, 2 Bool, 3 Decimal, 4 Date, 5 DateTime.
@@ -109,7 +80,7 @@ pub extern "C" fn lubiksan_normalize_type_name(name: &[u8], out: &mut [u8]) -> u
 pub extern "C" fn lubiksan_xml_to_snake_case(name: &[u8], out: &mut [u8]) -> usize
     ensures { λ r. ⌜ (r ≡ countOf (written (xmlToSnakeCase (now (name .entry))) (length (now (out .entry))))) × (now (out .exit) ≡ placed (xmlToSnakeCase (now (name .entry))) (now (out .entry))) ⌝ }
 {
-    count_of(names::xml_to_snake_case(name, out))
+    count_of(snake::xml_to_snake_case(name, out))
 }
 
 #[no_mangle]
@@ -124,5 +95,9 @@ pub extern "C" fn lubiksan_code_to_pascal_case(value: &[u8], out: &mut [u8]) -> 
 pub extern "C" fn lubiksan_same_normalized(a: &[u8], b: &[u8]) -> u32
     ensures { λ r. ⌜ r ≡ bitOf (same (normalizeTypeName (now (a .entry))) (normalizeTypeName (now (b .entry)))) ⌝ }
 {
-    if names::same_normalized(a, b) { 1 } else { 0 }
+    if same_names::same_normalized(a, b) {
+        1
+    } else {
+        0
+    }
 }

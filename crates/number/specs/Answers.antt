@@ -2,8 +2,6 @@
 use Rattle.number.specs.Number.{Parsed, parsed, refused}
 use Rattle.number.specs.declared.U32.{U32}
 use Rattle.number.specs.declared.U64.{U64}
-use Rattle.number.specs.declared.Characters.{Characters}
-use Rattle.number.specs.declared.Digits.{Digits}
 
 abbrev pub ofU32 : U32 → Parsed
 ofU32 (U32.Value v) = parsed v
@@ -12,11 +10,3 @@ ofU32 U32.Invalid = refused 10
 abbrev pub ofU64 : U64 → Parsed
 ofU64 (U64.Value v) = parsed v
 ofU64 U64.Invalid = refused 10
-
-abbrev pub ofCharacters : Characters → Parsed
-ofCharacters (Characters.Count n) = parsed (n .0)
-ofCharacters Characters.Invalid = refused 10
-
-abbrev pub ofDigits : Digits → Parsed
-ofDigits (Digits.Count n) = parsed (n .0)
-ofDigits Digits.Invalid = refused 10

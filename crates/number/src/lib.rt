@@ -1,10 +1,10 @@
 // Numbers: 000, `parse_u32` and `parse_u64`. An occurrence number is a plain u32; lengths count
-// characters and digit facets count digits, each with a type of its own.
+// characters and digit facets count digits, each with a type of its own (read in `counts`).
 ghost use mathlib.Core.Path.{_≡_};
 ghost use Prim.Native.Nat.{_+_, _≤_};
 ghost use Rattle.number.specs.Number.{number, numeral, afterPlus};
-ghost use Rattle.number.specs.Answers.{ofU32, ofU64, ofCharacters, ofDigits};
-use text::is_digit;
+ghost use Rattle.number.specs.Answers.{ofU32, ofU64};
+use ascii::is_digit;
 
 // The value of a minLength or maxLength facet.
 pub struct CharacterCount(pub u64);
@@ -19,16 +19,6 @@ pub enum U32 {
 
 pub enum U64 {
     Value(u64),
-    Invalid,
-}
-
-pub enum Characters {
-    Count(CharacterCount),
-    Invalid,
-}
-
-pub enum Digits {
-    Count(DigitCount),
     Invalid,
 }
 
@@ -81,25 +71,5 @@ pub fn parse_u32(s: &[u8]) -> U32
     match parse_digits(after_plus(s), 4294967295) {
         U64::Value(v) => U32::Value(v as u32),
         U64::Invalid => U32::Invalid,
-    }
-}
-
-// The number of a length facet.
-pub fn character_count(s: &[u8]) -> Characters
-    ensures { λ r. ⌜ ofCharacters r ≡ number 64 (now (s .entry)) ⌝ }
-{
-    match parse_u64(s) {
-        U64::Value(v) => Characters::Count(CharacterCount(v)),
-        U64::Invalid => Characters::Invalid,
-    }
-}
-
-// The number of a digit facet.
-pub fn digit_count(s: &[u8]) -> Digits
-    ensures { λ r. ⌜ ofDigits r ≡ number 32 (now (s .entry)) ⌝ }
-{
-    match parse_u32(s) {
-        U32::Value(v) => Digits::Count(DigitCount(v)),
-        U32::Invalid => Digits::Invalid,
     }
 }

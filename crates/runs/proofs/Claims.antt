@@ -7,10 +7,10 @@ use mathlib.Core.Bool.{Bool, true}
 use mathlib.Core.List.{List, _++_}
 use mathlib.Core.Option.{some, none}
 use lib.ListN.{length}
-use Rattle.text.specs.Text.{Text}
+use Rattle.text.specs.Text.{Text, every, join}
 use Rattle.sheet.specs.Rows.{Sheet}
 use Rattle.sheet.specs.Form.{words}
-use Rattle.sheet.specs.Lengths.{tapeLengths}
+use Rattle.sheet.specs.Lengths.{tapeLengths, Lengths, lengthsOf, goodLengths}
 use Rattle.xsd_types.specs.Types.{Schema, MaxOccurs}
 use Rattle.xsd_types.specs.State.{State, proper}
 use Rattle.xsd_types.specs.Sheet.{sheetOf, stateFits}
@@ -21,8 +21,8 @@ use Rattle.xsd_types.proofs.Laws.StateOf.{good-exactly, sheetOf-stateOf}
 use Rattle.xsd_parser.specs.Event.{Event}
 use Rattle.xsd_parser.specs.EventText.{eventOk}
 use Rattle.xsd_parser.specs.Handlers.{ok}
-use Rattle.xsd_parser.specs.Step.{Lengths, step}
-use Rattle.xsd_parser.specs.Read.{read, readState, lengthsOf, goodLengths}
+use Rattle.xsd_parser.specs.Step.{step}
+use Rattle.xsd_parser.specs.Read.{read, readState, sheetOfReading}
 use Rattle.xsd_parser.specs.Whole.{wholeRecords}
 use Rattle.xsd_parser.proofs.Laws.Steps.{step-proper}
 use Rattle.xsd_parser.proofs.Laws.Reads.{readState-place}
@@ -37,10 +37,10 @@ use Rattle.ir_lower.proofs.Laws.Types.{lower-distinct, lower-order, lower-last}
 use Rattle.ir_lower.proofs.Laws.Form.{lowering-form}
 use Rattle.runs.specs.Runs.{Call, Answered, Ran, run}
 use Rattle.runs.specs.Trace.{Trace}
-use Rattle.runs.specs.Cut.{onwardRead}
+use Rattle.runs.specs.Cut.{onwardRead, readCut}
 use Rattle.runs.proofs.NoTwo.{NoneTwo, no-two}
 use Rattle.runs.proofs.Runs.{runs}
-use Rattle.runs.proofs.Cut.{cut}
+use Rattle.runs.proofs.Cut.{cut, cut-anywhere}
 
 -- "A sheet is good if it has this form, ..": exactly the sheets of proper states
 pub claim-good : (x : Sheet) → words (x .rows) ≡ true → (good x ≡ true) ↔ ((s : State) × (proper s ≡ true) × (stateFits (length (x .rows)) (length (x .names)) s ≡ true) × (sheetOf s (length (x .rows)) (length (x .names)) ≡ x))
@@ -62,7 +62,7 @@ pub claim-runs : {x x′ : Sheet} {calls : List Call} {answers : List Answered} 
 claim-runs = runs
 
 -- "From a good sheet no call of the run gives 2."
-pub claim-no-two : (x : Sheet) (calls : List Call) → goodLengths (lengthsOf x) ≡ true → good x ≡ true → NoneTwo (run x calls .answers)
+pub claim-no-two : (x : Sheet) (calls : List Call) → good x ≡ true → NoneTwo (run x calls .answers)
 claim-no-two = no-two
 
 -- "Added to events done before the call, it is the number in the run."
@@ -73,6 +73,10 @@ claim-number = readState-place
 -- event has the same refusal and the same number in the run"
 pub claim-cut : (x : Sheet) (text : Text) (m₁ m₂ : List ℕ) → words (x .rows) ≡ true → goodLengths (lengthsOf x) ≡ true → good x ≡ true → tapeLengths (length text) (length (m₁ ++ m₂)) ≡ true → tapeLengths (length text) (length m₁) ≡ true → tapeLengths (length text) (length m₂) ≡ true → wholeRecords text m₁ ≡ true → read x text (m₁ ++ m₂) ≡ onwardRead (read x text m₁) (read (read x text m₁ .sheet) text m₂)
 claim-cut = cut
+
+-- the same for any number of pieces, and for a tape that is too long for one reading: however it is cut, the answer is one and the same
+pub claim-cut-anywhere : (x : Sheet) (text : Text) (ms : List (List ℕ)) (last : List ℕ) → words (x .rows) ≡ true → goodLengths (lengthsOf x) ≡ true → good x ≡ true → every (λ (m : List ℕ). tapeLengths (length text) (length m)) ms ≡ true → tapeLengths (length text) (length last) ≡ true → every (wholeRecords text) ms ≡ true → readCut x text ms last ≡ sheetOfReading (lengthsOf x) (readState (lengthsOf x) (stateOf x) text (join ms ++ last))
+claim-cut-anywhere = cut-anywhere
 
 -- "min 0 and max 1 optional", and nothing else is; "unbounded gives vec", and nothing else does
 pub claim-optional : (min : ℕ) (max : MaxOccurs) → (lowerCardinality min max ≡ Cardinality.optional) ↔ ((min ≡ 0) × (max ≡ MaxOccurs.bounded 1))

@@ -10,17 +10,16 @@ use lib.ListN.{length}
 use Rattle.text.specs.Text.{Text, if_then_else_}
 use Rattle.text.proofs.Laws.Tests.{if-cases}
 use Rattle.sheet.specs.Rows.{Sheet}
-use Rattle.sheet.specs.Lengths.{tapeLengths}
+use Rattle.sheet.specs.Lengths.{tapeLengths, Lengths, lengthsOf, goodLengths}
 use Rattle.xsd_types.specs.State.{State}
 use Rattle.xsd_types.specs.Good.{good}
 use Rattle.xsd_types.specs.Back.{stateOf}
-use Rattle.xsd_parser.specs.Step.{Lengths}
-use Rattle.xsd_parser.specs.Read.{readState, lengthsOf, goodLengths}
+use Rattle.xsd_parser.specs.Read.{readState}
 use Rattle.xsd_parser.proofs.Laws.Answers.{reading-not-two}
 use Rattle.ir_types.specs.Types.{TypeGraph}
 use Rattle.ir_types.specs.Sheet.{graphFits}
 use Rattle.ir_lower.specs.Lower.{lower, finishedTypes, unknownRow}
-use Rattle.ir_lower.specs.Call.{Lowered, unchanged, cleared, written, lengthsOk, lowerState}
+use Rattle.ir_lower.specs.Call.{Lowered, unchanged, cleared, written, lowerState}
 use Rattle.runs.specs.Runs.{Call, Answered, Held, Stepped, hold, runCalls, answeredFirst, run, readHeld, lowerHeld, heldAfter, refusedWith}
 
 -- the number of an answer
@@ -32,6 +31,9 @@ numberOf (Answered.loweredAs l) = l .answer .number
 pub data NoneTwo : List Answered → Type 0 where
   noneLeft : NoneTwo []
   oneMore : {a : Answered} {rest : List Answered} → (numberOf a ≡ 2 → ⊥) → NoneTwo rest → NoneTwo (a ∷ rest)
+
+one-not-two : _≡_ {A = ℕ} 1 2 → ⊥
+one-not-two e = omega (arith, e)
 
 read-not-two : (lent : Lengths) (s : State) (text : Text) (marks : List ℕ) → readHeld (Held.holding lent s) text marks .answer .number ≡ 2 → ⊥
 unfolding readHeld heldAfter refusedWith
@@ -59,7 +61,7 @@ state-not-two s graph scratch =
 lower-not-two : (lent : Lengths) (s : State) (graph : Sheet) (scratch : List ℕ) → lowerHeld (Held.holding lent s) graph scratch .answer .number ≡ 2 → ⊥
 unfolding lowerHeld unchanged
 lower-not-two lent s graph scratch =
-    if-cases (λ (l : Lowered). l .answer .number ≡ 2 → ⊥) (lengthsOk graph) (λ t. state-not-two s graph scratch) (λ t e. omega arith)
+    if-cases (λ (l : Lowered). l .answer .number ≡ 2 → ⊥) (goodLengths (lengthsOf graph)) (λ t. state-not-two s graph scratch) (λ t e. omega arith)
 
 -- a reading on a state leaves a state
 read-holds : (lent : Lengths) (s : State) (text : Text) (marks : List ℕ) → (s′ : State) × (readHeld (Held.holding lent s) text marks .held ≡ Held.holding lent s′)
@@ -76,6 +78,14 @@ no-two-from (Call.reading text marks ∷ calls) lent s =
     oneMore (read-not-two lent s text marks) rest
 no-two-from (Call.lowering graph scratch ∷ calls) lent s = oneMore (lower-not-two lent s graph scratch) (no-two-from calls lent s)
 
-pub no-two : (x : Sheet) (calls : List Call) → goodLengths (lengthsOf x) ≡ true → good x ≡ true → NoneTwo (run x calls .answers)
+-- a sheet of bad lengths gives 1 at each call
+no-two-lengths : (calls : List Call) (x : Sheet) → NoneTwo (runCalls calls (Held.badLengths x) .answers)
+unfolding runCalls answeredFirst readHeld refusedWith lowerHeld unchanged
+no-two-lengths [] x = noneLeft
+no-two-lengths (Call.reading text marks ∷ calls) x = oneMore one-not-two (no-two-lengths calls x)
+no-two-lengths (Call.lowering graph scratch ∷ calls) x = oneMore one-not-two (no-two-lengths calls x)
+
+pub no-two : (x : Sheet) (calls : List Call) → good x ≡ true → NoneTwo (run x calls .answers)
 unfolding run hold
-no-two x calls l g = rw (l, g) (no-two-from calls (lengthsOf x) (stateOf x))
+no-two x calls g =
+    if-cases (λ (h : Held). NoneTwo (runCalls calls h .answers)) (goodLengths (lengthsOf x)) (λ l. rw g (no-two-from calls (lengthsOf x) (stateOf x))) (λ l. no-two-lengths calls x)

@@ -4,13 +4,14 @@ use mathlib.Core.Path.{_≡_, refl, sym, ap, _∙_}
 use mathlib.Core.Bool.{Bool, true, false}
 use mathlib.Core.List.{List, [], _∷_}
 use lib.ListN.{length}
+use Rattle.sheet.specs.Lengths.{lengthsOf, goodLengths}
 use Rattle.text.specs.Text.{if_then_else_}
 use Rattle.sheet.specs.Rows.{Sheet}
 use Rattle.sheet.specs.Form.{words}
 use Rattle.xsd_types.specs.Good.{good}
 use Rattle.xsd_types.specs.Back.{stateOf}
 use Rattle.xsd_types.proofs.Laws.StateOf.{sheetOf-stateOf, proper-stateOf, fits-stateOf}
-use Rattle.xsd_parser.specs.Read.{ReadAnswer, lengthsOf, goodLengths}
+use Rattle.xsd_parser.specs.Read.{ReadAnswer}
 use Rattle.runs.specs.Trace.{Trace}
 use Rattle.runs.specs.Runs.{Call, Answered, Ran, runCalls, answeredFirst, run, Held, hold}
 use Rattle.runs.proofs.Served.{Served, servedLengths, servedBad, servedState, served-sheet, read-served, lower-served}

@@ -7,16 +7,15 @@ use mathlib.Core.List.{List}
 use lib.ListN.{length}
 use Rattle.text.specs.Text.{Text, if_then_else_}
 use Rattle.sheet.specs.Rows.{Sheet}
-use Rattle.sheet.specs.Lengths.{tapeLengths, Answer}
+use Rattle.sheet.specs.Lengths.{tapeLengths, Answer, Lengths, lengthsOf, goodLengths}
 use Rattle.xsd_types.specs.State.{State, proper}
 use Rattle.xsd_types.specs.Sheet.{sheetOf, stateFits}
 use Rattle.xsd_types.specs.Good.{good}
 use Rattle.xsd_types.specs.Back.{stateOf}
 use Rattle.xsd_types.proofs.Laws.SheetOf.{good-sheetOf, stateOf-sheetOf, length-sheetOf}
-use Rattle.xsd_parser.specs.Step.{Lengths}
-use Rattle.xsd_parser.specs.Read.{ReadAnswer, readState, read, lengthsOf, goodLengths, refusedAt, sheetOfReading}
+use Rattle.xsd_parser.specs.Read.{ReadAnswer, readState, read, refusedAt, sheetOfReading}
 use Rattle.xsd_parser.proofs.Laws.Reads.{readState-proper, readState-fits}
-use Rattle.ir_lower.specs.Call.{Lowered, unchanged, lengthsOk, lowerState, lowering}
+use Rattle.ir_lower.specs.Call.{Lowered, unchanged, lowerState, lowering}
 use Rattle.runs.specs.Runs.{Held, sheetHeld, Stepped, refusedWith, heldAfter, readHeld, lowerHeld}
 
 pub data Served : Sheet → Held → Type 0 where
@@ -30,11 +29,6 @@ unfolding sheetHeld
 served-sheet (servedLengths l) = refl
 served-sheet (servedBad l g) = refl
 served-sheet (servedState e l p f) = sym e
-
--- the two tests of a sheet's lengths are one
-lengths-same : (x : Sheet) → lengthsOk x ≡ goodLengths (lengthsOf x)
-unfolding lengthsOk goodLengths lengthsOf
-lengths-same x = refl
 
 -- the lengths of a state's sheet are those lent
 pub lengthsOf-sheetOf : (s : State) (lent : Lengths) → stateFits (lent .rows) (lent .names) s ≡ true → lengthsOf (sheetOf s (lent .rows) (lent .names)) ≡ lent
@@ -50,10 +44,10 @@ read-state lent s text marks l p f =
     rw (lengthsOf-sheetOf s lent f, l, good-sheetOf s (lent .rows) (lent .names) p f, stateOf-sheetOf s (lent .rows) (lent .names) p f)
 
 -- lowering the sheet of a state is lowering the state
-lower-state : (lent : Lengths) (s : State) (graph : Sheet) (scratch : List ℕ) → goodLengths lent ≡ true → proper s ≡ true → stateFits (lent .rows) (lent .names) s ≡ true → lowering (sheetOf s (lent .rows) (lent .names)) graph scratch ≡ (if lengthsOk graph then lowerState s graph scratch else unchanged 1 graph scratch)
+lower-state : (lent : Lengths) (s : State) (graph : Sheet) (scratch : List ℕ) → goodLengths lent ≡ true → proper s ≡ true → stateFits (lent .rows) (lent .names) s ≡ true → lowering (sheetOf s (lent .rows) (lent .names)) graph scratch ≡ (if goodLengths (lengthsOf graph) then lowerState s graph scratch else unchanged 1 graph scratch)
 unfolding lowering
 lower-state lent s graph scratch l p f =
-    rw (lengths-same (sheetOf s (lent .rows) (lent .names)) ∙ ap goodLengths (lengthsOf-sheetOf s lent f) ∙ l, good-sheetOf s (lent .rows) (lent .names) p f, stateOf-sheetOf s (lent .rows) (lent .names) p f)
+    rw (ap goodLengths (lengthsOf-sheetOf s lent f) ∙ l, good-sheetOf s (lent .rows) (lent .names) p f, stateOf-sheetOf s (lent .rows) (lent .names) p f)
 
 -- what a step leaves: the definition's answer, and a pair again
 pub record Kept (a : ReadAnswer) (st : Stepped) : Type 0 where
@@ -81,6 +75,6 @@ read-served {x} text marks (servedState {lent = lent} {s = s} e l p f) =
 
 pub lower-served : {x : Sheet} {h : Held} (graph : Sheet) (scratch : List ℕ) → Served x h → lowering x graph scratch ≡ lowerHeld h graph scratch
 unfolding lowering lowerHeld
-lower-served {x} graph scratch (servedLengths l) = rw (lengths-same x, l)
-lower-served {x} graph scratch (servedBad l g) = rw (lengths-same x, l, g)
+lower-served {x} graph scratch (servedLengths l) = rw l
+lower-served {x} graph scratch (servedBad l g) = rw (l, g)
 lower-served {x} graph scratch (servedState {lent = lent} {s = s} e l p f) = rw (e, lower-state lent s graph scratch l p f)

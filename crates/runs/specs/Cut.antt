@@ -1,9 +1,12 @@
--- A tape that is cut: two readings, one behind the other, as one.
+-- A tape that is cut: readings, one behind the other, as one.
 --     onwardRead    the first reading's answer where it refused something; else the second's, the places added up
+--     readCut       the pieces and the last one in order over the same text, each on the sheet that the one before left, up to the first refusal
 use Prim.Native.Nat.{ℕ, _+_}
+use mathlib.Core.List.{List, [], _∷_}
 use lib.Dec.{eqb}
-use Rattle.text.specs.Text.{if_then_else_}
-use Rattle.xsd_parser.specs.Read.{ReadAnswer}
+use Rattle.text.specs.Text.{Text, if_then_else_}
+use Rattle.sheet.specs.Rows.{Sheet}
+use Rattle.xsd_parser.specs.Read.{ReadAnswer, read}
 
 unfoldable pub onwardRead : ReadAnswer → ReadAnswer → ReadAnswer
 onwardRead first second =
@@ -13,3 +16,9 @@ onwardRead first second =
       sheet = second .sheet;
     }
     else first
+
+unfoldable pub readCut : Sheet → Text → List (List ℕ) → List ℕ → ReadAnswer
+readCut x text [] last = read x text last
+readCut x text (marks ∷ pieces) last =
+    let r = read x text marks in
+    onwardRead r (readCut (r .sheet) text pieces last)

@@ -13,14 +13,13 @@ use mathlib.Core.Bool.{Bool}
 use lib.ListN.{length}
 use Rattle.text.specs.Text.{Text, if_then_else_}
 use Rattle.sheet.specs.Rows.{Sheet}
-use Rattle.sheet.specs.Lengths.{tapeLengths, Answer}
+use Rattle.sheet.specs.Lengths.{tapeLengths, Answer, Lengths, lengthsOf, goodLengths}
 use Rattle.xsd_types.specs.State.{State}
 use Rattle.xsd_types.specs.Sheet.{sheetOf}
 use Rattle.xsd_types.specs.Good.{good}
 use Rattle.xsd_types.specs.Back.{stateOf}
-use Rattle.xsd_parser.specs.Step.{Lengths}
-use Rattle.xsd_parser.specs.Read.{Reading, readState, lengthsOf, goodLengths}
-use Rattle.ir_lower.specs.Call.{Lowered, unchanged, lengthsOk, lowerState}
+use Rattle.xsd_parser.specs.Read.{Reading, readState}
+use Rattle.ir_lower.specs.Call.{Lowered, unchanged, lowerState}
 
 pub data Call : Type 0 where
   reading : Text → List ℕ → Call
@@ -68,8 +67,8 @@ readHeld (Held.holding lent s) text marks =
 
 unfoldable pub lowerHeld : Held → Sheet → List ℕ → Lowered
 lowerHeld (Held.badLengths x) graph scratch = unchanged 1 graph scratch
-lowerHeld (Held.notGood x) graph scratch = if lengthsOk graph then unchanged 2 graph scratch else unchanged 1 graph scratch
-lowerHeld (Held.holding lent s) graph scratch = if lengthsOk graph then lowerState s graph scratch else unchanged 1 graph scratch
+lowerHeld (Held.notGood x) graph scratch = if goodLengths (lengthsOf graph) then unchanged 2 graph scratch else unchanged 1 graph scratch
+lowerHeld (Held.holding lent s) graph scratch = if goodLengths (lengthsOf graph) then lowerState s graph scratch else unchanged 1 graph scratch
 
 pub record Ran : Type 0 where
   pub answers : List Answered

@@ -2,4 +2,5 @@
 pub mod Rows
 pub mod Lengths
 pub mod Form
+pub mod Calls
 pub mod Unfold

@@ -2,9 +2,9 @@
 ghost use mathlib.Core.Path.{_≡_};
 ghost use Rattle.sheet.specs.Rows.{bit};
 ghost use Rattle.xsd_types.specs.Good.{good};
-ghost use Rattle.xsd_sheet.specs.Calls.{sheet};
-use xsd_rows::RowNumbers;
-use xsd_rows::Used;
+ghost use Rattle.sheet.specs.Calls.{sheet};
+use xsd_numbers::RowNumbers;
+use xsd_numbers::Used;
 
 // 1 where the sheet is good, else 0.
 #[no_mangle]
@@ -21,7 +21,7 @@ pub extern "C" fn sheet_bench_is_good(rows: &[u32], names: &[u8]) -> u32
 // The number of a clearing.
 #[no_mangle]
 pub extern "C" fn sheet_bench_clear(rows: &mut [u32], names: &mut [u8]) -> u32 {
-    let answer = xsd_sheet::clear(rows, names);
+    let answer = xsd_clear::clear(rows, names);
     answer.number
 }
 
@@ -60,6 +60,6 @@ pub extern "C" fn sheet_bench_append(
         b: 0,
         c: 0,
     };
-    let next = xsd_rows::append(rows, names, used, numbers, text, b"", 1);
+    let next = xsd_append::append(rows, names, used, numbers, text, b"", 1);
     next.names
 }

@@ -11,7 +11,7 @@ fn put(x: u64) {
 fn report(rows: &mut [u32], names: &mut [u8]) {
     put(rows.len() as u64);
     put(names.len() as u64);
-    let answer = xsd_sheet::clear(rows, names);
+    let answer = xsd_clear::clear(rows, names);
     put(answer.number as u64);
     put(answer.place as u64);
     if xsd_sheet::is_good(rows, names) {

@@ -1,5 +1,5 @@
 -- Paper 01, "Specimens": the ones marked ● stand in one list, under one sentence: each holds, by computation on the definitions.
---     Specimen      what a specimen says: a conversion's, a type's or a number's text and its answer
+--     Specimen      what a specimen says: a conversion's, a type's or a number's text, or an element's occurrences, and the answer
 --     holds         the test of a specimen
 --     specimens     the list
 --     all-hold      the sentence
@@ -29,12 +29,14 @@ pub data Specimen : Type 0 where
   pascal : String → String → Specimen
   normalised : String → String → Specimen
   builtin : String → ℕ → Specimen
-  u32 : String → ℕ → Specimen
+  parse : ℕ → String → Parsed → Specimen
   cardinality : ℕ → MaxOccurs → Cardinality → Specimen
 
-unfoldable pub gives : Parsed → ℕ → Bool
-gives (parsed v) n = eqb v n
-gives (refused r) n = false
+unfoldable pub sameParsed : Parsed → Parsed → Bool
+sameParsed (parsed v) (parsed n) = eqb v n
+sameParsed (refused r) (refused n) = eqb r n
+sameParsed (parsed v) (refused n) = false
+sameParsed (refused r) (parsed n) = false
 
 -- the two cardinalities have the same b and c in their rows
 unfoldable pub sameCardinality : Cardinality → Cardinality → Bool
@@ -45,7 +47,7 @@ holds (snake name answer) = same (xmlToSnakeCase (bytes name)) (bytes answer)
 holds (pascal value answer) = same (codeToPascalCase (bytes value)) (bytes answer)
 holds (normalised name answer) = same (normalizeTypeName (bytes name)) (bytes answer)
 holds (builtin name answer) = eqb (reference (mapBuiltin (bytes name))) answer
-holds (u32 s answer) = gives (number 32 (bytes s)) answer
+holds (parse width s answer) = sameParsed (number width (bytes s)) answer
 holds (cardinality min max answer) = sameCardinality (lowerCardinality min max) answer
 
 unfoldable pub specimens : List Specimen
@@ -64,12 +66,24 @@ specimens =
     ∷ cardinality 0 (MaxOccurs.bounded 0) Cardinality.required
     ∷ cardinality 0 (MaxOccurs.bounded 1) Cardinality.optional
     ∷ cardinality 5 MaxOccurs.unbounded Cardinality.vec
-    -- "● `my:date` is Date", type 4
+    -- "● `my:date` is Date; `QName` is unknown.", types 4 and 0
     ∷ builtin "my:date" 4
-    -- "● `+7` is 7"
-    ∷ u32 "+7" 7
+    ∷ builtin "QName" 0
+    -- "● `+7` is 7; `007` is 7; empty, `+`, `-0`, ` 7` give 10.", at both widths
+    ∷ parse 32 "+7" (parsed 7)
+    ∷ parse 32 "007" (parsed 7)
+    ∷ parse 32 "" (refused 10)
+    ∷ parse 32 "+" (refused 10)
+    ∷ parse 32 "-0" (refused 10)
+    ∷ parse 32 " 7" (refused 10)
+    ∷ parse 64 "+7" (parsed 7)
+    ∷ parse 64 "007" (parsed 7)
+    ∷ parse 64 "" (refused 10)
+    ∷ parse 64 "+" (refused 10)
+    ∷ parse 64 "-0" (refused 10)
+    ∷ parse 64 " 7" (refused 10)
     ∷ []
 
 pub all-hold : every holds specimens ≡ true
-unfolding texts numbers builtins conversions graphs lowerings gives sameCardinality holds specimens
+unfolding texts numbers builtins conversions graphs lowerings sameParsed sameCardinality holds specimens
 all-hold = refl

@@ -1,4 +1,5 @@
 // The specimens of paper 01, run beside their expected results, which the file stdout holds.
+// The file stdin holds one on each line: what is asked of a text, a space and the text.
 use builtin::Builtin;
 use libc::STDOUT_FILENO;
 use names::Written;
@@ -24,62 +25,49 @@ fn put_written(written: Written, out: &[u8]) {
             io::write_all(STDOUT_FILENO, b"no room");
         }
     }
-    io::write_all(STDOUT_FILENO, b"\n");
 }
 
-fn put_input(kind: &[u8], t: &[u8]) {
-    io::write_all(STDOUT_FILENO, kind);
-    put_quoted(t);
-    io::write_all(STDOUT_FILENO, b": ");
+// A conversion: snake, pascal or normalised.
+fn convert(kind: u8, name: &[u8], out: &mut [u8]) -> Written {
+    if kind == b's' {
+        return snake::xml_to_snake_case(name, out);
+    }
+    if kind == b'p' {
+        return names::code_to_pascal_case(name, out);
+    }
+    names::normalize_type_name(name, out)
 }
 
-fn snake(name: &[u8]) {
+fn put_name(kind: u8, name: &[u8]) {
     let mut space = io::buffer();
-    put_input(b"snake ", name);
-    let w = names::xml_to_snake_case(name, &mut space);
+    let w = convert(kind, name, &mut space);
     put_written(w, &space);
 }
 
-fn pascal(value: &[u8]) {
-    let mut space = io::buffer();
-    put_input(b"pascal ", value);
-    let w = names::code_to_pascal_case(value, &mut space);
-    put_written(w, &space);
-}
-
-fn normalised(name: &[u8]) {
-    let mut space = io::buffer();
-    put_input(b"normalised ", name);
-    let w = names::normalize_type_name(name, &mut space);
-    put_written(w, &space);
-}
-
-fn builtin_type(name: &[u8]) {
-    put_input(b"type ", name);
+fn put_type(name: &[u8]) {
     match builtin::map_builtin(name) {
         Builtin::String => {
-            io::write_all(STDOUT_FILENO, b"String\n");
+            io::write_all(STDOUT_FILENO, b"String");
         }
         Builtin::Bool => {
-            io::write_all(STDOUT_FILENO, b"Bool\n");
+            io::write_all(STDOUT_FILENO, b"Bool");
         }
         Builtin::Decimal => {
-            io::write_all(STDOUT_FILENO, b"Decimal\n");
+            io::write_all(STDOUT_FILENO, b"Decimal");
         }
         Builtin::Date => {
-            io::write_all(STDOUT_FILENO, b"Date\n");
+            io::write_all(STDOUT_FILENO, b"Date");
         }
         Builtin::DateTime => {
-            io::write_all(STDOUT_FILENO, b"DateTime\n");
+            io::write_all(STDOUT_FILENO, b"DateTime");
         }
         Builtin::Unknown => {
-            io::write_all(STDOUT_FILENO, b"unknown\n");
+            io::write_all(STDOUT_FILENO, b"unknown");
         }
     }
 }
 
-fn u32_number(s: &[u8]) {
-    put_input(b"u32 ", s);
+fn put_u32(s: &[u8]) {
     match number::parse_u32(s) {
         U32::Value(v) => {
             io::print_decimal(STDOUT_FILENO, v as u64);
@@ -88,11 +76,9 @@ fn u32_number(s: &[u8]) {
             io::write_all(STDOUT_FILENO, b"gives 10");
         }
     }
-    io::write_all(STDOUT_FILENO, b"\n");
 }
 
-fn u64_number(s: &[u8]) {
-    put_input(b"u64 ", s);
+fn put_u64(s: &[u8]) {
     match number::parse_u64(s) {
         U64::Value(v) => {
             io::print_decimal(STDOUT_FILENO, v);
@@ -101,37 +87,49 @@ fn u64_number(s: &[u8]) {
             io::write_all(STDOUT_FILENO, b"gives 10");
         }
     }
+}
+
+// The answer: what is asked is `type`, `u32`, `u64` or a conversion.
+fn put_answer(asked: &[u8], t: &[u8]) {
+    match text::byte_at(asked, 0) {
+        b't' => {
+            put_type(t);
+        }
+        b'u' => {
+            if text::byte_at(asked, 1) == b'3' {
+                put_u32(t);
+            } else {
+                put_u64(t);
+            }
+        }
+        kind => {
+            put_name(kind, t);
+        }
+    }
+}
+
+fn put_line(line: &[u8]) {
+    let asked = lines::before(line, b' ');
+    let t = lines::behind(line, b' ');
+    io::write_all(STDOUT_FILENO, asked);
+    io::write_all(STDOUT_FILENO, b" ");
+    put_quoted(t);
+    io::write_all(STDOUT_FILENO, b": ");
+    put_answer(asked, t);
     io::write_all(STDOUT_FILENO, b"\n");
 }
 
-fn all_names() {
-    snake(b"FIToFICstmrCdtTrf");
-    snake(b"BICFI");
-    snake(b"Dt2Nm");
-    pascal(b"TEST-VALUE");
-    pascal(b"TestValue");
-    normalised(b"Amount_SimpleType");
-    normalised(b"a_b");
-    normalised(b"ab");
-    normalised(b"_");
-    builtin_type(b"my:date");
-    builtin_type(b"QName");
-}
-
-fn all_numbers() {
-    u32_number(b"+7");
-    u32_number(b"007");
-    u32_number(b"");
-    u32_number(b"+");
-    u32_number(b"-0");
-    u32_number(b" 7");
-    u32_number(b"4294967295");
-    u32_number(b"4294967296");
-    u64_number(b"18446744073709551615");
-    u64_number(b"18446744073709551616");
+fn put_lines(input: &[u8]) {
+    let mut rest = input;
+    while 0 < rest.len() {
+        put_line(lines::before(rest, b'\n'));
+        let next = lines::behind(rest, b'\n');
+        rest = next;
+    }
 }
 
 fn main() {
-    all_names();
-    all_numbers();
+    let mut space = io::buffer();
+    let n = io::read_full(0, &mut space);
+    put_lines(&space[..n]);
 }

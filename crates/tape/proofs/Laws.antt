@@ -1,5 +1,2 @@
--- Laws of the definitions in specs/ and of xsd_parser's Tape and Event: Pairs of the pairs of a record,
--- Records of a whole record, Attributes of the lookups in a tag.
-pub mod Pairs
+-- Laws of xsd_parser's Tape: Records of a whole record.
 pub mod Records
-pub mod Attributes

@@ -4,17 +4,14 @@
 --     placed        the same for each answer; nothing is said of the end and of a refusal
 --     RecordAt      the answer for the place `at` of the marks
 --     TagAnswer     the same for a record of a good form that is a tag
---     foundValue    the value that a lookup leads to
 use Prim.Native.Nat.{ℕ, _+_, _*_, _≤_, _<_}
 use mathlib.Core.Path.{_≡_}
 use mathlib.Core.List.{List}
-use mathlib.Core.Option.{Option, some, none}
 use lib.ListN.{length, drop}
 use Rattle.text.specs.Text.{Text}
 use Rattle.xsd_parser.specs.Event.{Event}
-use Rattle.xsd_parser.specs.Tape.{Recorded, record1, tagRecord, pairsOf, pairCount, eventOf, pairText}
-use Rattle.tape.specs.Pairs.{pairAt, pairsInside, tagAt}
-use Rattle.tape.specs.declared.Found.{Found}
+use Rattle.xsd_parser.specs.Tape.{Recorded, record1, tagRecord, pairsOf, pairCount, eventOf}
+use Rattle.tape_pairs.specs.Pairs.{pairsInside, tagAt}
 use Rattle.tape.specs.declared.Record.{Record}
 use Rattle.tape.specs.declared.TagRecord.{TagRecord}
 
@@ -49,7 +46,3 @@ pub record RecordAt (text : Text) (marks : List ℕ) (at : ℕ) (r : Record) : T
 pub record TagAnswer (text : Text) (marks : List ℕ) (at kind count : ℕ) (r : Record) : Type 0 where
   pub judged : recorded text marks r ≡ tagRecord text kind (pairsOf (pairCount count) (drop (at + 2) marks)) (drop (at + 2 + 2 * pairCount count) marks)
   pub places : placed text marks at r
-
-unfoldable pub foundValue : Text → List ℕ → Found → Option Text
-foundValue text marks (Found.At i) = some (pairText text (pairAt marks i))
-foundValue text marks Found.Nothing = none

@@ -1,6 +1,9 @@
 // Records at the limits of paper 01, "Tape": what each is read as, beside the expected lines, which the file stdout holds.
+// The file stdin holds a case on each line: the place of the record, the marks, the text and a label, with `;` between them. Where `value`
+// stands for the place, the label is looked up in the attributes of the first tag.
+use attributes::Found;
 use libc::STDOUT_FILENO;
-use tape::Found;
+use number::U32;
 use tape::Record;
 
 fn put_number(n: u64) {
@@ -36,97 +39,83 @@ fn put_record(r: Record) {
     }
 }
 
-// The label, and the record at a place of the marks.
-fn show(label: &[u8], text: &[u8], marks: &[u32], at: usize) {
-    io::write_all(STDOUT_FILENO, label);
-    io::write_all(STDOUT_FILENO, b": ");
-    put_record(tape::record_at(text, marks, at));
-    io::write_all(STDOUT_FILENO, b"\n");
-}
-
-// The label, and the value that the word is looked up to.
-fn show_value(label: &[u8], text: &[u8], marks: &[u32], count: usize, word: &[u8]) {
-    io::write_all(STDOUT_FILENO, label);
-    io::write_all(STDOUT_FILENO, b": ");
-    match tape::find_attribute(text, marks, 2, count, word) {
+// The value that the word is looked up to in the first tag.
+fn put_value(text: &[u8], marks: &[u32], word: &[u8]) {
+    let count = tape_pairs::wide(tape_pairs::mark_at(marks, 1));
+    match attributes::find_attribute(text, marks, 2, count, word) {
         Found::At(i) => {
-            io::write_all(STDOUT_FILENO, tape::pair_part(text, marks, i));
+            io::write_all(STDOUT_FILENO, tape_pairs::pair_part(text, marks, i));
         }
         Found::Nothing => {
             io::write_all(STDOUT_FILENO, b"nothing");
         }
     }
+}
+
+// The numbers of a list with spaces between them: how many there are.
+fn read_marks(list: &[u8], marks: &mut [u32; 136]) -> usize {
+    let mut rest = list;
+    let mut n = 0;
+    while n < 136 {
+        let U32::Value(v) = number::parse_u32(lines::before(rest, b' ')) else {
+            return n;
+        };
+        marks[n] = v;
+        let next = lines::behind(rest, b' ');
+        rest = next;
+        n += 1;
+    }
+    n
+}
+
+// The first n of the numbers.
+fn first(numbers: &[u32; 136], n: usize) -> &[u32] {
+    let all = &numbers[..];
+    if n <= all.len() {
+        return &all[0..n];
+    }
+    all
+}
+
+// The label, and what is read of the marks and the text.
+fn put_case(place: &[u8], marks: &[u32], text: &[u8], label: &[u8]) {
+    io::write_all(STDOUT_FILENO, label);
+    io::write_all(STDOUT_FILENO, b": ");
+    match number::parse_u32(place) {
+        U32::Value(at) => {
+            put_record(tape::record_at(text, marks, tape_pairs::wide(at)));
+        }
+        U32::Invalid => {
+            put_value(text, marks, label);
+        }
+    }
     io::write_all(STDOUT_FILENO, b"\n");
 }
 
-// A tag with all pairs empty, and as many numbers as 33 attributes take.
-fn attributes() {
+fn put_line(line: &[u8]) {
     let mut marks = [0u32; 136];
-    marks[0] = 1;
-    marks[1] = 32;
-    show(b"32 attributes", b"", &marks, 0);
-    marks[1] = 33;
-    show(b"33 attributes", b"", &marks, 0);
-}
-
-fn forms() {
-    let one = [1u32];
-    show(b"empty marks", b"ab", &one[..0], 0);
-    show(b"one number left", b"ab", &one, 0);
-    show(b"behind the marks", b"ab", &one, 1);
-    let none = [0u32, 0, 0, 2];
-    show(b"kind 0", b"ab", &none, 0);
-    let four = [4u32, 0, 0, 2];
-    show(b"kind 4", b"ab", &four, 0);
-    let short = [1u32, 0, 0];
-    show(b"a record cut short", b"ab", &short, 0);
-    let close = [3u32, 0, 3, 1];
-    show(b"3 0", b"ab", &close, 0);
-    show(b"3 1", b"ab", &close, 2);
-}
-
-fn pairs() {
-    let length = [2u32, 0, 2, 0];
-    show(b"an empty pair at the text's length", b"ab", &length, 0);
-    let past = [2u32, 0, 3, 0];
-    show(b"an empty pair one past it", b"ab", &past, 0);
-    let wraps = [1u32, 0, 4294967295, 1];
-    show(b"4294967295 1", b"ab", &wraps, 0);
-    let shared = [1u32, 1, 1, 1, 0, 1, 2, 0];
-    show(b"a key before the end of the name", b"ab", &shared, 0);
-    let again = [2u32, 0, 1, 1, 2, 0, 0, 1];
-    show(
-        b"the next event before the end of the last",
-        b"ab",
-        &again,
-        4,
+    let tape = lines::behind(line, b';');
+    let n = read_marks(lines::before(tape, b';'), &mut marks);
+    let last = lines::behind(tape, b';');
+    put_case(
+        lines::before(line, b';'),
+        first(&marks, n),
+        lines::before(last, b';'),
+        lines::behind(last, b';'),
     );
 }
 
-fn bytes() {
-    let all = [2u32, 0, 0, 3];
-    show(b"a byte 128 under a pair", b"ab\x80", &all, 0);
-    let two = [2u32, 0, 0, 2];
-    show(b"a byte 128 beside it", b"ab\x80", &two, 0);
-    show(b"a byte 127 under a pair", b"ab\x7f", &all, 0);
-    let both = [2u32, 1, 2, 1, 0, 1, 3, 0];
-    show(b"a byte 128, and a pair out of order", b"ab\x80", &both, 0);
-}
-
-// The tag `e` with `x:name` = `1`, `name` = `2` and `x:` = `3`.
-fn lookups() {
-    let text = b"ex:name1name2x:3";
-    let marks = [1u32, 3, 0, 1, 1, 6, 7, 1, 8, 4, 12, 1, 13, 2, 15, 1];
-    show(b"three attributes", text, &marks, 0);
-    show_value(b"name", text, &marks, 3, b"name");
-    show_value(b"x:name", text, &marks, 3, b"x:name");
-    show_value(b"type", text, &marks, 3, b"type");
+fn put_lines(input: &[u8]) {
+    let mut rest = input;
+    while 0 < rest.len() {
+        put_line(lines::before(rest, b'\n'));
+        let next = lines::behind(rest, b'\n');
+        rest = next;
+    }
 }
 
 fn main() {
-    attributes();
-    forms();
-    pairs();
-    bytes();
-    lookups();
+    let mut space = io::buffer();
+    let n = io::read_full(0, &mut space);
+    put_lines(&space[..n]);
 }

@@ -14,12 +14,15 @@
 --     same          the two texts are equal
 --     is            the text is the quoted word
 --     localName     the part after the last colon (000, `local_name`)
+--     startsAt      where a part starts in a buffer; LocalPart: a part of a name that is its local name
 use Prim.Native.Nat.{ℕ, _+_, _-_}
 use Prim.Native.String.{String}
 use Prim.Native.Char.{code}
+use mathlib.Core.Path.{_≡_}
 use mathlib.Core.List.{List, [], _∷_, _++_}
 use mathlib.Core.Bool.{Bool, true, false, _&&_, _||_}
 use lib.Dec.{eqb, leb, ltb}
+use lib.ListN.{length}
 
 infix 10 if_then_else_
 abbrev pub if_then_else_ {ℓ} : {A : Type ℓ} → Bool → A → A → A
@@ -101,3 +104,12 @@ afterLast c kept (b ∷ s) = afterLast c (if eqb b c then s else kept) s
 -- 000: name.rfind(':').map_or(name, |pos| &name[pos + 1..]). Namespaces in XML 1.0, section 4: the LocalPart of a QName.
 unfoldable pub localName : Text → Text
 localName name = afterLast (code ":") name name
+
+-- a part starts `at` bytes behind the start of a buffer; a place in memory is a block and an offset in it
+abbrev pub startsAt : ℕ × ℕ → ℕ → ℕ × ℕ → Type 0
+startsAt buffer at part = (part .0 ≡ buffer .0) × (part .1 ≡ buffer .1 + at)
+
+-- a part of a name, with the places of both, is its local name: the bytes, and the last part of the name
+pub record LocalPart (namePlace : ℕ × ℕ) (name : Text) (partPlace : ℕ × ℕ) (part : Text) : Type 0 where
+  pub bytes : part ≡ localName name
+  pub starts : startsAt namePlace (length name - length part) partPlace

@@ -1,46 +1,7 @@
-// Bytes and texts: classes and case of a letter, the local name, equality.
+// Texts: which bytes they may have, a byte of a text, equality, the local name.
 ghost use mathlib.Core.Path.{_≡_};
-ghost use Rattle.text.specs.Text.{between, isUpper, isLower, isDigit, upper, lower, isText, contains, first, same, localName};
+ghost use Rattle.text.specs.Text.{isText, contains, first, same, LocalPart};
 ghost use lib.ListN.{drop};
-
-// Whether b is one of the bytes from low to high.
-pub fn in_range(low: u8, high: u8, b: u8) -> bool
-    ensures { λ r. ⌜ r ≡ between low high b ⌝ }
-{
-    low <= b && b <= high
-}
-
-pub fn is_upper(b: u8) -> bool
-    ensures { λ r. ⌜ r ≡ isUpper b ⌝ }
-{
-    in_range(b'A', b'Z', b)
-}
-
-pub fn is_lower(b: u8) -> bool
-    ensures { λ r. ⌜ r ≡ isLower b ⌝ }
-{
-    in_range(b'a', b'z', b)
-}
-
-pub fn is_digit(b: u8) -> bool
-    ensures { λ r. ⌜ r ≡ isDigit b ⌝ }
-{
-    in_range(b'0', b'9', b)
-}
-
-// The upper form of a lower letter; any other byte is its own.
-pub fn to_upper(b: u8) -> u8
-    ensures { λ r. ⌜ r ≡ upper b ⌝ }
-{
-    if is_lower(b) { b - 32 } else { b }
-}
-
-// The lower form of an upper letter; any other byte is its own.
-pub fn to_lower(b: u8) -> u8
-    ensures { λ r. ⌜ r ≡ lower b ⌝ }
-{
-    if is_upper(b) { b + 32 } else { b }
-}
 
 // Whether all bytes of s may stand in a text.
 pub fn is_text(s: &[u8]) -> bool
@@ -96,7 +57,7 @@ pub fn same_text(a: &[u8], b: &[u8]) -> bool
 
 // The part of a qualified name after its last colon.
 pub fn local_name(name: &[u8]) -> &[u8]
-    ensures { λ r. ⌜ now r ≡ localName (now (name .entry)) ⌝ }
+    ensures { λ r. ⌜ LocalPart (name .entry .ptr) (now (name .entry)) (r .ptr) (now r) ⌝ }
 {
     let mut start = 0;
     let mut i = 0;

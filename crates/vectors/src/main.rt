@@ -54,7 +54,7 @@ fn put_written(label: &[u8], written: Written, out: &[u8]) {
 fn put_names(line: &[u8], out: &mut [u8]) {
     let normal = names::normalize_type_name(line, out);
     put_written(b" normal=", normal, out);
-    let snake = names::xml_to_snake_case(line, out);
+    let snake = snake::xml_to_snake_case(line, out);
     put_written(b" snake=", snake, out);
     let pascal = names::code_to_pascal_case(line, out);
     put_written(b" pascal=", pascal, out);
@@ -72,7 +72,7 @@ fn put_line(before: &[u8], line: &[u8]) {
         builtin::reference_number(builtin::map_builtin(line)) as u64,
     );
     put_names(line, &mut space);
-    let same = names::same_normalized(before, line);
+    let same = same_names::same_normalized(before, line);
     if same {
         io::write_all(STDOUT_FILENO, b" same=1\n");
     } else {

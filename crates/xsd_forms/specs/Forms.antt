@@ -1,14 +1,12 @@
 -- What the contracts of the row tests cite beyond xsd_types' Good.
 --     asTen         the code's row as the definitions' row
---     partsFit      the used parts lie inside buffers of the given lengths
 --     aForm         a's part of `rowForm`
 use Prim.Native.Nat.{ℕ}
 use mathlib.Core.Bool.{Bool, _&&_, _||_}
-use lib.Dec.{eqb, leb}
+use lib.Dec.{eqb}
 use Rattle.text.specs.Text.{between}
 use Rattle.sheet.specs.Rows.{Ten}
 use Rattle.sheet.specs.Form.{isFlag}
-use Rattle.sheet.specs.Lengths.{fits}
 use Rattle.xsd_forms.specs.declared.row.Ten.{Ten as Numbers}
 
 abbrev pub asTen : Numbers → Ten
@@ -25,9 +23,6 @@ asTen t =
       b = t .b;
       c = t .c;
     }
-
-unfoldable pub partsFit : Ten → ℕ → ℕ → Bool
-partsFit z rows names = leb 2 (z .at0) && fits (z .at0) (z .len0) rows names
 
 unfoldable pub aForm : ℕ → ℕ → Bool
 aForm tag a = eqb a 0 || between 6 7 tag || between 10 11 tag || between 17 18 tag || ((eqb tag 15 || eqb tag 20) && isFlag a)

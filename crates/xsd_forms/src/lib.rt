@@ -1,3 +1,2 @@
-// The tests of a schema sheet's rows: of one row (row) and of row 0 (tests).
+// The tests of one row of a schema sheet.
 pub mod row;
-pub mod tests;

@@ -5,11 +5,12 @@
 use Prim.Native.Nat.{ℕ}
 use mathlib.Core.Path.{_≡_}
 use mathlib.Core.List.{List, [], _∷_}
+use Rattle.sheet.specs.Lengths.{Lengths}
 use Rattle.xsd_types.specs.State.{State}
 use Rattle.xsd_parser.specs.Event.{Event}
 use Rattle.xsd_parser.specs.Tape.{Judged, event, refused}
 use Rattle.xsd_parser.specs.Handlers.{ok, refuse}
-use Rattle.xsd_parser.specs.Step.{Lengths, step}
+use Rattle.xsd_parser.specs.Step.{step}
 
 pub data Accepted (lent : Lengths) : State → List Judged → State → Type 0 where
   noneLeft : {s : State} → Accepted lent s [] s

@@ -2,13 +2,13 @@
 use mathlib.Core.Path.{_≡_, refl}
 use mathlib.Core.List.{List, [], _∷_, _++_}
 use Prim.Native.Nat.{ℕ}
+use Rattle.sheet.specs.Lengths.{Lengths}
 use Rattle.text.specs.Text.{bytes}
 use Rattle.text.specs.Unfold.{computes as texts}
 use Rattle.number.specs.Unfold.{computes as numbers}
 use Rattle.sheet.specs.Unfold.{computes as sheets}
 use Rattle.xsd_types.specs.State.{firstState}
 use Rattle.xsd_types.specs.Unfold.{computes as schemas}
-use Rattle.xsd_parser.specs.Step.{Lengths}
 use Rattle.xsd_parser.specs.Read.{Reading, readState}
 use Rattle.xsd_parser.specs.Unfold.{computes as readings}
 

@@ -4,9 +4,9 @@
 use Prim.Native.Nat.{ℕ, _+_}
 use mathlib.Core.List.{List, [], _∷_}
 use lib.Dec.{eqb}
+use Rattle.sheet.specs.Lengths.{Lengths}
 use Rattle.text.specs.Text.{Text, if_then_else_}
 use Rattle.xsd_types.specs.State.{State}
-use Rattle.xsd_parser.specs.Step.{Lengths}
 use Rattle.xsd_parser.specs.Read.{Reading, readState}
 
 unfoldable pub onward : Reading → Reading → Reading

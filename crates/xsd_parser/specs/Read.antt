@@ -12,7 +12,7 @@ use mathlib.Core.Bool.{Bool, not, _&&_}
 use lib.ListN.{length}
 use Rattle.text.specs.Text.{Text, if_then_else_}
 use Rattle.sheet.specs.Rows.{Sheet}
-use Rattle.sheet.specs.Lengths.{sheetLengths, tapeLengths, Answer}
+use Rattle.sheet.specs.Lengths.{tapeLengths, Answer, Lengths, lengthsOf, goodLengths}
 use Rattle.xsd_types.specs.State.{State}
 use Rattle.xsd_types.specs.Sheet.{sheetOf}
 use Rattle.xsd_types.specs.Good.{good}
@@ -20,7 +20,7 @@ use Rattle.xsd_types.specs.Back.{stateOf}
 use Rattle.xsd_parser.specs.Event.{Event}
 use Rattle.xsd_parser.specs.Tape.{Judged, event, refused, records}
 use Rattle.xsd_parser.specs.Handlers.{Outcome, ok, refuse}
-use Rattle.xsd_parser.specs.Step.{Lengths, step}
+use Rattle.xsd_parser.specs.Step.{step}
 
 pub record Reading : Type 0 where
   pub answer : Answer
@@ -41,12 +41,6 @@ readState lent s text marks = readRecords lent 0 s (records text marks)
 pub record ReadAnswer : Type 0 where
   pub answer : Answer
   pub sheet : Sheet
-
-unfoldable pub lengthsOf : Sheet → Lengths
-lengthsOf x = record { rows = length (x .rows); names = length (x .names) }
-
-unfoldable pub goodLengths : Lengths → Bool
-goodLengths lent = sheetLengths (lent .rows) (lent .names)
 
 unfoldable pub refusedAt : ℕ → Sheet → ReadAnswer
 refusedAt r x = record { answer = record { number = r; place = 0 }; sheet = x }

@@ -1,5 +1,4 @@
 -- One event on a state, with the refusals 6 to 11 in the paper's order. "Reading: .. event by event 3, 4, 5, 8, then 6 or 7, 9, 10, 11"
---     Lengths       the lengths of the sheet's two buffers
 --     handled       the handlers of 000 on the reader
 --     tagsAfter     the open tags after an event; 6 "close with no tag open", 7 "start with 255 open"
 --     counted       the state with one event more done
@@ -9,14 +8,11 @@ use Prim.Native.Nat.{ℕ, zero, suc, _+_}
 use mathlib.Core.Bool.{Bool, true, false}
 use lib.Dec.{leb, ltb}
 use Rattle.text.specs.Text.{if_then_else_}
+use Rattle.sheet.specs.Lengths.{Lengths}
 use Rattle.xsd_types.specs.State.{Reader, State}
 use Rattle.xsd_types.specs.Sheet.{stateFits}
 use Rattle.xsd_parser.specs.Event.{Event}
 use Rattle.xsd_parser.specs.Handlers.{Outcome, ok, refuse, _andThen_, onStart, onEmpty, onEnd}
-
-pub record Lengths : Type 0 where
-  pub rows : ℕ
-  pub names : ℕ
 
 unfoldable pub handled : Event → Reader → Outcome Reader
 handled (Event.start t) r = onStart t r (r .context)

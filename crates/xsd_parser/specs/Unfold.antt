@@ -3,11 +3,11 @@ use Rattle.xsd_parser.specs.Event.{tagIs, lookup, attrValue, orEmpty}
 use Rattle.xsd_parser.specs.EventText.{attrOk, tagOk, eventOk, judgedOk}
 use Rattle.xsd_parser.specs.Handlers.{_andThen_, onParsed, inContext, withItem, foundRoot, keptElement, onTopLevelElement, requireName, parseMinOccurs, isUnbounded, parseMaxOccurs, withBase, withFacet, withContent, sequenceElement, choiceVariant, onElementInsideComplex, isRequired, attributeAdded, onAttributeInsideComplex, onExtension, openSimpleType, openComplexType, onStartInSchema, raisedSimple, onStartInSimpleType, raisedComplex, contentStarted, contentAtTwo, onStartInComplexType, onStart, facetValue, onEmptyInSimpleType, onEmptyInComplexType, onEmpty, closeSimpleType, closeComplexType, closeInSchema, onEnd}
 use Rattle.xsd_parser.specs.Pieces.{onward, readPieces}
-use Rattle.xsd_parser.specs.Read.{readRecords, readState, lengthsOf, goodLengths, refusedAt, sheetOfReading, read}
+use Rattle.xsd_parser.specs.Read.{readRecords, readState, refusedAt, sheetOfReading, read}
 use Rattle.xsd_parser.specs.Step.{handled, closed, tagsAfter, counted, roomFor, step}
 use Rattle.xsd_parser.specs.Tape.{pairsOf, pairText, allInside, allAscii, attrsOf, tagOf, pairCount, eventOf, formTest, tagRecord, record1, recordsFrom, records}
 use Rattle.xsd_parser.specs.Whole.{allEvents, cutShort, wholeFrom, wholeRecords}
 
 unfoldable pub computes : Unit {0}
-unfolding tagIs lookup attrValue orEmpty attrOk tagOk eventOk judgedOk _andThen_ onParsed inContext withItem foundRoot keptElement onTopLevelElement requireName parseMinOccurs isUnbounded parseMaxOccurs withBase withFacet withContent sequenceElement choiceVariant onElementInsideComplex isRequired attributeAdded onAttributeInsideComplex onExtension openSimpleType openComplexType onStartInSchema raisedSimple onStartInSimpleType raisedComplex contentStarted contentAtTwo onStartInComplexType onStart facetValue onEmptyInSimpleType onEmptyInComplexType onEmpty closeSimpleType closeComplexType closeInSchema onEnd onward readPieces readRecords readState lengthsOf goodLengths refusedAt sheetOfReading read handled closed tagsAfter counted roomFor step pairsOf pairText allInside allAscii attrsOf tagOf pairCount eventOf formTest tagRecord record1 recordsFrom records allEvents cutShort wholeFrom wholeRecords
+unfolding tagIs lookup attrValue orEmpty attrOk tagOk eventOk judgedOk _andThen_ onParsed inContext withItem foundRoot keptElement onTopLevelElement requireName parseMinOccurs isUnbounded parseMaxOccurs withBase withFacet withContent sequenceElement choiceVariant onElementInsideComplex isRequired attributeAdded onAttributeInsideComplex onExtension openSimpleType openComplexType onStartInSchema raisedSimple onStartInSimpleType raisedComplex contentStarted contentAtTwo onStartInComplexType onStart facetValue onEmptyInSimpleType onEmptyInComplexType onEmpty closeSimpleType closeComplexType closeInSchema onEnd onward readPieces readRecords readState refusedAt sheetOfReading read handled closed tagsAfter counted roomFor step pairsOf pairText allInside allAscii attrsOf tagOf pairCount eventOf formTest tagRecord record1 recordsFrom records allEvents cutShort wholeFrom wholeRecords
 computes = tt

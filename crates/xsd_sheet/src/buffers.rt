@@ -1,38 +1,11 @@
-// The two buffers: their lengths, filling them with zeros, and what stands in and behind their used parts.
+// What stands in and behind the used parts of the two buffers.
 use xsd_forms::row::Ten;
 ghost use mathlib.Core.Path.{_≡_};
 ghost use mathlib.Core.Bool.{_&&_};
 ghost use Prim.Native.Nat.{_*_, _≤_};
-ghost use lib.ListN.{length, take, drop, replicate};
+ghost use lib.ListN.{length, take, drop};
 ghost use Rattle.text.specs.Text.{isText};
 ghost use Rattle.sheet.specs.Rows.{allZero};
-ghost use Rattle.sheet.specs.Lengths.{sheetLengths};
-
-pub fn sheet_lengths(rows: usize, names: usize) -> bool
-    ensures { λ r. ⌜ r ≡ sheetLengths rows names ⌝ }
-{
-    (rows % 10 == 0) & (20 <= rows) & (rows <= 40960) & (names <= 65536)
-}
-
-pub fn clear_rows(rows: &mut [u32])
-    ensures { λ _. ⌜ now (rows .exit) ≡ replicate (length (now (rows .entry))) 0 ⌝ }
-{
-    let mut i = 0;
-    while i < rows.len() {
-        rows[i] = 0;
-        i += 1;
-    }
-}
-
-pub fn clear_names(names: &mut [u8])
-    ensures { λ _. ⌜ now (names .exit) ≡ replicate (length (now (names .entry))) 0 ⌝ }
-{
-    let mut i = 0;
-    while i < names.len() {
-        names[i] = 0;
-        i += 1;
-    }
-}
 
 fn zero_rows(rows: &[u32]) -> bool
     ensures { λ r. ⌜ r ≡ allZero (now (rows .entry)) ⌝ }

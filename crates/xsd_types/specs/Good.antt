@@ -5,7 +5,7 @@
 --     inOrder       children stand behind their head, and nothing behind a head 16
 --     lastHead      the tag of the last head
 --     row0Form, rowsForm, namesForm    "it has this form", with usedParts and zerosBehind of the crate `sheet`
---     limits, rootTest, contextTest, nestingTest, extensionTest    the sentences behind the form
+--     limits, rootTest, openTagsTest, nestingZero, contextTest, extensionTest    the sentences behind the form; nestingTest: two of them
 --     good          all of them
 use Prim.Native.Nat.{ℕ, _+_, _-_, _*_}
 use mathlib.Core.List.{List, [], _∷_, map}
@@ -81,10 +81,16 @@ limits z = leb (z .len2) 1000000 && leb (z .a) 255
 unfoldable pub rootTest : Ten → Bool
 rootTest z = eqb (z .at2) 1 || (eqb (z .at1) 0 && eqb (z .at0) 2 && eqb (z .len0) 0)
 
--- "context 1 has an open tag; contexts 2 and 3 have at least nesting + 2; nesting is 0 in contexts 0 and 1"
+-- "context 1 has an open tag; contexts 2 and 3 have at least nesting + 2"
+unfoldable pub openTagsTest : Ten → Bool
+openTagsTest z = if leb 2 (z .at1) then leb (z .len1 + 2) (z .a) else leb (z .at1) (z .a)
+
+-- "nesting is 0 in contexts 0 and 1"
+unfoldable pub nestingZero : Ten → Bool
+nestingZero z = if leb 2 (z .at1) then true else eqb (z .len1) 0
+
 unfoldable pub nestingTest : Ten → Bool
-nestingTest z =
-    if leb 2 (z .at1) then leb (z .len1 + 2) (z .a) else (eqb (z .len1) 0 && leb (z .at1) (z .a))
+nestingTest z = nestingZero z && openTagsTest z
 
 -- "the open type (3 in context 2, 12 to 16 in 3) last"; 16 "only while open"
 unfoldable pub contextTest : ℕ → ℕ → Bool

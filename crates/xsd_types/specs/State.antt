@@ -2,7 +2,7 @@
 --     SimpleTypeBuilder, ComplexContentBuilder, ComplexTypeBuilder, Context    as in 000; noContext is 000's empty stack
 --     Reader        what 000's handlers change: the schema, found_schema_root and the context
 --     State         the reader with the events done and the open tags
---     first         the state of a cleared sheet
+--     firstState    the state of a cleared sheet
 --     proper        what "A sheet is good if" asks of a state, sentence by sentence
 use Prim.Native.Nat.{ℕ, _+_, _^_}
 use mathlib.Core.List.{List, [], _∷_}

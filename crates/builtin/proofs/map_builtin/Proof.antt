@@ -23,7 +23,7 @@ local-name-requires c κs = search needs
 
 loop-holds : tie.Need-loop-holds Inv-loop μ-loop
 unfolding mapBuiltin
-loop-holds c = (omega arith, ap (λ (w : Text). firstMatch w builtins) (c .local-name .ensures))
+loop-holds c = (omega arith, ap (λ (w : Text). firstMatch w builtins) (c .local-name .ensures .bytes))
 
 is-name-requires : tie.Need-is-name-requires Inv-loop μ-loop
 is-name-requires c κs = omega arith

@@ -7,6 +7,7 @@ use mathlib.Core.Bool.{true, _&&_}
 use mathlib.Core.List.{List}
 use native.Mathlib.Omega.{arith}
 use lib.ListN.{length}
+use Rattle.sheet.specs.Lengths.{lengthsOf, goodLengths}
 use Rattle.text.specs.Text.{Text, isText}
 use Rattle.names.specs.Names.{normalizeTypeName, xmlToSnakeCase, codeToPascalCase}
 use Rattle.sheet.specs.Rows.{Sheet}
@@ -15,7 +16,7 @@ use Rattle.xsd_types.specs.Good.{good}
 use Rattle.xsd_types.specs.Back.{stateOf}
 use Rattle.ir_types.specs.Form.{graphForm}
 use Rattle.ir_types.proofs.Laws.GraphForm.{graph-form}
-use Rattle.ir_lower.specs.Call.{Lowered, unchanged, cleared, lowerState, lengthsOk, lowering}
+use Rattle.ir_lower.specs.Call.{Lowered, unchanged, cleared, lowerState, lowering}
 use Rattle.ir_lower.specs.Outcome.{Outcome}
 use Rattle.ir_lower.proofs.Laws.GraphOk.{lower-ok}
 use Rattle.ir_lower.proofs.Laws.Outcome.{lowering-1, lowering-2, lowering-state, outcome}
@@ -51,7 +52,7 @@ pub state-form : (s : State) (graph : Sheet) (scratch : List ℕ) → schemaOk (
     → graphForm (lowerState s graph scratch .graph) ≡ true
 state-form s graph scratch h z = outcome-form s graph scratch (lowerState s graph scratch) h (outcome s graph scratch) z
 
-good-form : (x graph : Sheet) (scratch : List ℕ) → lengthsOk x && lengthsOk graph ≡ true → good x ≡ true → proper (stateOf x) ≡ true → lowering x graph scratch .answer .number ≡ 0
+good-form : (x graph : Sheet) (scratch : List ℕ) → goodLengths (lengthsOf x) && goodLengths (lengthsOf graph) ≡ true → good x ≡ true → proper (stateOf x) ≡ true → lowering x graph scratch .answer .number ≡ 0
     → graphForm (lowering x graph scratch .graph) ≡ true
 good-form x graph scratch k g h z =
     let e = lowering-state x graph scratch k g in
@@ -63,4 +64,4 @@ lowering-form x graph scratch w z =
     ⊎-elim
     (λ k. ⊎-elim (λ g. good-form x graph scratch k g (proper-stateOf x w g) z) (λ g. absurd (not-zero 2 graph scratch _ (omega arith) (lowering-2 x graph scratch k g) z)) (test-cases (good x)))
     (λ k. absurd (not-zero 1 graph scratch _ (omega arith) (lowering-1 x graph scratch k) z))
-    (test-cases (lengthsOk x && lengthsOk graph))
+    (test-cases (goodLengths (lengthsOf x) && goodLengths (lengthsOf graph)))

@@ -7,6 +7,7 @@ use mathlib.Core.Bool.{true, false, _&&_, _||_, false≢true, or-true}
 use mathlib.Core.List.{List}
 use lib.Dec.{eqb}
 use lib.ListN.{length, length-replicate}
+use Rattle.sheet.specs.Lengths.{lengthsOf, goodLengths}
 use Rattle.text.specs.Text.{between}
 use Rattle.sheet.specs.Rows.{Sheet, allZero}
 use Rattle.xsd_types.specs.State.{State}
@@ -16,7 +17,7 @@ use Rattle.ir_types.specs.Types.{TypeGraph}
 use Rattle.ir_types.specs.Rows.{rowsUsed}
 use Rattle.ir_types.specs.Sheet.{graphFits, graphSheet}
 use Rattle.ir_types.proofs.Laws.GraphForm.{sheet-rows-length, sheet-names-length}
-use Rattle.ir_lower.specs.Call.{Lowered, zeros, unchanged, cleared, lengthsOk, lowering}
+use Rattle.ir_lower.specs.Call.{Lowered, zeros, unchanged, cleared, lowering}
 use Rattle.ir_lower.specs.Left.{changesNothing, clearsGraph, clearsScratch, noGraph}
 use Rattle.ir_lower.specs.Outcome.{Outcome}
 use Rattle.ir_lower.proofs.Laws.Outcome.{lowering-1, lowering-2, lowering-state, outcome}
@@ -53,7 +54,7 @@ lowering-leaves x graph scratch =
     ⊎-elim (λ h. ⊎-elim (λ k. rw (lowering-state x graph scratch h k) (outcome-leaves _ graph scratch _ (outcome (stateOf x) graph scratch)))
     (λ k. kept 2 refl refl (lowering-2 x graph scratch h k)) (test-cases (good x)))
     (λ h. kept 1 refl refl (lowering-1 x graph scratch h))
-    (test-cases (lengthsOk x && lengthsOk graph))
+    (test-cases (goodLengths (lengthsOf x) && goodLengths (lengthsOf graph)))
 
 -- ---- what each way leaves
 

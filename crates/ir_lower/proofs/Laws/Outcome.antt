@@ -8,6 +8,7 @@ use mathlib.Core.Option.{Option, some, none}
 use lib.Dec.{leb}
 use lib.ListN.{length}
 use borrow.Author.Tests.{leb-true, leb-false}
+use Rattle.sheet.specs.Lengths.{lengthsOf, goodLengths}
 use Rattle.sheet.specs.Rows.{Sheet}
 use Rattle.xsd_types.specs.State.{State}
 use Rattle.xsd_types.specs.Good.{good}
@@ -15,21 +16,21 @@ use Rattle.xsd_types.specs.Back.{stateOf}
 use Rattle.ir_types.specs.Types.{TypeGraph}
 use Rattle.ir_types.specs.Sheet.{graphFits}
 use Rattle.ir_lower.specs.Lower.{lower, unknownRow, finishedTypes}
-use Rattle.ir_lower.specs.Call.{Lowered, unchanged, cleared, written, lowerState, lengthsOk, lowering}
+use Rattle.ir_lower.specs.Call.{Lowered, unchanged, cleared, written, lowerState, lowering}
 use Rattle.ir_lower.specs.Outcome.{Outcome}
 use Rattle.ir_lower.proofs.Laws.Refusals.{refused-exactly}
 use Rattle.text.proofs.Laws.Tests.{test-cases}
 
 -- 1 and 2, and then the state decides
-pub lowering-1 : (x graph : Sheet) (scratch : List ℕ) → lengthsOk x && lengthsOk graph ≡ false → lowering x graph scratch ≡ unchanged 1 graph scratch
+pub lowering-1 : (x graph : Sheet) (scratch : List ℕ) → goodLengths (lengthsOf x) && goodLengths (lengthsOf graph) ≡ false → lowering x graph scratch ≡ unchanged 1 graph scratch
 unfolding lowering
 lowering-1 x graph scratch h = rw h
 
-pub lowering-2 : (x graph : Sheet) (scratch : List ℕ) → lengthsOk x && lengthsOk graph ≡ true → good x ≡ false → lowering x graph scratch ≡ unchanged 2 graph scratch
+pub lowering-2 : (x graph : Sheet) (scratch : List ℕ) → goodLengths (lengthsOf x) && goodLengths (lengthsOf graph) ≡ true → good x ≡ false → lowering x graph scratch ≡ unchanged 2 graph scratch
 unfolding lowering
 lowering-2 x graph scratch h k = rw (h, k)
 
-pub lowering-state : (x graph : Sheet) (scratch : List ℕ) → lengthsOk x && lengthsOk graph ≡ true → good x ≡ true → lowering x graph scratch ≡ lowerState (stateOf x) graph scratch
+pub lowering-state : (x graph : Sheet) (scratch : List ℕ) → goodLengths (lengthsOf x) && goodLengths (lengthsOf graph) ≡ true → good x ≡ true → lowering x graph scratch ≡ lowerState (stateOf x) graph scratch
 unfolding lowering
 lowering-state x graph scratch h k = rw (h, k)
 

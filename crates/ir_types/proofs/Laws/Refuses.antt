@@ -10,7 +10,7 @@ use lib.ListN.{length, getD}
 use borrow.Author.Tests.{eqb-true, eqb-false, le-leb, lt-leb}
 use Rattle.text.specs.Text.{if_then_else_, between}
 use Rattle.sheet.specs.Rows.{Ten, textAt}
-use Rattle.ir_types.specs.Label.{Labelled, noLabel, wordsOf, goodWords, rowTen, hasReference, referenceAt, referenceLength, namedLabel, wordLabel, rowLabel, label}
+use Rattle.ir_types.specs.Label.{Labelled, noLabel, wordsOf, goodWords, wordAt, rowTen, hasReference, referenceAt, referenceLength, namedLabel, wordLabel, rowLabel, label}
 use Rattle.ir_types.specs.Refuses.{hasTag, rowRefuses, refuses}
 use Rattle.text.proofs.Laws.Tests.{test-cases}
 
@@ -43,8 +43,8 @@ row-number : (names words : List ℕ) (t : Ten) → rowLabel names words t .numb
 unfolding rowLabel hasReference namedLabel wordLabel rowRefuses hasTag between
 row-number names words t =
     rw (above-zero (t .a))
-    (chosen-number (record { number = 0; inWords = false; text = textAt names (referenceAt t) (referenceLength t) })
-    (record { number = 0; inWords = true; text = getD (wordsOf words) (t .a - 1) [] }) refl refl
+    (chosen-number (record { number = 0; inWords = false; at = referenceAt t; text = textAt names (referenceAt t) (referenceLength t) })
+    (record { number = 0; inWords = true; at = wordAt (t .a - 1) (wordsOf words); text = getD (wordsOf words) (t .a - 1) [] }) refl refl
     (eqb (t .tag) 5 || eqb (t .tag) 7 || eqb (t .tag) 9 || eqb (t .tag) 10 || eqb (t .tag) 19) (leb (t .a) 5) (eqb (t .tag) 5) (eqb (t .a) 0)
     (leb (referenceAt t + referenceLength t) (length names)) (goodWords words))
 

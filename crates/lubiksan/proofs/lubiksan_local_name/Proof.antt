@@ -13,10 +13,10 @@ local-name-requires : tie.Need-local-name-requires
 local-name-requires c κs = search needs
 
 sub-result : tie.Need-sub-result
-sub-result c = omega (arith, ap length (c .local-name .ensures), localName-length (c .before .before .args .name .now))
+sub-result c = omega (arith, ap length (c .local-name .ensures .bytes), localName-length (c .before .before .args .name .now))
 
 returns : tie.Need-returns
-returns c = ap (λ (l : Text). length (c .before .before .args .name .now) - length l) (c .local-name .ensures)
+returns c = ap (λ (l : Text). length (c .before .before .args .name .now) - length l) (c .local-name .ensures .bytes)
 
 pub lubiksan-local-name-spec : {M : Type 1} → statement M
 lubiksan-local-name-spec = tie.close (tie.spec local-name-requires sub-result returns)

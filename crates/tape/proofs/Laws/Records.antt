@@ -1,51 +1,17 @@
 -- A whole record: its form (3), then its pairs (4), then their bytes (5), as the code tests them one after the other. Laws of xsd_parser's Tape.
 -- No contract cites them. Assumes nothing.
 use mathlib.Core.Path.{_≡_, ap, _∙_}
-use mathlib.Core.Bool.{true, false, _&&_}
+use mathlib.Core.Bool.{true, false}
 use mathlib.Core.List.{List, _∷_}
 use Prim.Native.Nat.{ℕ, suc, _+_, _-_, _*_, _≤_, _<_}
 use native.Mathlib.Omega.{arith}
-use lib.Dec.{leb, eqb}
 use lib.ListN.{length, getD, drop, drop-of-length-le, length-drop}
 use lib.Seq.{drop-cons, drop-drop}
-use borrow.Author.Tests.{leb-true, le-leb, lt-leb, eq-eqb, ne-eqb}
-use Rattle.text.specs.Text.{Text, if_then_else_, between}
-use Rattle.text.proofs.Laws.Tests.{and-true-left, and-true-right}
+use borrow.Author.Tests.{eq-eqb, ne-eqb}
+use Rattle.text.specs.Text.{Text}
 use Rattle.xsd_parser.specs.Event.{Event}
 use Rattle.xsd_parser.specs.Tape.{Pair, Recorded, pairsOf, pairCount, allInside, allAscii, tagOf, eventOf, formTest, tagRecord, record1}
-use Rattle.tape.proofs.Laws.Pairs.{drop-two}
-
-module _ (kind count left : ℕ) where
-  pub form-below : kind < 1 → formTest kind count left ≡ false
-  unfolding formTest between
-  form-below h = rw (lt-leb 1 kind h)
-
-  pub form-above : 3 < kind → formTest kind count left ≡ false
-  unfolding formTest between
-  form-above h = rw (le-leb 1 kind (omega arith), lt-leb kind 3 h)
-
-  pub form-many : 1 ≤ kind → kind ≤ 3 → 32 < count → formTest kind count left ≡ false
-  unfolding formTest between
-  form-many l u h = rw (le-leb 1 kind l, le-leb kind 3 u, lt-leb count 32 h)
-
-  pub form-close : kind ≡ 3 → count ≤ 32 → formTest kind count left ≡ eqb count 0
-  unfolding formTest between
-  form-close e h = rw (e, le-leb count 32 h)
-
-  pub form-tag : 1 ≤ kind → kind ≤ 3 → count ≤ 32 → (kind ≡ 3 → ⊥) → formTest kind count left ≡ leb (2 * pairCount count) left
-  unfolding formTest between
-  form-tag l u h n = rw (le-leb 1 kind l, le-leb kind 3 u, le-leb count 32 h, ne-eqb kind 3 n)
-
-  -- what a good form says
-  pub form-count : formTest kind count left ≡ true → count ≤ 32
-  unfolding formTest
-  form-count e = leb-true count 32 (and-true-right (between 1 3 kind) (leb count 32) (and-true-left (between 1 3 kind && leb count 32) _ e))
-
-  pub form-room : formTest kind count left ≡ true → (kind ≡ 3 → ⊥) → 2 * pairCount count ≤ left
-  unfolding formTest
-  form-room e n =
-      let r = and-true-right (between 1 3 kind && leb count 32) (if eqb kind 3 then eqb count 0 else leb (2 * pairCount count) left) e in
-      leb-true (2 * pairCount count) left (rw (ne-eqb kind 3 n) at r)
+use Rattle.tape_pairs.proofs.Laws.Pairs.{drop-two}
 
 pub record-none : (text : Text) (marks : List ℕ) (at : ℕ) → length marks ≤ at → record1 text (drop at marks) ≡ Recorded.finished
 unfolding record1

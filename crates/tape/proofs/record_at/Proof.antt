@@ -5,7 +5,8 @@ use native.Mathlib.Omega.{arith}
 use borrow.Author.Tests.{not-true, not-false}
 use lib.ListN.{length, getD}
 use Rattle.tape.specs.Answers.{recorded, placed}
-use Rattle.tape.proofs.Laws.Records.{form-count, form-room, record-none, record-one, record-bad, record-close, record-tag}
+use Rattle.record_form.proofs.Laws.Form.{form-count, form-room}
+use Rattle.tape.proofs.Laws.Records.{record-none, record-one, record-bad, record-close, record-tag}
 use borrow.Author.Needs.{needs}
 use Rattle.tape.proofs.record_at.Statement.{statement}
 use Rattle.tape.proofs.record_at.Tie as tie

@@ -5,9 +5,9 @@ use native.Mathlib.Omega.{arith}
 use borrow.Author.Tests.{not-true, not-false}
 use lib.ListN.{drop}
 use Rattle.xsd_parser.specs.Tape.{pairsOf, pairCount}
-use Rattle.tape.specs.Pairs.{tagAt}
+use Rattle.tape_pairs.specs.Pairs.{tagAt}
 use Rattle.tape.specs.Answers.{recorded, placed}
-use Rattle.tape.proofs.Laws.Pairs.{inside-each}
+use Rattle.pair_tests.proofs.Laws.Tests.{inside-each}
 use Rattle.tape.proofs.Laws.Records.{tag-outside, tag-high, tag-good}
 use borrow.Author.Needs.{needs}
 use Rattle.tape.proofs.tag_at.Statement.{statement}

@@ -1,9 +1,9 @@
 -- Laws of `every`, of texts put together and of ranges (specs/Text.antt). Assumes nothing.
 use mathlib.Core.Path.{_≡_, refl, sym, _∙_}
-use mathlib.Core.Logic.{_⊎_, inl, inr}
+use mathlib.Core.Logic.{_⊎_, inl, inr, ⊎-elim}
 use mathlib.Core.Bool.{Bool, true, false, _&&_, and-assoc}
 use mathlib.Core.List.{List, [], _∷_, _++_, map}
-use Prim.Native.Nat.{ℕ, zero, suc, _≤_, _<_}
+use Prim.Native.Nat.{ℕ, zero, suc, _+_, _≤_, _<_}
 use native.Mathlib.Omega.{arith}
 use lib.Dec.{eqb, leb}
 use lib.ListN.{getD, drop}
@@ -70,7 +70,7 @@ isText-join [] = refl
 isText-join (t ∷ ts) = every-append isTextByte t (join ts) ∙ rw (isText-join ts)
 
 -- a number of a range is its first or one of the rest
-pub between-split : (low high b : ℕ) → between low high b ≡ true → (b ≡ low) ⊎ (between (suc low) high b ≡ true)
+between-split : (low high b : ℕ) → between low high b ≡ true → (b ≡ low) ⊎ (between (suc low) high b ≡ true)
 unfolding between
 between-split low high b e = go (test-cases (eqb b low))
   where
@@ -80,5 +80,16 @@ between-split low high b e = go (test-cases (eqb b low))
         let more : suc low ≤ b = omega (arith, eqb-false b low h, between-low low high b e) in
         inr (and-true (le-leb (suc low) b more) (le-leb b high (between-high low high b e)))
 
-pub between-none : (low high b : ℕ) → high < low → between low high b ≡ true → ⊥
+between-none : (low high b : ℕ) → high < low → between low high b ≡ true → ⊥
 between-none low high b h e = omega (arith, between-low low high b e, between-high low high b e)
+
+-- P holds of the n + 1 numbers from low on
+unfoldable pub EachFrom : (ℕ → Type 0) → ℕ → ℕ → Type 0
+EachFrom P low zero = P low
+EachFrom P low (suc n) = P low × EachFrom P (suc low) n
+
+-- what holds of each number of a range holds of a number in it
+pub between-each : (P : ℕ → Type 0) (low n high b : ℕ) → high ≡ low + n → EachFrom P low n → between low high b ≡ true → P b
+unfolding EachFrom
+between-each P low zero high b h p e = ⊎-elim (λ w. rw w p) (λ w. absurd (between-none (suc low) high b (omega (arith, h)) w)) (between-split low high b e)
+between-each P low (suc n) high b h (p, q) e = ⊎-elim (λ w. rw w p) (between-each P (suc low) n high b (omega (arith, h)) q) (between-split low high b e)

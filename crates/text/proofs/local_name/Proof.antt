@@ -60,9 +60,12 @@ returns : tie.Need-returns Inv-loop μ-loop
 returns c =
     let at = c .before .before in
     let name = at .before .args .name .now in
-    take-all _ (drop (at .loop .start) name) (le-of-eq (length-drop (at .loop .start) name))
-    ∙ sym (afterLast-end 58 (drop (at .loop .start) name) name (at .loop .i) (omega arith))
-    ∙ at .loop .inv .2
+    let part = drop (at .loop .start) name in
+    let all = take-all _ part (le-of-eq (length-drop (at .loop .start) name)) in
+    record {
+      bytes = all ∙ sym (afterLast-end 58 part name (at .loop .i) (omega arith)) ∙ at .loop .inv .2;
+      starts = (refl, rw all (omega (arith, length-drop (at .loop .start) name, at .loop .inv .1)));
+    }
 
 pub local-name-spec : {M : Type 1} → statement M
 local-name-spec =

@@ -7,11 +7,12 @@ use mathlib.Core.List.{List, [], _∷_, _++_}
 use Prim.Native.Nat.{ℕ, suc, _+_}
 use native.Mathlib.Omega.{arith}
 use lib.ListN.{length}
+use Rattle.sheet.specs.Lengths.{Lengths}
 use Rattle.xsd_types.specs.State.{State}
 use Rattle.xsd_parser.specs.Event.{Event}
 use Rattle.xsd_parser.specs.Tape.{Judged, event, refused}
 use Rattle.xsd_parser.specs.Handlers.{ok}
-use Rattle.xsd_parser.specs.Step.{Lengths, step}
+use Rattle.xsd_parser.specs.Step.{step}
 use Rattle.xsd_parser.specs.Read.{Reading, readRecords}
 use Rattle.xsd_parser.specs.Accepted.{Accepted, noneLeft, oneMore, Refused, byForm, byState}
 use Rattle.xsd_parser.specs.Whole.{allEvents}

@@ -9,14 +9,14 @@ use lib.Dec.{ltb}
 use lib.ListN.{length, length-map}
 use Rattle.text.specs.Text.{Text, join}
 use Rattle.sheet.specs.Rows.{Row, row, namesOf}
-use Rattle.sheet.specs.Lengths.{fits}
+use Rattle.sheet.specs.Lengths.{fits, Lengths}
 use Rattle.xsd_types.specs.Types.{Item}
 use Rattle.xsd_types.specs.State.{SimpleTypeBuilder, ComplexContentBuilder, ComplexTypeBuilder, Context, Reader, State, started, finish}
 use Rattle.xsd_types.specs.Rows.{namespaceRow, complexTypeRows, itemRows, itemsRows, contextRows, rowsOf, rowsUsed, namesUsed}
 use Rattle.xsd_types.specs.Sheet.{stateFits}
 use Rattle.xsd_parser.specs.Event.{Event}
 use Rattle.xsd_parser.specs.Handlers.{refuse, _andThen_, inContext, withItem, closeSimpleType, closeComplexType, closeInSchema, onEnd}
-use Rattle.xsd_parser.specs.Step.{Lengths, handled, closed, tagsAfter, counted, roomFor, step}
+use Rattle.xsd_parser.specs.Step.{handled, closed, tagsAfter, counted, roomFor, step}
 use Rattle.xsd_parser.proofs.Laws.Outcomes.{Gives, value, refusal, Any, gives-if, gives-andThen, gives-refusal}
 
 abbrev pub textsOf : List Row → List (List Text)

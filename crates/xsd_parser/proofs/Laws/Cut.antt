@@ -6,11 +6,12 @@ use mathlib.Core.List.{List, [], _∷_, _++_}
 use Prim.Native.Nat.{ℕ, zero, suc, _+_, _≤_}
 use native.Mathlib.Omega.{arith}
 use lib.ListN.{length, length-append}
+use Rattle.sheet.specs.Lengths.{Lengths}
 use Rattle.text.specs.Text.{Text}
 use Rattle.xsd_types.specs.State.{State}
 use Rattle.xsd_parser.specs.Event.{Event}
 use Rattle.xsd_parser.specs.Tape.{bad, next, record1, Judged, event, refused, recordsFrom, records}
-use Rattle.xsd_parser.specs.Step.{Lengths, step}
+use Rattle.xsd_parser.specs.Step.{step}
 use Rattle.xsd_parser.specs.Read.{readRecords, readState}
 use Rattle.xsd_parser.specs.Accepted.{Accepted, noneLeft, oneMore}
 use Rattle.xsd_parser.specs.Whole.{allEvents}

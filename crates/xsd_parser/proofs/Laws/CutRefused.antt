@@ -6,13 +6,14 @@ use Prim.Native.Nat.{ℕ, zero, suc, _+_, _≤_}
 use native.Mathlib.Omega.{arith}
 use lib.ListN.{length, length-append}
 use borrow.Author.Tests.{not-true}
+use Rattle.sheet.specs.Lengths.{Lengths}
 use Rattle.text.specs.Text.{Text}
 use Rattle.text.proofs.Laws.Tests.{not-true-false, two}
 use Rattle.xsd_types.specs.State.{State}
 use Rattle.xsd_parser.specs.Event.{Event}
 use Rattle.xsd_parser.specs.Tape.{finished, bad, next, record1, Judged, event, recordsFrom, records}
 use Rattle.xsd_parser.specs.Handlers.{ok}
-use Rattle.xsd_parser.specs.Step.{Lengths, step}
+use Rattle.xsd_parser.specs.Step.{step}
 use Rattle.xsd_parser.specs.Read.{readRecords, readState}
 use Rattle.xsd_parser.specs.Whole.{allEvents, cutShort, wholeFrom, wholeRecords}
 use Rattle.xsd_parser.proofs.Laws.Outcomes.{outcome-cases}

@@ -1,10 +1,11 @@
 -- Facts of paper 01, "What an event does": a close in the schema, and tags that are not known. Assumes nothing.
 use mathlib.Core.Path.{_≡_, refl, sym, ap, _∙_}
 use mathlib.Core.Bool.{false}
+use Rattle.sheet.specs.Lengths.{Lengths}
 use Rattle.xsd_types.specs.State.{Context, Reader, State}
 use Rattle.xsd_parser.specs.Event.{Tag, Event, tagIs}
 use Rattle.xsd_parser.specs.Handlers.{ok, inContext, closeInSchema, onStart, onEmpty, onEnd}
-use Rattle.xsd_parser.specs.Step.{Lengths, handled, step}
+use Rattle.xsd_parser.specs.Step.{handled, step}
 use Rattle.xsd_parser.proofs.Laws.Steps.{step-reader}
 
 -- "Any close leads to context 0."

@@ -6,9 +6,9 @@ use Prim.Native.Nat.{ℕ, _+_}
 use native.Mathlib.Omega.{arith}
 use lib.Dec.{eqb}
 use borrow.Author.Tests.{eqb-true, eqb-false}
+use Rattle.sheet.specs.Lengths.{Lengths}
 use Rattle.text.specs.Text.{Text, every, join}
 use Rattle.xsd_types.specs.State.{State}
-use Rattle.xsd_parser.specs.Step.{Lengths}
 use Rattle.xsd_parser.specs.Read.{Reading, readState}
 use Rattle.xsd_parser.specs.Whole.{wholeRecords}
 use Rattle.xsd_parser.specs.Pieces.{onward, readPieces}

@@ -5,6 +5,7 @@ use mathlib.Core.Bool.{true}
 use mathlib.Core.List.{List, [], _∷_}
 use Prim.Native.Nat.{ℕ, suc, _+_}
 use native.Mathlib.Omega.{arith}
+use Rattle.sheet.specs.Lengths.{Lengths}
 use Rattle.text.specs.Text.{Text, every}
 use Rattle.xsd_types.specs.State.{State, proper}
 use Rattle.xsd_types.specs.Sheet.{stateFits}
@@ -12,7 +13,7 @@ use Rattle.xsd_parser.specs.Event.{Event}
 use Rattle.xsd_parser.specs.EventText.{eventOk, judgedOk}
 use Rattle.xsd_parser.specs.Tape.{Judged, event, refused, recordsFrom, records}
 use Rattle.xsd_parser.specs.Handlers.{ok, refuse}
-use Rattle.xsd_parser.specs.Step.{Lengths, step}
+use Rattle.xsd_parser.specs.Step.{step}
 use Rattle.xsd_parser.specs.Read.{Reading, readRecords, readState}
 use Rattle.xsd_parser.proofs.Laws.Outcomes.{outcome-cases}
 use Rattle.xsd_parser.proofs.Laws.EventTexts.{events-are-text}

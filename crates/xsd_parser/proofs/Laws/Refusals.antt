@@ -8,6 +8,7 @@ use Prim.Native.Nat.{ℕ, zero, suc, _≤_, _*_, _^_}
 use native.Mathlib.Omega.{arith}
 use lib.Dec.{eqb, ltb}
 use lib.ListN.{length, drop}
+use Rattle.sheet.specs.Lengths.{Lengths}
 use Rattle.text.specs.Text.{Text, if_then_else_}
 use Rattle.number.specs.Number.{Parsed, parsed, refused, number, numeral, below, isNumeral, value as digitsValue, afterPlus}
 use Rattle.xsd_types.specs.Types.{MaxOccurs, SequenceElement}
@@ -16,7 +17,7 @@ use Rattle.xsd_types.specs.Sheet.{stateFits}
 use Rattle.xsd_parser.specs.Event.{Tag, Event, tagIs, attrValue}
 use Rattle.xsd_parser.specs.Tape.{Pair, allInside, allAscii, Recorded, finished, bad, formTest, pairCount, pairsOf, tagRecord, record1}
 use Rattle.xsd_parser.specs.Handlers.{Outcome, refuse, onParsed, parseMinOccurs, parseMaxOccurs, isUnbounded, sequenceElement, onElementInsideComplex, contentAtTwo, onStartInSchema, onStartInComplexType, raisedComplex, onStart, facetValue, onEmptyInSimpleType, onEmptyInComplexType, onEmpty}
-use Rattle.xsd_parser.specs.Step.{Lengths, handled, closed, tagsAfter, counted, roomFor, step}
+use Rattle.xsd_parser.specs.Step.{handled, closed, tagsAfter, counted, roomFor, step}
 use Rattle.xsd_parser.proofs.Laws.Outcomes.{Gives, value, refusal, Any, gives-if, gives-andThen, gives-parsed, gives-name, gives-refusal, gives-wider}
 use Rattle.text.proofs.Laws.Tests.{if-either}
 

@@ -6,6 +6,7 @@ use mathlib.Core.List.{append-nil}
 use native.Mathlib.Omega.{arith}
 use lib.ListN.{length, length-append}
 use borrow.Author.Tests.{lt-ltb}
+use Rattle.sheet.specs.Lengths.{Lengths}
 use Rattle.text.specs.Text.{join}
 use Rattle.sheet.specs.Rows.{namesOf, row}
 use Rattle.sheet.proofs.Laws.Packs.{namesOf-append}
@@ -13,7 +14,7 @@ use Rattle.xsd_types.specs.State.{Reader, State}
 use Rattle.xsd_types.specs.Rows.{namespaceRow, itemsRows, contextRows, rowsOf, rowsUsed, namesUsed}
 use Rattle.xsd_parser.specs.Event.{Event}
 use Rattle.xsd_parser.specs.Handlers.{Outcome, ok, refuse, _andThen_}
-use Rattle.xsd_parser.specs.Step.{Lengths, handled, tagsAfter, counted, roomFor, step}
+use Rattle.xsd_parser.specs.Step.{handled, tagsAfter, counted, roomFor, step}
 
 pub rows-parts : (s : State) → rowsUsed s ≡ 2 + length (itemsRows (s .reader .schema .items)) + length (contextRows (s .reader .context))
 unfolding rowsUsed rowsOf

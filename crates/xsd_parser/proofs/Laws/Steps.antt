@@ -5,12 +5,13 @@ use Prim.Native.Nat.{ℕ, zero, suc, _≤_, _<_}
 use native.Mathlib.Omega.{arith}
 use lib.Dec.{leb, ltb}
 use borrow.Author.Tests.{ltb-true, leb-true, le-leb}
+use Rattle.sheet.specs.Lengths.{Lengths}
 use Rattle.xsd_types.specs.State.{Reader, State, contextOk, rootOk, schemaOk, countersOk, proper}
 use Rattle.xsd_types.specs.Sheet.{stateFits}
 use Rattle.xsd_parser.specs.Event.{Event}
 use Rattle.xsd_parser.specs.EventText.{eventOk}
 use Rattle.xsd_parser.specs.Handlers.{ok, onEnd}
-use Rattle.xsd_parser.specs.Step.{Lengths, handled, closed, tagsAfter, counted, roomFor, step}
+use Rattle.xsd_parser.specs.Step.{handled, closed, tagsAfter, counted, roomFor, step}
 use Rattle.xsd_parser.proofs.Laws.Outcomes.{gives-value, if-value, ok-or-refuse, then-value}
 use Rattle.xsd_parser.proofs.Laws.Readers.{ReaderOk}
 use Rattle.xsd_parser.proofs.Laws.Starts.{start-kept}

@@ -1,10 +1,53 @@
--- Reading by computation: the numbers 0, 1 and 2.
-use mathlib.Core.Path.{_≡_, refl}
+-- Reading by computation: the numbers 0, 1 and 2. Where a buffer is long its length is computed by a law, and not by counting.
+use Prim.Native.Nat.{ℕ, _≤_}
+use Prim.Native.String.{String}
+use mathlib.Core.Path.{_≡_, refl, ap, _∙_}
+use mathlib.Core.Bool.{true, false, and-false}
 use mathlib.Core.List.{List, [], _∷_}
-use lib.ListN.{replicate}
-use Rattle.xsd_parser.specs.Read.{read}
+use lib.ListN.{length, replicate, length-replicate}
+use borrow.Author.Tests.{leb-true}
+use Rattle.text.specs.Text.{bytes, join}
+use Rattle.sheet.specs.Rows.{Sheet}
+use Rattle.sheet.specs.Lengths.{sheetLengths, tapeLengths, lengthsOf, goodLengths}
+use Rattle.sheet.proofs.Laws.Numbers.{length-filled}
+use Rattle.xsd_types.specs.State.{firstState}
+use Rattle.xsd_types.specs.Clear.{clear}
 use Rattle.xsd_types.specs.Examples.Sheets.{line, noNamespace, sheet, junk, blank, answer}
+use Rattle.xsd_types.proofs.Laws.Clear.{clear-sheet, good-clear, first-fits}
+use Rattle.xsd_types.proofs.Laws.SheetOf.{length-sheetOf}
+use Rattle.xsd_parser.specs.Read.{read, refusedAt, sheetOfReading, readState, readRecords}
+use Rattle.xsd_parser.specs.Tape.{records, recordsFrom}
 use Rattle.xsd_parser.specs.Examples.Tapes.{Tag, schema, reads, gives, taped}
+
+-- ---- buffers of any length
+
+-- a text of n bytes over the smallest sheet, where n is not above the limit
+text-read : (n : ℕ) → tapeLengths n 0 ≡ true → read (blank 20 0) (replicate n 200) [] ≡ gives 0 0 (blank 20 0)
+unfolding taped
+text-read n e = rw (length-replicate {A = ℕ} n 200, e)
+
+-- a text of n bytes over any sheet, where n is above it
+text-refused : (x : Sheet) (n : ℕ) → tapeLengths n 0 ≡ false → read x (replicate n 0) [] ≡ gives 1 0 x
+unfolding read refusedAt gives answer
+text-refused x n e = rw (length-replicate {A = ℕ} n 0, e, and-false (goodLengths (lengthsOf x)))
+
+-- a cleared sheet of r numbers and n bytes, where neither is above its limit
+cleared-read : (x : Sheet) → sheetLengths (length (x .rows)) (length (x .names)) ≡ true → read (clear x .sheet) [] [] .answer ≡ answer 0 0
+unfolding read goodLengths lengthsOf tapeLengths sheetOfReading readState records recordsFrom readRecords answer
+cleared-read x e =
+    let made = length-sheetOf firstState (length (x .rows)) (length (x .names)) (first-fits (length (x .rows)) (length (x .names)) e) in
+    let rows = ap (λ (s : Sheet). length (s .rows)) (clear-sheet x e) ∙ made .0 in
+    let names = ap (λ (s : Sheet). length (s .names)) (clear-sheet x e) ∙ made .1 in
+    rw (rows, names, e, good-clear x e)
+
+blank-read : (r n : ℕ) → sheetLengths r n ≡ true → read (blank r n) [] [] .answer ≡ answer 0 0
+unfolding blank junk
+blank-read r n e = cleared-read (junk r n) (rw (length-replicate {A = ℕ} r 7, length-replicate {A = ℕ} n 7) e)
+
+-- a sheet of r numbers and n bytes, where one is above its limit
+sheet-refused : (r n : ℕ) (rows : List (List ℕ)) (names : String) → length (join rows) ≤ r → length (bytes names) ≤ n → sheetLengths r n ≡ false → read (sheet r n rows names) [] [] ≡ gives 1 0 (sheet r n rows names)
+unfolding read goodLengths lengthsOf refusedAt gives answer sheet
+sheet-refused r n rows names hr hn e = rw (length-filled r (join rows) hr, length-filled n (bytes names) hn, e)
 
 -- ---- 0: "accepted; place is events read"
 
@@ -22,8 +65,8 @@ no-event-million = refl
 
 -- "Text at most 65,536 bytes"; bytes under no pair may be anything
 longest-text : read (blank 20 0) (replicate 65536 200) [] ≡ gives 0 0 (blank 20 0)
-unfolding taped
-longest-text = refl
+unfolding tapeLengths
+longest-text = text-read 65536 refl
 
 -- "marks at most 16,384 numbers": so many are judged, and refused only by their kind
 longest-marks : read (blank 20 0) [] (replicate 16384 9) ≡ gives 3 0 (blank 20 0)
@@ -32,8 +75,8 @@ longest-marks = refl
 
 -- rows of 40,960 numbers and names of 65,536 bytes
 largest-sheet : read (blank 40960 65536) [] [] .answer ≡ answer 0 0
-unfolding taped
-largest-sheet = refl
+unfolding sheetLengths
+largest-sheet = blank-read 40960 65536 refl
 
 -- ---- 1: "nothing changed"
 
@@ -59,19 +102,19 @@ many-rows :
     read (sheet 40970 0 (line 0 2 0 0 0 0 0 0 0 0 ∷ noNamespace ∷ []) "") [] []
     ≡ gives 1 0 (sheet 40970 0 (line 0 2 0 0 0 0 0 0 0 0 ∷ noNamespace ∷ []) "")
 unfolding taped
-many-rows = refl
+many-rows = sheet-refused 40970 0 (line 0 2 0 0 0 0 0 0 0 0 ∷ noNamespace ∷ []) "" (leb-true 20 40970 refl) (leb-true 0 0 refl) refl
 
 -- "names above 65,536"
 many-names :
     read (sheet 20 65537 (line 0 2 0 0 0 0 0 0 0 0 ∷ noNamespace ∷ []) "") [] []
     ≡ gives 1 0 (sheet 20 65537 (line 0 2 0 0 0 0 0 0 0 0 ∷ noNamespace ∷ []) "")
 unfolding taped
-many-names = refl
+many-names = sheet-refused 20 65537 (line 0 2 0 0 0 0 0 0 0 0 ∷ noNamespace ∷ []) "" (leb-true 20 20 refl) (leb-true 0 65537 refl) refl
 
 -- "tape buffers too long": text
 long-text : read (blank 20 0) (replicate 65537 0) [] ≡ gives 1 0 (blank 20 0)
-unfolding taped
-long-text = refl
+unfolding tapeLengths
+long-text = text-refused (blank 20 0) 65537 refl
 
 -- marks
 long-marks : read (blank 20 0) [] (replicate 16385 0) ≡ gives 1 0 (blank 20 0)
@@ -80,8 +123,8 @@ long-marks = refl
 
 -- 1 comes before 2: a text too long over a bad sheet
 long-text-bad-sheet : read (junk 20 0) (replicate 65537 0) [] ≡ gives 1 0 (junk 20 0)
-unfolding taped
-long-text-bad-sheet = refl
+unfolding tapeLengths
+long-text-bad-sheet = text-refused (junk 20 0) 65537 refl
 
 -- ---- 2: "schema sheet not good", "nothing changed"
 

@@ -1,10 +1,9 @@
 -- Laws of zeros: what stands at place i decides, or what is behind it does. Assumes nothing.
 use mathlib.Core.Path.{_≡_}
 use mathlib.Core.Bool.{true, false}
-use mathlib.Core.List.{List, _++_, append-nil}
+use mathlib.Core.List.{List}
 use Prim.Native.Nat.{ℕ, suc, _≤_, _<_}
-use native.Mathlib.Omega.{arith}
-use lib.ListN.{length, getD, drop, replicate, drop-of-length-le}
+use lib.ListN.{length, getD, drop, drop-of-length-le}
 use lib.Seq.{drop-cons}
 use borrow.Author.Tests.{eq-eqb, ne-eqb}
 use Rattle.sheet.specs.Rows.{allZero}
@@ -20,9 +19,3 @@ zero-on s i h e = rw (drop-cons s i 0 h, eq-eqb (getD s i 0) 0 e)
 pub zero-end : (s : List ℕ) (i : ℕ) → length s ≤ i → allZero (drop i s) ≡ true
 unfolding allZero
 zero-end s i h = rw (drop-of-length-le s h)
-
--- a list that is filled from the front, past its end
-pub filled-whole : (s : List ℕ) (i : ℕ) → i ≤ length s → length s ≤ i → replicate i 0 ++ drop i s ≡ replicate (length s) 0
-filled-whole s i h k =
-    let e : i ≡ length s = omega arith in
-    rw (drop-of-length-le s k, append-nil, e)

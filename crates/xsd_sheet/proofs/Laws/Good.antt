@@ -13,11 +13,11 @@ use Rattle.text.proofs.Laws.Tests.{and-true-left, and-true-right, not-true-fals
 use Rattle.sheet.specs.Rows.{Ten, ten, tens, allZero}
 use Rattle.sheet.specs.Lengths.{fits}
 use Rattle.xsd_types.specs.Good.{row0Form, rowsForm, namesForm, namesTest, limits, rootTest, nestingTest, contextTest, extensionTest, headOf, good}
-use Rattle.xsd_sheet.specs.declared.scan.Scan.{Scan}
-use Rattle.xsd_sheet.specs.Calls.{sheet}
-use Rattle.xsd_forms.specs.Forms.{partsFit}
-use Rattle.xsd_sheet.specs.Scan.{scannedSheet}
-use Rattle.xsd_sheet.proofs.Laws.Scan.{ends, sheet-ends}
+use Rattle.xsd_scan.specs.declared.Scan.{Scan}
+use Rattle.sheet.specs.Calls.{sheet}
+use Rattle.xsd_row0.specs.Row0.{partsFit}
+use Rattle.xsd_scan.specs.Scan.{scannedSheet}
+use Rattle.xsd_scan.proofs.Laws.Scan.{ends, sheet-ends}
 use Rattle.sheet.specs.Form.{row0Of, tensOf, usedParts, zerosBehind}
 
 pub parts-in : (z : Ten) (r n : ℕ) → partsFit z r n ≡ true → (2 ≤ z .at0) × (10 * z .at0 ≤ r) × (z .len0 ≤ n)
@@ -55,3 +55,8 @@ good-scanned rows names h =
 -- the tests in the code's order
 pub good-is : (rows names : List ℕ) (z : Ten) (s : Scan) → z ≡ ten rows → partsFit z (length rows) (length names) ≡ true → s ≡ scannedSheet (z .len0) (tens (z .at0 - 1) (drop 10 rows)) → row0Form z && s .ok && eqb (s .end) (z .len0) && (allZero (drop (10 * z .at0) rows) && allZero (drop (z .len0) names)) && isText (take (z .len0) names) && limits z && rootTest z && nestingTest z && contextTest (z .at1) (s .head) && extensionTest z (s .head) ≡ good (sheet rows names)
 good-is rows names z s e h d = simp and-assoc (rw (d, e) (simp and-assoc at (good-scanned rows names (rw e at h))))
+
+-- of the results that the code's calls give
+pub good-tests : (rows names : List ℕ) (z : Ten) (s : Scan) {f b n l r g k x : Bool} {w : ℕ} → f ≡ row0Form z → w ≡ z .len0 → b ≡ (allZero (drop (10 * z .at0) rows) && allZero (drop (z .len0) names)) → n ≡ isText (take (z .len0) names) → l ≡ limits z → r ≡ rootTest z → g ≡ nestingTest z → k ≡ contextTest (z .at1) (s .head) → x ≡ extensionTest z (s .head)
+    → z ≡ ten rows → partsFit z (length rows) (length names) ≡ true → s ≡ scannedSheet (z .len0) (tens (z .at0 - 1) (drop 10 rows)) → f && s .ok && eqb (s .end) w && b && n && l && r && g && k && x ≡ good (sheet rows names)
+good-tests rows names z s f w b n l r g k x e h d = rw (f, w, b, n, l, r, g, k, x) (good-is rows names z s e h d)

@@ -1,14 +1,14 @@
 -- `xsd_sheet::is_good` meets its contract: the tests of the code are the parts of `good`, in its order, and where the used parts
 -- do not lie inside the buffers, `good` fails too. Assumes nothing.
 use Prim.Native.Nat.{_*_, _≤_}
-use mathlib.Core.Bool.{false}
+use mathlib.Core.Bool.{true}
 use mathlib.Core.Path.{_≡_, sym, _∙_}
 use lib.ListN.{length}
 use borrow.Author.Tests.{not-true, not-false}
 use borrow.Author.Needs.{needs}
-use Rattle.sheet.specs.Rows.{ten}
-use Rattle.xsd_forms.specs.Forms.{asTen, partsFit}
-use Rattle.xsd_sheet.proofs.Laws.Good.{parts-in, not-inside, too-short, good-is}
+use Rattle.xsd_forms.specs.Forms.{asTen}
+use Rattle.xsd_row0.specs.Row0.{partsFit}
+use Rattle.xsd_sheet.proofs.Laws.Good.{parts-in, not-inside, too-short, good-tests}
 use Rattle.xsd_sheet.proofs.is_good.Statement.{statement}
 use Rattle.xsd_sheet.proofs.is_good.Tie as tie
 
@@ -26,15 +26,17 @@ used-parts-requires c κs = search needs
 returns-2 : tie.Need-returns-2
 returns-2 c =
     let a = c .before .before .before .before .before .before .args in
-    let f : c .before .used-parts .result ≡ false = not-true _ (c .if2 .taken) in
-    let e : partsFit (ten (a .rows .now)) (length (a .rows .now)) (length (a .names .now)) ≡ false = cc in
-    sym (not-inside (a .rows .now) (a .names .now) e)
+    let f = sym (c .before .used-parts .ensures) ∙ not-true _ (c .if2 .taken) in
+    sym (not-inside (a .rows .now) (a .names .now) (rw (c .before .before .ten-at .ensures) at f))
 
 -- behind the second test the used parts lie inside the buffers
+fits : (p : tie.Else2) → partsFit (asTen (p .before .before .ten-at .result)) (length (p .before .before .before .before .before .before .args .rows .now)) (length (p .before .before .before .before .before .before .args .names .now)) ≡ true
+fits p = sym (p .before .used-parts .ensures) ∙ not-false _ (p .if2 .left)
+
 inside : (p : tie.Else2) → (2 ≤ p .before .before .ten-at .result .at0) × (10 * p .before .before .ten-at .result .at0 ≤ length (p .before .before .before .before .before .before .args .rows .now)) × (p .before .before .ten-at .result .len0 ≤ length (p .before .before .before .before .before .before .args .names .now))
 inside p =
     let a = p .before .before .before .before .before .before .args in
-    parts-in (asTen (p .before .before .ten-at .result)) (length (a .rows .now)) (length (a .names .now)) (sym (p .before .used-parts .ensures) ∙ not-false _ (p .if2 .left))
+    parts-in (asTen (p .before .before .ten-at .result)) (length (a .rows .now)) (length (a .names .now)) (fits p)
 
 scan-sheet-requires : tie.Need-scan-sheet-requires
 scan-sheet-requires c κs =
@@ -72,13 +74,12 @@ extension-test-requires c κs = search needs
 
 returns-3 : tie.Need-returns-3
 returns-3 c =
-    let p = c .before .before .before .before .before .before .before .before .before .before .before .before in
+    let r = c .before .before .before .before .before in
+    let q = r .before .before .before .before .before in
+    let p = q .before .before in
     let a = p .before .before .before .before .before .before .args in
     let z = asTen (p .before .before .ten-at .result) in
-    let h = sym (p .before .used-parts .ensures) ∙ not-false _ (p .if2 .left) in
-    let s = c .before .before .before .before .before .before .before .before .before .before .before .scan-sheet in
-    rw (c .before .before .before .before .before .before .before .before .before .before .row0-form .ensures, c .before .before .before .before .before .before .before .before .wide .ensures, c .before .before .before .before .before .before .zeros-behind .ensures, c .before .before .before .before .before .names-test .ensures, c .before .before .before .before .limits .ensures, c .before .before .before .root-test .ensures, c .before .before .nesting-test .ensures, c .before .context-test .ensures, c .extension-test .ensures)
-    (good-is (a .rows .now) (a .names .now) z (s .result) (p .before .before .ten-at .ensures) h (s .ensures))
+    good-tests (a .rows .now) (a .names .now) z (q .before .scan-sheet .result) (q .row0-form .ensures) (r .before .before .before .wide .ensures) (r .before .zeros-behind .ensures) (r .names-test .ensures) (c .before .before .before .before .limits .ensures) (c .before .before .before .root-test .ensures) (c .before .before .nesting-test .ensures) (c .before .context-test .ensures) (c .extension-test .ensures) (p .before .before .ten-at .ensures) (fits p) (q .before .scan-sheet .ensures)
 
 pub is-good-spec : {M : Type 1} → statement M
 is-good-spec =

@@ -19,7 +19,7 @@ use Rattle.xsd_types.specs.Back.{text0, text1}
 use Rattle.xsd_types.proofs.Laws.Sound.{soundRow}
 use Rattle.xsd_types.proofs.Laws.Shapes.{usesA, usesB, tag-form, form-parts, zero-b, shape, one-used, two-used}
 use Rattle.xsd_types.proofs.Laws.Rows.{wordRow, text0-ok, text1-ok, plain-one, plain-two, RowOf, facetTag, facet-row, element-row, variant-row, attribute-row, flag-of}
-use Rattle.text.proofs.Laws.Every.{between-split, between-none, every-head, every-tail}
+use Rattle.text.proofs.Laws.Every.{EachFrom, between-each, every-head, every-tail}
 
 unfoldable pub fullRow : Row → Bool
 fullRow r = soundRow r && wordRow r
@@ -97,27 +97,13 @@ pub data HeadTag : ℕ → Type 0 where
   absent : HeadTag 16
 
 module _ (k : ℕ) where
-  complex-from-16 : between 16 16 k ≡ true → HeadTag k
-  complex-from-16 e = ⊎-elim (λ w. rw w HeadTag.absent) (λ w. absurd (between-none 17 16 k (omega arith) w)) (between-split 16 16 k e)
-
-  complex-from-15 : between 15 16 k ≡ true → HeadTag k
-  complex-from-15 e = ⊎-elim (λ w. rw w HeadTag.any) complex-from-16 (between-split 15 16 k e)
-
-  complex-from-14 : between 14 16 k ≡ true → HeadTag k
-  complex-from-14 e = ⊎-elim (λ w. rw w HeadTag.content) complex-from-15 (between-split 14 16 k e)
-
-  complex-from-13 : between 13 16 k ≡ true → HeadTag k
-  complex-from-13 e = ⊎-elim (λ w. rw w HeadTag.choice) complex-from-14 (between-split 13 16 k e)
-
   pub complexTag : between 12 16 k ≡ true → HeadTag k
-  complexTag e = ⊎-elim (λ w. rw w HeadTag.sequence) complex-from-13 (between-split 12 16 k e)
-
-  simpleTag : between 3 3 k ≡ true → HeadTag k
-  simpleTag e = ⊎-elim (λ w. rw w HeadTag.simple) (λ w. absurd (between-none 4 3 k (omega arith) w)) (between-split 3 3 k e)
+  unfolding EachFrom
+  complexTag e = between-each HeadTag 12 4 16 k refl (sequence, (choice, (content, (any, absent)))) e
 
   pub headTags : isHead k ≡ true → HeadTag k
-  unfolding isHead
-  headTags e = ⊎-elim (λ w. ⊎-elim (λ v. rw v HeadTag.element) simpleTag (between-split 2 3 k w)) complexTag (or-cases (between 2 3 k) (between 12 16 k) e)
+  unfolding isHead EachFrom
+  headTags e = ⊎-elim (between-each HeadTag 2 1 3 k refl (element, simple)) complexTag (or-cases (between 2 3 k) (between 12 16 k) e)
 
 -- a head and the rows behind it are an item's, or the head has no content yet
 pub data Headed (r : Row) (ls : List Row) : Type 0 where

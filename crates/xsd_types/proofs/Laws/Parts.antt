@@ -1,6 +1,6 @@
 -- What a good sheet says, part by part, of its numbers. Assumes nothing.
 use mathlib.Core.Path.{_≡_, refl}
-use mathlib.Core.Bool.{Bool, true, false, _||_, false≢true}
+use mathlib.Core.Bool.{Bool, true, false, _&&_, _||_, false≢true}
 use mathlib.Core.List.{List, [], _∷_, map}
 use Prim.Native.Nat.{ℕ, _+_, _*_, _≤_}
 use native.Mathlib.Omega.{arith}
@@ -8,15 +8,20 @@ use lib.Dec.{eqb, leb}
 use lib.ListN.{length, drop}
 use borrow.Author.Tests.{eqb-true, leb-true, le-leb}
 use Rattle.text.specs.Text.{every, between, if_then_else_}
-use Rattle.text.proofs.Laws.Tests.{six, eleven, and-true-left, and-true-right, and-true}
+use Rattle.text.proofs.Laws.Tests.{six, eleven, and-true-left, and-true-right, and-true, bool-cases}
 use Rattle.sheet.specs.Rows.{Ten, Sheet, allZero}
 use Rattle.sheet.specs.Form.{isFlag, covers, covered, row0Of, tensOf, usedParts, zerosBehind}
 use Rattle.sheet.specs.Lengths.{fits}
 use Rattle.sheet.proofs.Laws.Unpacks.{few}
-use Rattle.xsd_types.specs.Good.{usedPairs, rowForm, inOrder, row0Form, tenForm, rowsForm, namesForm, namesTest, limits, rootTest, nestingTest, contextTest, extensionTest, headOf, good}
+use Rattle.xsd_types.specs.Good.{usedPairs, rowForm, inOrder, row0Form, tenForm, rowsForm, namesForm, namesTest, limits, rootTest, openTagsTest, nestingZero, nestingTest, contextTest, extensionTest, headOf, good}
 use Rattle.xsd_types.proofs.Laws.Shapes.{form-parts}
 use Rattle.xsd_types.proofs.Laws.Rows.{flag-of}
 use Rattle.text.proofs.Laws.Every.{every-weaken}
+
+-- the two tests of nesting and open tags by context
+pub nesting-both : (z : Ten) → nestingTest z ≡ (if leb 2 (z .at1) then leb (z .len1 + 2) (z .a) else (eqb (z .len1) 0 && leb (z .at1) (z .a)))
+unfolding nestingTest nestingZero openTagsTest
+nesting-both z = bool-cases (leb 2 (z .at1)) (λ e. rw e) (λ e. rw e)
 
 -- the parts of `good`
 pub record Parts (x : Sheet) : Type 0 where

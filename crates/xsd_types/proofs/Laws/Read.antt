@@ -15,7 +15,7 @@ use Rattle.sheet.proofs.Laws.Packs.{isText-namesOf}
 use Rattle.sheet.proofs.Laws.Unpacks.{few, counted-unpack}
 use Rattle.sheet.proofs.Laws.Sheets.{names-read, length-read, sheet-read}
 use Rattle.xsd_types.specs.Rows.{namespaceRow, namespaceA, itemsRows, row0}
-use Rattle.xsd_types.specs.Good.{usedPairs, isChild, inOrder, isHead, headAfter, lastHead, tenForm, namesTest, nestingTest, extensionTest, headOf}
+use Rattle.xsd_types.specs.Good.{usedPairs, isChild, inOrder, isHead, headAfter, lastHead, tenForm, namesTest, extensionTest, headOf}
 use Rattle.xsd_types.specs.Back.{rowsIn}
 use Rattle.xsd_types.proofs.Laws.Order.{tags}
 use Rattle.xsd_types.proofs.Laws.Sound.{formedRow, textRow, soundRow}
@@ -23,7 +23,7 @@ use Rattle.xsd_types.proofs.Laws.Rows.{wordRow}
 use Rattle.xsd_types.proofs.Laws.Heads.{fullRow, no-loose}
 use Rattle.xsd_types.proofs.Laws.Parse.{parse, stillRows}
 use Rattle.xsd_types.proofs.Laws.Open.{Opened, opened}
-use Rattle.xsd_types.proofs.Laws.Parts.{Parts, behind, few-rows, rows-two, rows-room, names-room, pairs-cover, names-end, zero-rows, zero-names, first-of}
+use Rattle.xsd_types.proofs.Laws.Parts.{Parts, behind, few-rows, rows-two, rows-room, names-room, pairs-cover, names-end, zero-rows, zero-names, first-of, nesting-both}
 use Rattle.text.proofs.Laws.Tests.{and-true}
 use Rattle.text.proofs.Laws.Every.{every-map, every-both, every-tail, every-drop}
 
@@ -115,10 +115,10 @@ module _ (x : Sheet) (p : Parts x) where
   body-head = ap (lastHead 0) (sym (tags-unpack (x .names) (tensOf x))) ∙ ap (λ (rs : List Row). lastHead 0 (tags rs)) rows-split
 
   pub body-opened : words (x .rows) ≡ true → Opened (row0Of x .at1) (row0Of x .len1) (row0Of x .a) (row0Of x .b) (bodyIn x p)
-  unfolding nestingTest extensionTest isChild
+  unfolding extensionTest isChild
   body-opened w =
       let z = row0Of x in
       let q = parse 1 (bodyIn x p) (body-full w) body-order in
       let f = first-of z (p .row0) in
       let same : bodyIn x p ≡ itemsRows (q .items) ++ stillRows (q .still) = q .same ∙ ap (λ (l : List Row). l ++ (itemsRows (q .items) ++ stillRows (q .still))) (no-loose 1 (λ n. refl) (q .loose) (q .looseOk)) in
-      opened (z .len1) (z .a) (z .b) (bodyIn x p) (q .items) (q .itemsOk) (q .still) (q .stillOk) same (f .flagIs) (z .at1) (f .contextIs) (p .nest) (rw body-head at (p .context)) (rw body-head at (p .extension))
+      opened (z .len1) (z .a) (z .b) (bodyIn x p) (q .items) (q .itemsOk) (q .still) (q .stillOk) same (f .flagIs) (z .at1) (f .contextIs) (sym (nesting-both z) ∙ p .nest) (rw body-head at (p .context)) (rw body-head at (p .extension))

@@ -1,6 +1,5 @@
 -- A row of a tag's form, with texts and numbers within their width, is the row of a child or the head of an item. Assumes nothing.
 use mathlib.Core.Path.{_≡_, refl}
-use mathlib.Core.Logic.{⊎-elim}
 use mathlib.Core.Bool.{Bool, true, false, _&&_, _||_}
 use mathlib.Core.List.{[], _∷_}
 use Prim.Native.Nat.{ℕ, zero, suc, _+_, _*_, _%_, _/_, _^_, _<_}
@@ -18,7 +17,7 @@ use Rattle.xsd_types.specs.Back.{text0, text1}
 use Rattle.xsd_types.proofs.Laws.Sound.{soundRow}
 use Rattle.xsd_types.proofs.Laws.Shapes.{usesA, usesB, text-getD, tag-form, form-parts, zero-a, zero-b, shape, none-used, one-used, two-used}
 use Rattle.text.proofs.Laws.Tests.{and-true-left, and-true-right, and-true}
-use Rattle.text.proofs.Laws.Every.{between-split, between-none}
+use Rattle.text.proofs.Laws.Every.{EachFrom, between-each}
 
 -- a and b are u32
 unfoldable pub wordRow : Row → Bool
@@ -77,30 +76,9 @@ pub data FacetTag : ℕ → Type 0 where
   totalDigits : FacetTag 10
   fractionDigits : FacetTag 11
 
-module _ (k : ℕ) where
-  facets-from-11 : between 11 11 k ≡ true → FacetTag k
-  facets-from-11 e = ⊎-elim (λ w. rw w FacetTag.fractionDigits) (λ w. absurd (between-none 12 11 k (omega arith) w)) (between-split 11 11 k e)
-
-  facets-from-10 : between 10 11 k ≡ true → FacetTag k
-  facets-from-10 e = ⊎-elim (λ w. rw w FacetTag.totalDigits) facets-from-11 (between-split 10 11 k e)
-
-  facets-from-9 : between 9 11 k ≡ true → FacetTag k
-  facets-from-9 e = ⊎-elim (λ w. rw w FacetTag.maxInclusive) facets-from-10 (between-split 9 11 k e)
-
-  facets-from-8 : between 8 11 k ≡ true → FacetTag k
-  facets-from-8 e = ⊎-elim (λ w. rw w FacetTag.minInclusive) facets-from-9 (between-split 8 11 k e)
-
-  facets-from-7 : between 7 11 k ≡ true → FacetTag k
-  facets-from-7 e = ⊎-elim (λ w. rw w FacetTag.maxLength) facets-from-8 (between-split 7 11 k e)
-
-  facets-from-6 : between 6 11 k ≡ true → FacetTag k
-  facets-from-6 e = ⊎-elim (λ w. rw w FacetTag.minLength) facets-from-7 (between-split 6 11 k e)
-
-  facets-from-5 : between 5 11 k ≡ true → FacetTag k
-  facets-from-5 e = ⊎-elim (λ w. rw w FacetTag.pattern) facets-from-6 (between-split 5 11 k e)
-
-  pub facetTag : between 4 11 k ≡ true → FacetTag k
-  facetTag e = ⊎-elim (λ w. rw w FacetTag.enumeration) facets-from-5 (between-split 4 11 k e)
+pub facetTag : (k : ℕ) → between 4 11 k ≡ true → FacetTag k
+unfolding EachFrom
+facetTag k e = between-each FacetTag 4 7 11 k refl (enumeration, (pattern, (minLength, (maxLength, (minInclusive, (maxInclusive, (totalDigits, fractionDigits))))))) e
 
 -- a flag is the number of a test
 pub bit-again : (a : ℕ) → isFlag a ≡ true → bit (eqb a 1) ≡ a
@@ -145,7 +123,8 @@ module _ (r : Row) (s : soundRow r ≡ true) (w : wordRow r ≡ true) where
       }
 
   pub element-row : between 17 18 (r .tag) ≡ true → RowOf sequenceElementOk elementRow r
-  element-row e = ⊎-elim bounded-row (λ f. ⊎-elim unbounded-row (λ g. absurd (between-none 19 18 (r .tag) (omega arith) g)) (between-split 18 18 (r .tag) f)) (between-split 17 18 (r .tag) e)
+  unfolding EachFrom
+  element-row e = between-each (λ k. r .tag ≡ k → RowOf sequenceElementOk elementRow r) 17 1 18 (r .tag) refl (bounded-row, unbounded-row) e refl
 
   pub variant-row : r .tag ≡ 19 → RowOf choiceVariantOk variantRow r
   unfolding choiceVariantOk variantRow usedPairs between usesA usesB

@@ -17,6 +17,7 @@ use Rattle.xsd_types.specs.Rows.{namespaceRow, namespaceA, row0Last, ite
 use Rattle.xsd_types.specs.Sheet.{stateFits, sheetOf}
 use Rattle.xsd_types.specs.Good.{usedPairs, isHead, headAfter, lastHead, row0Form, rowsForm, namesForm, namesTest, limits, rootTest, nestingTest, contextTest, extensionTest, headOf, good}
 use Rattle.xsd_types.specs.Back.{rowsIn, stateOf}
+use Rattle.xsd_types.proofs.Laws.Parts.{nesting-both}
 use Rattle.xsd_types.proofs.Laws.Order.{tags}
 use Rattle.xsd_types.proofs.Laws.Sound.{formedRow, textRow, soundRow, sound-formed, bodyRows, sound-body, proper-parts, counted-rows, text-rows}
 use Rattle.xsd_types.proofs.Laws.Back.{state-back}
@@ -100,8 +101,8 @@ module _ (s : State) (r n : ℕ) (ok : proper s ≡ true) (fit : stateFits r n s
   made-root = rw (row0-made s r n) (test-root (s .reader .schema .targetNamespace) (s .reader .schema .items) (s .reader .rootSeen) (s .reader .context) (s .events) (s .openTags) (proper-parts s ok .1))
 
   pub made-nesting : nestingTest (row0Of (sheetOf s r n)) ≡ true
-  unfolding nestingTest row0
-  made-nesting = rw (row0-made s r n) (test-nesting (s .reader .context) (s .openTags) (proper-parts s ok .2))
+  unfolding row0
+  made-nesting = rw (row0-made s r n) (nesting-both _ ∙ test-nesting (s .reader .context) (s .openTags) (proper-parts s ok .2))
 
   pub made-head : headOf (tensOf (sheetOf s r n)) ≡ lastHead 0 (tags (itemsRows (s .reader .schema .items) ++ contextRows (s .reader .context)))
   unfolding headOf rowsOf lastHead headAfter isHead between namespaceRow row

@@ -1,10 +1,12 @@
--- Clearing by computation. "Clearing gives 0 or 1."
+-- Clearing by computation. "Clearing gives 0 or 1." Where a buffer is long its length is computed by a law, and not by counting.
 use Prim.Native.Nat.{ℕ}
 use mathlib.Core.Path.{_≡_, refl}
-use mathlib.Core.Bool.{true}
+use mathlib.Core.Bool.{true, false}
 use mathlib.Core.List.{List, [], _∷_}
+use lib.ListN.{length-replicate}
 use Rattle.text.specs.Unfold.{computes as texts}
 use Rattle.sheet.specs.Rows.{Sheet}
+use Rattle.sheet.specs.Lengths.{sheetLengths}
 use Rattle.sheet.specs.Unfold.{computes as sheets}
 use Rattle.xsd_types.specs.Unfold.{computes as schemas}
 use Rattle.xsd_types.specs.Clear.{Cleared, clear}
@@ -13,6 +15,15 @@ use Rattle.xsd_types.specs.Examples.Sheets.{line, sheet, junk, blank, an
 
 gives : ℕ → Sheet → Cleared
 gives n x = record { answer = answer n 0; sheet = x }
+
+-- buffers of any length: neither is above its limit, or one is
+clears : (r n : ℕ) → sheetLengths r n ≡ true → clear (junk r n) .answer ≡ answer 0 0
+unfolding clear junk answer
+clears r n e = rw (length-replicate {A = ℕ} r 7, length-replicate {A = ℕ} n 7, e)
+
+refuses : (r n : ℕ) → sheetLengths r n ≡ false → clear (junk r n) ≡ gives 1 (junk r n)
+unfolding clear junk answer gives
+refuses r n e = rw (length-replicate {A = ℕ} r 7, length-replicate {A = ℕ} n 7, e)
 
 -- ---- 0
 
@@ -37,8 +48,8 @@ larger-good = refl
 
 -- 40,960 numbers and 65,536 bytes are not above the limits
 largest : clear (junk 40960 65536) .answer ≡ answer 0 0
-unfolding written texts sheets schemas
-largest = refl
+unfolding sheetLengths
+largest = clears 40960 65536 refl
 
 -- ---- 1: "nothing changed"
 
@@ -58,10 +69,10 @@ no-row = refl
 
 -- "or above 40,960"
 many-rows : clear (junk 40970 0) ≡ gives 1 (junk 40970 0)
-unfolding gives written texts sheets schemas
-many-rows = refl
+unfolding sheetLengths
+many-rows = refuses 40970 0 refl
 
 -- "names above 65,536"
 many-names : clear (junk 20 65537) ≡ gives 1 (junk 20 65537)
-unfolding gives written texts sheets schemas
-many-names = refl
+unfolding sheetLengths
+many-names = refuses 20 65537 refl

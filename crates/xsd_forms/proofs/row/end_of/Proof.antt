@@ -1,4 +1,6 @@
 -- `xsd_forms::row::end_of` meets its contract: the code is the definition, and the sums are below 2 ^ 34. Assumes nothing.
+use Prim.Native.Nat.{_+_}
+use mathlib.Core.Path.{refl, ap₂}
 use borrow.Author.Needs.{needs}
 use Rattle.sheet.specs.Form.{endOf}
 use Rattle.xsd_forms.proofs.row.end_of.Statement.{statement}
@@ -24,7 +26,7 @@ add-result-3 c = search needs
 
 returns : tie.Need-returns
 unfolding endOf
-returns c = cc
+returns c = ap₂ _+_ (ap₂ _+_ (ap₂ _+_ refl (c .before .before .wide .ensures)) (c .before .wide2 .ensures)) (c .wide3 .ensures)
 
 pub end-of-spec : {M : Type 1} → statement M
 end-of-spec =

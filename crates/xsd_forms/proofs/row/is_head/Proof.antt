@@ -1,4 +1,6 @@
 -- `xsd_forms::row::is_head` meets its contract: the code is the definition, test by test. Assumes nothing.
+use mathlib.Core.Bool.{_||_}
+use mathlib.Core.Path.{ap₂}
 use borrow.Author.Needs.{needs}
 use Rattle.xsd_types.specs.Good.{isHead}
 use Rattle.xsd_forms.proofs.row.is_head.Statement.{statement}
@@ -12,7 +14,7 @@ in-range-requires-2 c κs = search needs
 
 returns : tie.Need-returns
 unfolding isHead
-returns c = cc
+returns c = ap₂ _||_ (c .before .in-range .ensures) (c .in-range2 .ensures)
 
 pub is-head-spec : {M : Type 1} → statement M
 is-head-spec = tie.close (tie.spec in-range-requires in-range-requires-2 returns)

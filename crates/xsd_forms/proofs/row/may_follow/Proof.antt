@@ -1,4 +1,7 @@
 -- `xsd_forms::row::may_follow` meets its contract: the code is the definition, test by test. Assumes nothing.
+use mathlib.Core.Bool.{Bool, not, _&&_, _||_}
+use mathlib.Core.Path.{ap₂}
+use lib.Dec.{eqb}
 use borrow.Author.Needs.{needs}
 use Rattle.xsd_types.specs.Good.{mayFollow}
 use Rattle.xsd_forms.proofs.row.may_follow.Statement.{statement}
@@ -12,7 +15,8 @@ is-child-requires c κs = search needs
 
 returns : tie.Need-returns
 unfolding mayFollow
-returns c = cc
+returns c =
+    ap₂ (λ (x y : Bool). not (eqb (c .before .before .args .head) 16) && (x || y)) (c .before .is-head .ensures) (c .is-child .ensures)
 
 pub may-follow-spec : {M : Type 1} → statement M
 may-follow-spec = tie.close (tie.spec is-head-requires is-child-requires returns)

@@ -30,7 +30,9 @@ pair-form-requires-3 c κs = search needs
 
 returns : tie.Need-returns
 unfolding rowCovers
-returns c = cc
+returns c =
+    let p = c .before .before .before in
+    rw (c .before .before .pair-form .ensures, c .before .pair-form2 .ensures, c .pair-form3 .ensures, p .before .before .used-pairs .ensures, p .before .wide .ensures, p .wide2 .ensures)
 
 pub row-covers-spec : {M : Type 1} → statement M
 row-covers-spec =

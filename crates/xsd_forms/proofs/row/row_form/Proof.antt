@@ -1,4 +1,7 @@
 -- `xsd_forms::row::row_form` meets its contract: the code is the definition, test by test. Assumes nothing.
+use mathlib.Core.Bool.{Bool, _&&_, _||_}
+use mathlib.Core.Path.{ap₂}
+use lib.Dec.{eqb}
 use borrow.Author.Needs.{needs}
 use Rattle.xsd_types.specs.Good.{rowForm}
 use Rattle.xsd_forms.specs.Forms.{aForm}
@@ -16,7 +19,9 @@ a-form-requires c κs = search needs
 
 returns : tie.Need-returns
 unfolding rowForm aForm
-returns c = cc
+returns c =
+    let a = c .before .before .before .args in
+    ap₂ _&&_ (ap₂ (λ (x y : Bool). x && eqb (a .c) 0 && (eqb (a .b) 0 || y || eqb (a .tag) 17)) (c .before .before .in-range .ensures) (c .before .in-range2 .ensures)) (c .a-form .ensures)
 
 pub row-form-spec : {M : Type 1} → statement M
 row-form-spec = tie.close (tie.spec in-range-requires in-range-requires-2 a-form-requires returns)

@@ -12,7 +12,7 @@ cast-used c = search needs
 slice-aggregate-is-text : tie.Need-slice-aggregate-is-text
 slice-aggregate-is-text c =
     let a = c .before .before .before .args in
-    sym (length-take-le (a .z .len0) (a .names .now) (omega arith))
+    sym (length-take-le _ (a .names .now) (omega arith))
 
 is-text-requires : tie.Need-is-text-requires
 is-text-requires c κs = search needs

@@ -1,7 +1,10 @@
 -- `xsd_sheet::buffers::zeros_behind` meets its contract: the part from a place on is what stands behind it. Assumes nothing.
 use Prim.Native.Nat.{_*_}
+use mathlib.Core.Bool.{_&&_}
+use mathlib.Core.Path.{ap, ap₂, _∙_}
 use borrow.Author.Needs.{needs}
 use Rattle.text.proofs.Laws.Table.{part-from}
+use Rattle.sheet.specs.Rows.{allZero}
 use Rattle.xsd_sheet.proofs.buffers.zeros_behind.Statement.{statement}
 use Rattle.xsd_sheet.proofs.buffers.zeros_behind.Tie as tie
 
@@ -44,7 +47,7 @@ zero-names-requires c κs = search needs
 returns : tie.Need-returns
 returns c =
     let a = c .before .before .before .before .before .before .before .before .args in
-    cc (part-from (a .rows .now) (10 * a .z .at0), part-from (a .names .now) (a .z .len0))
+    ap₂ _&&_ (c .before .before .zero-rows .ensures ∙ ap allZero (part-from (a .rows .now) (10 * a .z .at0))) (c .zero-names .ensures ∙ ap allZero (part-from (a .names .now) (a .z .len0)))
 
 pub zeros-behind-spec : {M : Type 1} → statement M
 zeros-behind-spec =

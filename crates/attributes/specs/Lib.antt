@@ -1,0 +1,3 @@
+-- The definitions of the crate `attributes`: Lookup says which value a word leads to.
+pub mod Lookup
+pub mod Unfold

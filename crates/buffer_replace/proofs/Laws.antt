@@ -1,0 +1,3 @@
+-- Laws of lists and of `filled`.
+--     Middle        a text in the middle of a buffer, replaced
+pub mod Middle

@@ -1,0 +1,3 @@
+-- Laws of lists.
+--     Shift         a part that moves within a list
+pub mod Shift

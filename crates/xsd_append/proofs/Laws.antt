@@ -1,0 +1,3 @@
+-- Laws of the definitions in specs/.
+--     More          a row and its texts added
+pub mod More

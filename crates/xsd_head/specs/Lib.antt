@@ -1,0 +1,2 @@
+-- The definitions of the crate `xsd_head`.
+pub mod Head

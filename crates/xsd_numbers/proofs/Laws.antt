@@ -1,0 +1,3 @@
+-- Laws of what is read of a sheet.
+--     Room          the room that `fits` tests
+pub mod Room

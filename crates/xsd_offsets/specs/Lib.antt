@@ -1,0 +1,2 @@
+-- The definitions of the crate `xsd_offsets`.
+pub mod Offsets

@@ -1,0 +1,2 @@
+-- The definitions of the crate `xsd_row`, which those above it share.
+pub mod Packing

@@ -1,0 +1,3 @@
+-- Laws of the definitions in specs/.
+--     Spot          a text in the middle of a packing, replaced
+pub mod Spot

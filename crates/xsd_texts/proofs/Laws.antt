@@ -1,0 +1,3 @@
+-- Laws of the definitions in specs/.
+--     Texts         a row's used texts
+pub mod Texts
