@@ -11,7 +11,12 @@ const ROUNDS: u32 = 2_000;
 
 #[link(name = "sheet_bench", kind = "static")]
 extern "C" {
-    fn sheet_bench_is_good(rows: *const u32, rows_len: usize, names: *const u8, names_len: usize) -> u32;
+    fn sheet_bench_is_good(
+        rows: *const u32,
+        rows_len: usize,
+        names: *const u8,
+        names_len: usize,
+    ) -> u32;
     fn sheet_bench_clear(rows: *mut u32, rows_len: usize, names: *mut u8, names_len: usize) -> u32;
     fn sheet_bench_append(
         rows: *mut u32,
@@ -32,19 +37,36 @@ struct Sheet {
 
 impl Sheet {
     fn cleared() -> Sheet {
-        let mut sheet = Sheet { rows: vec![7; ROWS], names: vec![7; NAMES] };
+        let mut sheet = Sheet {
+            rows: vec![7; ROWS],
+            names: vec![7; NAMES],
+        };
         sheet.clear();
         sheet
     }
 
     fn clear(&mut self) -> u32 {
         // SAFETY: both slices are lent whole, and the callee writes only inside them.
-        unsafe { sheet_bench_clear(self.rows.as_mut_ptr(), self.rows.len(), self.names.as_mut_ptr(), self.names.len()) }
+        unsafe {
+            sheet_bench_clear(
+                self.rows.as_mut_ptr(),
+                self.rows.len(),
+                self.names.as_mut_ptr(),
+                self.names.len(),
+            )
+        }
     }
 
     fn is_good(&self) -> bool {
         // SAFETY: both slices are lent whole, and the callee only reads them.
-        let answer = unsafe { sheet_bench_is_good(self.rows.as_ptr(), self.rows.len(), self.names.as_ptr(), self.names.len()) };
+        let answer = unsafe {
+            sheet_bench_is_good(
+                self.rows.as_ptr(),
+                self.rows.len(),
+                self.names.as_ptr(),
+                self.names.len(),
+            )
+        };
         answer == 1
     }
 
@@ -89,17 +111,23 @@ fn nanoseconds(rounds: u32, mut call: impl FnMut()) -> f64 {
 fn report(what: &str, mut call: impl FnMut() -> f64) {
     let mut times: Vec<f64> = (0..9).map(|_| call()).collect();
     times.sort_by(f64::total_cmp);
-    println!("{what}: median {:.1} ns, least {:.1} ns", times[4], times[0]);
+    println!(
+        "{what}: median {:.1} ns, least {:.1} ns",
+        times[4], times[0]
+    );
 }
 
 fn main() {
     let full = Sheet::full();
     assert!(full.is_good(), "the full sheet is good");
-    report("good test, 40,960 numbers and 65,536 names, all rows used", || {
-        nanoseconds(ROUNDS, || {
-            black_box(black_box(&full).is_good());
-        })
-    });
+    report(
+        "good test, 40,960 numbers and 65,536 names, all rows used",
+        || {
+            nanoseconds(ROUNDS, || {
+                black_box(black_box(&full).is_good());
+            })
+        },
+    );
     let empty = Sheet::cleared();
     assert!(empty.is_good(), "the cleared sheet is good");
     report("good test, the same buffers cleared", || {
@@ -116,10 +144,13 @@ fn main() {
     for rows_used in [3, 4_095] {
         let mut sheet = Sheet::full();
         let names_used = (rows_used - 3) * 16;
-        report(&format!("appending a row of 16 bytes behind {rows_used} rows"), || {
-            nanoseconds(ROUNDS * 100, || {
-                black_box(sheet.append(rows_used, names_used, black_box(&[b'b'; 16])));
-            })
-        });
+        report(
+            &format!("appending a row of 16 bytes behind {rows_used} rows"),
+            || {
+                nanoseconds(ROUNDS * 100, || {
+                    black_box(sheet.append(rows_used, names_used, black_box(&[b'b'; 16])));
+                })
+            },
+        );
     }
 }

@@ -19,6 +19,29 @@ pub enum Call {
         words: Vec<u8>,
         row: u32,
     },
+    Run(Sheet, Vec<Step>),
+}
+
+/// A call of a run: all its arguments but the schema sheet.
+#[derive(Clone, Debug)]
+pub enum Step {
+    Read(Tape),
+    Lower(Sheet, Vec<u32>),
+}
+
+/// What a call of a run answers.
+pub enum Answered {
+    Read(Answer),
+    Lowered(Lowered),
+}
+
+impl Answered {
+    fn number(&self) -> u32 {
+        match self {
+            Answered::Read(answer) => answer.number,
+            Answered::Lowered(lowered) => lowered.answer.number,
+        }
+    }
 }
 
 /// What a call gives.
@@ -26,6 +49,24 @@ pub enum Given {
     Sheet(Answer, Sheet),
     Lowered(Lowered),
     Label(Label),
+    Ran(Vec<Answered>, Sheet),
+}
+
+/// The calls made one after the other, each on the sheet that the one before left.
+fn ran(first: &Sheet, steps: &[Step]) -> Given {
+    let mut sheet = first.clone();
+    let mut answers = Vec::new();
+    for step in steps {
+        answers.push(match step {
+            Step::Read(tape) => {
+                let (answer, after) = read(&sheet, tape);
+                sheet = after;
+                Answered::Read(answer)
+            }
+            Step::Lower(graph, scratch) => Answered::Lowered(lowering(&sheet, graph, scratch)),
+        });
+    }
+    Given::Ran(answers, sheet)
 }
 
 impl Call {
@@ -47,15 +88,17 @@ impl Call {
                 words,
                 row,
             } => Given::Label(label(rows, names, words, *row)),
+            Call::Run(first, steps) => ran(first, steps),
         }
     }
 
-    /// The number that the model gives.
+    /// The number that the model gives; of a run that of its last call.
     pub fn number(&self) -> u32 {
         match self.given() {
             Given::Sheet(answer, _) => answer.number,
             Given::Lowered(lowered) => lowered.answer.number,
             Given::Label(label) => label.number,
+            Given::Ran(answers, _) => answers.last().map_or(0, Answered::number),
         }
     }
 }

@@ -8,11 +8,13 @@
 //! | `readings` | tapes read with roomy and tight buffers, damaged, in pieces |
 //! | `sheets` | good sheets that no reading reaches, and bad sheets |
 //! | `graphs` | lowering and label calls |
+//! | `runs` | lists of readings and lowerings |
 
 pub mod call;
 mod graphs;
 pub mod print;
 mod readings;
+mod runs;
 mod sheets;
 
 use std::collections::HashSet;
@@ -34,6 +36,7 @@ pub fn cases(seed: u64) -> Vec<Case> {
         readings::cases(seed),
         sheets::cases(seed),
         graphs::cases(seed),
+        runs::cases(seed),
     ];
     all.into_iter()
         .flatten()

@@ -1,7 +1,8 @@
 //! Lists, sheets and statements in the proof language.
 
-use super::call::{Call, Given};
+use super::call::{Answered, Call, Given, Step};
 use super::Case;
+use crate::paper::lowering::Lowered;
 use crate::paper::sheet::Sheet;
 use crate::paper::Answer;
 use crate::tape::Tape;
@@ -31,9 +32,12 @@ use Rattle.ir_types.specs.Unfold.{computes as graphs}
 use Rattle.ir_types.specs.Label.{Labelled, label}
 use Rattle.ir_lower.specs.Unfold.{computes as lowerings}
 use Rattle.ir_lower.specs.Call.{Lowered, lowering}
+use Rattle.runs.specs.Unfold.{computes as runs}
+use Rattle.runs.specs.Runs.{Call, Answered, Ran, run}
 ";
 
-const BUNDLES: &str = "texts numbers builtins conversions sheets schemas readings graphs lowerings";
+const BUNDLES: &str =
+    "texts numbers builtins conversions sheets schemas readings graphs lowerings runs";
 
 /// The case as a declaration that the proof checker computes.
 pub fn declaration(index: usize, case: &Case) -> String {
@@ -75,23 +79,58 @@ fn call_term(call: &Call) -> String {
             bytes(names),
             bytes(words)
         ),
+        Call::Run(x, steps) => format!("run ({}) ({})", sheet(x), list(steps, step)),
     }
+}
+
+/// The list of the terms of some things.
+fn list<T>(things: &[T], term: impl Fn(&T) -> String) -> String {
+    let items: String = things.iter().map(|t| format!("{} ∷ ", term(t))).collect();
+    format!("{items}[]")
+}
+
+fn step(step: &Step) -> String {
+    match step {
+        Step::Read(Tape { text, marks }) => {
+            format!("Call.reading ({}) ({})", bytes(text), numbers(marks))
+        }
+        Step::Lower(graph, scratch) => {
+            format!("Call.lowering ({}) ({})", sheet(graph), numbers(scratch))
+        }
+    }
+}
+
+fn answered(a: &Answered) -> String {
+    match a {
+        Answered::Read(a) => format!("Answered.readAs ({})", answer(a)),
+        Answered::Lowered(l) => format!("Answered.loweredAs ({})", lowered(l)),
+    }
+}
+
+fn lowered(l: &Lowered) -> String {
+    format!(
+        "record {{ answer = {}; graph = {}; scratch = {} }}",
+        answer(&l.answer),
+        sheet(&l.graph),
+        numbers(&l.scratch)
+    )
 }
 
 fn given_term(given: &Given) -> String {
     match given {
         Given::Sheet(a, x) => format!("record {{ answer = {}; sheet = {} }}", answer(a), sheet(x)),
-        Given::Lowered(l) => format!(
-            "record {{ answer = {}; graph = {}; scratch = {} }}",
-            answer(&l.answer),
-            sheet(&l.graph),
-            numbers(&l.scratch)
-        ),
+        Given::Lowered(l) => lowered(l),
         Given::Label(l) => format!(
-            "record {{ number = {}; inWords = {}; text = {} }}",
+            "record {{ number = {}; inWords = {}; at = {}; text = {} }}",
             l.number,
             l.in_words,
+            l.at,
             bytes(&l.text)
+        ),
+        Given::Ran(answers, last) => format!(
+            "record {{ answers = {}; last = {} }}",
+            list(answers, answered),
+            sheet(last)
         ),
     }
 }

@@ -508,7 +508,7 @@ fn pieces(seed: u64) -> Vec<Case> {
 }
 
 /// The list in two to four pieces.
-fn cut(events: &[Event], random: &mut Random) -> Vec<Vec<Event>> {
+pub fn cut(events: &[Event], random: &mut Random) -> Vec<Vec<Event>> {
     let mut ends: Vec<usize> = (0..1 + random.below(3))
         .map(|_| random.below(events.len() + 1))
         .collect();

@@ -1,18 +1,20 @@
 //! The label call.
 
-/// The number, whether the label is a part of the word list, and its bytes.
+/// The number, whether the label is a part of the word list, where it starts there or in the names, and its bytes.
 #[derive(Clone, Debug, PartialEq, Eq)]
 pub struct Label {
     pub number: u32,
     pub in_words: bool,
+    pub at: usize,
     pub text: Vec<u8>,
 }
 
-/// The label of row `row`: 0, or 16 with the empty part of the names.
+/// The label of row `row`: 0, or 16 with the empty part at the start of the names.
 pub fn label(rows: &[u32], names: &[u8], words: &[u8], row: u32) -> Label {
     found(rows, names, words, row).unwrap_or(Label {
         number: 16,
         in_words: false,
+        at: 0,
         text: Vec::new(),
     })
 }
@@ -25,16 +27,18 @@ fn found(rows: &[u32], names: &[u8], words: &[u8], row: u32) -> Option<Label> {
     let pair = reference_pair(ten)?;
     match ten[7] {
         0 if ten[0] == 5 => None,
-        0 => Some(part(false, under(names, pair)?)),
-        a @ 1..=5 => Some(part(true, word(words, a)?)),
+        0 => Some(part(false, names, under(names, pair)?)),
+        a @ 1..=5 => Some(part(true, words, word(words, a)?)),
         _ => None,
     }
 }
 
-fn part(in_words: bool, text: &[u8]) -> Label {
+/// A label that is the part `text` of `buffer`.
+fn part(in_words: bool, buffer: &[u8], text: &[u8]) -> Label {
     Label {
         number: 0,
         in_words,
+        at: text.as_ptr() as usize - buffer.as_ptr() as usize,
         text: text.to_vec(),
     }
 }
