@@ -1,4 +1,4 @@
-// Clears sheets at the limits of the lengths that paper 01 has, and one step past them. A line for each: the two lengths,
+// Clears sheets at the limits of the lengths that paper 01 has, one step before and one step past them. A line for each: the two lengths,
 // the number and the place that clearing gives, and 1 if the sheet is good afterwards, else 0.
 // The file stdout beside this holds the lines that the paper gives.
 use libc::STDOUT_FILENO;
@@ -41,6 +41,7 @@ fn try_lengths(r: usize, n: usize) {
 
 fn try_rows(r: usize) {
     try_lengths(r, 0);
+    try_lengths(r, 65535);
     try_lengths(r, 65536);
     try_lengths(r, 65537);
 }

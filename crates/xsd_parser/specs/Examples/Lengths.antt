@@ -68,15 +68,28 @@ longest-text : read (blank 20 0) (replicate 65536 200) [] ≡ gives 0 0 (blank 2
 unfolding tapeLengths
 longest-text = text-read 65536 refl
 
+text-one-less : read (blank 20 0) (replicate 65535 200) [] ≡ gives 0 0 (blank 20 0)
+unfolding tapeLengths
+text-one-less = text-read 65535 refl
+
 -- "marks at most 16,384 numbers": so many are judged, and refused only by their kind
 longest-marks : read (blank 20 0) [] (replicate 16384 9) ≡ gives 3 0 (blank 20 0)
 unfolding taped
 longest-marks = refl
 
+marks-one-less : read (blank 20 0) [] (replicate 16383 9) ≡ gives 3 0 (blank 20 0)
+unfolding taped
+marks-one-less = refl
+
 -- rows of 40,960 numbers and names of 65,536 bytes
 largest-sheet : read (blank 40960 65536) [] [] .answer ≡ answer 0 0
 unfolding sheetLengths
 largest-sheet = blank-read 40960 65536 refl
+
+-- one row and one byte less
+sheet-one-less : read (blank 40950 65535) [] [] .answer ≡ answer 0 0
+unfolding sheetLengths
+sheet-one-less = blank-read 40950 65535 refl
 
 -- ---- 1: "nothing changed"
 
