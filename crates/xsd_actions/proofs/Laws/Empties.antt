@@ -1,0 +1,39 @@
+-- What an empty tag does is what was decided, context by context. Assumes nothing.
+use mathlib.Core.Path.{refl}
+use mathlib.Core.Bool.{false}
+use Rattle.text.specs.Text.{if_then_else_}
+use Rattle.xsd_types.specs.State.{Context, Reader}
+use Rattle.xsd_types.specs.Rows.{contextNumber, nesting, extensionFlag}
+use Rattle.xsd_parser.specs.Event.{Tag, Event, tagIs}
+use Rattle.xsd_parser.specs.Handlers.{inContext, withContent, foundRoot, onTopLevelElement, onEmpty}
+use Rattle.xsd_actions.specs.Actions.{Action, modeOf, modeAfter, headTag, Acted}
+use Rattle.xsd_actions.specs.Decided.{rootFound, topElement, decidedEmpty}
+use Rattle.xsd_actions.proofs.Laws.Agree.{Agree, values, if-both, agree-then}
+use Rattle.xsd_actions.proofs.Laws.Changes.{changed-keep, changed-empty}
+use Rattle.xsd_actions.proofs.Laws.Inside.{emptyInComplex-agrees}
+use Rattle.xsd_actions.proofs.Laws.Simples.{emptyInSimple-agrees}
+use Rattle.xsd_actions.proofs.Laws.Tops.{top, mode-still, top-acted, root-empty}
+
+module _ (t : Tag) (r : Reader) where
+  -- the reader after an empty tag in a context, and the action
+  abbrev pub Passed : Context → Reader → Action → Type 0
+  Passed x r′ a = Acted (Event.empty t) (inContext x r) a r′
+
+  pub empty-kept : (x : Context) → Passed x (inContext x r) Action.keep
+  empty-kept x = changed-empty t r refl (changed-keep refl refl refl)
+
+  pub emptyOutside-agrees : Passed Context.noContext (if tagIs t "schema" then foundRoot t (inContext Context.noContext r) else inContext Context.noContext r) (rootFound t)
+  unfolding rootFound
+  emptyOutside-agrees = if-both (Passed Context.noContext) (tagIs t "schema") (root-empty t r) (empty-kept Context.noContext)
+
+  pub empty-element : Passed Context.inSchema (onTopLevelElement t (top r)) (topElement t)
+  unfolding modeAfter
+  empty-element = top-acted (Event.empty t) r (empty-kept Context.inSchema) (mode-still false r) t
+
+  pub empty-agrees : (x : Context) → Agree (Passed x) (onEmpty t (inContext x r) x) (decidedEmpty t (modeOf (inContext x r)) (headTag x))
+  unfolding onEmpty decidedEmpty modeOf inContext headTag contextNumber nesting extensionFlag withContent
+  empty-agrees Context.noContext = values emptyOutside-agrees
+  empty-agrees Context.inSchema = values (if-both (Passed Context.inSchema) (tagIs t "element") empty-element (empty-kept Context.inSchema))
+  empty-agrees (Context.inSimpleType b) = agree-then _ (λ b′ a h. changed-empty t r (h .nesting) (h .changed)) (emptyInSimple-agrees t b)
+  empty-agrees (Context.inComplexType b) =
+      agree-then _ (λ c a h. changed-empty t r refl h) (emptyInComplex-agrees (b .name) (b .nestingDepth) (b .nestingDepth) t (b .content))

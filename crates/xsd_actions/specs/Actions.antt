@@ -1,0 +1,183 @@
+-- What an event does to the rows of the reader's state, told apart from how it is done: 000's handlers as a few actions.
+--     Mode          what the handlers go by, beside the open head: row 0's context, nesting, root seen and extension flag (the code's struct)
+--     modeOf        the mode of a reader; headTag: the tag of the open type's head, 0 where no type is open
+--     behind        the rows behind row 1
+--     Action        keep: no row changes; root: the namespace set anew; openSimple, openComplex: a type opened; add: a row more;
+--                   content: the open type's content replaced by a tag, the texts behind the name and a; base: the open type's base set
+--     modeAfter, namespaceAfter, rowsAfter    the mode, the namespace and the rows behind row 1 after an event and its action
+--     Fitting       the open type's rows are such that the action can be done to them
+--     Acted         the reader after an event is as the action says
+use Prim.Native.Nat.{ℕ, suc, _-_, _≤_}
+use mathlib.Core.Path.{_≡_}
+use mathlib.Core.List.{List, [], _∷_, _++_}
+use mathlib.Core.Bool.{Bool, true, false, _&&_}
+use lib.Dec.{eqb, leb}
+use Rattle.text.specs.Text.{Text, if_then_else_}
+use Rattle.sheet.specs.Rows.{Row, row}
+use Rattle.xsd_types.specs.State.{ComplexContentBuilder, Context, Reader}
+use Rattle.xsd_types.specs.Rows.{headC, itemsRows, contextRows, contextNumber, nesting, extensionFlag}
+use Rattle.xsd_parser.specs.Event.{Event}
+use Rattle.xsd_actions.specs.declared.Mode.{Mode}
+
+unfoldable pub modeOf : Reader → Mode
+modeOf r =
+    record {
+      context = contextNumber (r .context);
+      nesting = nesting (r .context);
+      «root_seen» = r .rootSeen;
+      extension = eqb (extensionFlag (r .context)) 1;
+    }
+
+unfoldable pub contentTag : ComplexContentBuilder → ℕ
+contentTag ComplexContentBuilder.empty = 16
+contentTag (ComplexContentBuilder.sequence es) = 12
+contentTag (ComplexContentBuilder.choice vs) = 13
+contentTag (ComplexContentBuilder.simpleContent base xs flag) = 14
+contentTag (ComplexContentBuilder.any n) = 15
+
+unfoldable pub headTag : Context → ℕ
+headTag Context.noContext = 0
+headTag Context.inSchema = 0
+headTag (Context.inSimpleType t) = 3
+headTag (Context.inComplexType t) = contentTag (t .content)
+
+unfoldable pub behind : Reader → List Row
+behind r = itemsRows (r .schema .items) ++ contextRows (r .context)
+
+pub data Action : Type 0 where
+  keep : Action
+  root : Text → Action
+  openSimple : Text → Action
+  openComplex : Text → Action
+  add : Row → Action
+  content : ℕ → List Text → ℕ → Action
+  base : Text → Action
+
+-- "only a start enters context 1"; "start `simpleType` or `complexType` .. opens a type"
+unfoldable pub contextAfter : Bool → Action → ℕ → ℕ
+contextAfter start Action.keep context = context
+contextAfter start (Action.root n) context = if start then 1 else context
+contextAfter start (Action.openSimple n) context = 2
+contextAfter start (Action.openComplex n) context = 3
+contextAfter start (Action.add r) context = context
+contextAfter start (Action.content tag more a) context = context
+contextAfter start (Action.base v) context = context
+
+unfoldable pub rootAfter : Action → Bool → Bool
+rootAfter Action.keep seen = seen
+rootAfter (Action.root n) seen = true
+rootAfter (Action.openSimple n) seen = seen
+rootAfter (Action.openComplex n) seen = seen
+rootAfter (Action.add r) seen = seen
+rootAfter (Action.content tag more a) seen = seen
+rootAfter (Action.base v) seen = seen
+
+-- "replaces the content, flag 0"; "inside simple content sets base and flag"
+unfoldable pub flagAfter : Action → ℕ → Bool → Bool
+flagAfter Action.keep context flag = flag
+flagAfter (Action.root n) context flag = flag
+flagAfter (Action.openSimple n) context flag = flag
+flagAfter (Action.openComplex n) context flag = flag
+flagAfter (Action.add r) context flag = flag
+flagAfter (Action.content tag more a) context flag = false
+flagAfter (Action.base v) context flag = eqb context 3
+
+-- "each start raises nesting", in the contexts 2 and 3
+unfoldable pub tagMode : Bool → Action → Mode → Mode
+tagMode start a m =
+    record {
+      context = contextAfter start a (m .context);
+      nesting = if start && leb 2 (m .context) then suc (m .nesting) else m .nesting;
+      «root_seen» = rootAfter a (m .«root_seen»);
+      extension = flagAfter a (m .context) (m .extension);
+    }
+
+-- "A close lowers nesting, or at 0 finishes the type, flag 0, and returns to context 1." "Any close leads to context 0."
+unfoldable pub closeMode : Mode → Mode
+closeMode m =
+    if leb (m .context) 1
+    then record { context = 0; nesting = m .nesting; «root_seen» = m .«root_seen»; extension = m .extension }
+    else if eqb (m .nesting) 0
+    then record { context = 1; nesting = 0; «root_seen» = m .«root_seen»; extension = false }
+    else record { context = m .context; nesting = m .nesting - 1; «root_seen» = m .«root_seen»; extension = m .extension }
+
+unfoldable pub modeAfter : Event → Action → Mode → Mode
+modeAfter (Event.start t) a m = tagMode true a m
+modeAfter (Event.empty t) a m = tagMode false a m
+modeAfter Event.close a m = closeMode m
+
+unfoldable pub namespaceAfter : Action → Text → Text
+namespaceAfter Action.keep namespace = namespace
+namespaceAfter (Action.root n) namespace = n
+namespaceAfter (Action.openSimple n) namespace = namespace
+namespaceAfter (Action.openComplex n) namespace = namespace
+namespaceAfter (Action.add r) namespace = namespace
+namespaceAfter (Action.content tag more a) namespace = namespace
+namespaceAfter (Action.base v) namespace = namespace
+
+unfoldable pub firstText : List Text → Text
+firstText [] = []
+firstText (t ∷ ts) = t
+
+-- the open type's rows with another content: its head alone, the name kept
+unfoldable pub headWith : ℕ → List Text → ℕ → List Row → List Row
+headWith tag more a [] = []
+headWith tag more a (r ∷ kids) = row tag (firstText (r .texts) ∷ more) a 0 headC ∷ []
+
+-- the open type's rows with another base
+unfoldable pub baseWith : Text → List Row → List Row
+baseWith v [] = []
+baseWith v (r ∷ kids) = row (r .tag) (firstText (r .texts) ∷ v ∷ []) (r .a) (r .b) (r .c) ∷ kids
+
+unfoldable pub openSimpleRow : Text → Row
+openSimpleRow name = row 3 (name ∷ [] ∷ []) 0 0 headC
+
+unfoldable pub openComplexRow : Text → Row
+openComplexRow name = row 16 (name ∷ []) 0 0 headC
+
+-- the rows behind row 1, of which `last` are the open type's
+unfoldable pub rowsAfter : Action → List Row → List Row → List Row
+rowsAfter Action.keep done last = done ++ last
+rowsAfter (Action.root n) done last = done ++ last
+rowsAfter (Action.openSimple n) done last = (done ++ last) ++ openSimpleRow n ∷ []
+rowsAfter (Action.openComplex n) done last = (done ++ last) ++ openComplexRow n ∷ []
+rowsAfter (Action.add r) done last = (done ++ last) ++ r ∷ []
+rowsAfter (Action.content tag more a) done last = done ++ headWith tag more a last
+rowsAfter (Action.base v) done last = done ++ baseWith v last
+
+-- the open type's rows begin with a head that has a name; with one that has a name and a base
+pub record NamedHead (last : List Row) : Type 0 where
+  pub tag : ℕ
+  pub name : Text
+  pub more : List Text
+  pub a : ℕ
+  pub b : ℕ
+  pub c : ℕ
+  pub kids : List Row
+  pub is : last ≡ row tag (name ∷ more) a b c ∷ kids
+
+pub record BasedHead (last : List Row) : Type 0 where
+  pub tag : ℕ
+  pub name : Text
+  pub old : Text
+  pub a : ℕ
+  pub b : ℕ
+  pub c : ℕ
+  pub kids : List Row
+  pub is : last ≡ row tag (name ∷ old ∷ []) a b c ∷ kids
+
+unfoldable pub Fitting : Action → List Row → Type 0
+Fitting Action.keep last = Unit
+Fitting (Action.root n) last = Unit
+Fitting (Action.openSimple n) last = Unit
+Fitting (Action.openComplex n) last = Unit
+Fitting (Action.add r) last = Unit
+Fitting (Action.content tag more a) last = NamedHead last
+Fitting (Action.base v) last = BasedHead last
+
+pub record Acted (e : Event) (r : Reader) (a : Action) (r′ : Reader) : Type 0 where
+  pub mode : modeOf r′ ≡ modeAfter e a (modeOf r)
+  pub namespace : r′ .schema .targetNamespace ≡ namespaceAfter a (r .schema .targetNamespace)
+  pub rows : behind r′ ≡ rowsAfter a (itemsRows (r .schema .items)) (contextRows (r .context))
+  pub items : 2 ≤ contextNumber (r′ .context) → r′ .schema .items ≡ r .schema .items
+  pub fitting : Fitting a (contextRows (r .context))

@@ -1,0 +1,146 @@
+-- Which action 000's handlers take, by the event, the mode and the tag of the open head alone, or the refusal 9 or 10.
+--     decided       for an event
+--     decidedStart, decidedEmpty, decidedClose    for each kind, in the order of 000's clauses
+--     Decides       what the handlers do is what was decided
+use Prim.Native.Nat.{ℕ, suc}
+use mathlib.Core.Path.{_≡_}
+use mathlib.Core.List.{[], _∷_}
+use mathlib.Core.Bool.{Bool, _&&_}
+use mathlib.Core.Option.{Option, some, none}
+use lib.Dec.{eqb}
+use Rattle.text.specs.Text.{Text, if_then_else_}
+use Rattle.number.specs.Number.{number}
+use Rattle.sheet.specs.Rows.{Row, row}
+use Rattle.xsd_types.specs.Types.{Facet}
+use Rattle.xsd_types.specs.State.{Reader}
+use Rattle.xsd_types.specs.Rows.{headC, facetRow, occursRow, variantRow, attributeRow}
+use Rattle.xsd_parser.specs.Event.{Tag, Event, tagIs, attrValue, orEmpty}
+use Rattle.xsd_parser.specs.Handlers.{Outcome, ok, refuse, _andThen_, onParsed, requireName, parseMinOccurs, parseMaxOccurs, isRequired, facetValue}
+use Rattle.xsd_parser.specs.Step.{handled}
+use Rattle.xsd_actions.specs.declared.Mode.{Mode}
+use Rattle.xsd_actions.specs.Actions.{Action, Acted}
+
+-- a row for a tag that has name and type
+unfoldable pub typed : Option Text → Option Text → (Text → Text → Row) → Action
+typed none typeName f = Action.keep
+typed (some name) none f = Action.keep
+typed (some name) (some typeName) f = Action.add (f name typeName)
+
+unfoldable pub named : Tag → (Text → Text → Row) → Action
+named t f = typed (attrValue t "name") (attrValue t "type") f
+
+unfoldable pub topElement : Tag → Action
+topElement t = named t (λ name typeName. row 2 (name ∷ typeName ∷ []) 0 0 headC)
+
+unfoldable pub rootFound : Tag → Action
+rootFound t = if tagIs t "schema" then Action.root (orEmpty (attrValue t "targetNamespace")) else Action.keep
+
+unfoldable pub baseSet : Tag → Action
+baseSet t = Action.base (orEmpty (attrValue t "base"))
+
+-- 000, `on_element_inside_complex`
+unfoldable pub occursAdded : Tag → Option Text → Option Text → Outcome Action
+occursAdded t none typeName = ok Action.keep
+occursAdded t (some name) none = ok Action.keep
+occursAdded t (some name) (some typeName) =
+    onParsed (parseMinOccurs (attrValue t "minOccurs")) (λ min. min) andThen λ min.
+    parseMaxOccurs (attrValue t "maxOccurs") andThen λ max.
+    ok (Action.add (occursRow name typeName min max))
+
+unfoldable pub elementInside : Tag → ℕ → Outcome Action
+elementInside t head =
+    if eqb head 12 then occursAdded t (attrValue t "name") (attrValue t "type") else
+    if eqb head 13 then ok (named t (λ name typeName. variantRow (record { name = name; typeName = typeName }))) else ok Action.keep
+
+-- 000, `on_attribute_inside_complex`
+unfoldable pub attributeInside : Tag → Bool → Action
+attributeInside t flag =
+    if flag
+    then named t (λ name typeName. attributeRow (record { name = name; typeName = typeName; required = isRequired (attrValue t "use") }))
+    else Action.keep
+
+-- ---- on_start
+
+unfoldable pub startInSchema : Tag → Outcome Action
+startInSchema t =
+    if tagIs t "simpleType" then requireName t Action.openSimple else
+    if tagIs t "complexType" then requireName t Action.openComplex else
+    if tagIs t "element" then ok (topElement t) else ok Action.keep
+
+unfoldable pub startInSimpleType : Tag → ℕ → Action
+startInSimpleType t depth = if eqb depth 1 && tagIs t "restriction" then baseSet t else Action.keep
+
+unfoldable pub contentStart : Tag → Action
+contentStart t =
+    if tagIs t "sequence" then Action.content 12 [] 0 else
+    if tagIs t "choice" then Action.content 13 [] 0 else
+    if tagIs t "simpleContent" then Action.content 14 ([] ∷ []) 0 else Action.keep
+
+unfoldable pub extended : Tag → ℕ → Action
+extended t head = if eqb head 14 then baseSet t else Action.keep
+
+unfoldable pub startAtTwo : Tag → ℕ → Outcome Action
+startAtTwo t head =
+    if tagIs t "extension" then ok (extended t head) else
+    if tagIs t "element" then elementInside t head else ok Action.keep
+
+unfoldable pub startInComplexType : Tag → ℕ → ℕ → Outcome Action
+startInComplexType t depth head =
+    if eqb depth 1 then ok (contentStart t) else
+    if eqb depth 2 then startAtTwo t head else ok Action.keep
+
+-- the nesting is counted after the raise, as in 000
+unfoldable pub decidedStart : Tag → Mode → ℕ → Outcome Action
+decidedStart t m head =
+    if eqb (m .context) 0 then ok (rootFound t) else
+    if eqb (m .context) 1 then startInSchema t else
+    if eqb (m .context) 2 then ok (startInSimpleType t (suc (m .nesting))) else startInComplexType t (suc (m .nesting)) head
+
+-- ---- on_empty
+
+unfoldable pub facetAdded : Facet → Action
+facetAdded f = Action.add (facetRow f)
+
+unfoldable pub emptyInSimpleType : Tag → Outcome Action
+emptyInSimpleType t =
+    let v = facetValue t in
+    if tagIs t "restriction" then ok (baseSet t) else
+    if tagIs t "enumeration" then ok (facetAdded (Facet.enumeration v)) else
+    if tagIs t "pattern" then ok (facetAdded (Facet.pattern v)) else
+    if tagIs t "minLength" then onParsed (number 64 v) (λ n. facetAdded (Facet.minLength n)) else
+    if tagIs t "maxLength" then onParsed (number 64 v) (λ n. facetAdded (Facet.maxLength n)) else
+    if tagIs t "minInclusive" then ok (facetAdded (Facet.minInclusive v)) else
+    if tagIs t "maxInclusive" then ok (facetAdded (Facet.maxInclusive v)) else
+    if tagIs t "totalDigits" then onParsed (number 32 v) (λ n. facetAdded (Facet.totalDigits n)) else
+    if tagIs t "fractionDigits" then onParsed (number 32 v) (λ n. facetAdded (Facet.fractionDigits n)) else ok Action.keep
+
+unfoldable pub anyContent : Option Text → Action
+anyContent none = Action.content 15 [] 0
+anyContent (some n) = Action.content 15 (n ∷ []) 1
+
+unfoldable pub emptyInComplexType : Tag → Bool → ℕ → Outcome Action
+emptyInComplexType t flag head =
+    if tagIs t "element" then elementInside t head else
+    if tagIs t "any" then ok (anyContent (attrValue t "namespace")) else
+    if tagIs t "attribute" then ok (attributeInside t flag) else ok Action.keep
+
+unfoldable pub decidedEmpty : Tag → Mode → ℕ → Outcome Action
+decidedEmpty t m head =
+    if eqb (m .context) 0 then ok (rootFound t) else
+    if eqb (m .context) 1 then ok (if tagIs t "element" then topElement t else Action.keep) else
+    if eqb (m .context) 2 then emptyInSimpleType t else emptyInComplexType t (m .extension) head
+
+-- ---- on_end
+
+-- "Content still absent at the close becomes 15 with a = 0."
+unfoldable pub decidedClose : Mode → ℕ → Action
+decidedClose m head = if eqb head 16 && eqb (m .nesting) 0 then Action.content 15 [] 0 else Action.keep
+
+unfoldable pub decided : Event → Mode → ℕ → Outcome Action
+decided (Event.start t) m head = decidedStart t m head
+decided (Event.empty t) m head = decidedEmpty t m head
+decided Event.close m head = ok (decidedClose m head)
+
+pub data Decides (e : Event) (r : Reader) : Outcome Action → Type 0 where
+  acts : (a : Action) (r′ : Reader) → handled e r ≡ ok r′ → Acted e r a r′ → Decides e r (ok a)
+  refuses : (n : ℕ) → handled e r ≡ refuse n → Decides e r (refuse n)
