@@ -1,0 +1,62 @@
+-- `xsd_decide::open_type` meets its contract: an absent name is refused with 9, for either kind of type. Assumes nothing.
+use mathlib.Core.Path.{sym, ap, _∙_}
+use Rattle.text.specs.Text.{bytes}
+use Rattle.xsd_parser.specs.Handlers.{ok}
+use Rattle.xsd_actions.specs.Answers.{decision, textAtMark}
+use Rattle.xsd_values.specs.Reads.{recordTag}
+use Rattle.xsd_values.proofs.Laws.Values.{attrValue-at, attrValue-none}
+use Rattle.xsd_decide.specs.Schema.{openedAs}
+use Rattle.xsd_decide.proofs.Laws.Names.{requireName-some, requireName-none}
+use borrow.Author.Needs.{needs}
+use Rattle.xsd_decide.proofs.open_type.Statement.{statement}
+use Rattle.xsd_decide.proofs.open_type.Tie as tie
+
+slice-aggregate-find-attribute : tie.Need-slice-aggregate-find-attribute
+slice-aggregate-find-attribute c = search needs
+
+find-attribute-requires : tie.Need-find-attribute-requires
+find-attribute-requires c κs = search needs
+
+enum-known-i : tie.Need-enum-known-i
+enum-known-i c = search needs
+
+enum-told : tie.Need-enum-told
+enum-told c = search needs
+
+returns : tie.Need-returns
+unfolding bytes decision
+returns c =
+    let called = c .before .before in
+    let a = called .before .before .before .before .args in
+    let t = recordTag (a .text .now) (a .marks .now) (a .t) in
+    sym (requireName-none t (openedAs (a .simple)) (attrValue-none (a .text .now) (a .marks .now) t "name" (called .find-attribute .ensures) (c .enum-told .given .1)))
+
+returns-2 : tie.Need-returns-2
+unfolding bytes decision openedAs
+returns-2 c =
+    let called = c .before .before .before .before in
+    let a = called .before .before .before .before .args in
+    let t = recordTag (a .text .now) (a .marks .now) (a .t) in
+    let name = attrValue-at (a .text .now) (a .marks .now) t "name" (called .find-attribute .ensures) (c .before .before .i .given .1) in
+    sym (requireName-some t (openedAs (a .simple)) name ∙ ap (λ b. ok (openedAs b (textAtMark (a .text .now) (a .marks .now) (c .before .before .i .given .0 .0)))) (c .if1 .taken))
+
+returns-3 : tie.Need-returns-3
+unfolding bytes decision openedAs
+returns-3 c =
+    let called = c .before .before .before .before in
+    let a = called .before .before .before .before .args in
+    let t = recordTag (a .text .now) (a .marks .now) (a .t) in
+    let name = attrValue-at (a .text .now) (a .marks .now) t "name" (called .find-attribute .ensures) (c .before .before .i .given .1) in
+    sym (requireName-some t (openedAs (a .simple)) name ∙ ap (λ b. ok (openedAs b (textAtMark (a .text .now) (a .marks .now) (c .before .before .i .given .0 .0)))) (c .if1 .left))
+
+pub open-type-spec : {M : Type 1} → statement M
+open-type-spec =
+    tie.close
+    (tie.spec
+    slice-aggregate-find-attribute
+    find-attribute-requires
+    enum-known-i
+    enum-told
+    returns
+    returns-2
+    returns-3)
