@@ -1,0 +1,2 @@
+-- The laws of the crate `xsd_progress`.
+pub mod Laws

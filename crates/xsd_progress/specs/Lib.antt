@@ -1,0 +1,2 @@
+-- The definitions of the crate `xsd_progress`.
+pub mod Progress
