@@ -1,0 +1,2 @@
+-- The definitions of the crate `xsd_carry`.
+pub mod Events

@@ -1,0 +1,3 @@
+-- The definitions of the crate `xsd_event`.
+pub mod Settle
+pub mod Steps

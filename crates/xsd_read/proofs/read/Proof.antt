@@ -1,0 +1,64 @@
+-- `xsd_read::read` meets its contract: 1 and 2 leave everything, and a good sheet is read. Assumes nothing.
+use mathlib.Core.Path.{_≡_, sym, _∙_}
+use mathlib.Core.Bool.{true}
+use Rattle.sheet.specs.Calls.{sheet}
+use Rattle.xsd_types.specs.Good.{good}
+use borrow.Author.Tests.{not-true, not-false}
+use borrow.Author.Needs.{needs}
+use Rattle.xsd_read.proofs.Laws.Calls.{lengthsPass, read-one, read-two, read-through, good-sheet}
+use Rattle.xsd_read.proofs.read.Statement.{statement}
+use Rattle.xsd_read.proofs.read.Tie as tie
+
+read-lengths-requires : tie.Need-read-lengths-requires
+read-lengths-requires c κs = search needs
+
+refused-requires : tie.Need-refused-requires
+refused-requires c κs = search needs
+
+returns : tie.Need-returns
+returns c =
+    let a = c .before .before .before .before .before .before .before .args in
+    read-one (a .rows .now) (a .names .now) (a .text .now) (a .marks .now) (c .refused .ensures) (sym (c .before .before .read-lengths .ensures) ∙ not-true _ (c .before .if1 .taken))
+
+is-good-requires : tie.Need-is-good-requires
+is-good-requires c κs = search needs
+
+refused-requires-2 : tie.Need-refused-requires-2
+refused-requires-2 c κs = search needs
+
+same-length : tie.Need-same-length
+same-length c = search needs
+
+same-length-2 : tie.Need-same-length-2
+same-length-2 c = search needs
+
+-- behind the tests the lengths are as the paper has them, and the sheet is good
+lengths-pass : (p : tie.Else1) → lengthsPass (p .before .before .before .before .before .before .args .rows .now) (p .before .before .before .before .before .before .args .names .now) (p .before .before .before .before .before .before .args .text .now) (p .before .before .before .before .before .before .args .marks .now) ≡ true
+lengths-pass p = sym (p .before .read-lengths .ensures) ∙ not-false _ (p .if1 .left)
+
+sheet-good : (p : tie.Else2) → good (sheet (p .before .before .before .before .before .before .before .before .before .before .args .rows .now) (p .before .before .before .before .before .before .before .before .before .before .args .names .now)) ≡ true
+sheet-good p = sym (p .before .is-good .ensures) ∙ not-false _ (p .if2 .left)
+
+returns-2 : tie.Need-returns-2
+returns-2 c =
+    let a = c .before .before .before .before .before .before .before .before .before .before .before .args in
+    read-two (a .rows .now) (a .names .now) (a .text .now) (a .marks .now) (c .refused2 .ensures) (lengths-pass (c .before .before .before .before .before)) (sym (c .before .before .is-good .ensures) ∙ not-true _ (c .before .if2 .taken))
+
+read-good-requires : tie.Need-read-good-requires
+read-good-requires c κs =
+    let a = c .before .before .before .before .before .before .before .before .before .before .before .before .args in
+    good-sheet (a .rows .now) (a .names .now) (a .text .now) (a .marks .now) (lengths-pass (c .before .before .before .before .before .before)) (sheet-good (c .before .before))
+
+same-length-3 : tie.Need-same-length-3
+same-length-3 c = search needs
+
+same-length-4 : tie.Need-same-length-4
+same-length-4 c = search needs
+
+returns-3 : tie.Need-returns-3
+returns-3 c =
+    let a = c .before .before .before .before .before .before .before .before .before .before .before .before .before .before .before .before .before .args in
+    read-through (a .rows .now) (a .names .now) (a .text .now) (a .marks .now) (lengths-pass (c .before .before .before .before .before .before .before .before .before .before .before)) (sheet-good (c .before .before .before .before .before .before .before)) (c .before .before .before .before .read-good .ensures)
+
+pub read-spec : {M : Type 1} → statement M
+read-spec = tie.close (tie.spec read-lengths-requires refused-requires returns is-good-requires refused-requires-2 same-length same-length-2 returns-2 read-good-requires same-length-3 same-length-4 returns-3)

@@ -1,0 +1,52 @@
+// The reading call: a piece of a tape read into a schema sheet.
+use xsd_clear::Answer;
+use xsd_records::read_records;
+ghost use mathlib.Core.Bool.{_&&_};
+ghost use mathlib.Core.Path.{_≡_};
+ghost use Rattle.sheet.specs.Lengths.{sheetLengths, tapeLengths};
+ghost use Rattle.sheet.specs.Calls.{sheet, answered};
+ghost use Rattle.xsd_parser.specs.Read.{ReadIs};
+ghost use Rattle.xsd_read.specs.Good.{GoodSheet, GoodRead};
+
+// Whether the lengths of a sheet's and a tape's buffers are as the paper has them.
+fn read_lengths(rows: usize, names: usize, text: usize, marks: usize) -> bool
+    ensures { λ r. ⌜ r ≡ (sheetLengths rows names && tapeLengths text marks) ⌝ }
+{
+    xsd_clear::sheet_lengths(rows, names) & ((text <= 65536) & (marks <= 16384))
+}
+
+// A call that is refused before any record is read.
+fn refused(number: u32) -> Answer
+    ensures { λ r. ⌜ answered (r .number) (r .place) ≡ answered number 0 ⌝ }
+{
+    Answer { number, place: 0 }
+}
+
+// Reads the piece into a good sheet, and sets its row 0 anew.
+fn read_good(rows: &mut [u32], names: &mut [u8], text: &[u8], marks: &[u32]) -> Answer
+    requires { ⌜ GoodSheet (now rows) (now names) (now text) ⌝ }
+    ensures { λ r. ⌜ GoodRead (now (rows .entry)) (now (names .entry)) (now (text .entry)) (now (marks .entry)) (answered (r .number) (r .place)) (sheet (now (rows .exit)) (now (names .exit))) ⌝ }
+{
+    let from = xsd_progress::progress_of(rows);
+    let to = read_records(rows, names, text, marks, from);
+    let row0 = xsd_progress::row0_of(to.progress);
+    xsd_row::put_row0(rows, row0);
+    Answer {
+        number: to.number,
+        place: to.place,
+    }
+}
+
+// Reads a piece of a tape into a schema sheet. Under 1 and 2 nothing is changed; where a record is refused, the sheet holds the state
+// after the events before it.
+pub fn read(rows: &mut [u32], names: &mut [u8], text: &[u8], marks: &[u32]) -> Answer
+    ensures { λ r. ⌜ ReadIs (sheet (now (rows .entry)) (now (names .entry))) (now (text .entry)) (now (marks .entry)) (answered (r .number) (r .place)) (sheet (now (rows .exit)) (now (names .exit))) ⌝ }
+{
+    if !read_lengths(rows.len(), names.len(), text.len(), marks.len()) {
+        return refused(1);
+    }
+    if !xsd_sheet::is_good(rows, names) {
+        return refused(2);
+    }
+    read_good(rows, names, text, marks)
+}

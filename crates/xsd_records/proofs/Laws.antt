@@ -1,0 +1,3 @@
+-- Laws of the definitions in specs/.
+--     Loop          records read one after the other
+pub mod Loop

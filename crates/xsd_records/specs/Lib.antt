@@ -1,0 +1,2 @@
+-- The definitions of the crate `xsd_records`.
+pub mod Records
