@@ -39,7 +39,7 @@ word-label names words a h k =
     (λ g. rw g (no-label names words))
     (test-cases (goodWords words))
 
-reference-bound : (t : Ten) → hasReference t ≡ true → t .a ≤ 5
+pub reference-bound : (t : Ten) → hasReference t ≡ true → t .a ≤ 5
 unfolding hasReference
 reference-bound t h =
     let tags = eqb (t .tag) 5 || eqb (t .tag) 7 || eqb (t .tag) 9 || eqb (t .tag) 10 || eqb (t .tag) 19 in

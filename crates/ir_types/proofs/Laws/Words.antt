@@ -1,7 +1,8 @@
 -- A word of the word list is the part of the list where it starts. Assumes nothing.
 use Prim.Native.Nat.{ℕ, zero, suc, _+_, _≤_, _<_}
 use mathlib.Core.Path.{_≡_, refl, sym, ap, _∙_}
-use mathlib.Core.Bool.{true}
+use mathlib.Core.Bool.{true, false}
+use mathlib.Core.Logic.{⊎-elim}
 use mathlib.Core.List.{List, [], _∷_}
 use native.Mathlib.Omega.{arith}
 use lib.Dec.{eqb}
@@ -9,8 +10,9 @@ use lib.ListN.{length, getD}
 use borrow.Author.Tests.{eqb-true}
 use Rattle.text.specs.Text.{Text, if_then_else_, inFront, split}
 use Rattle.sheet.specs.Rows.{textAt}
+use Rattle.sheet.proofs.Laws.Unpacks.{length-textAt}
 use Rattle.ir_types.specs.Label.{newline, wordsOf, goodWords, wordAt, label}
-use Rattle.ir_types.proofs.Laws.Label.{label-word}
+use Rattle.ir_types.proofs.Laws.Label.{label-number, label-refused, label-part, label-word}
 use Rattle.text.proofs.Laws.Tests.{if-cases, and-true-left}
 
 -- the text w stands in s from `at` on
@@ -58,13 +60,29 @@ split-parts c [] = no-bytes
 split-parts c (b ∷ s) =
     if-cases (Parts (b ∷ s)) (eqb b c) (λ e. next-parts b s (split c s) (split-parts c s)) (λ e. front-parts b s (split c s) (split-parts c s))
 
-six-words : (words : List ℕ) → goodWords words ≡ true → length (wordsOf words) ≡ 6
+pub six-words : (words : List ℕ) → goodWords words ≡ true → length (wordsOf words) ≡ 6
 unfolding goodWords
 six-words words g = eqb-true (length (wordsOf words)) 6 (and-true-left (eqb (length (wordsOf words)) 6) _ g)
 
+-- a word is the part of the list where it starts
+pub word-part : (words : List ℕ) (i : ℕ) → i < length (wordsOf words) → PartOf words (getD (wordsOf words) i []) (wordAt i (wordsOf words))
+unfolding Parts wordsOf
+word-part words i h = split-parts newline words i h
+
 -- a label of the word list is the part of it that starts at `at`
 pub label-word-part : (rows names words : List ℕ) (k : ℕ) → label rows names words k .inWords ≡ true → PartOf words (label rows names words k .text) (label rows names words k .at)
-unfolding Parts wordsOf
 label-word-part rows names words k e =
     let (i, small, good, starts, same) = label-word rows names words k e in
-    rw (starts, same) (split-parts newline words i (omega (arith, small, six-words words good)))
+    rw (starts, same) (word-part words i (omega (arith, small, six-words words good)))
+
+-- and one of the names is the part of them that starts at `at`
+part-again : (s w : Text) (at len : ℕ) → at + len ≤ length s → w ≡ textAt s at len → PartOf s w at
+part-again s w at len h e =
+    let n = ap length e ∙ length-textAt s at len h in
+    record { inside = omega (arith, n, h); same = ap (textAt s at) n ∙ sym e }
+
+pub label-name-part : (rows names words : List ℕ) (k : ℕ) → label rows names words k .inWords ≡ false → PartOf names (label rows names words k .text) (label rows names words k .at)
+label-name-part rows names words k e =
+    ⊎-elim (λ z. let (len, inside, same) = label-part rows names words k z e in part-again names _ _ len inside same)
+    (λ z. let (named, start, none) = label-refused rows names words k z in rw (start, none) (part-none names))
+    (label-number rows names words k)

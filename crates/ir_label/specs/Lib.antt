@@ -1,0 +1,2 @@
+-- The definitions that the contracts of the crate `ir_label` cite.
+pub mod Spot
