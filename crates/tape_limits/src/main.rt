@@ -52,31 +52,6 @@ fn put_value(text: &[u8], marks: &[u32], word: &[u8]) {
     }
 }
 
-// The numbers of a list with spaces between them: how many there are.
-fn read_marks(list: &[u8], marks: &mut [u32; 136]) -> usize {
-    let mut rest = list;
-    let mut n = 0;
-    while n < 136 {
-        let U32::Value(v) = number::parse_u32(lines::before(rest, b' ')) else {
-            return n;
-        };
-        marks[n] = v;
-        let next = lines::behind(rest, b' ');
-        rest = next;
-        n += 1;
-    }
-    n
-}
-
-// The first n of the numbers.
-fn first(numbers: &[u32; 136], n: usize) -> &[u32] {
-    let all = &numbers[..];
-    if n <= all.len() {
-        return &all[0..n];
-    }
-    all
-}
-
 // The label, and what is read of the marks and the text.
 fn put_case(place: &[u8], marks: &[u32], text: &[u8], label: &[u8]) {
     io::write_all(STDOUT_FILENO, label);
@@ -95,11 +70,11 @@ fn put_case(place: &[u8], marks: &[u32], text: &[u8], label: &[u8]) {
 fn put_line(line: &[u8]) {
     let mut marks = [0u32; 136];
     let tape = lines::behind(line, b';');
-    let n = read_marks(lines::before(tape, b';'), &mut marks);
+    let n = number_list::read_numbers(lines::before(tape, b';'), &mut marks);
     let last = lines::behind(tape, b';');
     put_case(
         lines::before(line, b';'),
-        first(&marks, n),
+        number_list::first(&marks, n),
         lines::before(last, b';'),
         lines::behind(last, b';'),
     );
