@@ -164,7 +164,12 @@ pub fn schema_texts(folder: &Path) -> io::Result<Vec<String>> {
     Ok(texts.into_iter().collect())
 }
 
-fn schemas_under(folder: &Path) -> io::Result<Vec<PathBuf>> {
+/// The schema files in `folder` and below, in order.
+///
+/// # Errors
+///
+/// Returns the error where a folder cannot be read.
+pub fn schemas_under(folder: &Path) -> io::Result<Vec<PathBuf>> {
     let mut files = Vec::new();
     for entry in fs::read_dir(folder)? {
         let path = entry?.path();

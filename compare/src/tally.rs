@@ -1,16 +1,19 @@
 //! The count of cases and differences of one group.
 
+use std::collections::BTreeMap;
 use std::fmt::{self, Debug, Display};
 
 /// How many differences are kept to be printed.
 const SHOWN: usize = 5;
 
 /// One group of cases.
+#[derive(Clone)]
 pub struct Tally {
     group: &'static str,
     cases: u64,
     differences: u64,
     shown: Vec<String>,
+    numbers: BTreeMap<u32, u64>,
 }
 
 impl Tally {
@@ -21,6 +24,7 @@ impl Tally {
             cases: 0,
             differences: 0,
             shown: Vec::new(),
+            numbers: BTreeMap::new(),
         }
     }
 
@@ -32,16 +36,36 @@ impl Tally {
         rust: A,
         ours: A,
     ) {
-        self.cases += 1;
-        if rust == ours {
-            return;
-        }
-        self.differences += 1;
-        if self.shown.len() < SHOWN {
-            self.shown.push(format!(
+        self.count(if rust == ours {
+            Ok(())
+        } else {
+            Err(format!(
                 "{call} of {input:?}: the Rust gives {rust:?}, ours {ours:?}"
-            ));
+            ))
+        });
+    }
+
+    /// Counts one case: it agrees, or this is the difference.
+    pub fn count(&mut self, compared: Result<(), String>) {
+        self.cases += 1;
+        if let Err(difference) = compared {
+            self.differences += 1;
+            if self.shown.len() < SHOWN {
+                self.shown.push(difference);
+            }
         }
+    }
+
+    /// Counts one case if it could be compared, with what was called.
+    pub fn count_some(&mut self, compared: Option<Result<(), String>>, call: impl Fn() -> String) {
+        if let Some(compared) = compared {
+            self.count(compared.map_err(|difference| format!("{}: {difference}", call())));
+        }
+    }
+
+    /// Counts a number that a call gave, to show which ones the cases meet.
+    pub fn given(&mut self, number: u32) {
+        *self.numbers.entry(number).or_default() += 1;
     }
 
     /// The number of cases.
@@ -62,6 +86,14 @@ impl Display for Tally {
             "{}: {} cases, {} differences",
             self.group, self.cases, self.differences
         )?;
+        if !self.numbers.is_empty() {
+            let given = self.numbers.iter().map(|(n, k)| format!("{n} x{k}"));
+            write!(
+                f,
+                "; numbers given {}",
+                given.collect::<Vec<_>>().join(", ")
+            )?;
+        }
         self.shown
             .iter()
             .try_for_each(|line| write!(f, "\n  {line}"))

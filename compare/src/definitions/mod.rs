@@ -13,9 +13,9 @@
 pub mod call;
 mod graphs;
 pub mod print;
-mod readings;
+pub(crate) mod readings;
 mod runs;
-mod sheets;
+pub(crate) mod sheets;
 
 use std::collections::HashSet;
 
@@ -23,6 +23,7 @@ use crate::random::Random;
 use call::Call;
 
 /// A call with the group that it belongs to and what it shows.
+#[derive(Clone)]
 pub struct Case {
     pub group: &'static str,
     pub shows: String,
@@ -42,6 +43,11 @@ pub fn cases(seed: u64) -> Vec<Case> {
         .flatten()
         .filter(|case| seen.insert(print::statement(&case.call)))
         .collect()
+}
+
+/// The cases of reading and clearing, in their groups.
+pub fn reading_cases(seed: u64) -> Vec<Case> {
+    [readings::cases(seed), sheets::cases(seed)].concat()
 }
 
 /// The generator of one group; the seed 0 gives the fixed sample.

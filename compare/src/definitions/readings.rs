@@ -299,7 +299,7 @@ fn damaged_at_random(seed: u64) -> Vec<Case> {
 }
 
 /// Damages a tape in one of four ways; gives what was done.
-fn damage_tape(tape: &mut Tape, random: &mut Random, way: usize) -> &'static str {
+pub fn damage_tape(tape: &mut Tape, random: &mut Random, way: usize) -> &'static str {
     match way % 4 {
         0 => {
             tape.marks.truncate(random.below(tape.marks.len() + 1));

@@ -2,15 +2,16 @@
 //! `parse_str` on whole tapes.
 
 use super::lowering::{complex_type, simple_type};
-use super::sheet::{Lent, Row};
+use super::sheet::{Lent, Row, Sheet};
 use super::state::State;
+use super::Answer;
 use crate::derived::xsd::parser::handlers::{handled, Open, OpenContent, Reader};
 use crate::tape::{is_writable, xml, Event};
 use crate::xsd::parser::{parse_str, ParseError};
 use crate::xsd::types::ComplexContent;
 
 /// Room for every state of the checks.
-const ROOMY: Lent = Lent {
+pub const ROOMY: Lent = Lent {
     rows: 40_960,
     names: 65_536,
 };
@@ -67,6 +68,87 @@ pub fn run(events: &[Event]) -> Result<State, u32> {
         state = state.after(event, ROOMY)?;
     }
     Ok(state)
+}
+
+/// A reading call that gave `given` and left `after` did what the handlers of the Rust do to the
+/// state `start` over `events`. None where an event up to the refused one is outside the domain, or
+/// the call was refused before its first event.
+pub fn check_reading(
+    start: &State,
+    events: &[Event],
+    given: Answer,
+    after: &Sheet,
+) -> Option<Result<(), String>> {
+    let place = given.place as usize;
+    let done = events.get(..place)?;
+    let judged = &events[..events.len().min(place + 1)];
+    if matches!(given.number, 1 | 2) || !all_in_domain(start, judged) {
+        return None;
+    }
+    let rust = done.iter().try_fold(reader(start), handled);
+    let ours = State::of(after).map(|state| reader(&state)).ok_or(2);
+    if rust != ours {
+        return Some(Err(format!("the handlers give {rust:?}, ours {ours:?}")));
+    }
+    Some(check_refusal(rust.ok()?, events.get(place), given.number))
+}
+
+/// The number of a reading is what the handlers give for the first event that was not read.
+fn check_refusal(rust: Reader, refused: Option<&Event>, number: u32) -> Result<(), String> {
+    let next = refused.map(|event| handled(rust, event).map(|_| ()));
+    let agrees = match number {
+        0 => next.is_none(),
+        9 | 10 => next == Some(Err(number)),
+        11 => next == Some(Ok(())),
+        _ => true,
+    };
+    if agrees {
+        return Ok(());
+    }
+    Err(format!("ours gives {number}, the handlers {next:?}"))
+}
+
+/// The events are in the domain one after the other from `start`; 6, 7 and 8 are met by none but the
+/// last.
+fn all_in_domain(start: &State, events: &[Event]) -> bool {
+    let mut open = start.open_tags;
+    events.iter().all(|event| match event {
+        Event::Start(tag) => {
+            open += 1;
+            is_writable(tag)
+        }
+        Event::Empty(tag) => is_writable(tag),
+        Event::Close => {
+            let there = open > 0;
+            open = open.saturating_sub(1);
+            there
+        }
+    })
+}
+
+/// A reading of a whole document into a cleared sheet gave what `parse_str` gives for its XML text.
+/// None outside the domain and for a refusal that the Rust does not have.
+pub fn check_document(
+    events: &[Event],
+    given: Answer,
+    after: &Sheet,
+) -> Option<Result<(), String>> {
+    let ours = match given.number {
+        0 => State::of(after).map(|state| match state.root_seen {
+            true => Ok(state.schema()),
+            false => Err(12),
+        })?,
+        9 | 10 => Err(given.number),
+        _ => return None,
+    };
+    let text = xml(events)?;
+    let rust = parse_str(&text).map_err(|error| refusal(&error));
+    if rust == ours {
+        return Some(Ok(()));
+    }
+    Some(Err(format!(
+        "{text}: `parse_str` gives {rust:?}, ours {ours:?}"
+    )))
 }
 
 fn refusal(error: &ParseError) -> u32 {

@@ -1,6 +1,6 @@
 //! What a schema sheet says, and when it is good.
 
-use super::sheet::{names_used, rows_used, Lent, Row, Sheet};
+use super::sheet::{good_lengths, names_used, rows_used, Lent, Row, Sheet};
 
 /// The state of a run: row 0 and the other rows. `rows[0]` is row 1.
 #[derive(Clone, Debug, PartialEq, Eq)]
@@ -60,6 +60,13 @@ impl State {
             extension: flag(row0[8])?,
         };
         (row0[0] == 0 && row0[9] == 0 && state.is_good()).then_some(state)
+    }
+
+    /// The same, none also where the lengths are not good.
+    pub fn of_lent(sheet: &Sheet) -> Option<State> {
+        good_lengths(sheet.lent())
+            .then(|| State::of(sheet))
+            .flatten()
     }
 
     fn is_good(&self) -> bool {

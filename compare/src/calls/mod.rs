@@ -1,0 +1,14 @@
+//! The reading call and the clearing of the static library, compared with the model of paper 01
+//! (number, place and both buffers) and with the handlers of the Rust (the state in the sheet).
+//!
+//! | module | holds |
+//! |---|---|
+//! | `check` | one call compared |
+//! | `small` | every list of a few events in each context |
+//! | `longer` | random documents, damaged, in pieces, on damaged sheets |
+//! | `written` | the cases of the definitions, lengths, the schemas |
+
+pub mod check;
+pub mod longer;
+pub mod small;
+pub mod written;

@@ -1,0 +1,71 @@
+//! The calls of the static library `lubiksan_reader`. A slice is passed as its address and its length.
+
+#![allow(unsafe_code)]
+
+use crate::paper::sheet::Sheet;
+use crate::paper::{answer, Answer};
+use crate::tape::Tape;
+
+mod c {
+    extern "C" {
+        pub fn lubiksan_clear(
+            rows: *mut u32,
+            rows_len: usize,
+            names: *mut u8,
+            names_len: usize,
+            place: *mut usize,
+        ) -> u32;
+        pub fn lubiksan_read(
+            rows: *mut u32,
+            rows_len: usize,
+            names: *mut u8,
+            names_len: usize,
+            text: *const u8,
+            text_len: usize,
+            marks: *const u32,
+            marks_len: usize,
+            place: *mut usize,
+        ) -> u32;
+    }
+}
+
+/// What the place holds before a call; no call gives it.
+const UNSET: usize = 77_777;
+
+/// Clears the sheet.
+pub fn clear(sheet: &mut Sheet) -> Answer {
+    let (rows, names) = (&mut sheet.rows, &mut sheet.names);
+    let mut place = UNSET;
+    // SAFETY: each address and its length are those of one slice; all are lent for the call.
+    let number = unsafe {
+        c::lubiksan_clear(
+            rows.as_mut_ptr(),
+            rows.len(),
+            names.as_mut_ptr(),
+            names.len(),
+            &mut place,
+        )
+    };
+    answer(number, place as u32)
+}
+
+/// Reads the tape into the sheet.
+pub fn read(sheet: &mut Sheet, tape: &Tape) -> Answer {
+    let (rows, names) = (&mut sheet.rows, &mut sheet.names);
+    let mut place = UNSET;
+    // SAFETY: each address and its length are those of one slice; all are lent for the call.
+    let number = unsafe {
+        c::lubiksan_read(
+            rows.as_mut_ptr(),
+            rows.len(),
+            names.as_mut_ptr(),
+            names.len(),
+            tape.text.as_ptr(),
+            tape.text.len(),
+            tape.marks.as_ptr(),
+            tape.marks.len(),
+            &mut place,
+        )
+    };
+    answer(number, place as u32)
+}
