@@ -8,11 +8,11 @@ ghost use Rattle.ir_types.specs.Label.{noLabel, hasReference, namedLabel, wordL
 ghost use Rattle.ir_label.specs.Spot.{spotOf};
 
 // Where a label stands, with the call's number: in the word list or in the names, len bytes from at on.
-struct Spot {
-    number: u32,
-    in_words: bool,
-    at: usize,
-    len: usize,
+pub struct Spot {
+    pub number: u32,
+    pub in_words: bool,
+    pub at: usize,
+    pub len: usize,
 }
 
 // 16: the empty part at the start of the names.
@@ -89,8 +89,8 @@ fn row_spot(names: &[u8], words: &[u8], t: Ten) -> Spot
     }
 }
 
-// The label of row k.
-fn find_label(rows: &[u32], names: &[u8], words: &[u8], k: usize) -> Spot
+// The label of row k: number and part, as numbers.
+pub fn find_label(rows: &[u32], names: &[u8], words: &[u8], k: usize) -> Spot
     ensures { λ r. ⌜ r ≡ spotOf (labelled (now (rows .entry)) (now (names .entry)) (now (words .entry)) k) ⌝ }
 {
     let n = rows.len();

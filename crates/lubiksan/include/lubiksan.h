@@ -1,31 +1,184 @@
-/* The calls of the static library lubiksan (rt staticlib lubiksan). A text is a pointer and a length
-   in bytes; any bytes are taken. Nothing is allocated and nothing is kept between calls. */
+/* The calls of the static library lubiksan (rt staticlib lubiksan): the text leaves; a schema sheet cleared, and a piece of a
+   tape read into it; a schema sheet lowered to a graph sheet; the label of a row of a graph sheet.
+
+   A buffer is a pointer and a length in elements. Every pointer is valid, also for a length of 0 (any pointer that is not null
+   and is aligned for its type), and the buffers of a call and what it stores do not overlap. Any bytes and numbers are taken.
+   Nothing is allocated and nothing is kept between calls: what goes from call to call is the sheet. */
 #ifndef LUBIKSAN_H
 #define LUBIKSAN_H
 
 #include <stddef.h>
 #include <stdint.h>
 
+/* Limits. Other lengths of a sheet or a tape give LUBIKSAN_LENGTHS. The numbers of rows are a multiple of LUBIKSAN_ROW and at
+   least LUBIKSAN_ROWS_MIN. */
+#define LUBIKSAN_ROW 10
+#define LUBIKSAN_ROWS_MIN 20
+#define LUBIKSAN_ROWS_MAX 40960
+#define LUBIKSAN_NAMES_MAX 65536
+#define LUBIKSAN_TEXT_MAX 65536
+#define LUBIKSAN_MARKS_MAX 16384
+/* Of a tape: attributes of a tag, tags open at once, events of a run. */
+#define LUBIKSAN_ATTRIBUTES_MAX 32
+#define LUBIKSAN_OPEN_TAGS_MAX 255
+#define LUBIKSAN_EVENTS_MAX 1000000
+
+/* The numbers returned, with what is left and which place is stored; where no place is named it is 0. */
+#define LUBIKSAN_ACCEPTED 0      /* the result; a reading's place is the events read, a lowering's the graph's rows used */
+#define LUBIKSAN_LENGTHS 1       /* a buffer has a length outside the limits: nothing is changed */
+#define LUBIKSAN_NOT_GOOD 2      /* the schema sheet is not good, as a cleared one is and one that a reading leaves: nothing is changed */
+/* 3 to 11: an event was refused. The place is its number in the piece, from 0, and the sheet holds the state after the events before it. */
+#define LUBIKSAN_RECORD 3        /* kind not 1 to 3, record cut short, too many attributes, a close with any */
+#define LUBIKSAN_PAIR 4          /* a pair outside the text or out of order */
+#define LUBIKSAN_BYTE 5          /* a byte above 127 under a pair */
+#define LUBIKSAN_CLOSE 6         /* a close with no tag open */
+#define LUBIKSAN_OPEN_TAGS 7     /* a start with LUBIKSAN_OPEN_TAGS_MAX tags open */
+#define LUBIKSAN_EVENTS 8        /* LUBIKSAN_EVENTS_MAX events are done */
+#define LUBIKSAN_ATTRIBUTE 9     /* an attribute that must be there is missing */
+#define LUBIKSAN_VALUE 10        /* the value of an attribute is no number of its width; also of lubiksan_parse_u32 and _u64 */
+#define LUBIKSAN_ROOM 11         /* the state after the event needs more rows or names than lent */
+/* 12 to 15: lowering. Under 12, 13 and 15 all of graph and scratch is 0, under 14 nothing is changed. */
+#define LUBIKSAN_NO_ROOT 12      /* no schema tag was read */
+#define LUBIKSAN_UNKNOWN_BASE 13 /* a simple type's base is not built in; the place is the row of the first such type */
+#define LUBIKSAN_SCRATCH 14      /* the scratch has less than one number for each finished type */
+#define LUBIKSAN_GRAPH_ROOM 15   /* the graph needs more rows or names than lent */
+#define LUBIKSAN_NO_LABEL 16     /* label: the row has no type reference, or the word list is not five words */
+
+/* Kinds of events on a tape: kind, count of attributes, then pairs of offset and length into the text: the tag's name, then key
+   and value of each attribute. A close is just its kind and 0. */
+#define LUBIKSAN_START 1
+#define LUBIKSAN_EMPTY 2
+#define LUBIKSAN_END 3
+
+/* The ten numbers of a row: tag, three pairs of offset and length into the names, a, b, c. */
+#define LUBIKSAN_TAG_AT 0
+#define LUBIKSAN_FIRST_AT 1
+#define LUBIKSAN_SECOND_AT 3
+#define LUBIKSAN_THIRD_AT 5
+#define LUBIKSAN_A_AT 7
+#define LUBIKSAN_B_AT 8
+#define LUBIKSAN_C_AT 9
+
+/* Numbers of row 0. Of both sheets: rows used, names used. */
+#define LUBIKSAN_ROWS_USED_AT 1
+#define LUBIKSAN_NAMES_USED_AT 2
+/* Of the schema sheet. */
+#define LUBIKSAN_CONTEXT_AT 3
+#define LUBIKSAN_NESTING_AT 4
+#define LUBIKSAN_ROOT_SEEN_AT 5
+#define LUBIKSAN_EVENTS_DONE_AT 6
+#define LUBIKSAN_OPEN_TAGS_AT 7
+#define LUBIKSAN_EXTENSION_AT 8
+/* Of the graph sheet. */
+#define LUBIKSAN_ROOTS_AT 3
+#define LUBIKSAN_TYPES_AT 4
+
+/* Contexts of the schema sheet. */
+#define LUBIKSAN_OUTSIDE 0
+#define LUBIKSAN_IN_SCHEMA 1
+#define LUBIKSAN_IN_SIMPLE_TYPE 2
+#define LUBIKSAN_IN_COMPLEX_TYPE 3
+
+/* Tags of the schema sheet: in brackets the texts of a row, in the order of its pairs, and its numbers. */
+#define LUBIKSAN_XSD_NAMESPACE 1       /* target namespace, always row 1 (namespace) */
+#define LUBIKSAN_XSD_ELEMENT 2         /* element of the schema (name, type) */
+#define LUBIKSAN_XSD_SIMPLE_TYPE 3     /* simple type (name, base); its facets follow */
+#define LUBIKSAN_XSD_ENUMERATION 4     /* (value) */
+#define LUBIKSAN_XSD_PATTERN 5         /* (value) */
+#define LUBIKSAN_XSD_MIN_LENGTH 6      /* characters: a low, b high 32 bits */
+#define LUBIKSAN_XSD_MAX_LENGTH 7      /* characters: a low, b high 32 bits */
+#define LUBIKSAN_XSD_MIN_INCLUSIVE 8   /* (value) */
+#define LUBIKSAN_XSD_MAX_INCLUSIVE 9   /* (value) */
+#define LUBIKSAN_XSD_TOTAL_DIGITS 10   /* digits: a */
+#define LUBIKSAN_XSD_FRACTION_DIGITS 11 /* digits: a */
+#define LUBIKSAN_XSD_SEQUENCE 12       /* complex type (name); tags 17 and 18 follow */
+#define LUBIKSAN_XSD_CHOICE 13         /* complex type (name); tag 19 follows */
+#define LUBIKSAN_XSD_SIMPLE_CONTENT 14 /* complex type (name, base); tag 20 follows */
+#define LUBIKSAN_XSD_ANY 15            /* complex type (name, namespace where a is 1) */
+#define LUBIKSAN_XSD_NO_CONTENT 16     /* complex type without content yet (name); only while it is open */
+#define LUBIKSAN_XSD_BOUNDED 17        /* element of a sequence (name, type), a min, b max */
+#define LUBIKSAN_XSD_UNBOUNDED 18      /* element of a sequence (name, type), a min */
+#define LUBIKSAN_XSD_VARIANT 19        /* element of a choice (name, type) */
+#define LUBIKSAN_XSD_ATTRIBUTE 20      /* (name, type), a required */
+
+/* Tags of the graph sheet. A reference is a kind in a; of kind LUBIKSAN_NAMED the type's name stands in the pair. */
+#define LUBIKSAN_IR_NAMESPACE 1        /* target namespace, always row 1 (namespace) */
+#define LUBIKSAN_IR_ROOT 2             /* root element (xml name, type name) */
+#define LUBIKSAN_IR_STRUCT 3           /* (name); fields follow */
+#define LUBIKSAN_IR_ENUM 4             /* (name); variants follow */
+#define LUBIKSAN_IR_NEWTYPE 5          /* (name), a the inner kind, never LUBIKSAN_NAMED; constraints follow */
+#define LUBIKSAN_IR_CODE_ENUM 6        /* (name); codes follow */
+#define LUBIKSAN_IR_VALUE 7            /* value with attributes (name, reference); attributes follow */
+#define LUBIKSAN_IR_OPAQUE 8           /* (name, namespace where a is 1) */
+#define LUBIKSAN_IR_FIELD 9            /* (xml name, Rust name, reference), b cardinality, c bound */
+#define LUBIKSAN_IR_VARIANT 10         /* (xml name, the same name, reference) */
+#define LUBIKSAN_IR_PATTERN 11         /* (value) */
+#define LUBIKSAN_IR_MIN_LENGTH 12      /* characters: a low, b high 32 bits */
+#define LUBIKSAN_IR_MAX_LENGTH 13      /* characters: a low, b high 32 bits */
+#define LUBIKSAN_IR_MIN_INCLUSIVE 14   /* (value) */
+#define LUBIKSAN_IR_MAX_INCLUSIVE 15   /* (value) */
+#define LUBIKSAN_IR_TOTAL_DIGITS 16    /* digits: a */
+#define LUBIKSAN_IR_FRACTION_DIGITS 17 /* digits: a */
+#define LUBIKSAN_IR_CODE 18            /* (xml value, Rust name) */
+#define LUBIKSAN_IR_ATTRIBUTE 19       /* (xml name, Rust name, reference), b required */
+
+/* Kinds of a reference, and the built-in types of lubiksan_map_builtin: a named type or none, else a built-in one. The word list
+   of lubiksan_label has a word for each built-in type, in this order. */
+#define LUBIKSAN_NAMED 0
+#define LUBIKSAN_STRING 1
+#define LUBIKSAN_BOOL 2
+#define LUBIKSAN_DECIMAL 3
+#define LUBIKSAN_DATE 4
+#define LUBIKSAN_DATE_TIME 5
+
+/* Cardinalities of a field. */
+#define LUBIKSAN_REQUIRED 0
+#define LUBIKSAN_OPTIONAL 1
+#define LUBIKSAN_VEC 2
+#define LUBIKSAN_BOUNDED 3 /* c is the bound, above 1; otherwise c is 0 */
+
+/* The buffers of a label. */
+#define LUBIKSAN_IN_NAMES 0
+#define LUBIKSAN_IN_WORDS 1
+
 /* Where the local name, the part after the last colon, begins in the name. */
 size_t lubiksan_local_name(const uint8_t *name, size_t length);
 
-/* An optional plus sign, then one or more digits, within the width: 0 with the value stored, or 10
-   with the value as it was. */
+/* An optional plus sign, then one or more digits, within the width: LUBIKSAN_ACCEPTED with the value stored, or LUBIKSAN_VALUE with
+   the value as it was. */
 uint32_t lubiksan_parse_u32(const uint8_t *text, size_t length, uint32_t *value);
 uint32_t lubiksan_parse_u64(const uint8_t *text, size_t length, uint64_t *value);
 
-/* The built-in type of a name, after its last colon: 0 none, 1 String, 2 Bool, 3 Decimal, 4 Date,
-   5 DateTime. */
+/* The built-in type of a name, after its last colon: LUBIKSAN_NAMED where there is none, else LUBIKSAN_STRING to LUBIKSAN_DATE_TIME. */
 uint32_t lubiksan_map_builtin(const uint8_t *name, size_t length);
 
-/* The conversions return how many bytes the converted name has, or SIZE_MAX where out is shorter.
-   In both cases out holds the first bytes of the converted name, as far as out reaches, and behind
-   them what it held. The texts must not overlap out. */
+/* The conversions return how many bytes the converted name has, or SIZE_MAX where out is shorter. In both cases out holds the first
+   bytes of the converted name, as far as out reaches, and behind them what it held. */
 size_t lubiksan_normalize_type_name(const uint8_t *name, size_t length, uint8_t *out, size_t room);
 size_t lubiksan_xml_to_snake_case(const uint8_t *name, size_t length, uint8_t *out, size_t room);
 size_t lubiksan_code_to_pascal_case(const uint8_t *value, size_t length, uint8_t *out, size_t room);
 
 /* 1 where the two names normalise to the same text, else 0. */
 uint32_t lubiksan_same_normalized(const uint8_t *a, size_t a_length, const uint8_t *b, size_t b_length);
+
+/* Makes a schema sheet empty, whatever it held: LUBIKSAN_ACCEPTED or LUBIKSAN_LENGTHS. *place is set to 0. */
+uint32_t lubiksan_clear(uint32_t *rows, size_t rows_length, uint8_t *names, size_t names_length, size_t *place);
+
+/* Reads a piece of a tape into a schema sheet: 0 to 11, the place in *place. */
+uint32_t lubiksan_read(uint32_t *rows, size_t rows_length, uint8_t *names, size_t names_length, const uint8_t *text,
+                       size_t text_length, const uint32_t *marks, size_t marks_length, size_t *place);
+
+/* Lowers the finished types of a schema sheet, which is unchanged, to a graph sheet, whatever that held: 0, 1, 2 or 12 to 15, the
+   place in *place. The scratch has at least one number for each finished type, and is 0 afterwards. */
+uint32_t lubiksan_lower(const uint32_t *rows, size_t rows_length, const uint8_t *names, size_t names_length,
+                        uint32_t *graph_rows, size_t graph_rows_length, uint8_t *graph_names, size_t graph_names_length,
+                        uint32_t *scratch, size_t scratch_length, size_t *place);
+
+/* The type reference of a row of a graph sheet, rows counted from 0: LUBIKSAN_ACCEPTED or LUBIKSAN_NO_LABEL. Stored are the buffer in
+   which the label lies, LUBIKSAN_IN_NAMES or LUBIKSAN_IN_WORDS, where it starts there, and its length; under LUBIKSAN_NO_LABEL all
+   three are 0. The word list is five words, each ended by a newline byte, and nothing after. */
+uint32_t lubiksan_label(const uint32_t *graph_rows, size_t graph_rows_length, const uint8_t *graph_names,
+                        size_t graph_names_length, const uint8_t *words, size_t words_length, size_t row,
+                        uint32_t *in_words, size_t *start, size_t *length);
 
 #endif

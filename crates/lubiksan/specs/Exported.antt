@@ -1,12 +1,14 @@
--- What the exported calls return, as numbers.
+-- What the exported calls return and store, as numbers.
 --     numberOf, valueOf    a number leaf's number, 0 or 10, and the value lent afterwards; Exported: both
 --     countOf       a writer's answer as a number: the bytes, or the largest u64, which is no length of a slice
---     bitOf         1 for true, 0 for false
+--     LabelStored   a label's number and part: the buffer, 0 the names and 1 the word list, the start there and the length
 use Prim.Native.Nat.{ℕ, _^_, _-_}
 use mathlib.Core.Path.{_≡_}
-use mathlib.Core.Bool.{Bool, true, false}
+use lib.ListN.{length}
 use Rattle.number.specs.Number.{Parsed, parsed, refused}
 use Rattle.names.specs.declared.Written.{Written}
+use Rattle.sheet.specs.Rows.{bit}
+use Rattle.ir_types.specs.Label.{Labelled}
 
 abbrev pub numberOf : Parsed → ℕ
 numberOf (parsed v) = 0
@@ -24,6 +26,8 @@ abbrev pub countOf : Written → ℕ
 countOf (Written.Bytes n) = n
 countOf Written.NoRoom = 2 ^ 64 - 1
 
-abbrev pub bitOf : Bool → ℕ
-bitOf true = 1
-bitOf false = 0
+pub record LabelStored (l : Labelled) (answer buffer start size : ℕ) : Type 0 where
+  pub number : answer ≡ l .number
+  pub inWords : buffer ≡ bit (l .inWords)
+  pub starts : start ≡ l .at
+  pub long : size ≡ length (l .text)

@@ -1,2 +1,2 @@
--- What the exported calls return, as numbers.
+-- What the exported calls return and store, as numbers.
 pub mod Exported

@@ -4,7 +4,7 @@ use Prim.Native.Nat.{ℕ, _+_}
 use mathlib.Core.Path.{_≡_}
 use mathlib.Core.Logic.{_↔_}
 use mathlib.Core.Bool.{Bool, true}
-use mathlib.Core.List.{List, _++_}
+use mathlib.Core.List.{List, _∷_, _++_}
 use mathlib.Core.Option.{some, none}
 use lib.ListN.{length}
 use Rattle.text.specs.Text.{Text, every, join}
@@ -37,10 +37,14 @@ use Rattle.ir_lower.proofs.Laws.Types.{lower-distinct, lower-order, lower-last}
 use Rattle.ir_lower.proofs.Laws.Form.{lowering-form}
 use Rattle.runs.specs.Runs.{Call, Answered, Ran, run}
 use Rattle.runs.specs.Trace.{Trace}
-use Rattle.runs.specs.Cut.{onwardRead, readCut}
+use Rattle.runs.specs.Cut.{onwardRead, readCut, readBehind, isLowering, uncutCalls, cutCalls, CutAlike}
+use Rattle.runs.specs.Joined.{joined, afterRecords}
 use Rattle.runs.proofs.NoTwo.{NoneTwo, no-two}
 use Rattle.runs.proofs.Runs.{runs}
 use Rattle.runs.proofs.Cut.{cut, cut-anywhere}
+use Rattle.runs.proofs.Joined.{last-joined, made-joined}
+use Rattle.runs.proofs.CutCalls.{cut-calls, cut-calls-accepted, cut-calls-refused, cut-made}
+use Rattle.runs.proofs.CutJoined.{joined-cut}
 
 -- "A sheet is good if it has this form, ..": exactly the sheets of proper states
 pub claim-good : (x : Sheet) → words (x .rows) ≡ true → (good x ≡ true) ↔ ((s : State) × (proper s ≡ true) × (stateFits (length (x .rows)) (length (x .names)) s ≡ true) × (sheetOf s (length (x .rows)) (length (x .names)) ≡ x))
@@ -57,9 +61,18 @@ claim-again = sheetOf-stateOf
 pub claim-event : (lent : Lengths) (s : State) (e : Event) (s′ : State) → proper s ≡ true → eventOk e ≡ true → step lent s e ≡ ok s′ → proper s′ ≡ true
 claim-event = step-proper
 
--- "Demand 3 is one claim about the list": the answers of the calls made and the last sheet are the definition's, from every first sheet
+-- "Demand 3 is one claim about the list": the answers of the calls made, a refused event's number in the run among them, and the last sheet are the
+-- definition's, from every first sheet
 pub claim-runs : {x x′ : Sheet} {calls : List Call} {answers : List Answered} → words (x .rows) ≡ true → Trace x calls answers x′ → _≡_ {A = Ran} (record { answers = answers; last = x′ }) (run x calls)
 claim-runs = runs
+
+-- "Events joined are the records so judged." From a good sheet the last sheet is that of the first state after them, one after the other, wherever the
+-- pieces ended: by the definition, and for the calls made
+pub claim-joined : (x : Sheet) (calls : List Call) → goodLengths (lengthsOf x) ≡ true → good x ≡ true → run x calls .last ≡ sheetOf (afterRecords (lengthsOf x) (stateOf x) (joined x calls)) (length (x .rows)) (length (x .names))
+claim-joined = last-joined
+
+pub claim-joined-made : {x x′ : Sheet} {calls : List Call} {answers : List Answered} → words (x .rows) ≡ true → goodLengths (lengthsOf x) ≡ true → good x ≡ true → Trace x calls answers x′ → x′ ≡ sheetOf (afterRecords (lengthsOf x) (stateOf x) (joined x calls)) (length (x .rows)) (length (x .names))
+claim-joined-made = made-joined
 
 -- "From a good sheet no call of the run gives 2."
 pub claim-no-two : (x : Sheet) (calls : List Call) → good x ≡ true → NoneTwo (run x calls .answers)
@@ -77,6 +90,26 @@ claim-cut = cut
 -- the same for any number of pieces, and for a tape that is too long for one reading: however it is cut, the answer is one and the same
 pub claim-cut-anywhere : (x : Sheet) (text : Text) (ms : List (List ℕ)) (last : List ℕ) → words (x .rows) ≡ true → goodLengths (lengthsOf x) ≡ true → good x ≡ true → every (λ (m : List ℕ). tapeLengths (length text) (length m)) ms ≡ true → tapeLengths (length text) (length last) ≡ true → every (wholeRecords text) ms ≡ true → readCut x text ms last ≡ sheetOfReading (lengthsOf x) (readState (lengthsOf x) (stateOf x) text (join ms ++ last))
 claim-cut-anywhere = cut-anywhere
+
+-- the same in any list of calls, with any lowerings between the pieces. A tape that meets no refusal: the last sheet and every other call's answer are the
+-- same. Done again to a piece it gives any number of pieces; the other readings may meet 1 or not
+pub claim-cut-calls : (x : Sheet) (before lowerings behind : List Call) (text : Text) (m₁ m₂ : List ℕ) → goodLengths (lengthsOf x) ≡ true → good x ≡ true → tapeLengths (length text) (length (m₁ ++ m₂)) ≡ true → every isLowering lowerings ≡ true → wholeRecords text m₁ ≡ true → readBehind x before text (m₁ ++ m₂) .answer .number ≡ 0 → CutAlike 0 before lowerings behind (run x (uncutCalls before text m₁ m₂ behind)) (run x (cutCalls before text m₁ lowerings m₂ behind))
+claim-cut-calls = cut-calls-accepted
+
+-- a refusal in the second piece, or none: the same too, with the same refusal and the same number in the run; by the definition, and for the calls made
+pub claim-cut-calls-second : (x : Sheet) (before lowerings behind : List Call) (text : Text) (m₁ m₂ : List ℕ) → goodLengths (lengthsOf x) ≡ true → good x ≡ true → tapeLengths (length text) (length (m₁ ++ m₂)) ≡ true → every isLowering lowerings ≡ true → readBehind x before text m₁ .answer .number ≡ 0 → CutAlike (readBehind x before text (m₁ ++ m₂) .answer .number) before lowerings behind (run x (uncutCalls before text m₁ m₂ behind)) (run x (cutCalls before text m₁ lowerings m₂ behind))
+claim-cut-calls-second = cut-calls
+
+pub claim-cut-calls-made : (x : Sheet) (before lowerings behind : List Call) (text : Text) (m₁ m₂ : List ℕ) {x₁ x₂ : Sheet} {answers₁ answers₂ : List Answered} → words (x .rows) ≡ true → goodLengths (lengthsOf x) ≡ true → good x ≡ true → tapeLengths (length text) (length (m₁ ++ m₂)) ≡ true → every isLowering lowerings ≡ true → readBehind x before text m₁ .answer .number ≡ 0 → Trace x (uncutCalls before text m₁ m₂ behind) answers₁ x₁ → Trace x (cutCalls before text m₁ lowerings m₂ behind) answers₂ x₂ → CutAlike (readBehind x before text (m₁ ++ m₂) .answer .number) before lowerings behind (record { answers = answers₁; last = x₁ }) (record { answers = answers₂; last = x₂ })
+claim-cut-calls-made = cut-made
+
+-- a refusal in the first piece: the tape uncut is that piece alone. "Past it the cut counts, since it decides what is dropped."
+pub claim-cut-calls-first : (x : Sheet) (before behind : List Call) (text : Text) (m₁ m₂ : List ℕ) → goodLengths (lengthsOf x) ≡ true → good x ≡ true → tapeLengths (length text) (length (m₁ ++ m₂)) ≡ true → wholeRecords text m₁ ≡ true → (readBehind x before text m₁ .answer .number ≡ 0 → ⊥) → run x (uncutCalls before text m₁ m₂ behind) ≡ run x (before ++ Call.reading text m₁ ∷ behind)
+claim-cut-calls-first = cut-calls-refused
+
+-- the events joined are the same
+pub claim-joined-cut : (x : Sheet) (before lowerings behind : List Call) (text : Text) (m₁ m₂ : List ℕ) → goodLengths (lengthsOf x) ≡ true → good x ≡ true → tapeLengths (length text) (length (m₁ ++ m₂)) ≡ true → every isLowering lowerings ≡ true → readBehind x before text m₁ .answer .number ≡ 0 → joined x (cutCalls before text m₁ lowerings m₂ behind) ≡ joined x (uncutCalls before text m₁ m₂ behind)
+claim-joined-cut = joined-cut
 
 -- "min 0 and max 1 optional", and nothing else is; "unbounded gives vec", and nothing else does
 pub claim-optional : (min : ℕ) (max : MaxOccurs) → (lowerCardinality min max ≡ Cardinality.optional) ↔ ((min ≡ 0) × (max ≡ MaxOccurs.bounded 1))

@@ -24,7 +24,7 @@ use Rattle.runs.specs.Runs.{Call, Answered, Held, Stepped, hold, runCall
 
 -- the number of an answer
 abbrev pub numberOf : Answered → ℕ
-numberOf (Answered.readAs a) = a .number
+numberOf (Answered.readAs a n) = a .number
 numberOf (Answered.loweredAs l) = l .answer .number
 
 -- each answer of a list is not 2
@@ -64,7 +64,7 @@ lower-not-two lent s graph scratch =
     if-cases (λ (l : Lowered). l .answer .number ≡ 2 → ⊥) (goodLengths (lengthsOf graph)) (λ t. state-not-two s graph scratch) (λ t e. omega arith)
 
 -- a reading on a state leaves a state
-read-holds : (lent : Lengths) (s : State) (text : Text) (marks : List ℕ) → (s′ : State) × (readHeld (Held.holding lent s) text marks .held ≡ Held.holding lent s′)
+pub read-holds : (lent : Lengths) (s : State) (text : Text) (marks : List ℕ) → (s′ : State) × (readHeld (Held.holding lent s) text marks .held ≡ Held.holding lent s′)
 unfolding readHeld heldAfter refusedWith
 read-holds lent s text marks =
     if-cases (λ (st : Stepped). (s′ : State) × (st .held ≡ Held.holding lent s′)) (tapeLengths (length text) (length marks)) (λ t. (readState lent s text marks .state, refl)) (λ t. (s, refl))

@@ -4,7 +4,7 @@ use mathlib.Core.Path.{_≡_, refl, sym, ap, _∙_}
 use mathlib.Core.Bool.{Bool, true, false}
 use mathlib.Core.List.{List, [], _∷_}
 use lib.ListN.{length}
-use Rattle.sheet.specs.Lengths.{lengthsOf, goodLengths}
+use Rattle.sheet.specs.Lengths.{Answer, lengthsOf, goodLengths}
 use Rattle.text.specs.Text.{if_then_else_}
 use Rattle.sheet.specs.Rows.{Sheet}
 use Rattle.sheet.specs.Form.{words}
@@ -12,8 +12,8 @@ use Rattle.xsd_types.specs.Good.{good}
 use Rattle.xsd_types.specs.Back.{stateOf}
 use Rattle.xsd_types.proofs.Laws.StateOf.{sheetOf-stateOf, proper-stateOf, fits-stateOf}
 use Rattle.xsd_parser.specs.Read.{ReadAnswer}
-use Rattle.runs.specs.Trace.{Trace}
-use Rattle.runs.specs.Runs.{Call, Answered, Ran, runCalls, answeredFirst, run, Held, hold}
+use Rattle.runs.specs.Trace.{Trace, eventsDone}
+use Rattle.runs.specs.Runs.{Call, Answered, Ran, numberInRun, runCalls, answeredFirst, run, Held, hold, readHeld}
 use Rattle.runs.proofs.Served.{Served, servedLengths, servedBad, servedState, served-sheet, read-served, lower-served}
 
 -- what a run begins with
@@ -28,16 +28,20 @@ pub hold-served : (x : Sheet) → words (x .rows) ≡ true → Served x (hold x)
 unfolding hold
 hold-served x w = hold-cases x (goodLengths (lengthsOf x)) (good x) w refl refl
 
+-- the answer of a reading as made
+abbrev asMade : Sheet → Answer → Answered
+asMade x a = Answered.readAs a (numberInRun (eventsDone x) a)
+
 -- the calls from a pair on
 pub runs-from : {x x′ : Sheet} {h : Held} {calls : List Call} {answers : List Answered} → Served x h → Trace x calls answers x′ → _≡_ {A = Ran} (record { answers = answers; last = x′ }) (runCalls calls h)
 unfolding runCalls answeredFirst
 runs-from v Trace.done = λ i. record { answers = []; last = sym (served-sheet v) i }
-runs-from {h} v (Trace.readNext {text = text} {marks = marks} {calls = calls} is t) =
+runs-from {x} {h = h} v (Trace.readNext {text = text} {marks = marks} {calls = calls} is t) =
     let k = read-served text marks v in
-    let same-answer = ap (λ (a : ReadAnswer). a .answer) (is ∙ k .answers) in
+    let same-answer = ap (λ (a : ReadAnswer). asMade x (a .answer)) (is ∙ k .answers) ∙ ap (Answered.readAs (readHeld h text marks .answer)) (k .numbers) in
     let same-sheet = ap (λ (a : ReadAnswer). a .sheet) (is ∙ k .answers) in
     let rest = runs-from (rw (sym same-sheet) at (k .serves)) t in
-    λ i. answeredFirst (Answered.readAs (same-answer i)) (rest i)
+    λ i. answeredFirst (same-answer i) (rest i)
 runs-from v (Trace.lowerNext {graph = graph} {scratch = scratch} is t) =
     let rest = runs-from v t in
     λ i. answeredFirst (Answered.loweredAs ((is ∙ lower-served graph scratch v) i)) (rest i)

@@ -5,18 +5,20 @@ use mathlib.Core.Path.{_≡_, refl, sym, ap, _∙_}
 use mathlib.Core.Bool.{Bool, true, false, _&&_}
 use mathlib.Core.List.{List}
 use lib.ListN.{length}
-use Rattle.text.specs.Text.{Text, if_then_else_}
-use Rattle.sheet.specs.Rows.{Sheet}
+use Rattle.text.specs.Text.{Text, if_then_else_, between}
+use Rattle.sheet.specs.Rows.{Sheet, Ten}
 use Rattle.sheet.specs.Lengths.{tapeLengths, Answer, Lengths, lengthsOf, goodLengths}
 use Rattle.xsd_types.specs.State.{State, proper}
+use Rattle.xsd_types.specs.Rows.{row0}
 use Rattle.xsd_types.specs.Sheet.{sheetOf, stateFits}
 use Rattle.xsd_types.specs.Good.{good}
 use Rattle.xsd_types.specs.Back.{stateOf}
-use Rattle.xsd_types.proofs.Laws.SheetOf.{good-sheetOf, stateOf-sheetOf, length-sheetOf}
+use Rattle.xsd_types.proofs.Laws.SheetOf.{row0-made, good-sheetOf, stateOf-sheetOf, length-sheetOf}
 use Rattle.xsd_parser.specs.Read.{ReadAnswer, readState, read, refusedAt, sheetOfReading}
 use Rattle.xsd_parser.proofs.Laws.Reads.{readState-proper, readState-fits}
 use Rattle.ir_lower.specs.Call.{Lowered, unchanged, lowerState, lowering}
-use Rattle.runs.specs.Runs.{Held, sheetHeld, Stepped, refusedWith, heldAfter, readHeld, lowerHeld}
+use Rattle.runs.specs.Runs.{numberInRun, Held, sheetHeld, Stepped, refusedWith, heldAfter, readHeld, lowerHeld}
+use Rattle.runs.specs.Trace.{eventsDone}
 
 pub data Served : Sheet → Held → Type 0 where
   servedLengths : {x : Sheet} → goodLengths (lengthsOf x) ≡ false → Served x (Held.badLengths x)
@@ -49,26 +51,36 @@ unfolding lowering
 lower-state lent s graph scratch l p f =
     rw (ap goodLengths (lengthsOf-sheetOf s lent f) ∙ l, good-sheetOf s (lent .rows) (lent .names) p f, stateOf-sheetOf s (lent .rows) (lent .names) p f)
 
--- what a step leaves: the definition's answer, and a pair again
-pub record Kept (a : ReadAnswer) (st : Stepped) : Type 0 where
+-- the events done in the sheet of a state
+eventsDone-sheetOf : (lent : Lengths) (s : State) → eventsDone (sheetOf s (lent .rows) (lent .names)) ≡ s .events
+unfolding eventsDone row0
+eventsDone-sheetOf lent s = ap (λ (t : Ten). t .len2) (row0-made s (lent .rows) (lent .names))
+
+-- what a step leaves: the definition's answer, the refused event's number in the run, and a pair again
+pub record Kept (x : Sheet) (a : ReadAnswer) (st : Stepped) : Type 0 where
   pub answers : a ≡ record { answer = st .answer; sheet = sheetHeld (st .held) }
+  pub numbers : numberInRun (eventsDone x) (st .answer) ≡ st .inRun
   pub serves : Served (sheetHeld (st .held)) (st .held)
 
-kept-bad : (x : Sheet) (t : Bool) → goodLengths (lengthsOf x) ≡ true → good x ≡ false → Kept (if t then refusedAt 2 x else refusedAt 1 x) (refusedWith (if t then 2 else 1) (Held.notGood x))
-unfolding refusedAt refusedWith sheetHeld
-kept-bad x true l g = record { answers = refl; serves = servedBad l g }
-kept-bad x false l g = record { answers = refl; serves = servedBad l g }
+kept-bad : (x : Sheet) (t : Bool) → goodLengths (lengthsOf x) ≡ true → good x ≡ false → Kept x (if t then refusedAt 2 x else refusedAt 1 x) (refusedWith (if t then 2 else 1) (Held.notGood x))
+unfolding refusedAt refusedWith sheetHeld numberInRun between
+kept-bad x true l g = record { answers = refl; numbers = refl; serves = servedBad l g }
+kept-bad x false l g = record { answers = refl; numbers = refl; serves = servedBad l g }
 
-kept-state : (lent : Lengths) (s : State) (text : Text) (marks : List ℕ) (t : Bool) → goodLengths lent ≡ true → proper s ≡ true → stateFits (lent .rows) (lent .names) s ≡ true → Kept (if t then sheetOfReading lent (readState lent s text marks) else refusedAt 1 (sheetOf s (lent .rows) (lent .names))) (if t then heldAfter lent (readState lent s text marks) else refusedWith 1 (Held.holding lent s))
-unfolding refusedAt refusedWith heldAfter sheetOfReading sheetHeld
+kept-state : (lent : Lengths) (s : State) (text : Text) (marks : List ℕ) (t : Bool) → goodLengths lent ≡ true → proper s ≡ true → stateFits (lent .rows) (lent .names) s ≡ true → Kept (sheetOf s (lent .rows) (lent .names)) (if t then sheetOfReading lent (readState lent s text marks) else refusedAt 1 (sheetOf s (lent .rows) (lent .names))) (if t then heldAfter lent s (readState lent s text marks) else refusedWith 1 (Held.holding lent s))
+unfolding refusedAt refusedWith heldAfter sheetOfReading sheetHeld numberInRun between
 kept-state lent s text marks true l p f =
-    record { answers = refl; serves = servedState refl l (readState-proper lent s text marks p) (readState-fits lent s text marks f) }
-kept-state lent s text marks false l p f = record { answers = refl; serves = servedState refl l p f }
+    record {
+      answers = refl;
+      numbers = ap (λ (n : ℕ). numberInRun n (readState lent s text marks .answer)) (eventsDone-sheetOf lent s);
+      serves = servedState refl l (readState-proper lent s text marks p) (readState-fits lent s text marks f);
+    }
+kept-state lent s text marks false l p f = record { answers = refl; numbers = refl; serves = servedState refl l p f }
 
-pub read-served : {x : Sheet} {h : Held} (text : Text) (marks : List ℕ) → Served x h → Kept (read x text marks) (readHeld h text marks)
-unfolding read readHeld refusedAt refusedWith sheetHeld
+pub read-served : {x : Sheet} {h : Held} (text : Text) (marks : List ℕ) → Served x h → Kept x (read x text marks) (readHeld h text marks)
+unfolding read readHeld refusedAt refusedWith sheetHeld numberInRun between
 read-served {x} text marks (servedLengths l) =
-    rw l (record { answers = refl; serves = servedLengths l })
+    rw l (record { answers = refl; numbers = refl; serves = servedLengths l })
 read-served {x} text marks (servedBad l g) = rw (l, g) (kept-bad x (tapeLengths (length text) (length marks)) l g)
 read-served {x} text marks (servedState {lent = lent} {s = s} e l p f) =
     rw (e, read-state lent s text marks l p f) (kept-state lent s text marks (tapeLengths (length text) (length marks)) l p f)

@@ -82,6 +82,11 @@ specimens =
     ∷ parse 64 "+" (refused 10)
     ∷ parse 64 "-0" (refused 10)
     ∷ parse 64 " 7" (refused 10)
+    -- "For u32, 4294967295 passes and 4294967296 gives 10." For u64 both are within the width
+    ∷ parse 32 "4294967295" (parsed 4294967295)
+    ∷ parse 32 "4294967296" (refused 10)
+    ∷ parse 64 "4294967295" (parsed 4294967295)
+    ∷ parse 64 "4294967296" (parsed 4294967296)
     ∷ []
 
 pub all-hold : every holds specimens ≡ true

@@ -12,7 +12,7 @@ pub fn wide(x: u32) -> usize
 }
 
 // The first bytes behind an offset, as many as asked for and as there are.
-fn part_of(text: &[u8], offset: usize, size: usize) -> &[u8]
+pub fn part_of(text: &[u8], offset: usize, size: usize) -> &[u8]
     ensures { λ r. ⌜ now r ≡ take size (drop offset (now (text .entry))) ⌝ }
 {
     let n = text.len();

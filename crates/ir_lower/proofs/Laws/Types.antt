@@ -9,11 +9,11 @@ use native.Mathlib.Omega.{arith}
 use Rattle.text.specs.Text.{Text, if_then_else_}
 use Rattle.names.specs.Names.{normalizeTypeName}
 use Rattle.builtin.specs.Builtin.{RustType, mapBuiltin}
-use Rattle.xsd_types.specs.Types.{SimpleType, ComplexContent, ComplexType, Schema, simpleTypes, complexTypes}
+use Rattle.xsd_types.specs.Types.{SimpleType, ComplexContent, ComplexType, Schema, elements, simpleTypes, complexTypes}
 use Rattle.ir_types.specs.Types.{TypeDef, TypeGraph, nameOf, insert}
 use Rattle.ir_types.specs.Distinct.{typeNames, distinctTexts, distinct, find, lastOf, firsts, insertAll}
 use Rattle.ir_types.proofs.Laws.Order.{insertAll-distinct, insertAll-firsts, find-last}
-use Rattle.ir_lower.specs.Lower.{allEnums, codes, lowerNewtype, lowerSimpleType, lowerContent, lowerComplexType, lowerSimpleTypes, lowerComplexTypes, graphOf, lower}
+use Rattle.ir_lower.specs.Lower.{allEnums, codes, lowerNewtype, lowerSimpleType, lowerContent, lowerComplexType, lowerSimpleTypes, lowerComplexTypes, rootOf, graphOf, lower}
 use Rattle.ir_lower.specs.Finished.{withDefinition, simpleDefinitions, finishedDefinitions, simpleName, complexName, finishedNames}
 
 -- ---- lowering inserts the definitions one after the other
@@ -48,6 +48,15 @@ lower-some s g e = go (lowerSimpleTypes (simpleTypes (s .items)) []) refl e
     go none k h = let z : _≡_ {A = ℕ} 0 1 = cc in absurd (omega arith)
     go (some types) k h = (types, k, cc)
 
+-- the namespace and the root elements of a lowered graph
+pub lower-namespace : (s : Schema) (g : TypeGraph) → lower s ≡ some g → g .namespace ≡ s .targetNamespace
+unfolding graphOf
+lower-namespace s g e = ap (λ (x : TypeGraph). x .namespace) (sym (lower-some s g e .2))
+
+pub lower-roots : (s : Schema) (g : TypeGraph) → lower s ≡ some g → g .rootElements ≡ map rootOf (elements (s .items))
+unfolding graphOf
+lower-roots s g e = ap (λ (x : TypeGraph). x .rootElements) (sym (lower-some s g e .2))
+
 graphOf-inserts : (s : Schema) (types : List TypeDef) → lowerSimpleTypes (simpleTypes (s .items)) [] ≡ some types → graphOf s types .types ≡ insertAll (finishedDefinitions s) []
 unfolding graphOf finishedDefinitions
 graphOf-inserts s types k =
@@ -74,7 +83,7 @@ unfolding lowerNewtype simpleName nameOf
 newtype-name t none d e = let z : _≡_ {A = ℕ} 0 1 = cc in absurd (omega arith)
 newtype-name t (some inner) d e = let q = Option·some-injective _ _ e in rw (← q)
 
-simple-name : (t : SimpleType) (d : TypeDef) → lowerSimpleType t ≡ some d → nameOf d ≡ simpleName t
+pub simple-name : (t : SimpleType) (d : TypeDef) → lowerSimpleType t ≡ some d → nameOf d ≡ simpleName t
 unfolding lowerSimpleType simpleName nameOf
 simple-name t d e =
     (elim (allEnums (t .facets))
@@ -83,7 +92,7 @@ simple-name t d e =
       | false ↦ λ k. newtype-name t (mapBuiltin (t .base)) d k
     ]) e
 
-content-name : (n : Text) (c : ComplexContent) → nameOf (lowerContent n c) ≡ n
+pub content-name : (n : Text) (c : ComplexContent) → nameOf (lowerContent n c) ≡ n
 unfolding nameOf lowerContent
 content-name n (ComplexContent.sequence es) = refl
 content-name n (ComplexContent.choice vs) = refl

@@ -1,0 +1,107 @@
+-- `ir_call::write_graph` meets its contract: the kept places are indexed, the graph's rows are added to a sheet of zeros, and row 0 is set. Assumes nothing.
+use mathlib.Core.Path.{ap, _∙_}
+use native.Mathlib.Omega.{arith}
+use borrow.Author.Needs.{needs}
+use Rattle.ir_rows.specs.Types.{graphRows}
+use Rattle.ir_append.proofs.Laws.Grows.{grown-of, short-of}
+use Rattle.ir_call.proofs.Laws.Few.{roots-few, kept-twice, kept-below}
+use Rattle.ir_call.proofs.Laws.Graph.{first-room, graph-short, graph-stands}
+use Rattle.ir_call.proofs.write_graph.Statement.{statement}
+use Rattle.ir_call.proofs.write_graph.Tie as tie
+
+index-types-requires : tie.Need-index-types-requires
+index-types-requires c κs = search needs
+
+put-graph-requires : tie.Need-put-graph-requires
+put-graph-requires c κs =
+    let index = c .before .before .before .before .before in
+    let start = index .before .before .before .before .before .before .before in
+    let a = start .args in
+    let i = index .index-types .ensures in
+    ((first-room (start .pre .1), search needs, search needs), (i .inside, rw (i .places) (kept-below (a .rows .now) (a .names .now) (a .end))))
+
+enum-known-grown : tie.Need-enum-known-grown
+enum-known-grown c = search needs
+
+enum-told : tie.Need-enum-told
+enum-told c = search needs
+
+same-length : tie.Need-same-length
+same-length c = search needs
+
+same-length-2 : tie.Need-same-length-2
+same-length-2 c = search needs
+
+same-length-3 : tie.Need-same-length-3
+same-length-3 c = search needs
+
+returns : tie.Need-returns
+returns c =
+    let put = c .before .before .before .before .before .before in
+    let index = put .before .before .before .before .before .before in
+    let start = index .before .before .before .before .before .before .before in
+    let a = start .args in
+    let i = index .index-types .ensures in
+    λ g o. graph-short g (start .pre .1) (ap (graphRows (a .rows .now) (a .names .now) (a .end)) (i .places) ∙ o .rowsAre) (short-of _ _ _ _ _ _ _ (put .put-graph .ensures) (c .enum-told .given .1))
+
+count-roots-requires : tie.Need-count-roots-requires
+count-roots-requires c κs = search needs
+
+row0-of-requires : tie.Need-row0-of-requires
+row0-of-requires c κs =
+    let put = c .before .before .before .before .before .before .before .before in
+    let index = put .before .before .before .before .before .before in
+    let start = index .before .before .before .before .before .before .before in
+    let a = start .args in
+    let i = index .index-types .ensures in
+    let g = grown-of _ _ _ _ _ _ _ (put .put-graph .ensures) (c .before .before .grown .given .1) in
+    let f = start .pre .0 in (
+      omega (arith, g .rowsInside, g .rowsLength, start .pre .1 .fewRows),
+      omega (arith, g .namesInside, g .namesLength, start .pre .1 .fewNames),
+      omega (arith, c .count-roots .ensures (a .names .now), roots-few (a .rows .now) (a .names .now) (a .end), f .inside, f .few),
+      omega (arith, i .count, kept-twice (a .rows .now) (a .names .now) (a .end), f .inside, f .few),
+    )
+
+put-row0-requires : tie.Need-put-row0-requires
+put-row0-requires c κs = search needs
+
+same-length-4 : tie.Need-same-length-4
+same-length-4 c = search needs
+
+same-length-5 : tie.Need-same-length-5
+same-length-5 c = search needs
+
+same-length-6 : tie.Need-same-length-6
+same-length-6 c = search needs
+
+returns-2 : tie.Need-returns-2
+returns-2 c =
+    let set = c .before .before in
+    let roots = set .before .before .before in
+    let put = roots .before .before .before .before .before .before .before .before in
+    let index = put .before .before .before .before .before .before in
+    let start = index .before .before .before .before .before .before .before in
+    let a = start .args in
+    let i = index .index-types .ensures in
+    λ g o. graph-stands g (start .pre .1) (ap (graphRows (a .rows .now) (a .names .now) (a .end)) (i .places) ∙ o .rowsAre) (grown-of _ _ _ _ _ _ _ (put .put-graph .ensures) (roots .before .before .grown .given .1))
+    (roots .count-roots .ensures (a .names .now) ∙ o .roots) (i .count ∙ o .types) (set .before .before .row0-of .ensures) (set .put-row0 .ensures)
+
+pub write-graph-spec : {M : Type 1} → statement M
+write-graph-spec =
+    tie.close
+    (tie.spec
+    index-types-requires
+    put-graph-requires
+    enum-known-grown
+    enum-told
+    same-length
+    same-length-2
+    same-length-3
+    returns
+    count-roots-requires
+    row0-of-requires
+    put-row0-requires
+    same-length-4
+    same-length-5
+    same-length-6
+    returns-2)

@@ -1,0 +1,89 @@
+-- The steps of a lowering.
+--     lowered       what a lowering leaves, as one value
+--     Finished      a schema sheet whose finished items' rows end at `end`, and scratch enough for its types
+--     Cleared       a graph sheet of zeros, of lengths that the paper allows
+--     GraphOf       the rows of a schema sheet up to `end` are lowered to the graph g
+--     row0Of        row 0 of a graph, as numbers
+--     GraphWritten  the graph g written into a sheet of zeros, or that it has no room
+use Prim.Native.Nat.{ℕ, _*_, _%_, _≤_}
+use mathlib.Core.Path.{_≡_}
+use mathlib.Core.Bool.{Bool, true, false}
+use mathlib.Core.Option.{none, some}
+use mathlib.Core.List.{List, [], _∷_, map}
+use lib.ListN.{length, take}
+use Rattle.sheet.specs.Rows.{Sheet}
+use Rattle.sheet.specs.Calls.{sheet, answered}
+use Rattle.xsd_numbers.specs.declared.Used.{Used}
+use Rattle.ir_types.specs.Types.{TypeGraph}
+use Rattle.ir_types.specs.Rows.{rowsOf, rowsUsed}
+use Rattle.ir_types.specs.Sheet.{graphFits, graphSheet}
+use Rattle.text.specs.Text.{if_then_else_}
+use Rattle.xsd_types.specs.State.{State}
+use Rattle.xsd_types.specs.Good.{good}
+use Rattle.ir_lower.specs.Lower.{lower, unknownRow}
+use Rattle.ir_lower.specs.Call.{Lowered, zeros, cleared, written}
+use Rattle.ir_rows.specs.Places.{rowsFrom}
+use Rattle.ir_rows.specs.Lowered.{rootRows, unknownPlace}
+use Rattle.ir_rows.specs.Types.{typePlaces, keptPlaces, graphRows}
+use Rattle.ir_append.specs.declared.Grown.{Grown}
+
+-- the lengths of a graph sheet's buffers are as the paper has them
+pub record Lent (rows names : List ℕ) : Type 0 where
+  pub someRows : 20 ≤ length rows
+  pub fewRows : length rows ≤ 40960
+  pub fewNames : length names ≤ 65536
+
+-- a good sheet, whose rows are no longer than the paper has it
+pub record GoodSheet (rows names : List ℕ) : Type 0 where
+  pub isGood : good (sheet rows names) ≡ true
+  pub fewRows : length rows ≤ 40960
+
+-- "12, 13, 15": a lowering with scratch enough
+unfoldable pub rootSeenLowered : State → Sheet → List ℕ → Lowered
+rootSeenLowered s graph scratch =
+    if s .reader .rootSeen
+    then elim (lower (s .reader .schema)) [
+      | none ↦ cleared 13 (unknownRow 2 (s .reader .schema .items)) graph scratch
+      | some g ↦ written g graph scratch
+    ]
+    else cleared 12 0 graph scratch
+
+abbrev pub lowered : ℕ → ℕ → List ℕ → List ℕ → List ℕ → Lowered
+lowered number place rows names scratch = record { answer = answered number place; graph = sheet rows names; scratch = scratch }
+
+pub record Finished (rows names : List ℕ) (end : ℕ) (scratch : List ℕ) : Type 0 where
+  pub atLeast : 2 ≤ end
+  pub inside : 10 * end ≤ length rows
+  pub few : length rows ≤ 40960
+  pub enough : length (typePlaces 2 (rowsFrom rows names 2 end)) ≤ length scratch
+
+pub record Cleared (rows names : List ℕ) : Type 0 where
+  pub rowsZero : rows ≡ zeros rows
+  pub namesZero : names ≡ zeros names
+  pub someRows : 20 ≤ length rows
+  pub fewRows : length rows ≤ 40960
+  pub fewNames : length names ≤ 65536
+
+pub record GraphOf (rows names : List ℕ) (end : ℕ) (g : TypeGraph) : Type 0 where
+  pub rowsAre : graphRows rows names end (keptPlaces rows names end) ≡ rowsOf g
+  pub roots : length (rootRows (rowsFrom rows names 2 end)) ≡ length (g .rootElements)
+  pub types : length (keptPlaces rows names end) ≡ length (g .types)
+
+abbrev pub row0Of : Used → ℕ → ℕ → List ℕ
+row0Of used roots types = 0 ∷ used .rows ∷ used .names ∷ roots ∷ types ∷ 0 ∷ 0 ∷ 0 ∷ 0 ∷ 0 ∷ []
+
+-- the rows up to `end` are the finished items of the state
+pub record Lowers (rows names : List ℕ) (end : ℕ) (rootSeen : Bool) (s : State) : Type 0 where
+  pub root : rootSeen ≡ s .reader .rootSeen
+  pub place : unknownPlace 2 (rowsFrom rows names 2 end) ≡ unknownRow 2 (s .reader .schema .items)
+  pub refuses : lower (s .reader .schema) ≡ none → 1 ≤ unknownPlace 2 (rowsFrom rows names 2 end)
+  pub lowers : (g : TypeGraph) → lower (s .reader .schema) ≡ some g → (unknownPlace 2 (rowsFrom rows names 2 end) ≡ 0) × GraphOf rows names end g
+
+pub record GraphStands (g : TypeGraph) (rows names rows′ names′ : List ℕ) (used : Used) : Type 0 where
+  pub fits : graphFits (length rows) (length names) g ≡ true
+  pub place : used .rows ≡ rowsUsed g
+  pub graph : sheet rows′ names′ ≡ graphSheet g (length rows) (length names)
+
+abbrev pub GraphWritten : TypeGraph → List ℕ → List ℕ → Grown → List ℕ → List ℕ → Type 0
+GraphWritten g rows names (Grown.To used) rows′ names′ = GraphStands g rows names rows′ names′ used
+GraphWritten g rows names Grown.Full rows′ names′ = graphFits (length rows) (length names) g ≡ false

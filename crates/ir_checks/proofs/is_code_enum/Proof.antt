@@ -1,0 +1,50 @@
+-- `ir_checks::is_code_enum` meets its contract: there is a first row, it is an enumeration, and the facets behind it are. Assumes nothing.
+use mathlib.Core.Path.{sym, _∙_}
+use native.Mathlib.Omega.{arith}
+use Rattle.ir_checks.proofs.Laws.Codes.{enum-none, enum-at, enum-not-at}
+use borrow.Author.Needs.{needs}
+use Rattle.ir_checks.proofs.is_code_enum.Statement.{statement}
+use Rattle.ir_checks.proofs.is_code_enum.Tie as tie
+
+returns : tie.Need-returns
+returns c =
+    let args = c .before .before .args in
+    λ names. sym (enum-none (args .rows .now) names (args .from) (args .end) (c .if1 .taken))
+
+mul-if2 : tie.Need-mul-if2
+mul-if2 c = search needs
+
+mul-if2-2 : tie.Need-mul-if2-2
+mul-if2-2 c = search needs
+
+shared-slice-read-if2 : tie.Need-shared-slice-read-if2
+shared-slice-read-if2 c = search needs
+
+returns-2 : tie.Need-returns-2
+returns-2 c =
+    let args = c .before .before .before .before .args in
+    λ names. sym (enum-not-at (args .rows .now) names (args .from) (args .end) (omega arith) (c .if2 .taken))
+
+add-only-codes : tie.Need-add-only-codes
+add-only-codes c = search needs
+
+only-codes-requires : tie.Need-only-codes-requires
+only-codes-requires c κs = search needs
+
+returns-3 : tie.Need-returns-3
+returns-3 c =
+    let args = c .before .before .before .before .before .args in
+    λ names. c .only-codes .ensures names ∙ enum-at (args .rows .now) names (args .from) (args .end) (omega arith) (c .before .if2 .left)
+
+pub is-code-enum-spec : {M : Type 1} → statement M
+is-code-enum-spec =
+    tie.close
+    (tie.spec
+    returns
+    mul-if2
+    mul-if2-2
+    shared-slice-read-if2
+    returns-2
+    add-only-codes
+    only-codes-requires
+    returns-3)

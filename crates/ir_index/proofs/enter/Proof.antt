@@ -1,0 +1,121 @@
+-- `ir_index::enter` meets its contract: the entry goes where `spot_of` says, over that of its name or behind the others, and its flag is set.
+-- Assumes nothing.
+use mathlib.Core.Path.{_≡_, sym, ap, _∙_}
+use native.Mathlib.Omega.{arith}
+use Rattle.text.specs.Text.{Text}
+use Rattle.names.specs.Names.{normalizeTypeName}
+use Rattle.ir_rows.specs.Places.{nameAt}
+use Rattle.ir_index.specs.Prints.{fingerprint}
+use Rattle.ir_index.proofs.Laws.Heads.{name-at}
+use Rattle.ir_index.proofs.Laws.Entries.{Putting, put-print, put-place, put-within, put-new, put-over}
+use borrow.Author.Needs.{needs}
+use Rattle.ir_index.proofs.enter.Statement.{statement}
+use Rattle.ir_index.proofs.enter.Tie as tie
+
+-- the function's entry, from behind the fingerprint
+abbrev atEntry : tie.After-print-of → tie.Start
+atEntry c = c .before .before .before .before .before .before
+
+-- the fingerprint is that of the head's name
+print-is : (c : tie.After-print-of) → c .print-of .result ≡ fingerprint (nameAt (atEntry c .args .rows .now) (atEntry c .args .names .now) (atEntry c .args .place))
+print-is c =
+    let start = atEntry c in
+    let a = start .args in
+    c .print-of .ensures ∙ ap (λ (s : Text). fingerprint (normalizeTypeName s)) (c .before .name-at .ensures)
+    ∙ ap fingerprint (sym (name-at (a .rows .now) (a .names .now) (a .place) (start .pre .1 .0 .isHead)))
+
+-- behind the fingerprint, from behind the spot
+abbrev printed : tie.After-wide → tie.After-print-of
+printed c = c .before .before .before .before
+
+abbrev PuttingAt : tie.After-wide → Type 0
+PuttingAt c =
+    let a = atEntry (printed c) .args in
+    Putting (a .rows .now) (a .names .now) (a .scratch .now) (a .n) (a .flags .now) (a .place) (printed c .print-of .result) (c .before .spot-of .result)
+
+putting : (c : tie.After-wide) → PuttingAt c
+putting c =
+    let start = atEntry (printed c) in
+    record {
+      known = start .pre .0;
+      head = start .pre .1 .0;
+      small = start .pre .1 .1 .0;
+      room = start .pre .1 .1 .1;
+      print = print-is (printed c);
+      spot = c .before .spot-of .ensures;
+    }
+
+name-at-requires : tie.Need-name-at-requires
+name-at-requires c κs = search needs
+
+print-of-requires : tie.Need-print-of-requires
+print-of-requires c κs = search needs
+
+spot-of-requires : tie.Need-spot-of-requires
+spot-of-requires c κs =
+    let start = atEntry (c .before .before) in
+    (start .pre .0, (start .pre .1 .0, print-is (c .before .before)))
+
+wide-requires : tie.Need-wide-requires
+wide-requires c κs = search needs
+
+cast-scratch : tie.Need-cast-scratch
+cast-scratch c = search needs
+
+mul-scratch : tie.Need-mul-scratch
+mul-scratch c = omega (arith, put-print (putting c))
+
+add-scratch : tie.Need-add-scratch
+add-scratch c = omega (arith, put-print (putting c), put-place (putting c))
+
+mul-scratch-2 : tie.Need-mul-scratch-2
+mul-scratch-2 c = omega (arith, put-within (putting c), putting c .room, atEntry (printed c) .good)
+
+slice-write-scratch : tie.Need-slice-write-scratch
+slice-write-scratch c = omega (arith, put-within (putting c), putting c .room)
+
+slice-write-flags : tie.Need-slice-write-flags
+slice-write-flags c = omega (arith, put-print (putting c), putting c .known .flagged .all)
+
+add-result : tie.Need-add-result
+add-result c = search needs
+
+same-length : tie.Need-same-length
+same-length c = search needs
+
+same-length-2 : tie.Need-same-length-2
+same-length-2 c = search needs
+
+returns : tie.Need-returns
+returns c = rw (c .before .wide .ensures) (put-new (putting (c .before)) (c .if1 .taken))
+
+same-length-3 : tie.Need-same-length-3
+same-length-3 c = search needs
+
+same-length-4 : tie.Need-same-length-4
+same-length-4 c = search needs
+
+returns-2 : tie.Need-returns-2
+returns-2 c = rw (c .before .wide .ensures) (put-over (putting (c .before)) (c .if1 .left))
+
+pub enter-spec : {M : Type 1} → statement M
+enter-spec =
+    tie.close
+    (tie.spec
+    name-at-requires
+    print-of-requires
+    spot-of-requires
+    wide-requires
+    cast-scratch
+    mul-scratch
+    add-scratch
+    mul-scratch-2
+    slice-write-scratch
+    slice-write-flags
+    add-result
+    same-length
+    same-length-2
+    returns
+    same-length-3
+    same-length-4
+    returns-2)

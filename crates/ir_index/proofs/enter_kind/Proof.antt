@@ -1,0 +1,88 @@
+-- `ir_index::enter_kind` meets its contract. The loop's invariant: what is left to put in, put into what is stored, gives what all gives, and has
+-- room. The measure is how many rows are left. Assumes nothing.
+use Prim.Native.Nat.{_*_, _-_}
+use mathlib.Core.Path.{_≡_, refl, sym, _∙_}
+use mathlib.Core.Logic.{⊎-elim}
+use native.Mathlib.Omega.{arith}
+use lib.ListN.{length, getD}
+use mathlib.Core.Bool.{true}
+use Rattle.ir_index.specs.Entries.{isKind, HeadAt}
+use Rattle.ir_index.proofs.Laws.Heads.{kind-type}
+use Rattle.ir_index.proofs.Laws.Walk.{Walking, walk-start, walk-room, walk-in, walk-on, walk-end}
+use Rattle.ir_index.proofs.enter_kind.Statement.{statement}
+use Rattle.ir_index.proofs.enter_kind.Tie as tie
+
+abbrev Inv-loop : tie.InvT-loop
+Inv-loop rows names end complex scratch₀ n flags₀ count₀ place₀ scratch flags count place =
+    (length scratch ≡ length scratch₀) × (length flags ≡ length flags₀) × Walking rows names end complex scratch₀ n scratch count flags place
+
+abbrev μ-loop : tie.MeasureT-loop
+μ-loop rows names end complex scratch₀ n flags₀ count₀ place₀ scratch flags count place = end - place
+
+loop-holds : tie.Need-loop-holds Inv-loop μ-loop
+loop-holds c = (refl, refl, walk-start _ _ (c .before .before .before .before .pre .0))
+
+mul-is-kind : tie.Need-mul-is-kind Inv-loop μ-loop
+mul-is-kind c = omega arith
+
+mul-is-kind-2 : tie.Need-mul-is-kind-2 Inv-loop μ-loop
+mul-is-kind-2 c = omega arith
+
+shared-slice-read-is-kind : tie.Need-shared-slice-read-is-kind Inv-loop μ-loop
+shared-slice-read-is-kind c = omega arith
+
+is-kind-requires : tie.Need-is-kind-requires Inv-loop μ-loop
+is-kind-requires c κs = tt
+
+enter-requires : tie.Need-enter-requires Inv-loop μ-loop
+enter-requires c κs =
+    let at = c .before .before .before .before .before .before in
+    let start = at .before .before .before .before .before in
+    let w = at .loop .inv .2 in
+    let e : isKind (start .args .complex) (getD (start .args .rows .now) (10 * at .loop .place) 0) ≡ true = sym (c .before .before .before .is-kind .ensures) ∙ c .before .before .if1 .taken in
+    let room = walk-room w (c .before .before .before .before .before .loop-test .taken) e in
+    let head : HeadAt (start .args .rows .now) (at .loop .place) = record { inside = omega (arith, start .pre .1 .0, c .before .before .before .before .before .loop-test .taken); isHead = kind-type (start .args .complex) _ e } in
+    (w .known, (head, (start .pre .1 .1, omega (arith, room, start .pre .1 .2, at .loop .inv .0))))
+
+add-place : tie.Need-add-place Inv-loop μ-loop
+add-place c = omega arith
+
+loop-less : tie.Need-loop-less Inv-loop μ-loop
+loop-less c = omega arith
+
+loop-again : tie.Need-loop-again Inv-loop μ-loop
+loop-again c =
+    let at = c .before .before .before .before in
+    let w = at .loop .inv .2 in
+    ⊎-elim
+    (λ v. rw (v .8, v .9, v .10) (v .3 .kept .1 .1 .1 .0 ∙ at .loop .inv .0, v .3 .kept .1 .1 .1 .1 .1 .0 ∙ at .loop .inv .1, walk-in w (omega arith) (sym (c .before .is-kind .ensures) ∙ v .0 .taken) (v .3 .ensures)))
+    (λ v. rw (v .1, v .2, v .3) (at .loop .inv .0, at .loop .inv .1, walk-on w (omega arith) (sym (c .before .is-kind .ensures) ∙ v .0 .left)))
+    (c .if1 .came)
+
+same-length : tie.Need-same-length Inv-loop μ-loop
+same-length c = c .before .loop .inv .0
+
+same-length-2 : tie.Need-same-length-2 Inv-loop μ-loop
+same-length-2 c = c .before .loop .inv .1
+
+returns : tie.Need-returns Inv-loop μ-loop
+returns c = walk-end (c .before .loop .inv .2) (c .loop-test .left)
+
+pub enter-kind-spec : {M : Type 1} → statement M
+enter-kind-spec =
+    tie.close
+    (tie.spec
+    Inv-loop
+    μ-loop
+    loop-holds
+    mul-is-kind
+    mul-is-kind-2
+    shared-slice-read-is-kind
+    is-kind-requires
+    enter-requires
+    add-place
+    loop-less
+    loop-again
+    same-length
+    same-length-2
+    returns)

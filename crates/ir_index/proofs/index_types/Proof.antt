@@ -1,0 +1,48 @@
+-- `ir_index::index_types` meets its contract: from no entries and no flags, the simple types are put in and then the complex ones. Assumes nothing.
+use native.Mathlib.Omega.{arith}
+use Rattle.ir_index.proofs.Laws.Entries.{known-none}
+use Rattle.ir_index.proofs.Laws.Walk.{types-length, both-kinds}
+use borrow.Author.Needs.{needs}
+use Rattle.ir_index.proofs.index_types.Statement.{statement}
+use Rattle.ir_index.proofs.index_types.Tie as tie
+
+slice-aggregate-enter-kind : tie.Need-slice-aggregate-enter-kind
+slice-aggregate-enter-kind c = search needs
+
+enter-kind-requires : tie.Need-enter-kind-requires
+enter-kind-requires c κs =
+    let start = c .before .before .before .before .before in
+    let a = start .args in
+    (known-none (a .rows .now) (a .names .now) (a .scratch .now) 65536 (omega arith), (start .pre .1, start .pre .2, omega (arith, start .pre .3, types-length (a .rows .now) (a .names .now) (a .end))))
+
+slice-aggregate-enter-kind-2 : tie.Need-slice-aggregate-enter-kind-2
+slice-aggregate-enter-kind-2 c = search needs
+
+enter-kind-requires-2 : tie.Need-enter-kind-requires-2
+enter-kind-requires-2 c κs =
+    let first = c .before .before .before .before .before in
+    let start = first .before .before .before .before .before .before in
+    let a = start .args in
+    let g = first .enter-kind .ensures in
+    (g .known, (start .pre .1, start .pre .2, omega (arith, start .pre .3, types-length (a .rows .now) (a .names .now) (a .end), g .room, first .enter-kind .kept .1 .1 .1 .1 .0)))
+
+same-length : tie.Need-same-length
+same-length c = search needs
+
+returns : tie.Need-returns
+returns c =
+    let second = c .before .before .before in
+    let first = second .before .before .before .before .before .before in
+    let start = first .before .before .before .before .before .before in
+    both-kinds (start .args .end) (first .enter-kind .ensures) (second .enter-kind2 .ensures)
+
+pub index-types-spec : {M : Type 1} → statement M
+index-types-spec =
+    tie.close
+    (tie.spec
+    slice-aggregate-enter-kind
+    enter-kind-requires
+    slice-aggregate-enter-kind-2
+    enter-kind-requires-2
+    same-length
+    returns)

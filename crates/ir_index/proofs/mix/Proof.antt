@@ -1,0 +1,19 @@
+-- `ir_index::mix` meets its contract: the sum fits, and is the definition's. Assumes nothing.
+use mathlib.Core.Path.{refl}
+use Rattle.ir_index.specs.Prints.{mixed}
+use borrow.Author.Needs.{needs}
+use Rattle.ir_index.proofs.mix.Statement.{statement}
+use Rattle.ir_index.proofs.mix.Tie as tie
+
+mul-result : tie.Need-mul-result
+mul-result c = search needs
+
+add-result : tie.Need-add-result
+add-result c = search needs
+
+returns : tie.Need-returns
+unfolding mixed
+returns c = refl
+
+pub mix-spec : {M : Type 1} → statement M
+mix-spec = tie.close (tie.spec mul-result add-result returns)

@@ -1,0 +1,62 @@
+-- `ir_index::spot_of` meets its contract: where the fingerprint's flag is not set, or no entry has the fingerprint, the name is new.
+-- Assumes nothing.
+use mathlib.Core.Path.{_≡_, sym, _∙_}
+use native.Mathlib.Omega.{arith}
+use borrow.Author.Tests.{not-true}
+use lib.Seq.{length-take-le}
+use Rattle.ir_rows.specs.Places.{nameAt}
+use Rattle.ir_index.specs.Prints.{fingerprint}
+use Rattle.ir_index.proofs.Laws.Prints.{fingerprint-below}
+use Rattle.ir_index.proofs.Laws.Entries.{flag-none, print-none}
+use borrow.Author.Needs.{needs}
+use Rattle.ir_index.proofs.spot_of.Statement.{statement}
+use Rattle.ir_index.proofs.spot_of.Tie as tie
+
+wide-requires : tie.Need-wide-requires
+wide-requires c κs = search needs
+
+shared-slice-read-if1 : tie.Need-shared-slice-read-if1
+shared-slice-read-if1 c =
+    let start = c .before .before .before .before .before .before in
+    let a = start .args in
+    omega (arith, fingerprint-below (nameAt (a .rows .now) (a .names .now) (a .place)), start .pre .1 .1, start .pre .0 .flagged .all)
+
+returns : tie.Need-returns
+returns c =
+    let start = c .before .before .before .before .before .before .before in
+    let a = start .args in
+    let f : c .before .before .wide .result ≡ fingerprint (nameAt (a .rows .now) (a .names .now) (a .place)) = c .before .before .wide .ensures ∙ start .pre .1 .1 in
+    sym (flag-none (a .rows .now) (a .names .now) (a .place) (a .scratch .now) (a .n) (a .flags .now) (start .pre .0) (rw f at (c .if1 .taken)))
+
+slice-aggregate-has-print : tie.Need-slice-aggregate-has-print
+slice-aggregate-has-print c =
+    let start = c .before .before .before .before .before .before .before .before in
+    sym (length-take-le (start .args .n) (start .args .scratch .now) (start .pre .0 .entries .inside))
+
+has-print-requires : tie.Need-has-print-requires
+has-print-requires c κs = search needs
+
+returns-2 : tie.Need-returns-2
+returns-2 c =
+    let start = c .before .before .before .before .before .before .before .before .before .before in
+    let a = start .args in
+    sym (print-none (a .rows .now) (a .names .now) (a .place) (a .scratch .now) (a .n) (start .pre .0 .entries) (rw (start .pre .1 .1) at (sym (c .before .has-print .ensures) ∙ not-true (c .before .has-print .result) (c .if2 .taken))))
+
+find-same-requires : tie.Need-find-same-requires
+find-same-requires c κs = search needs
+
+returns-3 : tie.Need-returns-3
+returns-3 c = search needs
+
+pub spot-of-spec : {M : Type 1} → statement M
+spot-of-spec =
+    tie.close
+    (tie.spec
+    wide-requires
+    shared-slice-read-if1
+    returns
+    slice-aggregate-has-print
+    has-print-requires
+    returns-2
+    find-same-requires
+    returns-3)

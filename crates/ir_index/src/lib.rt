@@ -1,0 +1,204 @@
+// Which head holds each name (paper 01: "Each normalised name holds its last definition at the place where it first came."): one
+// number for each name, in the order in which the names came.
+ghost use mathlib.Core.Path.{_≡_};
+ghost use Prim.Native.Nat.{_+_, _*_, _/_, _%_, _≤_, _<_};
+ghost use mathlib.Core.List.{[], _∷_};
+ghost use lib.ListN.{length};
+ghost use Rattle.text.specs.Text.{same};
+ghost use Rattle.names.specs.Names.{normalizeTypeName};
+ghost use Rattle.ir_rows.specs.Places.{rowsFrom, nameAt};
+ghost use Rattle.ir_rows.specs.Types.{typePlaces, keptPlaces};
+ghost use Rattle.ir_index.specs.Index.{Indexed};
+ghost use Rattle.ir_rows.specs.Types.{placesIn};
+ghost use Rattle.ir_index.specs.Prints.{mixed, fingerprint};
+ghost use Rattle.ir_index.specs.Entries.{isKind, kindPlaces, headName, firstSame, hasPrint, HeadAt, EntryOf, Entries, Known, Entered};
+use names::cased;
+use same_names::same_normalized;
+use tape_pairs::part_of;
+use tape_pairs::wide;
+use text::has_byte;
+
+// A fingerprint with one byte more.
+fn mix(h: u32, b: u8) -> u32
+    requires { ⌜ h < 65536 ⌝ }
+    ensures { λ r. ⌜ r ≡ mixed h b ⌝ }
+{
+    (h * 60493 + b as u32) % 65536
+}
+
+// The fingerprint of a name as it normalises.
+fn print_of(name: &[u8]) -> u32
+    ensures { λ r. ⌜ r ≡ fingerprint (normalizeTypeName (now (name .entry))) ⌝ }
+{
+    let mut up = has_byte(name, b'_');
+    let mut h = 0;
+    let mut i = 0;
+    while i < name.len() {
+        let b = name[i];
+        if b == b'_' {
+            up = true;
+        } else {
+            h = mix(h, cased(b, up, false));
+            up = false;
+        }
+        i += 1;
+    }
+    h
+}
+
+// Whether a row is the head of a finished type: of a complex one, or of a simple one.
+fn is_kind(complex: bool, tag: u32) -> bool
+    ensures { λ r. ⌜ r ≡ isKind complex tag ⌝ }
+{
+    if complex {
+        (12 <= tag) & (tag <= 15)
+    } else {
+        tag == 3
+    }
+}
+
+// The name in the first pair of the row at a place.
+fn name_at<'a>(rows: &[u32], names: &'a [u8], place: usize) -> &'a [u8]
+    requires { ⌜ 10 * place + 10 ≤ length (now rows) ⌝ }
+    ensures { λ r. ⌜ now r ≡ headName (now (rows .entry)) (now (names .entry)) place ⌝ }
+{
+    let at = wide(rows[10 * place + 1]);
+    let len = wide(rows[10 * place + 2]);
+    part_of(names, at, len)
+}
+
+// Whether an entry's name is that of the type at a place, whose fingerprint is given.
+fn entry_same(rows: &[u32], names: &[u8], entry: u32, place: usize, print: u32) -> bool
+    requires { ⌜ EntryOf (now rows) (now names) entry ⌝ }
+    requires { ⌜ HeadAt (now rows) place ⌝ }
+    requires { ⌜ print ≡ fingerprint (nameAt (now rows) (now names) place) ⌝ }
+    ensures { λ r. ⌜ r ≡ same (nameAt (now (rows .entry)) (now (names .entry)) (entry % 65536)) (nameAt (now (rows .entry)) (now (names .entry)) place) ⌝ }
+{
+    if entry / 65536 != print {
+        return false;
+    }
+    let held = name_at(rows, names, wide(entry % 65536));
+    let asked = name_at(rows, names, place);
+    same_normalized(held, asked)
+}
+
+// How many entries stand before the first one whose name is that of the type at a place.
+fn find_same(
+    rows: &[u32],
+    names: &[u8],
+    place: usize,
+    print: u32,
+    scratch: &[u32],
+    n: usize,
+) -> usize
+    requires { ⌜ Entries (now rows) (now names) (now scratch) n ⌝ }
+    requires { ⌜ HeadAt (now rows) place ⌝ }
+    requires { ⌜ print ≡ fingerprint (nameAt (now rows) (now names) place) ⌝ }
+    ensures { λ r. ⌜ r ≡ firstSame (nameAt (now (rows .entry)) (now (names .entry))) place (placesIn n (now (scratch .entry))) ⌝ }
+{
+    let mut k = 0;
+    while k < n {
+        if entry_same(rows, names, scratch[k], place, print) {
+            return k;
+        }
+        k += 1;
+    }
+    n
+}
+
+// Whether an entry has a fingerprint. No early exit: the compiler makes wide compares of it.
+fn has_print(entries: &[u32], print: u32) -> bool
+    ensures { λ r. ⌜ r ≡ hasPrint print (now (entries .entry)) ⌝ }
+{
+    let mut found = false;
+    let mut k = 0;
+    while k < entries.len() {
+        found = found | (entries[k] / 65536 == print);
+        k += 1;
+    }
+    found
+}
+
+// Where the type at a place goes: to the entry of its name, or behind the others. A flag that is not
+// set says that there is no entry with its fingerprint.
+fn spot_of(
+    rows: &[u32],
+    names: &[u8],
+    place: usize,
+    print: u32,
+    scratch: &[u32],
+    n: usize,
+    flags: &[u8],
+) -> usize
+    requires { ⌜ Known (now rows) (now names) (now scratch) n (now flags) ⌝ }
+    requires { ⌜ HeadAt (now rows) place ⌝ }
+    requires { ⌜ print ≡ fingerprint (nameAt (now rows) (now names) place) ⌝ }
+    ensures { λ r. ⌜ r ≡ firstSame (nameAt (now (rows .entry)) (now (names .entry))) place (placesIn n (now (scratch .entry))) ⌝ }
+{
+    let f = wide(print);
+    if flags[f] == 0 {
+        return n;
+    }
+    if !has_print(&scratch[..n], print) {
+        return n;
+    }
+    find_same(rows, names, place, print, scratch, n)
+}
+
+// Puts the type at a place in, and gives how many entries there are then.
+fn enter(
+    rows: &[u32],
+    names: &[u8],
+    place: usize,
+    scratch: &mut [u32],
+    n: usize,
+    flags: &mut [u8],
+) -> usize
+    requires { ⌜ Known (now rows) (now names) (now scratch) n (now flags) ⌝ }
+    requires { ⌜ HeadAt (now rows) place ⌝ }
+    requires { ⌜ (length (now rows) ≤ 40960) × (n < length (now scratch)) ⌝ }
+    ensures { λ r. ⌜ Entered (now (rows .entry)) (now (names .entry)) (now (scratch .entry)) n (place ∷ []) (now (scratch .exit)) r (now (flags .exit)) ⌝ }
+{
+    let print = print_of(name_at(rows, names, place));
+    let at = spot_of(rows, names, place, print, scratch, n, flags);
+    let f = wide(print);
+    scratch[at] = place as u32 + 65536 * print;
+    flags[f] = 1;
+    if at == n { n + 1 } else { n }
+}
+
+// Puts in the simple types, or the complex ones.
+fn enter_kind(
+    rows: &[u32],
+    names: &[u8],
+    end: usize,
+    complex: bool,
+    scratch: &mut [u32],
+    n: usize,
+    flags: &mut [u8],
+) -> usize
+    requires { ⌜ Known (now rows) (now names) (now scratch) n (now flags) ⌝ }
+    requires { ⌜ (10 * end ≤ length (now rows)) × (length (now rows) ≤ 40960) × (n + length (kindPlaces (now rows) (now names) end complex 2) ≤ length (now scratch)) ⌝ }
+    ensures { λ r. ⌜ Entered (now (rows .entry)) (now (names .entry)) (now (scratch .entry)) n (kindPlaces (now (rows .entry)) (now (names .entry)) end complex 2) (now (scratch .exit)) r (now (flags .exit)) ⌝ }
+{
+    let mut count = n;
+    let mut place = 2;
+    while place < end {
+        if is_kind(complex, rows[10 * place]) {
+            count = enter(rows, names, place, scratch, count, flags);
+        }
+        place += 1;
+    }
+    count
+}
+
+// Stores for each name of the finished types, in the order in which the names came, the place of its
+// last definition, and gives how many names there are.
+pub fn index_types(rows: &[u32], names: &[u8], end: usize, scratch: &mut [u32]) -> usize
+    requires { ⌜ (2 ≤ end) × (10 * end ≤ length (now rows)) × (length (now rows) ≤ 40960) × (length (typePlaces 2 (rowsFrom (now rows) (now names) 2 end)) ≤ length (now scratch)) ⌝ }
+    ensures { λ r. ⌜ Indexed (keptPlaces (now (rows .entry)) (now (names .entry)) end) (now (scratch .exit)) r ⌝ }
+{
+    let mut flags = [0u8; 65536];
+    let simple = enter_kind(rows, names, end, false, scratch, 0, &mut flags);
+    enter_kind(rows, names, end, true, scratch, simple, &mut flags)
+}

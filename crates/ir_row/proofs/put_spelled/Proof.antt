@@ -1,0 +1,89 @@
+-- `ir_row::put_spelled` meets its contract: a row that has no recipe and is no count gives nothing; any other gives its recipe's row. Assumes nothing.
+use mathlib.Core.Path.{sym, _∙_}
+use borrow.Author.Tests.{not-true, not-false}
+use Rattle.sheet.specs.Rows.{textAt}
+use Rattle.ir_append.proofs.Laws.Grows.{grows-none}
+use Rattle.ir_checks.proofs.Laws.Unknown.{textAt-read}
+use Rattle.ir_row.specs.Recipes.{tenRows}
+use Rattle.ir_row.proofs.Laws.Recipes.{lowers-read}
+use Rattle.ir_row.proofs.Laws.Rest.{lowered-none}
+use borrow.Author.Needs.{needs}
+use Rattle.ir_row.proofs.put_spelled.Statement.{statement}
+use Rattle.ir_row.proofs.put_spelled.Tie as tie
+
+has-recipe-requires : tie.Need-has-recipe-requires
+has-recipe-requires c κs = search needs
+
+returns : tie.Need-returns
+unfolding tenRows
+returns c =
+    let start = c .before .before .before .before .before in
+    let args = start .args in
+    let none = lowered-none (args .codes) (args .t .tag) (args .t .a) (args .t .b) (textAt (args .names .now) (args .t .at0) (args .t .len0)) (textAt (args .names .now) (args .t .at1) (args .t .len1)) (start .pre .1) (sym (c .before .has-recipe .ensures) ∙ not-true (c .before .has-recipe .result) (c .if1 .taken)) in
+    rw none (grows-none (start .pre .0))
+
+wide-requires : tie.Need-wide-requires
+wide-requires c κs = search needs
+
+wide-requires-2 : tie.Need-wide-requires-2
+wide-requires-2 c κs = search needs
+
+part-of-requires : tie.Need-part-of-requires
+part-of-requires c κs = search needs
+
+wide-requires-3 : tie.Need-wide-requires-3
+wide-requires-3 c κs = search needs
+
+wide-requires-4 : tie.Need-wide-requires-4
+wide-requires-4 c κs = search needs
+
+part-of-requires-2 : tie.Need-part-of-requires-2
+part-of-requires-2 c κs = search needs
+
+row-reference-requires : tie.Need-row-reference-requires
+row-reference-requires c κs = search needs
+
+recipe-of-requires : tie.Need-recipe-of-requires
+recipe-of-requires c κs = search needs
+
+append-spelled-requires : tie.Need-append-spelled-requires
+append-spelled-requires c κs = search needs
+
+same-length : tie.Need-same-length
+same-length c = search needs
+
+same-length-2 : tie.Need-same-length-2
+same-length-2 c = search needs
+
+returns-2 : tie.Need-returns-2
+unfolding tenRows
+returns-2 c =
+    let called = c .before .before .before .before in
+    let recipe = called .before .before .before in
+    let seconds = recipe .before .before in
+    let firsts = seconds .before .before .before in
+    let judged = firsts .before .before .before in
+    let names = judged .before .before .before .before .before .args .names .now in
+    let first = firsts .part-of .ensures ∙ textAt-read names (firsts .before .before .wide .ensures) (firsts .before .wide2 .ensures) in
+    let second = seconds .part-of2 .ensures ∙ textAt-read names (seconds .before .before .wide3 .ensures) (seconds .before .wide4 .ensures) in
+    let rows = lowers-read (recipe .recipe-of .ensures) (sym (judged .before .has-recipe .ensures) ∙ not-false (judged .before .has-recipe .result) (judged .if1 .left)) (recipe .before .row-reference .ensures) first second in
+    rw rows (called .append-spelled .ensures)
+
+pub put-spelled-spec : {M : Type 1} → statement M
+put-spelled-spec =
+    tie.close
+    (tie.spec
+    has-recipe-requires
+    returns
+    wide-requires
+    wide-requires-2
+    part-of-requires
+    wide-requires-3
+    wide-requires-4
+    part-of-requires-2
+    row-reference-requires
+    recipe-of-requires
+    append-spelled-requires
+    same-length
+    same-length-2
+    returns-2)

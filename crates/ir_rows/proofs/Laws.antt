@@ -1,0 +1,11 @@
+-- Laws of the definitions in specs/: Places of a sheet's rows by their places, Lowered of what lowering makes of a row of numbers, Groups of its scans over a
+-- head with its children, Items of those over finished items, Definitions of a type's rows, Kept of the places that stand for a graph's types, Inside of
+-- where those places lie, Graph of a whole sheet.
+pub mod Places
+pub mod Lowered
+pub mod Groups
+pub mod Items
+pub mod Definitions
+pub mod Kept
+pub mod Inside
+pub mod Graph

@@ -1,0 +1,231 @@
+-- What lowering's scans make of the rows of finished items: how many types there are, where the first refused one stands, and the elements' rows.
+-- Item by item, each a head with its children. Assumes nothing.
+--     headFirst     the rows begin with a head, or there are none
+use Prim.Native.Nat.{ℕ, suc, _+_, _≤_}
+use mathlib.Core.Path.{_≡_, refl, sym, ap, _∙_}
+use mathlib.Core.Bool.{Bool, true, false, not, _&&_, false≢true}
+use mathlib.Core.List.{List, [], _∷_, _++_, map}
+use mathlib.Core.Option.{some, none}
+use native.Mathlib.Omega.{arith}
+use lib.Dec.{eqb}
+use lib.ListN.{length, length-append}
+use Rattle.text.specs.Text.{Text, if_then_else_, every, between}
+use Rattle.text.proofs.Laws.Tests.{and-true-left, or-false-left, or-false-right}
+use Rattle.sheet.specs.Rows.{Row, row}
+use Rattle.builtin.specs.Builtin.{mapBuiltin}
+use Rattle.xsd_types.specs.Types.{Facet, SimpleType, ComplexContent, Item, Schema, elements, simpleTypes, complexTypes}
+use Rattle.xsd_types.specs.State.{started, isEmpty}
+use Rattle.xsd_types.specs.Rows.{headC, facetRow, simpleTypeRows, complexTypeRows, itemRows, itemsRows}
+use Rattle.xsd_types.specs.Good.{isHead}
+use Rattle.xsd_types.specs.Back.{text0, text1}
+use Rattle.xsd_types.proofs.Laws.Groups.{isGroup, headTag}
+use Rattle.xsd_types.proofs.Laws.Items.{group-item}
+use Rattle.xsd_types.proofs.Laws.Heads.{HeadTag, headTags}
+use Rattle.ir_types.specs.Types.{TypeDef, TypeGraph}
+use Rattle.ir_types.specs.Rows.{rootRow, headC as graphHeadC}
+use Rattle.ir_lower.specs.Lower.{isEnumeration, allEnums, codes, lowerNewtype, lowerSimpleType, isNone, unknownBase, rootOf, lower, unknownRow, finishedTypes, isUnknown as itemUnknown}
+use Rattle.ir_lower.specs.Finished.{anyUnknown}
+use Rattle.ir_lower.proofs.Laws.Refusals.{refusal, refused-exactly, unknownRow-least}
+use Rattle.names.specs.Names.{normalizeTypeName}
+use Rattle.ir_rows.specs.Lowered.{loweredAs, loweredRow, onlyCodes, isCodeEnum, rootRows, isUnknown, unknownPlace}
+use Rattle.ir_rows.specs.Types.{isSimple, isComplex, placesOf, typePlaces}
+use Rattle.ir_rows.proofs.Laws.Groups.{simple-heads, complex-heads, placesOf-group, rootRows-group, unknownPlace-group}
+
+unfoldable pub headFirst : List Row → Bool
+headFirst [] = true
+headFirst (r ∷ rs) = isHead (r .tag)
+
+pub headFirst-group : (rs more : List Row) → isGroup rs ≡ true → headFirst (rs ++ more) ≡ true
+unfolding headFirst isGroup
+headFirst-group [] more g = absurd (false≢true g)
+headFirst-group (r ∷ rs) more g = and-true-left _ _ g
+
+pub headFirst-items : (is : List Item) → headFirst (itemsRows is) ≡ true
+unfolding itemsRows headFirst
+headFirst-items [] = refl
+headFirst-items (i ∷ is) = headFirst-group (itemRows i) (itemsRows is) (group-item i)
+
+-- ---- a code enum by its facets' rows
+
+head-no-code : {k : ℕ} → HeadTag k → (eqb k 4 ≡ false) × (between 5 11 k ≡ false)
+unfolding between
+head-no-code HeadTag.element = (refl, refl)
+head-no-code HeadTag.simple = (refl, refl)
+head-no-code HeadTag.sequence = (refl, refl)
+head-no-code HeadTag.choice = (refl, refl)
+head-no-code HeadTag.content = (refl, refl)
+head-no-code HeadTag.any = (refl, refl)
+head-no-code HeadTag.absent = (refl, refl)
+
+onlyCodes-more : (more : List Row) → headFirst more ≡ true → onlyCodes more ≡ true
+unfolding onlyCodes headFirst
+onlyCodes-more [] h = refl
+onlyCodes-more (r ∷ rs) h = let n = head-no-code (headTags (r .tag) h) in rw (n .0, n .1)
+
+onlyCodes-facets : (fs : List Facet) (more : List Row) → headFirst more ≡ true → onlyCodes (map facetRow fs ++ more) ≡ every isEnumeration fs
+unfolding onlyCodes every isEnumeration facetRow row between
+onlyCodes-facets [] more h = onlyCodes-more more h
+onlyCodes-facets (Facet.enumeration v ∷ fs) more h = onlyCodes-facets fs more h
+onlyCodes-facets (Facet.pattern v ∷ fs) more h = refl
+onlyCodes-facets (Facet.minLength n ∷ fs) more h = refl
+onlyCodes-facets (Facet.maxLength n ∷ fs) more h = refl
+onlyCodes-facets (Facet.minInclusive v ∷ fs) more h = refl
+onlyCodes-facets (Facet.maxInclusive v ∷ fs) more h = refl
+onlyCodes-facets (Facet.totalDigits n ∷ fs) more h = refl
+onlyCodes-facets (Facet.fractionDigits n ∷ fs) more h = refl
+
+isCodeEnum-more : (more : List Row) → headFirst more ≡ true → isCodeEnum more ≡ false
+unfolding isCodeEnum headFirst
+isCodeEnum-more [] h = refl
+isCodeEnum-more (r ∷ rs) h = rw (head-no-code (headTags (r .tag) h) .0)
+
+facet-code : (f : Facet) → eqb (facetRow f .tag) 4 ≡ isEnumeration f
+unfolding isEnumeration facetRow row
+facet-code (Facet.enumeration v) = refl
+facet-code (Facet.pattern v) = refl
+facet-code (Facet.minLength n) = refl
+facet-code (Facet.maxLength n) = refl
+facet-code (Facet.minInclusive v) = refl
+facet-code (Facet.maxInclusive v) = refl
+facet-code (Facet.totalDigits n) = refl
+facet-code (Facet.fractionDigits n) = refl
+
+pub isCodeEnum-facets : (fs : List Facet) (more : List Row) → headFirst more ≡ true → isCodeEnum (map facetRow fs ++ more) ≡ allEnums fs
+unfolding isCodeEnum allEnums isEmpty every
+isCodeEnum-facets [] more h = isCodeEnum-more more h
+isCodeEnum-facets (f ∷ fs) more h = rw (facet-code f, onlyCodes-facets fs more h)
+
+-- ---- how many types there are
+
+content-tag : (name : Text) (c : ComplexContent) → isComplex (headTag (complexTypeRows name (started c))) ≡ true
+unfolding isComplex complexTypeRows started headTag row between
+content-tag name (ComplexContent.sequence es) = refl
+content-tag name (ComplexContent.choice vs) = refl
+content-tag name (ComplexContent.simpleContent base xs) = refl
+content-tag name (ComplexContent.any none) = refl
+content-tag name (ComplexContent.any (some n)) = refl
+
+content-others : (name : Text) (c : ComplexContent) → (eqb (headTag (complexTypeRows name (started c))) 2 ≡ false) × (eqb (headTag (complexTypeRows name (started c))) 3 ≡ false)
+unfolding complexTypeRows started headTag row
+content-others name (ComplexContent.sequence es) = (refl, refl)
+content-others name (ComplexContent.choice vs) = (refl, refl)
+content-others name (ComplexContent.simpleContent base xs) = (refl, refl)
+content-others name (ComplexContent.any none) = (refl, refl)
+content-others name (ComplexContent.any (some n)) = (refl, refl)
+
+-- the kind of an item by its head's tag
+unfoldable pub simpleItem : Item → Bool
+simpleItem (Item.element e) = false
+simpleItem (Item.simpleType t) = true
+simpleItem (Item.complexType t) = false
+
+unfoldable pub complexItem : Item → Bool
+complexItem (Item.element e) = false
+complexItem (Item.simpleType t) = false
+complexItem (Item.complexType t) = true
+
+simple-tag : (i : Item) → isSimple (headTag (itemRows i)) ≡ simpleItem i
+unfolding isSimple simpleItem itemRows simpleTypeRows headTag row
+simple-tag (Item.element e) = refl
+simple-tag (Item.simpleType t) = refl
+simple-tag (Item.complexType t) = content-others (t .name) (t .content) .1
+
+complex-tag : (i : Item) → isComplex (headTag (itemRows i)) ≡ complexItem i
+unfolding isComplex complexItem itemRows simpleTypeRows headTag row between
+complex-tag (Item.element e) = refl
+complex-tag (Item.simpleType t) = refl
+complex-tag (Item.complexType t) = content-tag (t .name) (t .content)
+
+-- the places in an item's rows, and then those in the rows behind it
+module _ (k : ℕ) (i : Item) (more : List Row) where
+  pub simple-places : placesOf isSimple k (itemRows i ++ more) ≡ (if simpleItem i then k ∷ placesOf isSimple (k + length (itemRows i)) more else placesOf isSimple (k + length (itemRows i)) more)
+  simple-places = rw (← simple-tag i) (placesOf-group isSimple simple-heads k (itemRows i) more (group-item i))
+
+  pub complex-places : placesOf isComplex k (itemRows i ++ more) ≡ (if complexItem i then k ∷ placesOf isComplex (k + length (itemRows i)) more else placesOf isComplex (k + length (itemRows i)) more)
+  complex-places = rw (← complex-tag i) (placesOf-group isComplex complex-heads k (itemRows i) more (group-item i))
+
+simple-count : (k : ℕ) (is : List Item) → length (placesOf isSimple k (itemsRows is)) ≡ length (simpleTypes is)
+unfolding itemsRows simpleTypes simpleItem placesOf
+simple-count k [] = refl
+simple-count k (Item.element e ∷ is) = rw (simple-places k (Item.element e) (itemsRows is)) (simple-count _ is)
+simple-count k (Item.simpleType t ∷ is) = rw (simple-places k (Item.simpleType t) (itemsRows is)) (ap suc (simple-count _ is))
+simple-count k (Item.complexType t ∷ is) = rw (simple-places k (Item.complexType t) (itemsRows is)) (simple-count _ is)
+
+complex-count : (k : ℕ) (is : List Item) → length (placesOf isComplex k (itemsRows is)) ≡ length (complexTypes is)
+unfolding itemsRows complexTypes complexItem placesOf
+complex-count k [] = refl
+complex-count k (Item.element e ∷ is) = rw (complex-places k (Item.element e) (itemsRows is)) (complex-count _ is)
+complex-count k (Item.simpleType t ∷ is) = rw (complex-places k (Item.simpleType t) (itemsRows is)) (complex-count _ is)
+complex-count k (Item.complexType t ∷ is) = rw (complex-places k (Item.complexType t) (itemsRows is)) (ap suc (complex-count _ is))
+
+-- as many places as there are finished types
+pub typePlaces-count : (k : ℕ) (is : List Item) → length (typePlaces k (itemsRows is)) ≡ length (simpleTypes is) + length (complexTypes is)
+unfolding typePlaces
+typePlaces-count k is = rw (length-append, simple-count k is, complex-count k is)
+
+pub typePlaces-finished : (k : ℕ) (s : Schema) → length (typePlaces k (itemsRows (s .items))) ≡ finishedTypes s
+unfolding finishedTypes
+typePlaces-finished k s = typePlaces-count k (s .items)
+
+-- ---- the first refused simple type
+
+-- neither a code enum nor of a built-in base
+unknownBase-is : (t : SimpleType) → unknownBase t ≡ (not (allEnums (t .facets)) && isNone (mapBuiltin (t .base)))
+unfolding unknownBase lowerSimpleType lowerNewtype isNone
+unknownBase-is t =
+    elim (allEnums (t .facets))
+    as (λ b. isNone (if b then some (TypeDef.codeEnum (normalizeTypeName (t .name)) (codes (t .facets))) else lowerNewtype t (mapBuiltin (t .base))) ≡ (not b && isNone (mapBuiltin (t .base))))
+    [ true ↦ refl | false ↦ elim (mapBuiltin (t .base)) as (λ o. isNone (lowerNewtype t o) ≡ isNone o) [ none ↦ refl | some r ↦ refl ] ]
+
+-- the rows of a refused item
+simple-unknown : (t : SimpleType) (more : List Row) → headFirst more ≡ true → isUnknown (row 3 (t .name ∷ t .base ∷ []) 0 0 headC) (map facetRow (t .facets) ++ more) ≡ unknownBase t
+unfolding isUnknown row text1
+simple-unknown t more h = rw (isCodeEnum-facets (t .facets) more h) (sym (unknownBase-is t))
+
+unknown-tag : (r : Row) (rs : List Row) → eqb (r .tag) 3 ≡ false → isUnknown r rs ≡ false
+unfolding isUnknown
+unknown-tag r rs e = rw e
+
+unknown-other : (k : ℕ) (rs more : List Row) → isGroup rs ≡ true → eqb (headTag rs) 3 ≡ false → unknownPlace k (rs ++ more) ≡ unknownPlace (k + length rs) more
+unfolding headTag isGroup
+unknown-other k [] more g e = absurd (false≢true g)
+unknown-other k (r ∷ cs) more g e = unknownPlace-group k r cs more g ∙ rw (unknown-tag r (cs ++ more) e)
+
+pub unknownPlace-items : (k : ℕ) (is : List Item) → unknownPlace k (itemsRows is) ≡ unknownRow k is
+unfolding unknownPlace itemsRows unknownRow itemUnknown itemRows simpleTypeRows headTag row
+unknownPlace-items k [] = refl
+unknownPlace-items k (Item.element e ∷ is) = unknown-other k (itemRows (Item.element e)) (itemsRows is) (group-item (Item.element e)) refl ∙ unknownPlace-items _ is
+unknownPlace-items k (Item.simpleType t ∷ is) =
+    unknownPlace-group k (row 3 (t .name ∷ t .base ∷ []) 0 0 headC) (map facetRow (t .facets)) (itemsRows is) (group-item (Item.simpleType t))
+    ∙ rw (simple-unknown t (itemsRows is) (headFirst-items is), unknownPlace-items (k + length (itemRows (Item.simpleType t))) is)
+unknownPlace-items k (Item.complexType t ∷ is) =
+    unknown-other k (itemRows (Item.complexType t)) (itemsRows is) (group-item (Item.complexType t)) (content-others (t .name) (t .content) .1) ∙ unknownPlace-items _ is
+
+unknown-some : (k : ℕ) (is : List Item) → 1 ≤ k → anyUnknown (simpleTypes is) ≡ true → 1 ≤ unknownPlace k (itemsRows is)
+unknown-some k is h e = rw (unknownPlace-items k is) (omega (arith, unknownRow-least k is e))
+
+unknown-none : (k : ℕ) (is : List Item) → anyUnknown (simpleTypes is) ≡ false → unknownRow k is ≡ 0
+unfolding anyUnknown simpleTypes unknownRow itemUnknown
+unknown-none k [] e = refl
+unknown-none k (Item.element x ∷ is) e = unknown-none _ is e
+unknown-none k (Item.simpleType t ∷ is) e =
+    rw (or-false-left (unknownBase t) (anyUnknown (simpleTypes is)) e) (unknown-none _ is (or-false-right (unknownBase t) (anyUnknown (simpleTypes is)) e))
+unknown-none k (Item.complexType t ∷ is) e = unknown-none _ is e
+
+-- lowering refuses exactly where the place is not 0
+pub unknownPlace-refused : (k : ℕ) (s : Schema) → 1 ≤ k → lower s ≡ none → 1 ≤ unknownPlace k (itemsRows (s .items))
+unknownPlace-refused k s h e = unknown-some k (s .items) h (refused-exactly s .0 e)
+
+pub unknownPlace-lowered : (k : ℕ) (s : Schema) (g : TypeGraph) → lower s ≡ some g → unknownPlace k (itemsRows (s .items)) ≡ 0
+unfolding isNone
+unknownPlace-lowered k s g e = unknownPlace-items k (s .items) ∙ unknown-none k (s .items) (sym (refusal s) ∙ ap isNone e)
+
+-- ---- the elements
+
+pub rootRows-items : (is : List Item) → rootRows (itemsRows is) ≡ map rootRow (map rootOf (elements is))
+unfolding rootRows itemsRows elements itemRows loweredRow loweredAs row text0 text1 rootOf rootRow simpleTypeRows headTag graphHeadC
+rootRows-items [] = refl
+rootRows-items (Item.element e ∷ is) = rw (rootRows-items is)
+rootRows-items (Item.simpleType t ∷ is) = rootRows-group (itemRows (Item.simpleType t)) (itemsRows is) (group-item (Item.simpleType t)) refl ∙ rootRows-items is
+rootRows-items (Item.complexType t ∷ is) =
+    rootRows-group (itemRows (Item.complexType t)) (itemsRows is) (group-item (Item.complexType t)) (content-others (t .name) (t .content) .0) ∙ rootRows-items is

@@ -1,0 +1,1 @@
+// Lowering told row by row: definitions and laws alone.

@@ -1,0 +1,193 @@
+// The graph's rows written one behind the other from the rows of a schema sheet: the namespace, the elements, the types that are kept.
+use ir_append::Grown;
+use ir_checks::is_code_enum;
+use ir_row::put_lowered;
+use xsd_forms::row;
+use xsd_numbers::Used;
+ghost use mathlib.Core.Path.{_≡_};
+ghost use mathlib.Core.List.{List, [], _∷_};
+ghost use Prim.Native.Nat.{ℕ, _+_, _*_, _≤_, _<_};
+ghost use lib.ListN.{length};
+ghost use Rattle.ir_rows.specs.Places.{rowAt, rowsFrom};
+ghost use Rattle.ir_rows.specs.Lowered.{loweredRow, childRows, typeRowsOf, rootRows, isCodeEnum};
+ghost use Rattle.ir_rows.specs.Types.{typesRows, graphRows};
+ghost use Rattle.ir_append.specs.Grows.{Room, Grows};
+ghost use mathlib.Core.Bool.{true};
+ghost use Prim.Native.Nat.{_%_};
+ghost use lib.Dec.{ltb};
+ghost use Rattle.text.specs.Text.{every};
+ghost use Rattle.ir_rows.specs.Types.{placesIn};
+
+// The place that an entry of the scratch holds.
+pub fn place_of(entry: u32) -> usize
+    ensures { λ r. ⌜ r ≡ entry % 65536 ⌝ }
+{
+    (entry % 65536) as usize
+}
+
+// Adds the children that stand from a place on, up to the next head.
+fn put_children(
+    graph_rows: &mut [u32],
+    graph_names: &mut [u8],
+    from: Used,
+    rows: &[u32],
+    names: &[u8],
+    first: usize,
+    end: usize,
+    code_enum: bool,
+) -> Grown
+    requires { ⌜ Room (now «graph_rows») (now «graph_names») from × (10 * end ≤ length (now rows)) ⌝ }
+    ensures { λ r. ⌜ Grows (now («graph_rows» .entry)) (now («graph_names» .entry)) from (childRows «code_enum» (rowsFrom (now (rows .entry)) (now (names .entry)) first end)) (now («graph_rows» .exit)) (now («graph_names» .exit)) r ⌝ }
+{
+    let mut used = from;
+    let mut place = first;
+    while place < end {
+        if row::is_head(rows[10 * place]) {
+            return Grown::To(used);
+        }
+        let grown = put_lowered(graph_rows, graph_names, used, rows, names, place, code_enum);
+        let Grown::To(next) = grown else {
+            return Grown::Full;
+        };
+        used = next;
+        place += 1;
+    }
+    Grown::To(used)
+}
+
+// Adds the type whose head stands at a place.
+fn put_type(
+    graph_rows: &mut [u32],
+    graph_names: &mut [u8],
+    used: Used,
+    rows: &[u32],
+    names: &[u8],
+    place: usize,
+    end: usize,
+) -> Grown
+    requires { ⌜ Room (now «graph_rows») (now «graph_names») used × (10 * end ≤ length (now rows)) × (place < end) ⌝ }
+    ensures { λ r. ⌜ Grows (now («graph_rows» .entry)) (now («graph_names» .entry)) used (typeRowsOf (rowsFrom (now (rows .entry)) (now (names .entry)) place end)) (now («graph_rows» .exit)) (now («graph_names» .exit)) r ⌝ }
+{
+    let code_enum = is_code_enum(rows, place + 1, end);
+    let head = put_lowered(graph_rows, graph_names, used, rows, names, place, code_enum);
+    let Grown::To(next) = head else {
+        return Grown::Full;
+    };
+    put_children(
+        graph_rows,
+        graph_names,
+        next,
+        rows,
+        names,
+        place + 1,
+        end,
+        code_enum,
+    )
+}
+
+// Adds the row at a place where it is an element.
+fn put_root(
+    graph_rows: &mut [u32],
+    graph_names: &mut [u8],
+    used: Used,
+    rows: &[u32],
+    names: &[u8],
+    place: usize,
+) -> Grown
+    requires { ⌜ Room (now «graph_rows») (now «graph_names») used × (10 * place + 10 ≤ length (now rows)) ⌝ }
+    ensures { λ r. ⌜ Grows (now («graph_rows» .entry)) (now («graph_names» .entry)) used (rootRows (rowAt (now (rows .entry)) (now (names .entry)) place ∷ [])) (now («graph_rows» .exit)) (now («graph_names» .exit)) r ⌝ }
+{
+    if rows[10 * place] != 2 {
+        return Grown::To(used);
+    }
+    put_lowered(graph_rows, graph_names, used, rows, names, place, false)
+}
+
+// Adds the elements.
+fn put_roots(
+    graph_rows: &mut [u32],
+    graph_names: &mut [u8],
+    from: Used,
+    rows: &[u32],
+    names: &[u8],
+    end: usize,
+) -> Grown
+    requires { ⌜ Room (now «graph_rows») (now «graph_names») from × (10 * end ≤ length (now rows)) ⌝ }
+    ensures { λ r. ⌜ Grows (now («graph_rows» .entry)) (now («graph_names» .entry)) from (rootRows (rowsFrom (now (rows .entry)) (now (names .entry)) 2 end)) (now («graph_rows» .exit)) (now («graph_names» .exit)) r ⌝ }
+{
+    let mut used = from;
+    let mut place = 2;
+    while place < end {
+        let grown = put_root(graph_rows, graph_names, used, rows, names, place);
+        let Grown::To(next) = grown else {
+            return Grown::Full;
+        };
+        used = next;
+        place += 1;
+    }
+    Grown::To(used)
+}
+
+// Adds the types whose heads stand at the places that the scratch holds.
+fn put_types(
+    graph_rows: &mut [u32],
+    graph_names: &mut [u8],
+    from: Used,
+    rows: &[u32],
+    names: &[u8],
+    end: usize,
+    scratch: &[u32],
+    count: usize,
+) -> Grown
+    requires room { ⌜ Room (now «graph_rows») (now «graph_names») from × (10 * end ≤ length (now rows)) ⌝ }
+    requires places { ⌜ (count ≤ length (now scratch)) × (every (λ p. ltb p end) (placesIn count (now scratch)) ≡ true) ⌝ }
+    ensures { λ r. ⌜ Grows (now («graph_rows» .entry)) (now («graph_names» .entry)) from (typesRows (now (rows .entry)) (now (names .entry)) end (placesIn count (now (scratch .entry)))) (now («graph_rows» .exit)) (now («graph_names» .exit)) r ⌝ }
+{
+    let mut used = from;
+    let mut k = 0;
+    while k < count {
+        let place = place_of(scratch[k]);
+        let grown = put_type(graph_rows, graph_names, used, rows, names, place, end);
+        let Grown::To(next) = grown else {
+            return Grown::Full;
+        };
+        used = next;
+        k += 1;
+    }
+    Grown::To(used)
+}
+
+// Adds all of the graph's rows behind row 0.
+pub fn put_graph(
+    graph_rows: &mut [u32],
+    graph_names: &mut [u8],
+    from: Used,
+    rows: &[u32],
+    names: &[u8],
+    end: usize,
+    scratch: &[u32],
+    count: usize,
+) -> Grown
+    requires room { ⌜ Room (now «graph_rows») (now «graph_names») from × (10 * end ≤ length (now rows)) × (2 ≤ end) ⌝ }
+    requires places { ⌜ (count ≤ length (now scratch)) × (every (λ p. ltb p end) (placesIn count (now scratch)) ≡ true) ⌝ }
+    ensures { λ r. ⌜ Grows (now («graph_rows» .entry)) (now («graph_names» .entry)) from (graphRows (now (rows .entry)) (now (names .entry)) end (placesIn count (now (scratch .entry)))) (now («graph_rows» .exit)) (now («graph_names» .exit)) r ⌝ }
+{
+    let namespace = put_lowered(graph_rows, graph_names, from, rows, names, 1, false);
+    let Grown::To(after) = namespace else {
+        return Grown::Full;
+    };
+    let roots = put_roots(graph_rows, graph_names, after, rows, names, end);
+    let Grown::To(used) = roots else {
+        return Grown::Full;
+    };
+    put_types(
+        graph_rows,
+        graph_names,
+        used,
+        rows,
+        names,
+        end,
+        scratch,
+        count,
+    )
+}

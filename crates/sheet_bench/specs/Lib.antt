@@ -1,0 +1,2 @@
+-- The definitions that the contracts of the crate `sheet_bench` cite.
+pub mod Bench
