@@ -5,9 +5,10 @@ ghost use mathlib.Core.Option.{some};
 ghost use Prim.Native.Nat.{_≤_, _<_};
 ghost use lib.ListN.{length};
 ghost use lib.Seq.{slice};
-ghost use Rattle.text.specs.Text.{is, same};
+ghost use Rattle.text.specs.Text.{bytes, is, same};
 ghost use Rattle.builtin.specs.Builtin.{mapBuiltin, reference};
-ghost use Rattle.builtin.specs.Answers.{entryAt, ofBuiltin};
+ghost use Rattle.builtin.specs.Answers.{entryAt, ofBuiltin, keyOf};
+use text::byte_at;
 use text::local_name;
 use text::same_text;
 
@@ -105,6 +106,60 @@ const KINDS: [u8; 38] = [
     5,
 ];
 
+// The key of each name: its length and its first byte.
+const KEYS: [u32; 38] = [
+    1651,
+    4206,
+    1396,
+    585,
+    1353,
+    1870,
+    1633,
+    2156,
+    1102,
+    1614,
+    3170,
+    2408,
+    1140,
+    1383,
+    2663,
+    1639,
+    2407,
+    1127,
+    2148,
+    1890,
+    1892,
+    1897,
+    873,
+    1132,
+    1395,
+    1122,
+    4718,
+    3952,
+    2933,
+    3189,
+    3445,
+    3189,
+    4718,
+    3950,
+    1382,
+    1636,
+    1124,
+    2148,
+];
+
+// The key of a word. A word that is longer than any name has the key of an empty one, which no name has.
+fn key_of(word: &[u8]) -> u32
+    ensures { λ r. ⌜ r ≡ keyOf (now (word .entry)) ⌝ }
+{
+    let n = word.len();
+    if 18 < n {
+        return 0;
+    }
+    let b = byte_at(word, 0);
+    256 * n as u32 + b as u32
+}
+
 // Whether word is the part of names from start to end.
 fn part_is(word: &[u8], names: &[u8], start: usize, end: usize) -> bool
     requires { ⌜ (start ≤ end) × (end ≤ length (now names)) ⌝ }
@@ -124,6 +179,17 @@ fn is_name(word: &[u8], k: usize) -> bool
         STARTS[k],
         STARTS[k + 1],
     )
+}
+
+// Whether word, which has the key, is the built-in name at k of the list, whose key is `entry`.
+fn has_name(word: &[u8], key: u32, entry: u32, k: usize) -> bool
+    requires { ⌜ (k < 38) × (key ≡ keyOf (now word)) × (entry ≡ keyOf (bytes (entryAt k .0))) ⌝ }
+    ensures { λ r. ⌜ r ≡ is (now (word .entry)) (entryAt k .0) ⌝ }
+{
+    if entry != key {
+        return false;
+    }
+    is_name(word, k)
 }
 
 // The kind of the built-in name at k of the list.
@@ -146,9 +212,11 @@ pub fn map_builtin(name: &[u8]) -> Builtin
     ensures { λ r. ⌜ ofBuiltin r ≡ mapBuiltin (now (name .entry)) ⌝ }
 {
     let word = local_name(name);
+    let key = key_of(word);
+    let keys = KEYS;
     let mut k = 0;
     while k < 38 {
-        if is_name(word, k) {
+        if has_name(word, key, keys[k], k) {
             return kind_at(k);
         }
         k += 1;

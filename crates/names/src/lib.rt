@@ -1,6 +1,9 @@
 // Two of the three name conversions of 001 (lower.rs), each written into a lent part. The third is
 // in the crate `snake`.
 ghost use mathlib.Core.Path.{_≡_};
+ghost use mathlib.Core.List.{_++_};
+ghost use Prim.Native.Nat.{_≤_};
+ghost use lib.ListN.{length, take, drop};
 ghost use Rattle.names.specs.Names.{normalizeTypeName, codeToPascalCase};
 ghost use Rattle.names.specs.Answers.{Put};
 ghost use Rattle.names.specs.Scans.{casedByte, segments};
@@ -49,11 +52,41 @@ fn put_segments(s: &[u8], separator: u8, first: bool, lowers: bool, out: &mut [u
     Written::Bytes(n)
 }
 
+// The first bytes of a text, so many, stored at the start of the part.
+fn copy_first(s: &[u8], out: &mut [u8], end: usize)
+    requires { ⌜ (end ≤ length (now s)) × (end ≤ length (now out)) ⌝ }
+    ensures { λ _. ⌜ now (out .exit) ≡ take end (now (s .entry)) ++ drop end (now (out .entry)) ⌝ }
+{
+    let mut i = 0;
+    while i < end {
+        out[i] = s[i];
+        i += 1;
+    }
+}
+
+// A text as it is.
+fn put_same(s: &[u8], out: &mut [u8]) -> Written
+    ensures { λ r. ⌜ Put (now (s .entry)) (now (out .entry)) r (now (out .exit)) ⌝ }
+{
+    let n = s.len();
+    let room = out.len();
+    if room < n {
+        copy_first(s, out, room);
+        return Written::NoRoom;
+    }
+    copy_first(s, out, n);
+    Written::Bytes(n)
+}
+
 // A type name as a Rust name: without underscores, each segment's first letter in the upper form.
 pub fn normalize_type_name(name: &[u8], out: &mut [u8]) -> Written
     ensures { λ r. ⌜ Put (normalizeTypeName (now (name .entry))) (now (out .entry)) r (now (out .exit)) ⌝ }
 {
-    put_segments(name, b'_', has_byte(name, b'_'), false, out)
+    if has_byte(name, b'_') {
+        put_segments(name, b'_', true, false, out)
+    } else {
+        put_same(name, out)
+    }
 }
 
 // An enumeration's value as a variant's name.

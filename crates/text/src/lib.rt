@@ -7,28 +7,26 @@ ghost use lib.ListN.{drop};
 pub fn is_text(s: &[u8]) -> bool
     ensures { λ r. ⌜ r ≡ isText (now (s .entry)) ⌝ }
 {
+    let mut ok = true;
     let mut i = 0;
     while i < s.len() {
-        if 128 <= s[i] {
-            return false;
-        }
+        ok = ok & (s[i] < 128);
         i += 1;
     }
-    true
+    ok
 }
 
 // Whether the byte c stands in s.
 pub fn has_byte(s: &[u8], c: u8) -> bool
     ensures { λ r. ⌜ r ≡ contains c (now (s .entry)) ⌝ }
 {
+    let mut found = false;
     let mut i = 0;
     while i < s.len() {
-        if s[i] == c {
-            return true;
-        }
+        found = found | (s[i] == c);
         i += 1;
     }
-    false
+    found
 }
 
 // The byte at i, 0 past the end.

@@ -10,27 +10,25 @@ ghost use Rattle.sheet.specs.Rows.{allZero};
 fn zero_rows(rows: &[u32]) -> bool
     ensures { λ r. ⌜ r ≡ allZero (now (rows .entry)) ⌝ }
 {
+    let mut ok = true;
     let mut i = 0;
     while i < rows.len() {
-        if rows[i] != 0 {
-            return false;
-        }
+        ok = ok & (rows[i] == 0);
         i += 1;
     }
-    true
+    ok
 }
 
 fn zero_names(names: &[u8]) -> bool
     ensures { λ r. ⌜ r ≡ allZero (now (names .entry)) ⌝ }
 {
+    let mut ok = true;
     let mut i = 0;
     while i < names.len() {
-        if names[i] != 0 {
-            return false;
-        }
+        ok = ok & (names[i] == 0);
         i += 1;
     }
-    true
+    ok
 }
 
 // Whether all behind the used parts is zero. Row 0 is z.

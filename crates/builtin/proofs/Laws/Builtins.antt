@@ -14,11 +14,11 @@ use lib.Dec.{eqb, leb}
 use lib.ListN.{length, getD, drop, drop-of-length-le}
 use lib.Seq.{slice, drop-cons}
 use borrow.Author.Tests.{leb-true, eqb-true, ne-eqb}
-use Rattle.text.specs.Text.{Text, if_then_else_, bytes, same, is, localName}
-use Rattle.text.proofs.Laws.Tests.{and-true-left, and-true-right}
+use Rattle.text.specs.Text.{Text, if_then_else_, bytes, first, same, is, localName}
+use Rattle.text.proofs.Laws.Tests.{and-true-left, and-true-right, not-true-false}
 use Rattle.text.proofs.Laws.Texts.{same-eq}
 use Rattle.builtin.specs.Builtin.{RustType, string, bool, decimal, date, dateTime, builtins, firstMatch, mapBuiltin, rustTypeNumber}
-use Rattle.builtin.specs.Answers.{entryAt}
+use Rattle.builtin.specs.Answers.{entryAt, keyOf}
 use Rattle.text.proofs.Laws.Table.{passes, at}
 use Rattle.text.proofs.Laws.Local.{localName-again}
 
@@ -77,6 +77,27 @@ name-part k h = same-eq _ _ (at named 38 all-named k h)
 pub kind-number : (k : ℕ) → k < 38 → getD (kinds builtins) k 0 ≡ rustTypeNumber (entryAt k .1)
 unfolding numbered
 kind-number k h = eqb-true _ _ (at numbered 38 all-numbered k h)
+
+-- the table of keys: at each place the key of the name there
+unfoldable pub keysOf : List (String × RustType) → List ℕ
+keysOf [] = []
+keysOf (e ∷ es) = keyOf (bytes (e .0)) ∷ keysOf es
+
+unfoldable pub keyed : ℕ → Bool
+keyed k = eqb (getD (keysOf builtins) k 0) (keyOf (bytes (entryAt k .0)))
+
+all-keyed : passes keyed 38 ≡ true
+unfolding keyed keysOf keyOf first bytes builtins entryAt
+all-keyed = refl
+
+pub key-at : (k : ℕ) → k < 38 → getD (keysOf builtins) k 0 ≡ keyOf (bytes (entryAt k .0))
+unfolding keyed
+key-at k h = eqb-true _ _ (at keyed 38 all-keyed k h)
+
+-- a word with another key is another word
+pub other-key : (word : Text) (k : ℕ) → (keyOf (bytes (entryAt k .0)) ≡ keyOf word → ⊥) → is word (entryAt k .0) ≡ false
+unfolding is
+other-key word k h = not-true-false _ (λ e. h (sym (ap keyOf (same-eq word (bytes (entryAt k .0)) e))))
 
 -- the type of a number, as `kind_at` has it: the fifth for every other number
 unfoldable pub typeOf : ℕ → RustType

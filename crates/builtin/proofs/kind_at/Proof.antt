@@ -2,7 +2,7 @@
 use mathlib.Core.Path.{sym, ap, _∙_}
 use mathlib.Core.Option.{some}
 use borrow.Author.Needs.{needs}
-use Rattle.builtin.specs.Builtin.{builtins, rustTypeNumber}
+use Rattle.builtin.specs.Builtin.{builtins}
 use Rattle.builtin.proofs.Laws.Builtins.{kinds, typeOf, typeOf-rest, kind-type}
 use Rattle.builtin.proofs.kind_at.Statement.{statement}
 use Rattle.builtin.proofs.kind_at.Tie as tie

@@ -1,12 +1,12 @@
 -- Laws of specs/Text.antt. No contract cites them. Assumes nothing.
 use mathlib.Core.Path.{_≡_, refl, sym, ap, _∙_}
-use mathlib.Core.Bool.{Bool, true, false, _&&_, _||_, false≢true}
+use mathlib.Core.Bool.{Bool, true, false, _&&_, _||_, false≢true, and-assoc, and-true, or-assoc, or-false}
 use mathlib.Core.List.{List, [], _∷_, _++_}
 use Prim.Native.Nat.{ℕ, zero, suc, _+_, _-_, _≤_, _<_}
 use Prim.Native.Char.{code}
 use native.Mathlib.Omega.{arith}
 use native.Mathlib.Nat.{not-suc-le-zero, le-of-suc-le-suc}
-use lib.Dec.{eqb, leb}
+use lib.Dec.{eqb, leb, ltb}
 use lib.ListN.{length, getD, take, drop, drop-of-length-le}
 use lib.Seq.{drop-cons, drop-nil, take-nil}
 use borrow.Author.Tests.{leb-true, lt-leb, le-leb, eqb-true, eq-eqb, ne-eqb, ltb-true, lt-ltb, le-ltb}
@@ -46,13 +46,9 @@ unfolding lower
 lower-of-other b e = rw e
 
 -- the byte c from place i on: the first one decides, or the rest does
-pub contains-hit : (c : ℕ) (s : Text) (i : ℕ) → i < length s → getD s i 0 ≡ c → contains c (drop i s) ≡ true
+pub contains-on : (c : ℕ) (s : Text) (i : ℕ) (found : Bool) → i < length s → (found || eqb (getD s i 0) c) || contains c (drop (suc i) s) ≡ found || contains c (drop i s)
 unfolding contains
-contains-hit c s i h e = rw (drop-cons s i 0 h, eq-eqb (getD s i 0) c e)
-
-pub contains-on : (c : ℕ) (s : Text) (i : ℕ) → i < length s → (getD s i 0 ≡ c → ⊥) → contains c (drop i s) ≡ contains c (drop (suc i) s)
-unfolding contains
-contains-on c s i h e = rw (drop-cons s i 0 h, ne-eqb (getD s i 0) c e)
+contains-on c s i found h = rw (drop-cons s i 0 h) (or-assoc found (eqb (getD s i 0) c) (contains c (drop (suc i) s)))
 
 pub first-drop : (s : Text) (i : ℕ) → first (drop i s) ≡ getD s i 0
 unfolding first
@@ -100,9 +96,9 @@ pub afterLast-end : (c : ℕ) (kept s : Text) (i : ℕ) → length s ≤ i → a
 unfolding afterLast
 afterLast-end c kept s i h = rw (drop-of-length-le s h)
 
-pub contains-end : (c : ℕ) (s : Text) (i : ℕ) → length s ≤ i → contains c (drop i s) ≡ false
+pub contains-end : (c : ℕ) (s : Text) (i : ℕ) (found : Bool) → length s ≤ i → found || contains c (drop i s) ≡ found
 unfolding contains
-contains-end c s i h = rw (drop-of-length-le s h)
+contains-end c s i found h = rw (drop-of-length-le s h) (or-false found)
 
 pub same-end : (s t : Text) (i : ℕ) → length s ≤ i → length t ≤ i → same (drop i s) (drop i t) ≡ true
 unfolding same
@@ -128,17 +124,13 @@ unfolding lower isTextByte
 lower-text b e = if-cases (λ r. isTextByte r ≡ true) (isUpper b) (λ u. lt-ltb (b + 32) 128 (omega (arith, between-high 65 90 b u))) (λ u. e)
 
 -- which bytes may stand in a text, from place i on: the byte there decides, or the rest does
-pub text-hit : (s : Text) (i : ℕ) → i < length s → 128 ≤ getD s i 0 → isText (drop i s) ≡ false
+pub text-on : (s : Text) (i : ℕ) (ok : Bool) → i < length s → (ok && ltb (getD s i 0) 128) && isText (drop (suc i) s) ≡ ok && isText (drop i s)
 unfolding isText every isTextByte
-text-hit s i h k = rw (drop-cons s i 0 h, le-ltb (getD s i 0) 128 k)
+text-on s i ok h = rw (drop-cons s i 0 h) (and-assoc ok (ltb (getD s i 0) 128) (isText (drop (suc i) s)))
 
-pub text-on : (s : Text) (i : ℕ) → i < length s → getD s i 0 < 128 → isText (drop i s) ≡ isText (drop (suc i) s)
-unfolding isText every isTextByte
-text-on s i h k = rw (drop-cons s i 0 h, lt-ltb (getD s i 0) 128 k)
-
-pub text-end : (s : Text) (i : ℕ) → length s ≤ i → isText (drop i s) ≡ true
+pub text-end : (s : Text) (i : ℕ) (ok : Bool) → length s ≤ i → ok && isText (drop i s) ≡ ok
 unfolding isText every
-text-end s i h = rw (drop-of-length-le s h)
+text-end s i ok h = rw (drop-of-length-le s h) (and-true ok)
 
 -- a part past the end
 pub part-past : (s : Text) (offset size : ℕ) → length s ≤ offset → take size (drop offset s) ≡ []

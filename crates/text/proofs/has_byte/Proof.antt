@@ -1,31 +1,28 @@
--- `text::has_byte` meets its contract. The loop's invariant: what is left from i on answers for the whole. The measure is how much is left.
--- Assumes nothing.
-use Prim.Native.Nat.{_≤_, _-_}
+-- `text::has_byte` meets its contract. The loop's invariant: what was seen so far, with what is left from i on, answers for the whole. The measure is
+-- how much is left. Assumes nothing.
+use Prim.Native.Nat.{_-_}
 use mathlib.Core.Path.{_≡_, refl, sym, _∙_}
+use mathlib.Core.Bool.{_||_}
 use native.Mathlib.Numerals.{add-one}
 use native.Mathlib.Omega.{arith}
-use lib.ListN.{length, drop, drop-of-length-le}
+use lib.ListN.{length, drop}
+use borrow.Author.Needs.{needs}
 use Rattle.text.specs.Text.{contains}
-use Rattle.text.proofs.Laws.Texts.{contains-hit, contains-on, contains-end}
+use Rattle.text.proofs.Laws.Texts.{contains-on, contains-end}
 use Rattle.text.proofs.has_byte.Statement.{statement}
 use Rattle.text.proofs.has_byte.Tie as tie
 
 abbrev Inv-loop : tie.InvT-loop
-Inv-loop s c i₀ i = (i ≤ length s) × (contains c (drop i s) ≡ contains c s)
+Inv-loop s c found₀ i₀ found i = found || contains c (drop i s) ≡ contains c s
 
 abbrev μ-loop : tie.MeasureT-loop
-μ-loop s c i₀ i = length s - i
+μ-loop s c found₀ i₀ found i = length s - i
 
 loop-holds : tie.Need-loop-holds Inv-loop μ-loop
-loop-holds c = (omega arith, refl)
+loop-holds c = refl
 
-shared-slice-read-if1 : tie.Need-shared-slice-read-if1 Inv-loop μ-loop
-shared-slice-read-if1 c = omega arith
-
-returns : tie.Need-returns Inv-loop μ-loop
-returns c =
-    let at = c .before .before .before in
-    sym (contains-hit (at .before .args .c) (at .before .args .s .now) (at .loop .i) (c .before .before .loop-test .taken) (c .if1 .taken)) ∙ at .loop .inv .1
+shared-slice-read-found : tie.Need-shared-slice-read-found Inv-loop μ-loop
+shared-slice-read-found c = omega arith
 
 add-i : tie.Need-add-i Inv-loop μ-loop
 add-i c = omega arith
@@ -35,14 +32,16 @@ loop-less c = omega arith
 
 loop-again : tie.Need-loop-again Inv-loop μ-loop
 loop-again c =
-    let at = c .before .before .before in
-    (omega arith, rw add-one (sym (contains-on (at .before .args .c) (at .before .args .s .now) (at .loop .i) (c .before .before .loop-test .taken) (c .if1 .left)) ∙ at .loop .inv .1))
+    let at = c .before .before in
+    let a = at .before .args in
+    rw add-one (contains-on (a .c) (a .s .now) (at .loop .i) (at .loop .found) (omega arith) ∙ at .loop .inv)
 
-returns-2 : tie.Need-returns-2 Inv-loop μ-loop
-returns-2 c =
+returns : tie.Need-returns Inv-loop μ-loop
+returns c =
     let at = c .before in
-    sym (contains-end (at .before .args .c) (at .before .args .s .now) (at .loop .i) (c .loop-test .left)) ∙ at .loop .inv .1
+    let a = at .before .args in
+    sym (contains-end (a .c) (a .s .now) (at .loop .i) (at .loop .found) (c .loop-test .left)) ∙ at .loop .inv
 
 pub has-byte-spec : {M : Type 1} → statement M
 has-byte-spec =
-    tie.close (tie.spec Inv-loop μ-loop loop-holds shared-slice-read-if1 returns add-i loop-less loop-again returns-2)
+    tie.close (tie.spec Inv-loop μ-loop loop-holds shared-slice-read-found add-i loop-less loop-again returns)

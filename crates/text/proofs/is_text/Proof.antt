@@ -1,31 +1,28 @@
--- `text::is_text` meets its contract. The loop's invariant: what is left from i on answers for the whole. The measure is how much is left.
--- Assumes nothing.
-use Prim.Native.Nat.{_≤_, _-_}
+-- `text::is_text` meets its contract. The loop's invariant: what was seen so far, with what is left from i on, answers for the whole. The measure is
+-- how much is left. Assumes nothing.
+use Prim.Native.Nat.{_-_}
 use mathlib.Core.Path.{_≡_, refl, sym, _∙_}
+use mathlib.Core.Bool.{_&&_}
 use native.Mathlib.Numerals.{add-one}
 use native.Mathlib.Omega.{arith}
 use lib.ListN.{length, drop}
+use borrow.Author.Needs.{needs}
 use Rattle.text.specs.Text.{isText}
-use Rattle.text.proofs.Laws.Texts.{text-hit, text-on, text-end}
+use Rattle.text.proofs.Laws.Texts.{text-on, text-end}
 use Rattle.text.proofs.is_text.Statement.{statement}
 use Rattle.text.proofs.is_text.Tie as tie
 
 abbrev Inv-loop : tie.InvT-loop
-Inv-loop s i₀ i = (i ≤ length s) × (isText (drop i s) ≡ isText s)
+Inv-loop s ok₀ i₀ ok i = ok && isText (drop i s) ≡ isText s
 
 abbrev μ-loop : tie.MeasureT-loop
-μ-loop s i₀ i = length s - i
+μ-loop s ok₀ i₀ ok i = length s - i
 
 loop-holds : tie.Need-loop-holds Inv-loop μ-loop
-loop-holds c = (omega arith, refl)
+loop-holds c = refl
 
-shared-slice-read-if1 : tie.Need-shared-slice-read-if1 Inv-loop μ-loop
-shared-slice-read-if1 c = omega arith
-
-returns : tie.Need-returns Inv-loop μ-loop
-returns c =
-    let at = c .before .before .before in
-    sym (text-hit (at .before .args .s .now) (at .loop .i) (c .before .before .loop-test .taken) (c .if1 .taken)) ∙ at .loop .inv .1
+shared-slice-read-ok : tie.Need-shared-slice-read-ok Inv-loop μ-loop
+shared-slice-read-ok c = omega arith
 
 add-i : tie.Need-add-i Inv-loop μ-loop
 add-i c = omega arith
@@ -35,24 +32,16 @@ loop-less c = omega arith
 
 loop-again : tie.Need-loop-again Inv-loop μ-loop
 loop-again c =
-    let at = c .before .before .before in
-    (omega arith, rw add-one (sym (text-on (at .before .args .s .now) (at .loop .i) (c .before .before .loop-test .taken) (c .if1 .left)) ∙ at .loop .inv .1))
+    let at = c .before .before in
+    let a = at .before .args in
+    rw add-one (text-on (a .s .now) (at .loop .i) (at .loop .ok) (omega arith) ∙ at .loop .inv)
 
-returns-2 : tie.Need-returns-2 Inv-loop μ-loop
-returns-2 c =
+returns : tie.Need-returns Inv-loop μ-loop
+returns c =
     let at = c .before in
-    sym (text-end (at .before .args .s .now) (at .loop .i) (c .loop-test .left)) ∙ at .loop .inv .1
+    let a = at .before .args in
+    sym (text-end (a .s .now) (at .loop .i) (at .loop .ok) (c .loop-test .left)) ∙ at .loop .inv
 
 pub is-text-spec : {M : Type 1} → statement M
 is-text-spec =
-    tie.close
-    (tie.spec
-    Inv-loop
-    μ-loop
-    loop-holds
-    shared-slice-read-if1
-    returns
-    add-i
-    loop-less
-    loop-again
-    returns-2)
+    tie.close (tie.spec Inv-loop μ-loop loop-holds shared-slice-read-ok add-i loop-less loop-again returns)

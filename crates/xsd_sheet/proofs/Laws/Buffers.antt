@@ -1,21 +1,17 @@
--- Laws of zeros: what stands at place i decides, or what is behind it does. Assumes nothing.
+-- Laws of zeros: what was seen so far, with what stands from place i on. Assumes nothing.
 use mathlib.Core.Path.{_≡_}
-use mathlib.Core.Bool.{true, false}
+use mathlib.Core.Bool.{Bool, _&&_, and-assoc, and-true}
 use mathlib.Core.List.{List}
 use Prim.Native.Nat.{ℕ, suc, _≤_, _<_}
 use lib.ListN.{length, getD, drop, drop-of-length-le}
 use lib.Seq.{drop-cons}
-use borrow.Author.Tests.{eq-eqb, ne-eqb}
+use lib.Dec.{eqb}
 use Rattle.sheet.specs.Rows.{allZero}
 
-pub zero-hit : (s : List ℕ) (i : ℕ) → i < length s → (getD s i 0 ≡ 0 → ⊥) → allZero (drop i s) ≡ false
+pub zero-on : (s : List ℕ) (i : ℕ) (ok : Bool) → i < length s → (ok && eqb (getD s i 0) 0) && allZero (drop (suc i) s) ≡ ok && allZero (drop i s)
 unfolding allZero
-zero-hit s i h e = rw (drop-cons s i 0 h, ne-eqb (getD s i 0) 0 e)
+zero-on s i ok h = rw (drop-cons s i 0 h) (and-assoc ok (eqb (getD s i 0) 0) (allZero (drop (suc i) s)))
 
-pub zero-on : (s : List ℕ) (i : ℕ) → i < length s → getD s i 0 ≡ 0 → allZero (drop i s) ≡ allZero (drop (suc i) s)
+pub zero-end : (s : List ℕ) (i : ℕ) (ok : Bool) → length s ≤ i → ok && allZero (drop i s) ≡ ok
 unfolding allZero
-zero-on s i h e = rw (drop-cons s i 0 h, eq-eqb (getD s i 0) 0 e)
-
-pub zero-end : (s : List ℕ) (i : ℕ) → length s ≤ i → allZero (drop i s) ≡ true
-unfolding allZero
-zero-end s i h = rw (drop-of-length-le s h)
+zero-end s i ok h = rw (drop-of-length-le s h) (and-true ok)
