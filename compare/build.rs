@@ -1,6 +1,5 @@
 //! Writes copies of parser.rs and lower.rs whose private leaves can be called, and links the static
-//! libraries `lubiksan`, `lubiksan_reader` and `sheet_bench` where the features `ours`, `reader` and
-//! `sheets` are on.
+//! libraries `lubiksan` and `sheet_bench` where the features `ours` and `sheets` are on.
 
 use std::env;
 use std::fs;
@@ -16,9 +15,6 @@ fn main() {
     write_copy("src/ir/lower.rs", "lower.rs", &LOWER_LEAVES);
     if env::var_os("CARGO_FEATURE_OURS").is_some() {
         link("lubiksan");
-    }
-    if env::var_os("CARGO_FEATURE_READER").is_some() {
-        link("lubiksan_reader");
     }
     if env::var_os("CARGO_FEATURE_SHEETS").is_some() {
         link("sheet_bench");

@@ -13,14 +13,16 @@
 //! | `checks`, `tally` | one text compared, and the count of cases and differences |
 //! | `tape`, `tapes` | schema events as tape and as XML, and lists of events to try |
 //! | `paper` | a model of paper 01, with the Rust as the judge of its handlers and of lowering |
-//! | `reader` | the reading call and the clearing of the static library `lubiksan_reader` (feature `reader`) |
-//! | `calls` | these calls compared with the model and with the handlers of the Rust |
+//! | `reader`, `grapher` | clearing and reading, lowering and labels of the static library (feature `ours`) |
+//! | `calls` | clearing, reading and labels compared with the model and with the handlers of the Rust |
+//! | `lowerings` | lowering compared with the model and with `lower` of the Rust |
 //! | `events` | the events of an XML text |
+//! | `prints` | the printing program: what it prints by the model, and inputs to try |
 //! | `definitions` | cases for the definitions under crates/, as statements of the proof language |
 
 #![deny(unsafe_code)]
 
-#[cfg(feature = "reader")]
+#[cfg(feature = "ours")]
 pub mod calls;
 pub mod cases;
 #[cfg(feature = "ours")]
@@ -28,14 +30,19 @@ pub mod checks;
 pub mod definitions;
 mod derived;
 pub mod events;
+#[cfg(feature = "ours")]
+pub mod grapher;
 pub mod ir;
 pub mod leaves;
+#[cfg(feature = "ours")]
+pub mod lowerings;
 pub mod names;
 #[cfg(feature = "ours")]
 pub mod ours;
 pub mod paper;
+pub mod prints;
 pub mod random;
-#[cfg(feature = "reader")]
+#[cfg(feature = "ours")]
 pub mod reader;
 pub mod samples;
 pub mod tally;

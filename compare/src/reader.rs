@@ -1,4 +1,4 @@
-//! The calls of the static library `lubiksan_reader`. A slice is passed as its address and its length.
+//! Clearing and reading of the static library `lubiksan`. A slice is passed as its address and its length.
 
 #![allow(unsafe_code)]
 

@@ -1,4 +1,4 @@
-//! Compares the reading call and the clearing of the static library `lubiksan_reader` with the model of
+//! Compares clearing, the reading call and the label call of the static library `lubiksan` with the model of
 //! paper 01 and with the Rust.
 //!
 //! The schemas for the last group stand in LUBIKSAN_SCHEMAS, or else in ../../shared/schemas beside
@@ -9,17 +9,18 @@ use std::path::{Path, PathBuf};
 use std::process::ExitCode;
 use std::thread;
 
-use judge::calls::{longer, small, written};
+use judge::calls::{labels, longer, small, written};
 use judge::tally::Tally;
 
 type Group = fn() -> Vec<Tally>;
 
 fn main() -> ExitCode {
-    let groups: [Group; 5] = [
+    let groups: [Group; 6] = [
         small::compare,
         longer::documents,
         longer::sheets,
         written::compare,
+        labels::compare,
         schemas,
     ];
     let running = groups.map(thread::spawn);
@@ -41,6 +42,6 @@ fn print(tallies: &[Tally]) -> ExitCode {
     counted().for_each(|tally| println!("{tally}"));
     let cases: u64 = counted().map(Tally::cases).sum();
     let differences: u64 = counted().map(Tally::differences).sum();
-    println!("compared {cases} cases of the reading calls, {differences} differences");
+    println!("compared {cases} cases of the reading and label calls, {differences} differences");
     ExitCode::from(u8::from(differences > 0))
 }

@@ -1,7 +1,7 @@
 //! Benchmark of the reading call: the events of a schema through the unchanged handlers of the Rust and
 //! through `lubiksan_read`, in one run; and the time of one event on a sheet of 100 and of 4,000 rows.
-//! Made by `rt staticlib lubiksan_reader`; run by
-//! `cargo run --release --features reader --bin reading -- SCHEMA..`.
+//! Made by `rt staticlib lubiksan`; run by
+//! `cargo run --release --features ours --bin reading -- SCHEMA..`.
 
 use std::env;
 use std::fs;

@@ -17,17 +17,23 @@ extern "C" {
         names: *const u8,
         names_len: usize,
     ) -> u32;
-    fn sheet_bench_clear(rows: *mut u32, rows_len: usize, names: *mut u8, names_len: usize) -> u32;
+    fn sheet_bench_clear(
+        rows: *mut u32,
+        rows_len: usize,
+        names: *mut u8,
+        names_len: usize,
+        place: *mut usize,
+    ) -> u32;
     fn sheet_bench_append(
         rows: *mut u32,
         rows_len: usize,
         names: *mut u8,
         names_len: usize,
-        rows_used: usize,
-        names_used: usize,
+        rows_used: *mut usize,
+        names_used: *mut usize,
         text: *const u8,
         text_len: usize,
-    ) -> usize;
+    ) -> u32;
 }
 
 struct Sheet {
@@ -46,13 +52,15 @@ impl Sheet {
     }
 
     fn clear(&mut self) -> u32 {
-        // SAFETY: both slices are lent whole, and the callee writes only inside them.
+        let mut place = 0;
+        // SAFETY: both slices are lent whole, and the callee writes only inside them and to `place`.
         unsafe {
             sheet_bench_clear(
                 self.rows.as_mut_ptr(),
                 self.rows.len(),
                 self.names.as_mut_ptr(),
                 self.names.len(),
+                &mut place,
             )
         }
     }
@@ -70,16 +78,17 @@ impl Sheet {
         answer == 1
     }
 
-    fn append(&mut self, rows_used: usize, names_used: usize, text: &[u8]) -> usize {
-        // SAFETY: all slices are lent whole and do not overlap; the callee writes only inside rows and names.
+    /// Appends a row; 1, or 0 where it has no room.
+    fn append(&mut self, mut rows_used: usize, mut names_used: usize, text: &[u8]) -> u32 {
+        // SAFETY: all slices are lent whole and do not overlap; the callee writes only inside rows and names and to what is used.
         unsafe {
             sheet_bench_append(
                 self.rows.as_mut_ptr(),
                 self.rows.len(),
                 self.names.as_mut_ptr(),
                 self.names.len(),
-                rows_used,
-                names_used,
+                &mut rows_used,
+                &mut names_used,
                 text.as_ptr(),
                 text.len(),
             )

@@ -1,4 +1,4 @@
-//! The reading call and the clearing of the static library, compared with the model of paper 01
+//! The reading call, the clearing and the label call of the static library, compared with the model of paper 01
 //! (number, place and both buffers) and with the handlers of the Rust (the state in the sheet).
 //!
 //! | module | holds |
@@ -7,8 +7,10 @@
 //! | `small` | every list of a few events in each context |
 //! | `longer` | random documents, damaged, in pieces, on damaged sheets |
 //! | `written` | the cases of the definitions, lengths, the schemas |
+//! | `labels` | the label call on rows of graphs, on any rows and word lists |
 
 pub mod check;
+pub mod labels;
 pub mod longer;
 pub mod small;
 pub mod written;

@@ -4,6 +4,7 @@ use crate::paper::label::{label, Label};
 use crate::paper::lowering::{lowering, Lowered};
 use crate::paper::reading::{clear, read};
 use crate::paper::sheet::Sheet;
+use crate::paper::state::State;
 use crate::paper::Answer;
 use crate::tape::Tape;
 
@@ -29,16 +30,16 @@ pub enum Step {
     Lower(Sheet, Vec<u32>),
 }
 
-/// What a call of a run answers.
+/// What a call of a run answers; of a reading also the number in the run of the event that it refused.
 pub enum Answered {
-    Read(Answer),
+    Read(Answer, Option<u32>),
     Lowered(Lowered),
 }
 
 impl Answered {
     fn number(&self) -> u32 {
         match self {
-            Answered::Read(answer) => answer.number,
+            Answered::Read(answer, _) => answer.number,
             Answered::Lowered(lowered) => lowered.answer.number,
         }
     }
@@ -52,6 +53,14 @@ pub enum Given {
     Ran(Vec<Answered>, Sheet),
 }
 
+/// "place is the event's number in the piece .. Added to events done before the call, it is the number in the run."
+fn number_in_run(before: &Sheet, answer: Answer) -> Option<u32> {
+    let state = State::of_lent(before)?;
+    (3..=11)
+        .contains(&answer.number)
+        .then_some(state.events + answer.place)
+}
+
 /// The calls made one after the other, each on the sheet that the one before left.
 fn ran(first: &Sheet, steps: &[Step]) -> Given {
     let mut sheet = first.clone();
@@ -60,8 +69,9 @@ fn ran(first: &Sheet, steps: &[Step]) -> Given {
         answers.push(match step {
             Step::Read(tape) => {
                 let (answer, after) = read(&sheet, tape);
+                let refused = number_in_run(&sheet, answer);
                 sheet = after;
-                Answered::Read(answer)
+                Answered::Read(answer, refused)
             }
             Step::Lower(graph, scratch) => Answered::Lowered(lowering(&sheet, graph, scratch)),
         });
@@ -87,7 +97,7 @@ impl Call {
                 names,
                 words,
                 row,
-            } => Given::Label(label(rows, names, words, *row)),
+            } => Given::Label(label(rows, names, words, *row as usize)),
             Call::Run(first, steps) => ran(first, steps),
         }
     }

@@ -11,10 +11,10 @@
 //! | `runs` | lists of readings and lowerings |
 
 pub mod call;
-mod graphs;
+pub(crate) mod graphs;
 pub mod print;
 pub(crate) mod readings;
-mod runs;
+pub(crate) mod runs;
 pub(crate) mod sheets;
 
 use std::collections::HashSet;

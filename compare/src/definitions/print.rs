@@ -13,6 +13,7 @@ const LONG_RUN: usize = 8;
 /// The first lines of a file of cases.
 pub const HEADER: &str = "\
 use mathlib.Core.Path.{_≡_, refl}
+use mathlib.Core.Option.{some, none}
 use mathlib.Core.Bool.{true, false}
 use mathlib.Core.List.{List, [], _∷_, _++_}
 use lib.ListN.{replicate}
@@ -102,7 +103,10 @@ fn step(step: &Step) -> String {
 
 fn answered(a: &Answered) -> String {
     match a {
-        Answered::Read(a) => format!("Answered.readAs ({})", answer(a)),
+        Answered::Read(a, refused) => {
+            let number = refused.map_or("none".to_owned(), |number| format!("(some {number})"));
+            format!("Answered.readAs ({}) {number}", answer(a))
+        }
         Answered::Lowered(l) => format!("Answered.loweredAs ({})", lowered(l)),
     }
 }

@@ -10,7 +10,7 @@ pub struct Label {
 }
 
 /// The label of row `row`: 0, or 16 with the empty part at the start of the names.
-pub fn label(rows: &[u32], names: &[u8], words: &[u8], row: u32) -> Label {
+pub fn label(rows: &[u32], names: &[u8], words: &[u8], row: usize) -> Label {
     found(rows, names, words, row).unwrap_or(Label {
         number: 16,
         in_words: false,
@@ -19,11 +19,11 @@ pub fn label(rows: &[u32], names: &[u8], words: &[u8], row: u32) -> Label {
     })
 }
 
-fn found(rows: &[u32], names: &[u8], words: &[u8], row: u32) -> Option<Label> {
+fn found(rows: &[u32], names: &[u8], words: &[u8], row: usize) -> Option<Label> {
     if !rows.len().is_multiple_of(10) {
         return None;
     }
-    let ten = rows.chunks(10).nth(row as usize)?;
+    let ten = rows.chunks(10).nth(row)?;
     let pair = reference_pair(ten)?;
     match ten[7] {
         0 if ten[0] == 5 => None,

@@ -7,12 +7,13 @@
 //! | `state` | what a schema sheet says, and when it is good |
 //! | `event` | what an event does |
 //! | `reading` | the tape, clearing, the reading call |
-//! | `graph` | the graph sheet of a type graph |
+//! | `graph`, `back` | the graph sheet of a type graph, and the type graph that a sheet says |
 //! | `lowering` | the lowering call; the Rust's `lower` gives the graph |
 //! | `label` | the label call |
 //! | `agree` | the model against the handlers of parser.rs, event by event |
 
 pub mod agree;
+pub mod back;
 pub mod event;
 pub mod graph;
 pub mod label;

@@ -1,0 +1,210 @@
+//! The type graph and its typed views.
+
+mod form;
+mod rows;
+mod types;
+
+use std::error::Error;
+use std::fmt;
+
+pub use types::{
+    Attribute, Builtin, Cardinality, CharacterCount, Choice, Code, CodeList, DigitCount, Facet,
+    Field, Newtype, Opaque, Root, Struct, TypeDef, TypeRef, Value, Variant,
+};
+
+use crate::buffer::Buffer;
+use crate::calls::{self, Answer};
+use crate::limits::{NAMES, ROW, ROW_NUMBERS};
+use crate::refusal::Refusal;
+use rows::Rows;
+use types::Types;
+
+/// The type graph of a schema. Its views borrow from it and copy nothing.
+///
+/// A graph comes from [`SchemaSheet::lower`](crate::SchemaSheet::lower), or from stored buffers, whose form is then
+/// tested once ([`Graph::from_buffers`]). One that holds nothing has no roots and no types.
+///
+/// ```
+/// use lubiksan::{Graph, SchemaSheet, TapeBuilder};
+///
+/// let mut piece = TapeBuilder::new();
+/// piece.start("schema", &[])?;
+/// piece.empty("element", &[("name", "D"), ("type", "T")])?;
+/// let mut sheet = SchemaSheet::new();
+/// sheet.read(&piece.finish())?;
+/// let mut graph = Graph::new();
+/// assert_eq!(sheet.lower(&mut graph)?, 3);
+/// let root = graph.roots().next().ok_or("a root was expected")?;
+/// assert_eq!((root.xml_name, root.type_name), ("D", "T"));
+///
+/// let stored = (graph.rows().to_vec(), graph.names().to_vec());
+/// assert_eq!(Graph::from_buffers(stored.0, stored.1)?.roots().count(), 1);
+/// assert!(Graph::from_buffers(vec![7; 20], Vec::new()).is_err());
+/// # Ok::<(), Box<dyn std::error::Error>>(())
+/// ```
+#[derive(Debug)]
+pub struct Graph<'a> {
+    rows: Buffer<'a, u32>,
+    names: Buffer<'a, u8>,
+    scratch: Buffer<'a, u32>,
+    /// The rows used; 0 where the graph holds nothing.
+    used: usize,
+}
+
+/// Stored buffers have not the form of a graph.
+#[derive(Clone, Copy, Debug, PartialEq, Eq)]
+pub struct BadGraph {
+    /// The first row that is wrong, from 0.
+    pub row: usize,
+}
+
+impl fmt::Display for BadGraph {
+    fn fmt(&self, f: &mut fmt::Formatter<'_>) -> fmt::Result {
+        write!(f, "row {} has not the form of a type graph", self.row)
+    }
+}
+
+impl Error for BadGraph {}
+
+/// The label of a row: the type that it refers to.
+#[derive(Clone, Copy, Debug, PartialEq, Eq)]
+pub enum Label<'g, 'w> {
+    /// A part of the graph's names: a named type.
+    Name(&'g [u8]),
+    /// A part of the lent words: a built-in type.
+    Word(&'w [u8]),
+}
+
+impl Default for Graph<'static> {
+    fn default() -> Self {
+        Graph::new()
+    }
+}
+
+impl Graph<'static> {
+    /// An empty graph of full size.
+    pub fn new() -> Graph<'static> {
+        Graph::owned(vec![0; ROW_NUMBERS], vec![0; NAMES], 0)
+    }
+
+    /// The graph in stored buffers.
+    ///
+    /// # Errors
+    ///
+    /// [`BadGraph`] where they have not the form of a graph.
+    pub fn from_buffers(rows: Vec<u32>, names: Vec<u8>) -> Result<Graph<'static>, BadGraph> {
+        let used = form::rows_used(&rows, &names).map_err(|row| BadGraph { row })?;
+        Ok(Graph::owned(rows, names, used))
+    }
+
+    fn owned(rows: Vec<u32>, names: Vec<u8>, used: usize) -> Graph<'static> {
+        let scratch = Buffer::Owned(vec![0; ROW_NUMBERS / ROW]);
+        Graph {
+            rows: Buffer::Owned(rows),
+            names: Buffer::Owned(names),
+            scratch,
+            used,
+        }
+    }
+}
+
+impl<'a> Graph<'a> {
+    /// An empty graph in lent buffers, with a scratch of at least one number for each type of the schema.
+    pub fn lend(rows: &'a mut [u32], names: &'a mut [u8], scratch: &'a mut [u32]) -> Graph<'a> {
+        Graph {
+            rows: Buffer::Lent(rows),
+            names: Buffer::Lent(names),
+            scratch: Buffer::Lent(scratch),
+            used: 0,
+        }
+    }
+
+    /// Calls the lowering on the buffers and notes what it left.
+    pub(crate) fn fill(
+        &mut self,
+        lower: impl FnOnce(&mut [u32], &mut [u8], &mut [u32]) -> Answer,
+    ) -> Answer {
+        let answer = lower(&mut self.rows, &mut self.names, &mut self.scratch);
+        match answer.number {
+            0 => self.used = answer.place,
+            1 | 2 | 14 => {}
+            _ => self.used = 0,
+        }
+        answer
+    }
+
+    /// The target namespace.
+    pub fn namespace(&self) -> &str {
+        self.used_rows()
+            .skip(1)
+            .next_row()
+            .map_or("", |row| row.text(0))
+    }
+
+    /// The root elements, in the order of the schema.
+    pub fn roots(&self) -> impl Iterator<Item = Root<'_>> {
+        self.used_rows()
+            .skip(2)
+            .iter()
+            .take_while(Root::is_root)
+            .map(Root::of)
+    }
+
+    /// The types, in the order of the graph.
+    pub fn types(&self) -> impl Iterator<Item = TypeDef<'_>> {
+        Types::of(self.used_rows())
+    }
+
+    /// The rows in use, ten numbers each.
+    pub fn rows(&self) -> &[u32] {
+        self.rows.get(..ROW * self.used).unwrap_or_default()
+    }
+
+    /// The names in use.
+    pub fn names(&self) -> &[u8] {
+        let used = self.rows().get(2).map_or(0, |&n| n as usize);
+        self.names.get(..used).unwrap_or_default()
+    }
+
+    /// The label of a row: `words` are five words, each ended by a newline byte, for the built-in types.
+    ///
+    /// ```
+    /// use lubiksan::{Graph, Label, SchemaSheet, TapeBuilder};
+    ///
+    /// let mut piece = TapeBuilder::new();
+    /// piece.start("schema", &[])?;
+    /// piece.start("simpleType", &[("name", "Max35Text")])?;
+    /// piece.empty("restriction", &[("base", "xs:string")])?;
+    /// piece.close()?;
+    /// let mut sheet = SchemaSheet::new();
+    /// sheet.read(&piece.finish())?;
+    /// let mut graph = Graph::new();
+    /// sheet.lower(&mut graph)?;
+    /// let words = b"String\nbool\nDecimal\nDate\nDateTime\n";
+    /// assert_eq!(graph.label(2, words)?, Label::Word(b"String"));
+    /// # Ok::<(), Box<dyn std::error::Error>>(())
+    /// ```
+    ///
+    /// # Errors
+    ///
+    /// [`Refusal::NoLabel`] for a row that has none, or a list of words that is not five.
+    pub fn label<'w>(&self, row: usize, words: &'w [u8]) -> Result<Label<'_, 'w>, Refusal> {
+        let part = calls::label(self.rows(), self.names(), words, row);
+        if part.number != 0 {
+            return Err(Refusal::NoLabel);
+        }
+        let range = part.start..part.start.saturating_add(part.length);
+        if part.in_words {
+            words.get(range).map(Label::Word).ok_or(Refusal::NoLabel)
+        } else {
+            self.names()
+                .get(range)
+                .map(Label::Name)
+                .ok_or(Refusal::NoLabel)
+        }
+    }
+
+    fn used_rows(&self) -> Rows<'_> {
+        Rows::new(self.rows(), self.names())
+    }
+}

@@ -1,0 +1,78 @@
+//! Rows of ten numbers with a names buffer. Every look is tested: what is not there reads as 0 or empty text.
+
+use crate::limits::ROW;
+
+/// Some rows.
+#[derive(Clone, Copy, Debug)]
+pub(crate) struct Rows<'g> {
+    rows: &'g [u32],
+    names: &'g [u8],
+}
+
+/// One row.
+#[derive(Clone, Copy, Debug)]
+pub(crate) struct Row<'g> {
+    ten: &'g [u32],
+    names: &'g [u8],
+}
+
+impl<'g> Rows<'g> {
+    pub fn new(rows: &'g [u32], names: &'g [u8]) -> Rows<'g> {
+        Rows { rows, names }
+    }
+
+    /// Without the first `count` rows.
+    pub fn skip(self, count: usize) -> Rows<'g> {
+        let rows = self.rows.get(ROW * count..).unwrap_or_default();
+        Rows { rows, ..self }
+    }
+
+    /// The first `count` rows.
+    pub fn take(self, count: usize) -> Rows<'g> {
+        let rows = self.rows.get(..ROW * count).unwrap_or(self.rows);
+        Rows { rows, ..self }
+    }
+
+    /// The first row.
+    pub fn next_row(self) -> Option<Row<'g>> {
+        self.iter().next()
+    }
+
+    /// The rows in order.
+    pub fn iter(self) -> impl Iterator<Item = Row<'g>> {
+        let names = self.names;
+        self.rows
+            .chunks_exact(ROW)
+            .map(move |ten| Row { ten, names })
+    }
+}
+
+impl<'g> Row<'g> {
+    pub fn number(self, column: usize) -> u32 {
+        self.ten.get(column).copied().unwrap_or(0)
+    }
+
+    pub fn tag(self) -> u32 {
+        self.number(0)
+    }
+
+    pub fn a(self) -> u32 {
+        self.number(7)
+    }
+
+    pub fn b(self) -> u32 {
+        self.number(8)
+    }
+
+    pub fn c(self) -> u32 {
+        self.number(9)
+    }
+
+    /// The text of a pair, from 0.
+    pub fn text(self, pair: usize) -> &'g str {
+        let (offset, length) = (self.number(1 + 2 * pair), self.number(2 + 2 * pair));
+        let behind = self.names.get(offset as usize..).unwrap_or_default();
+        let bytes = behind.get(..length as usize).unwrap_or_default();
+        std::str::from_utf8(bytes).unwrap_or_default()
+    }
+}

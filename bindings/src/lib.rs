@@ -1,0 +1,71 @@
+//! Schema events in, a type graph out: safe Rust over the static library `lubiksan`, whose calls are proved to meet
+//! their contracts. This crate carries buffers to the library and words back; it decides nothing.
+//!
+//! | Type | Is |
+//! |---|---|
+//! | [`TapeBuilder`], [`Tape`] | a piece of a run of events: start tags, empty tags, closes |
+//! | [`SchemaSheet`] | the state of a reading: what the events so far say. It is two buffers and can be stored |
+//! | [`Graph`] | the type graph of a schema, with typed views that borrow from it |
+//! | [`Refusal`] | why a call was refused: the library's number, a sentence, the place |
+//! | [`names`] | the text functions of the library: local name, numbers, built-in types, Rust names |
+//!
+//! ```
+//! use lubiksan::{Cardinality, Graph, SchemaSheet, TapeBuilder, TypeDef};
+//!
+//! let mut piece = TapeBuilder::new();
+//! piece.start("xs:schema", &[("targetNamespace", "urn:example")])?;
+//! piece.empty("xs:element", &[("name", "Document"), ("type", "Payment")])?;
+//! piece.start("xs:complexType", &[("name", "Payment")])?;
+//! piece.start("xs:sequence", &[])?;
+//! piece.empty("xs:element", &[("name", "MsgId"), ("type", "xs:string"), ("minOccurs", "0")])?;
+//! for _ in 0..3 {
+//!     piece.close()?;
+//! }
+//!
+//! let mut sheet = SchemaSheet::new();
+//! sheet.read(&piece.finish())?;
+//! let mut graph = Graph::new();
+//! sheet.lower(&mut graph)?;
+//!
+//! assert_eq!(graph.namespace(), "urn:example");
+//! let Some(TypeDef::Struct(payment)) = graph.types().next() else {
+//!     return Err("a struct was expected".into());
+//! };
+//! let field = payment.fields().next().ok_or("a field was expected")?;
+//! assert_eq!((field.xml_name, field.rust_name), ("MsgId", "msg_id"));
+//! assert_eq!(field.cardinality, Cardinality::Optional);
+//! # Ok::<(), Box<dyn std::error::Error>>(())
+//! ```
+//!
+//! A refusal says what is wrong and where:
+//!
+//! ```
+//! use lubiksan::{Refusal, SchemaSheet, TapeBuilder};
+//!
+//! let mut piece = TapeBuilder::new();
+//! piece.start("schema", &[])?;
+//! piece.start("complexType", &[])?;
+//! let refusal = SchemaSheet::new().read(&piece.finish());
+//! assert!(matches!(refusal, Err(Refusal::MissingAttribute(at)) if at.event == 1));
+//! # Ok::<(), Box<dyn std::error::Error>>(())
+//! ```
+
+#![deny(missing_docs)]
+#![deny(unsafe_code)]
+
+mod buffer;
+mod calls;
+mod graph;
+pub mod limits;
+pub mod names;
+mod refusal;
+mod sheet;
+mod tape;
+
+pub use graph::{
+    Attribute, BadGraph, Builtin, Cardinality, CharacterCount, Choice, Code, CodeList, DigitCount,
+    Facet, Field, Graph, Label, Newtype, Opaque, Root, Struct, TypeDef, TypeRef, Value, Variant,
+};
+pub use refusal::{At, Refusal};
+pub use sheet::{Context, Declared, Kind, SchemaSheet};
+pub use tape::{Event, Events, PieceFull, Tag, Tape, TapeBuilder};

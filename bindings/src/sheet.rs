@@ -1,0 +1,256 @@
+//! The state of a reading.
+
+use crate::buffer::Buffer;
+use crate::calls::{self, Answer};
+use crate::graph::Graph;
+use crate::limits::{NAMES, ROW, ROW_NUMBERS};
+use crate::refusal::Refusal;
+use crate::tape::Tape;
+
+/// The schema sheet: what the events read so far say, in rows of ten numbers and a names buffer. Both can be stored
+/// and taken up again ([`SchemaSheet::from_buffers`]); the library judges the sheet at every call, so one that is not
+/// good is refused and never read.
+///
+/// ```
+/// use lubiksan::{SchemaSheet, TapeBuilder};
+///
+/// let mut sheet = SchemaSheet::new();
+/// let mut piece = TapeBuilder::new();
+/// piece.start("schema", &[])?;
+/// assert_eq!(sheet.read(&piece.finish())?, 1);
+///
+/// // Stored, taken up again and read on.
+/// let (rows, names) = (sheet.rows().to_vec(), sheet.names().to_vec());
+/// let mut again = SchemaSheet::from_buffers(rows, names);
+/// again.check()?;
+/// let mut piece = TapeBuilder::new();
+/// piece.close()?;
+/// again.read(&piece.finish())?;
+/// assert_eq!(again.events_done(), 2);
+/// # Ok::<(), Box<dyn std::error::Error>>(())
+/// ```
+#[derive(Debug)]
+pub struct SchemaSheet<'a> {
+    rows: Buffer<'a, u32>,
+    names: Buffer<'a, u8>,
+}
+
+/// What a reading stands in.
+#[derive(Clone, Copy, Debug, PartialEq, Eq)]
+pub enum Context {
+    /// Outside a schema.
+    Outside,
+    /// In a schema, outside its types.
+    Schema,
+    /// In a simple type.
+    SimpleType,
+    /// In a complex type.
+    ComplexType,
+}
+
+/// What a head of the sheet declares.
+#[derive(Clone, Copy, Debug, PartialEq, Eq, PartialOrd, Ord, Hash)]
+pub enum Kind {
+    /// A global element.
+    Element,
+    /// A simple type.
+    SimpleType,
+    /// A complex type.
+    ComplexType,
+}
+
+/// An element or a type of the sheet.
+#[derive(Clone, Copy, Debug, PartialEq, Eq)]
+pub struct Declared<'s> {
+    /// Its row in the sheet, from 0.
+    pub row: usize,
+    /// What it is.
+    pub kind: Kind,
+    /// Its name as in the schema.
+    pub name: &'s str,
+    /// The type of an element, the base of a simple type or of simple content, else empty.
+    pub second: &'s str,
+}
+
+impl Default for SchemaSheet<'static> {
+    fn default() -> Self {
+        SchemaSheet::new()
+    }
+}
+
+impl SchemaSheet<'static> {
+    /// A cleared sheet of full size.
+    pub fn new() -> SchemaSheet<'static> {
+        let mut sheet = SchemaSheet::from_buffers(vec![0; ROW_NUMBERS], vec![0; NAMES]);
+        // Full lengths are taken, so clearing is not refused; were it, each call on the sheet would say so.
+        let _ = sheet.clear();
+        sheet
+    }
+
+    /// A cleared sheet with this room.
+    ///
+    /// # Errors
+    ///
+    /// [`Refusal::Lengths`] for under 2 or over 4,096 rows, or over 65,536 bytes of names.
+    pub fn with_room(rows: usize, names: usize) -> Result<SchemaSheet<'static>, Refusal> {
+        if rows > ROW_NUMBERS / ROW || names > NAMES {
+            return Err(Refusal::Lengths);
+        }
+        let mut sheet = SchemaSheet::from_buffers(vec![0; ROW * rows], vec![0; names]);
+        sheet.clear()?;
+        Ok(sheet)
+    }
+
+    /// The sheet of these buffers, whatever they hold.
+    pub fn from_buffers(rows: Vec<u32>, names: Vec<u8>) -> SchemaSheet<'static> {
+        SchemaSheet {
+            rows: Buffer::Owned(rows),
+            names: Buffer::Owned(names),
+        }
+    }
+}
+
+impl<'a> SchemaSheet<'a> {
+    /// The sheet in lent buffers, whatever they hold: clear it, or read on where they stand.
+    pub fn lend(rows: &'a mut [u32], names: &'a mut [u8]) -> SchemaSheet<'a> {
+        SchemaSheet {
+            rows: Buffer::Lent(rows),
+            names: Buffer::Lent(names),
+        }
+    }
+
+    /// Clears the sheet.
+    ///
+    /// # Errors
+    ///
+    /// [`Refusal::Lengths`]; nothing is changed then.
+    pub fn clear(&mut self) -> Result<(), Refusal> {
+        let answer = calls::clear(&mut self.rows, &mut self.names);
+        accepted(answer, 0).map(|_| ())
+    }
+
+    /// Is the sheet good? Nothing is changed.
+    ///
+    /// # Errors
+    ///
+    /// [`Refusal::Lengths`] or [`Refusal::NotGood`].
+    pub fn check(&mut self) -> Result<(), Refusal> {
+        self.read(&Tape::default()).map(|_| ())
+    }
+
+    /// Reads a piece and gives the number of its events.
+    ///
+    /// # Errors
+    ///
+    /// The [`Refusal`] of the first refused event: the events before it are done, it and the rest of the piece are
+    /// not. Or that of the call: then nothing is changed.
+    pub fn read(&mut self, tape: &Tape) -> Result<usize, Refusal> {
+        let done = self.events_done();
+        let answer = calls::read(&mut self.rows, &mut self.names, tape.text(), tape.marks());
+        accepted(answer, done)
+    }
+
+    /// Lowers the finished types into `graph` and gives the rows that it uses.
+    ///
+    /// # Errors
+    ///
+    /// The [`Refusal`] of the call; the graph is empty then, or as it was where a length was refused.
+    pub fn lower(&self, graph: &mut Graph<'_>) -> Result<usize, Refusal> {
+        let answer = graph.fill(|rows, names, scratch| {
+            calls::lower(&self.rows, &self.names, rows, names, scratch)
+        });
+        accepted(answer, 0)
+    }
+
+    /// The rows, ten numbers each.
+    pub fn rows(&self) -> &[u32] {
+        &self.rows
+    }
+
+    /// The names.
+    pub fn names(&self) -> &[u8] {
+        &self.names
+    }
+
+    /// How many rows are used, row 0 counted.
+    pub fn rows_used(&self) -> usize {
+        self.number(0, 1) as usize
+    }
+
+    /// How many bytes of names are used.
+    pub fn names_used(&self) -> usize {
+        self.number(0, 2) as usize
+    }
+
+    /// How many events were read.
+    pub fn events_done(&self) -> usize {
+        self.number(0, 6) as usize
+    }
+
+    /// How many tags are open.
+    pub fn open_tags(&self) -> u32 {
+        self.number(0, 7)
+    }
+
+    /// A schema element was read.
+    pub fn root_seen(&self) -> bool {
+        self.number(0, 5) == 1
+    }
+
+    /// What the reading stands in.
+    pub fn context(&self) -> Context {
+        match self.number(0, 3) {
+            1 => Context::Schema,
+            2 => Context::SimpleType,
+            3 => Context::ComplexType,
+            _ => Context::Outside,
+        }
+    }
+
+    /// The elements and types in order of arrival, the open type too.
+    pub fn declared(&self) -> impl Iterator<Item = Declared<'_>> {
+        (2..self.rows_used())
+            .map_while(|row| self.declared_at(row))
+            .flatten()
+    }
+
+    /// The element or type of a row; nothing inside for another row, none past the end.
+    fn declared_at(&self, row: usize) -> Option<Option<Declared<'_>>> {
+        let tag = *self.rows.get(row.checked_mul(ROW)?)?;
+        let kind = match tag {
+            2 => Kind::Element,
+            3 => Kind::SimpleType,
+            12..=16 => Kind::ComplexType,
+            _ => return Some(None),
+        };
+        let second = if tag == 15 { "" } else { self.text(row, 1) };
+        Some(Some(Declared {
+            row,
+            kind,
+            name: self.text(row, 0),
+            second,
+        }))
+    }
+
+    fn number(&self, row: usize, column: usize) -> u32 {
+        self.rows.get(ROW * row + column).copied().unwrap_or(0)
+    }
+
+    /// The text of a pair; empty where it lies outside the names.
+    fn text(&self, row: usize, pair: usize) -> &str {
+        let (offset, length) = (
+            self.number(row, 1 + 2 * pair),
+            self.number(row, 2 + 2 * pair),
+        );
+        let behind = self.names.get(offset as usize..).unwrap_or_default();
+        let bytes = behind.get(..length as usize).unwrap_or_default();
+        std::str::from_utf8(bytes).unwrap_or_default()
+    }
+}
+
+fn accepted(answer: Answer, done: usize) -> Result<usize, Refusal> {
+    match answer.number {
+        0 => Ok(answer.place),
+        _ => Err(Refusal::of(answer, done)),
+    }
+}

@@ -1,0 +1,147 @@
+//! The calls through the bindings: every refusal with its number, place and event; lent buffers.
+
+use lubiksan::{limits, Context, Graph, Kind, PieceFull, Refusal, SchemaSheet, Tape, TapeBuilder};
+
+type Tried = Result<(), Box<dyn std::error::Error>>;
+
+fn refused(sheet: &mut SchemaSheet<'_>, marks: &[u32]) -> (u32, usize, Option<usize>) {
+    let tape = Tape::from_buffers(b"schemacomplexType\xff".to_vec(), marks.to_vec());
+    match sheet.read(&tape) {
+        Ok(place) => (0, place, None),
+        Err(refusal) => (refusal.number(), refusal.place(), refusal.event()),
+    }
+}
+
+#[test]
+fn refusals_have_number_place_and_event() -> Tried {
+    let mut sheet = SchemaSheet::new();
+    assert_eq!(refused(&mut sheet, &[1, 0, 0, 6]), (0, 1, None));
+    assert_eq!(refused(&mut sheet, &[2, 0, 0, 6, 4, 0]), (3, 1, Some(2)));
+    assert_eq!(refused(&mut sheet, &[2, 0, 0, 99]), (4, 0, Some(2)));
+    assert_eq!(refused(&mut sheet, &[2, 0, 16, 2]), (5, 0, Some(2)));
+    assert_eq!(refused(&mut sheet, &[3, 0, 3, 0]), (6, 1, Some(3)));
+    let mut small = SchemaSheet::with_room(2, 0)?;
+    let mut piece = TapeBuilder::new();
+    piece.start("schema", &[("targetNamespace", "x")])?;
+    assert!(matches!(small.read(&piece.finish()), Err(Refusal::NoRoom(at)) if at.event == 0));
+    Ok(())
+}
+
+#[test]
+fn deep_and_nameless_tags_are_refused() -> Tried {
+    let mut sheet = SchemaSheet::new();
+    let mut piece = TapeBuilder::new();
+    for _ in 0..256 {
+        piece.start("a", &[])?;
+    }
+    assert!(matches!(sheet.read(&piece.finish()), Err(Refusal::TooDeep(at)) if at.event == 255));
+    sheet.clear()?;
+    let mut piece = TapeBuilder::new();
+    piece.start("schema", &[])?;
+    piece.start("simpleType", &[])?;
+    let refusal = sheet.read(&piece.finish()).err().ok_or("refused")?;
+    assert_eq!(
+        refusal.to_string(),
+        "a type without a name (refused with 9, event 1)"
+    );
+    Ok(())
+}
+
+#[test]
+fn lowering_refuses_by_number() -> Tried {
+    let mut graph = Graph::new();
+    assert_eq!(SchemaSheet::new().lower(&mut graph), Err(Refusal::NoRoot));
+    let sheet = unknown_base()?;
+    assert_eq!(
+        sheet.lower(&mut graph),
+        Err(Refusal::UnknownBase { row: 2 })
+    );
+    let (mut rows, mut names, mut scratch) = ([0; 20], [0; 0], [0; 0]);
+    let mut none = Graph::lend(&mut rows, &mut names, &mut scratch);
+    assert_eq!(sheet.lower(&mut none), Err(Refusal::Scratch));
+    assert_eq!(
+        SchemaSheet::from_buffers(vec![1; 20], vec![]).lower(&mut graph),
+        Err(Refusal::NotGood)
+    );
+    assert_eq!(
+        SchemaSheet::from_buffers(vec![1; 19], vec![]).check(),
+        Err(Refusal::Lengths)
+    );
+    Ok(())
+}
+
+fn unknown_base() -> Result<SchemaSheet<'static>, Box<dyn std::error::Error>> {
+    let mut piece = TapeBuilder::new();
+    piece.start("schema", &[])?;
+    piece.start("simpleType", &[("name", "T")])?;
+    piece.empty("restriction", &[("base", "xs:QName")])?;
+    piece.close()?;
+    let mut sheet = SchemaSheet::new();
+    sheet.read(&piece.finish())?;
+    let found = sheet.declared().next().ok_or("a type")?;
+    assert_eq!(
+        (found.row, found.kind, found.name, found.second),
+        (2, Kind::SimpleType, "T", "xs:QName")
+    );
+    assert_eq!(
+        (sheet.context(), sheet.open_tags(), sheet.root_seen()),
+        (Context::Schema, 1, true)
+    );
+    Ok(sheet)
+}
+
+#[test]
+fn a_graph_too_small_is_refused_and_empty() -> Tried {
+    let mut piece = TapeBuilder::new();
+    piece.start("schema", &[])?;
+    piece.empty("element", &[("name", "D"), ("type", "T")])?;
+    let mut sheet = SchemaSheet::new();
+    sheet.read(&piece.finish())?;
+    let (mut rows, mut names, mut scratch) = ([0; 20], [0; 2], [0; 0]);
+    let mut small = Graph::lend(&mut rows, &mut names, &mut scratch);
+    assert_eq!(sheet.lower(&mut small), Err(Refusal::GraphRoom));
+    assert_eq!(
+        (
+            small.roots().count(),
+            small.types().count(),
+            small.rows().len()
+        ),
+        (0, 0, 0)
+    );
+    Ok(())
+}
+
+#[test]
+fn lent_buffers_are_the_callers() -> Tried {
+    let (mut rows, mut names) = (vec![9; 40], vec![9; 8]);
+    let mut sheet = SchemaSheet::lend(&mut rows, &mut names);
+    assert_eq!(sheet.check(), Err(Refusal::NotGood));
+    sheet.clear()?;
+    let mut piece = TapeBuilder::new();
+    piece.empty("schema", &[("targetNamespace", "urn:a")])?;
+    sheet.read(&piece.finish())?;
+    assert_eq!((rows[6], &names[..]), (1, &b"urn:a\0\0\0"[..]));
+    Ok(())
+}
+
+#[test]
+fn a_piece_keeps_its_limits() -> Tried {
+    let mut piece = TapeBuilder::new();
+    let long = "x".repeat(limits::TEXT);
+    assert_eq!(
+        piece.start(&long, &[("a", "")]),
+        Err(PieceFull::TooLong {
+            text: limits::TEXT + 1,
+            marks: 8
+        })
+    );
+    piece.start(&long, &[])?;
+    assert_eq!(piece.empty("y", &[]), Err(PieceFull::Full));
+    for _ in 0..(limits::MARKS - 4) / 2 {
+        piece.close()?;
+    }
+    assert_eq!(piece.close(), Err(PieceFull::Full));
+    let tape = piece.finish();
+    assert_eq!(tape.events().count(), 1 + (limits::MARKS - 4) / 2);
+    Ok(())
+}

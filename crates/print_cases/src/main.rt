@@ -1,0 +1,77 @@
+// What the printing program prints on many inputs, beside the expected lines, which the file stdout holds.
+// The file stdin holds on each line a letter, a label, a text and numbers, with `;` between them:
+//     t       the tape of the text and the numbers, which are its marks
+//     i       the input of as many bytes as there are numbers, each number a byte
+// The label is printed in front. compare/run holds the lines of stdout to a model of paper 01.
+use libc::STDOUT_FILENO;
+use tape_pairs::mark_at;
+
+// A number below 256 as a byte, 255 for any other.
+fn byte_of(n: u32) -> u8 {
+    if n < 256 { n as u8 } else { 255 }
+}
+
+// The bytes are the numbers, and 0 where there are no more.
+fn copy_bytes(numbers: &[u32], bytes: &mut [u8]) {
+    let mut i = 0;
+    while i < bytes.len() {
+        bytes[i] = byte_of(mark_at(numbers, i));
+        i += 1;
+    }
+}
+
+// The first n of the bytes, or all.
+fn first_bytes(bytes: &[u8], n: usize) -> &[u8] {
+    if n <= bytes.len() {
+        return &bytes[0..n];
+    }
+    bytes
+}
+
+fn put_bytes(numbers: &[u32]) {
+    let mut bytes = [0u8; 256];
+    copy_bytes(numbers, &mut bytes);
+    printing::put_input(first_bytes(&bytes, numbers.len()));
+}
+
+// What the letter of a line says, done with its text and its numbers.
+fn put_done(letter: u8, t: &[u8], numbers: &[u32]) {
+    if letter == b't' {
+        printing::put_tape(t, numbers);
+    } else {
+        put_bytes(numbers);
+    }
+}
+
+// The end of a line: its text and its numbers.
+fn put_end(letter: u8, end: &[u8]) {
+    let mut space = [0u32; 16384];
+    let n = number_list::read_numbers(lines::behind(end, b';'), &mut space);
+    put_done(
+        letter,
+        lines::before(end, b';'),
+        number_list::first(&space, n),
+    );
+}
+
+fn put_line(line: &[u8]) {
+    let rest = lines::behind(line, b';');
+    io::write_all(STDOUT_FILENO, lines::before(rest, b';'));
+    io::write_all(STDOUT_FILENO, b":\n");
+    put_end(text::byte_at(line, 0), lines::behind(rest, b';'));
+}
+
+fn put_lines(input: &[u8]) {
+    let mut rest = input;
+    while 0 < rest.len() {
+        put_line(lines::before(rest, b'\n'));
+        let next = lines::behind(rest, b'\n');
+        rest = next;
+    }
+}
+
+fn main() {
+    let mut space = [0u8; 131072];
+    let n = io::read_full(0, &mut space);
+    put_lines(&space[..n]);
+}

@@ -1,0 +1,336 @@
+//! The command line.
+
+use std::ffi::OsString;
+use std::path::PathBuf;
+use std::time::Duration;
+
+use clap::builder::PossibleValuesParser;
+use clap::error::ErrorKind;
+use clap::{value_parser, Arg, ArgAction, ArgMatches, Command as Parser};
+
+use crate::failure::Failure;
+use crate::output::write_output;
+
+/// How a graph is shown.
+#[derive(Clone, Copy, Debug, PartialEq, Eq)]
+pub enum Format {
+    /// For reading.
+    Text,
+    /// docs/GRAPH.md.
+    Json,
+    /// For Graphviz.
+    Dot,
+    /// Rust source.
+    Rust,
+    /// What the printing program prints.
+    Rows,
+}
+
+/// A command with its arguments.
+#[derive(Clone, Debug, PartialEq, Eq)]
+pub enum Action {
+    /// Nothing more to do: help was shown.
+    Nothing,
+    /// `graph`
+    Graph {
+        /// An XSD or a stored sheet.
+        file: PathBuf,
+        /// How it is shown.
+        format: Format,
+        /// Where it is written.
+        output: Option<PathBuf>,
+        /// A sheet that is not whole is taken.
+        partial: bool,
+    },
+    /// `names`
+    Names {
+        /// An XSD or a stored sheet.
+        file: PathBuf,
+        /// A sheet that is not whole is taken.
+        partial: bool,
+    },
+    /// `read`
+    Read {
+        /// The XSD.
+        file: PathBuf,
+        /// The stored sheet.
+        sheet: PathBuf,
+        /// At most so many events.
+        events: usize,
+        /// Begin anew.
+        restart: bool,
+    },
+    /// `shelf`
+    Shelf(Shelf),
+    /// `check`
+    Check {
+        /// The stored sheet.
+        sheet: PathBuf,
+    },
+    /// `tape`
+    Tape {
+        /// The XSD.
+        file: PathBuf,
+        /// Where the tape is written.
+        output: PathBuf,
+    },
+}
+
+/// The arguments of `shelf`.
+#[derive(Clone, Debug, PartialEq, Eq)]
+pub struct Shelf {
+    /// The folder of the sheets.
+    pub folder: PathBuf,
+    /// The schemas.
+    pub files: Vec<PathBuf>,
+    /// How many at once; 0 is as many as the machine has cores.
+    pub jobs: usize,
+    /// How long to wait for the lock.
+    pub wait: Duration,
+    /// Begin anew.
+    pub restart: bool,
+}
+
+/// A parsed command line.
+#[derive(Clone, Debug, PartialEq, Eq)]
+pub struct Command {
+    /// What is to be done.
+    pub action: Action,
+    /// No warnings and no progress.
+    pub quiet: bool,
+    /// What was not kept is a refusal.
+    pub strict: bool,
+}
+
+/// The command of these arguments.
+///
+/// # Errors
+///
+/// [`Failure::Usage`] with clap's words.
+pub fn parsed(args: impl Iterator<Item = OsString>) -> Result<Command, Failure> {
+    match parser().try_get_matches_from(args) {
+        Ok(matches) => Ok(command(&matches)),
+        Err(error) => shown(&error),
+    }
+}
+
+/// Help goes to standard output; anything else is wrong use.
+fn shown(error: &clap::Error) -> Result<Command, Failure> {
+    let text = error.to_string();
+    match error.kind() {
+        ErrorKind::DisplayHelp | ErrorKind::DisplayVersion => {
+            write_output(None, text.as_bytes())?;
+            Ok(Command {
+                action: Action::Nothing,
+                quiet: true,
+                strict: false,
+            })
+        }
+        _ => Err(Failure::Usage(text.trim_end().to_owned())),
+    }
+}
+
+fn parser() -> Parser {
+    Parser::new("lubiksan")
+        .version(env!("CARGO_PKG_VERSION"))
+        .about("From an ISO 20022 schema to its type graph")
+        .after_help("Exit status: 0 done, 1 the input is refused, 2 wrong use, 3 the machine (trying again may help).")
+        .subcommand_required(true)
+        .arg_required_else_help(true)
+        .arg(flag("quiet", "No warnings and no progress").global(true))
+        .subcommand(graph())
+        .subcommand(names())
+        .subcommand(read())
+        .subcommand(shelf())
+        .subcommand(Parser::new("check").about("Is a stored sheet good, and how far is it").arg(path("SHEET").help("A stored sheet")))
+        .subcommand(tape())
+}
+
+fn graph() -> Parser {
+    let formats = PossibleValuesParser::new(["text", "json", "dot", "rust", "rows"]);
+    Parser::new("graph")
+        .about("The type graph of an XSD file or a stored sheet")
+        .arg(path("FILE").help("An XSD file or a stored sheet"))
+        .arg(
+            Arg::new("format")
+                .long("format")
+                .value_parser(formats)
+                .default_value("text")
+                .help("How it is shown"),
+        )
+        .arg(option("output", "OUT").help("The file that is written; whole or as it was"))
+        .arg(flag(
+            "partial",
+            "Take a stored sheet that is not read to its end",
+        ))
+        .arg(strict())
+}
+
+fn names() -> Parser {
+    Parser::new("names")
+        .about(
+            "Every XML name with its Rust name; names that meet are marked and end with status 1",
+        )
+        .arg(path("FILE"))
+        .arg(flag(
+            "partial",
+            "Take a stored sheet that is not read to its end",
+        ))
+        .arg(strict())
+}
+
+fn read() -> Parser {
+    Parser::new("read")
+        .about("Read on where a stored sheet stands")
+        .arg(path("FILE").help("An XSD file"))
+        .arg(
+            option("sheet", "SHEET")
+                .required(true)
+                .help("The stored sheet; begun where it is not there"),
+        )
+        .arg(number("events").help("At most so many events more"))
+        .arg(flag("restart", "Begin the sheet anew"))
+        .arg(strict())
+}
+
+fn shelf() -> Parser {
+    Parser::new("shelf")
+        .about("A stored sheet for each schema in a folder; goes on where it was stopped")
+        .arg(path("DIR").help("The folder of the stored sheets, made where it is not there"))
+        .arg(
+            path("FILE")
+                .num_args(1..)
+                .help("XSD files; the sheet of a.xsd is DIR/a.sheet"),
+        )
+        .arg(number("jobs").help("How many at once [default: one for each core]"))
+        .arg(
+            number("wait")
+                .value_name("SECONDS")
+                .help("How many seconds to wait for another process on the shelf"),
+        )
+        .arg(flag("restart", "Begin the sheets anew"))
+        .arg(strict())
+}
+
+fn tape() -> Parser {
+    Parser::new("tape")
+        .about("The printing program's input; OUT.000, OUT.001 .. where it takes several pieces")
+        .arg(path("FILE").help("An XSD file"))
+        .arg(
+            option("output", "OUT")
+                .required(true)
+                .help("The file that is written"),
+        )
+}
+
+fn path(name: &'static str) -> Arg {
+    Arg::new(name)
+        .required(true)
+        .value_parser(value_parser!(PathBuf))
+}
+
+fn option(name: &'static str, value: &'static str) -> Arg {
+    Arg::new(name)
+        .long(name)
+        .value_name(value)
+        .value_parser(value_parser!(PathBuf))
+}
+
+fn number(name: &'static str) -> Arg {
+    Arg::new(name)
+        .long(name)
+        .value_name("N")
+        .value_parser(value_parser!(u64))
+}
+
+fn flag(name: &'static str, help: &'static str) -> Arg {
+    Arg::new(name)
+        .long(name)
+        .action(ArgAction::SetTrue)
+        .help(help)
+}
+
+fn strict() -> Arg {
+    flag("strict", "Refuse a schema of which something was not kept")
+}
+
+fn command(matches: &ArgMatches) -> Command {
+    let (action, inner) = match matches.subcommand() {
+        Some((name, inner)) => (action(name, inner), inner),
+        None => (Action::Nothing, matches),
+    };
+    let strict = inner
+        .try_get_one::<bool>("strict")
+        .ok()
+        .flatten()
+        .is_some_and(|&set| set);
+    Command {
+        action,
+        quiet: matches.get_flag("quiet") || inner.get_flag("quiet"),
+        strict,
+    }
+}
+
+fn action(name: &str, matches: &ArgMatches) -> Action {
+    let path = |name: &str| {
+        matches
+            .get_one::<PathBuf>(name)
+            .cloned()
+            .unwrap_or_default()
+    };
+    match name {
+        "graph" => Action::Graph {
+            file: path("FILE"),
+            format: format(matches),
+            output: matches.get_one::<PathBuf>("output").cloned(),
+            partial: matches.get_flag("partial"),
+        },
+        "names" => Action::Names {
+            file: path("FILE"),
+            partial: matches.get_flag("partial"),
+        },
+        "read" => Action::Read {
+            file: path("FILE"),
+            sheet: path("sheet"),
+            events: number_of(matches, "events").unwrap_or(usize::MAX),
+            restart: matches.get_flag("restart"),
+        },
+        "shelf" => Action::Shelf(shelf_of(matches)),
+        "check" => Action::Check {
+            sheet: path("SHEET"),
+        },
+        _ => Action::Tape {
+            file: path("FILE"),
+            output: path("output"),
+        },
+    }
+}
+
+fn shelf_of(matches: &ArgMatches) -> Shelf {
+    let files = matches.get_many::<PathBuf>("FILE").into_iter().flatten();
+    Shelf {
+        folder: matches
+            .get_one::<PathBuf>("DIR")
+            .cloned()
+            .unwrap_or_default(),
+        files: files.cloned().collect(),
+        jobs: number_of(matches, "jobs").unwrap_or(0),
+        wait: Duration::from_secs(number_of(matches, "wait").unwrap_or(0) as u64),
+        restart: matches.get_flag("restart"),
+    }
+}
+
+fn number_of(matches: &ArgMatches, name: &str) -> Option<usize> {
+    let number = *matches.get_one::<u64>(name)?;
+    Some(usize::try_from(number).unwrap_or(usize::MAX))
+}
+
+fn format(matches: &ArgMatches) -> Format {
+    match matches.get_one::<String>("format").map(String::as_str) {
+        Some("json") => Format::Json,
+        Some("dot") => Format::Dot,
+        Some("rust") => Format::Rust,
+        Some("rows") => Format::Rows,
+        _ => Format::Text,
+    }
+}

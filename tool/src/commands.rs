@@ -1,0 +1,330 @@
+//! The commands but `shelf`.
+
+use std::path::{Path, PathBuf};
+
+use lubiksan::{Context, Graph, Kind, SchemaSheet, Tape};
+
+use crate::args::{Action, Command, Format};
+use crate::failure::{say, Failure};
+use crate::formats::{dot, json, rows, rust, text};
+use crate::interrupt;
+use crate::losses;
+use crate::names::Names;
+use crate::output::{remove_left_beside, write_output};
+use crate::places::Places;
+use crate::progress::Progress;
+use crate::reading::{lowered, read_on, read_whole};
+use crate::shelf;
+use crate::source::{bytes_of, Source};
+use crate::stored::{self, Stored};
+use crate::xml::Lines;
+
+/// Runs a command.
+///
+/// # Errors
+///
+/// [`Failure`], which says how it ended.
+pub fn run(command: &Command) -> Result<(), Failure> {
+    match &command.action {
+        Action::Nothing => Ok(()),
+        Action::Graph {
+            file,
+            format,
+            output,
+            partial,
+        } => graph(command, file, *format, output.as_deref(), *partial),
+        Action::Names { file, partial } => names(command, file, *partial),
+        Action::Read {
+            file,
+            sheet,
+            events,
+            restart,
+        } => read(command, file, sheet, *events, *restart),
+        Action::Shelf(arguments) => shelf::run(command, arguments),
+        Action::Check { sheet } => check(sheet),
+        Action::Tape { file, output } => tape(file, output),
+    }
+}
+
+/// A sheet to lower, and the source where it was just read.
+struct Input {
+    sheet: SchemaSheet<'static>,
+    source: Option<Source>,
+}
+
+/// The sheet of a file, which is an XSD or a stored sheet.
+fn input(command: &Command, file: &Path, partial: bool) -> Result<Input, Failure> {
+    let bytes = bytes_of(file).map_err(|error| Failure::input(file, &error))?;
+    if stored::is_stored(&bytes) {
+        let stored = stored::of_bytes(file, &bytes)?;
+        return of_stored(command, file, stored, partial);
+    }
+    let source = Source::of(file, bytes)?;
+    let sheet = read_whole(&source)?;
+    warn(command, losses::lines(&source, &sheet))?;
+    Ok(Input {
+        sheet,
+        source: Some(source),
+    })
+}
+
+fn of_stored(
+    command: &Command,
+    file: &Path,
+    stored: Stored,
+    partial: bool,
+) -> Result<Input, Failure> {
+    if !stored.is_whole() && !partial {
+        let words = format!(
+            "{}: only {} are done; --partial takes it so",
+            file.display(),
+            stored.progress()
+        );
+        return Err(Failure::Refused(words));
+    }
+    let counts = losses::compared(stored.about.counts, losses::kept(&stored.sheet), "source");
+    if stored.is_whole() && !counts.is_empty() {
+        warn(command, vec![format!("{}: {counts}", file.display())])?;
+    }
+    Ok(Input {
+        sheet: stored.sheet,
+        source: None,
+    })
+}
+
+/// What was not kept: a warning, or with `--strict` a refusal.
+///
+/// # Errors
+///
+/// [`Failure::Refused`] with `--strict`.
+pub fn warn(command: &Command, lines: Vec<String>) -> Result<(), Failure> {
+    if lines.is_empty() {
+        return Ok(());
+    }
+    if command.strict {
+        return Err(Failure::Refused(lines.join("\n")));
+    }
+    if !command.quiet {
+        lines.iter().for_each(|line| say(line));
+    }
+    Ok(())
+}
+
+fn graph(
+    command: &Command,
+    file: &Path,
+    format: Format,
+    output: Option<&Path>,
+    partial: bool,
+) -> Result<(), Failure> {
+    if let Some(output) = output {
+        remove_left_beside(output);
+    }
+    let made = input(command, file, partial).and_then(|input| {
+        let graph = lowered(file, input.source.as_ref(), &input.sheet)?;
+        shown(file, format, &input, &graph)
+    });
+    match made {
+        Ok(bytes) => write_output(output, &bytes),
+        Err(Failure::Answered { lines, words }) if format == Format::Rows => {
+            write_output(output, lines.as_bytes())?;
+            Err(Failure::Refused(words))
+        }
+        Err(failure) => Err(failure),
+    }
+}
+
+/// The graph in a format.
+fn shown(
+    file: &Path,
+    format: Format,
+    input: &Input,
+    graph: &Graph<'_>,
+) -> Result<Vec<u8>, Failure> {
+    let sheet = &input.sheet;
+    match format {
+        Format::Text => Ok(text::print(graph).into_bytes()),
+        Format::Dot => Ok(dot::print(graph).into_bytes()),
+        Format::Rows => Ok(rows::print(sheet.events_done(), graph)),
+        Format::Json => {
+            let text = json::print(graph).map_err(|error| Failure::Machine(error.to_string()))?;
+            Ok(text.into_bytes())
+        }
+        Format::Rust => {
+            do_not_meet(file, input, &Names::of(sheet, graph))?;
+            Ok(rust::print(sheet, graph).into_bytes())
+        }
+    }
+}
+
+/// Names that meet are a refusal, with the place in the file where that was just read.
+fn do_not_meet(file: &Path, input: &Input, names: &Names) -> Result<(), Failure> {
+    if names.meetings.is_empty() {
+        return Ok(());
+    }
+    let located = input
+        .source
+        .as_ref()
+        .map(|source| (source, Places::of(source)));
+    let place = |row: usize| {
+        let found = located
+            .as_ref()
+            .and_then(|(source, places)| Some(source.at(places.of_row(row)?, "")));
+        found.unwrap_or_else(|| format!("{}: ", file.display()))
+    };
+    Err(Failure::Refused(names.words(place)))
+}
+
+fn names(command: &Command, file: &Path, partial: bool) -> Result<(), Failure> {
+    let input = input(command, file, partial)?;
+    let graph = lowered(file, input.source.as_ref(), &input.sheet)?;
+    let names = Names::of(&input.sheet, &graph);
+    let located = input
+        .source
+        .as_ref()
+        .map(|source| (Lines::of(source.document().text()), Places::of(source)));
+    let line = |row: usize| {
+        located
+            .as_ref()
+            .and_then(|(lines, places)| Some(lines.line(places.of_row(row)?)))
+    };
+    write_output(None, names.listing(line).as_bytes())?;
+    do_not_meet(file, &input, &names)
+}
+
+fn read(
+    command: &Command,
+    file: &Path,
+    sheet: &Path,
+    events: usize,
+    restart: bool,
+) -> Result<(), Failure> {
+    interrupt::watch();
+    remove_left_beside(sheet);
+    let source = Source::load(file)?;
+    let mut stored = stored::resumed(sheet, &source, restart)?;
+    let progress = Progress::new(source.document().events().len(), command.quiet);
+    let read = advance(&source, sheet, &mut stored, events, &progress);
+    progress.end();
+    read?;
+    write_output(
+        None,
+        format!("{}: {}\n", sheet.display(), stored.progress()).as_bytes(),
+    )?;
+    match stored.is_whole() {
+        true => warn(command, losses::lines(&source, &stored.sheet)),
+        false => Ok(()),
+    }
+}
+
+/// Reads on and stores after each piece; where no event is to be read the sheet is stored as it stands.
+///
+/// # Errors
+///
+/// As [`read_on`], or [`Failure::Machine`] where the sheet can't be stored.
+pub fn advance(
+    source: &Source,
+    path: &Path,
+    stored: &mut Stored,
+    events: usize,
+    progress: &Progress,
+) -> Result<(), Failure> {
+    let Stored { sheet, about } = stored;
+    let mut done = sheet.events_done();
+    if events == 0 {
+        stored::store(path, sheet, about)?;
+    }
+    read_on(source, sheet, events, |sheet| {
+        progress.add(sheet.events_done() - done);
+        done = sheet.events_done();
+        stored::store(path, sheet, about)
+    })
+}
+
+fn check(path: &Path) -> Result<(), Failure> {
+    let stored = stored::load(path)?;
+    write_output(None, described(path, &stored).as_bytes())
+}
+
+/// What a good sheet holds and how far it is.
+fn described(path: &Path, stored: &Stored) -> String {
+    let (sheet, about) = (&stored.sheet, &stored.about);
+    let sum: String = about
+        .sha256
+        .iter()
+        .map(|byte| format!("{byte:02x}"))
+        .collect();
+    let count = |kind: Kind| {
+        sheet
+            .declared()
+            .filter(|declared| declared.kind == kind)
+            .count()
+    };
+    let state = match sheet.context() {
+        Context::Outside => "outside a schema",
+        Context::Schema => "in a schema",
+        Context::SimpleType => "in a simple type",
+        Context::ComplexType => "in a complex type",
+    };
+    format!(
+        "{}: good\nsource: {}, {} bytes, SHA-256 {sum}\ndone: {}, {} tags open, {state}\nholds: {} elements, {} simple types, {} complex types\nuses: {} of {} rows, {} of {} bytes of names\n",
+        path.display(),
+        about.path.display(),
+        about.length,
+        stored.progress(),
+        sheet.open_tags(),
+        count(Kind::Element),
+        count(Kind::SimpleType),
+        count(Kind::ComplexType),
+        sheet.rows_used(),
+        sheet.rows().len() / lubiksan::limits::ROW,
+        sheet.names_used(),
+        sheet.names().len(),
+    )
+}
+
+fn tape(file: &Path, output: &Path) -> Result<(), Failure> {
+    remove_left_beside(output);
+    let source = Source::load(file)?;
+    let tapes = tapes(&source)?;
+    match tapes.as_slice() {
+        [one] => write_output(Some(output), &printed(one)),
+        several => several.iter().enumerate().try_for_each(|(index, tape)| {
+            write_output(Some(&numbered(output, index)), &printed(tape))
+        }),
+    }
+}
+
+/// `OUT.000`
+fn numbered(output: &Path, index: usize) -> PathBuf {
+    let mut name = output.as_os_str().to_owned();
+    name.push(format!(".{index:03}"));
+    PathBuf::from(name)
+}
+
+/// The source in as few pieces as hold it; one at least.
+fn tapes(source: &Source) -> Result<Vec<Tape>, Failure> {
+    let document = source.document();
+    let mut tapes = Vec::new();
+    let mut first = 0;
+    while first < document.events().len() || tapes.is_empty() {
+        let piece = document
+            .piece(first, usize::MAX)
+            .map_err(|fault| source.too_long(&fault))?;
+        first += piece.events;
+        tapes.push(piece.tape);
+    }
+    Ok(tapes)
+}
+
+/// The printing program's input: the two lengths, the text, the marks.
+fn printed(tape: &Tape) -> Vec<u8> {
+    let lengths = [tape.text().len() as u32, tape.marks().len() as u32];
+    let mut bytes: Vec<u8> = lengths
+        .iter()
+        .flat_map(|number| number.to_le_bytes())
+        .collect();
+    bytes.extend(tape.text());
+    bytes.extend(tape.marks().iter().flat_map(|number| number.to_le_bytes()));
+    bytes
+}

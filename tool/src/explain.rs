@@ -1,0 +1,183 @@
+//! A refusal of the library in words, with the place in the file.
+
+use std::path::Path;
+
+use lubiksan::names::parse_u32;
+use lubiksan::{limits, Declared, Kind, Refusal, SchemaSheet};
+
+use crate::document::Document;
+use crate::failure::{quoted, Failure};
+use crate::source::Source;
+use crate::xml::{Event, EventKind};
+
+/// A refused reading.
+pub fn reading(source: &Source, refusal: &Refusal) -> Failure {
+    let (number, document) = (refusal.number(), source.document());
+    let found = refusal
+        .event()
+        .and_then(|index| Some((index, document.events().get(index)?)));
+    let Some((index, event)) = found else {
+        let lines = format!("read {number} {}\n", refusal.place());
+        return Failure::Answered {
+            lines,
+            words: format!("{}: {refusal}", source.path().display()),
+        };
+    };
+    let (at, words) = event_words(document, event, refusal);
+    let words = source.at(
+        at,
+        &format!("{words} (refused with {number}, event {index})"),
+    );
+    Failure::Answered {
+        lines: format!("read {number} {index}\n"),
+        words,
+    }
+}
+
+/// Where an event is refused and why.
+fn event_words(document: &Document, event: &Event, refusal: &Refusal) -> (usize, String) {
+    let tag = quoted(document.name(event));
+    let words = match refusal {
+        Refusal::Record(_) => {
+            let (count, most) = (document.attributes(event).count(), limits::ATTRIBUTES);
+            format!("the tag {tag} has {count} attributes, more than {most}")
+        }
+        Refusal::NotAscii(_) => outside_ascii(document, event),
+        Refusal::TooDeep(_) => format!(
+            "the tag {tag} stands inside {} others, the most that may be open",
+            255
+        ),
+        Refusal::TooManyEvents(_) => {
+            format!("the tag {tag} stands behind 1,000,000 events, the most that are read")
+        }
+        Refusal::MissingAttribute(_) => format!("{} has no name", document.local(event)),
+        Refusal::InvalidValue(_) => return bad_number(document, event),
+        Refusal::NoRoom(_) => {
+            format!("no room for the tag {tag}: a schema sheet has 4,096 rows and 65,536 bytes of names")
+        }
+        other => format!("the tag {tag} is refused: {other}"),
+    };
+    (event.at, words)
+}
+
+/// What of a tag has a character outside ASCII.
+fn outside_ascii(document: &Document, event: &Event) -> String {
+    let name = document.name(event);
+    if !name.is_ascii() {
+        return format!("the tag name {} is not ASCII", quoted(name));
+    }
+    for (key, value, _) in document.attributes(event) {
+        if !key.is_ascii() {
+            return format!("the attribute name {} is not ASCII", quoted(key));
+        }
+        if !value.is_ascii() {
+            return format!("{key} {} is not ASCII", quoted(value));
+        }
+    }
+    format!("the tag {} is not ASCII", quoted(name))
+}
+
+/// Which number of a tag is wrong: minOccurs before maxOccurs, or a facet's value.
+fn bad_number(document: &Document, event: &Event) -> (usize, String) {
+    let tag = document.local(event);
+    let occurs = |word| document.attribute(event, word);
+    let (word, found) = match (tag, occurs("minOccurs")) {
+        ("element", Some(min)) if parse_u32(min.0).is_none() => ("minOccurs", Some(min)),
+        ("element", _) => ("maxOccurs", occurs("maxOccurs")),
+        _ => (tag, document.attribute(event, "value")),
+    };
+    match found {
+        None => (event.at, format!("{word} has no value")),
+        Some((value, at)) => (
+            at,
+            format!("{word} {} {}", quoted(value), why_no_number(word, value)),
+        ),
+    }
+}
+
+fn why_no_number(word: &str, value: &str) -> String {
+    let digits = value.strip_prefix('+').unwrap_or(value);
+    if digits.is_empty() || !digits.bytes().all(|b| b.is_ascii_digit()) {
+        return "is not a number".to_owned();
+    }
+    match word {
+        "minLength" | "maxLength" => format!("is above {}", u64::MAX),
+        _ => format!("is above {}", u32::MAX),
+    }
+}
+
+/// A refused lowering.
+pub fn lowering(
+    file: &Path,
+    source: Option<&Source>,
+    sheet: &SchemaSheet<'_>,
+    refusal: &Refusal,
+) -> Failure {
+    let (number, place) = (refusal.number(), refusal.place());
+    let lines = format!("read 0 {}\nlower {number} {place}\n", sheet.events_done());
+    let name = file.display();
+    let words = match refusal {
+        Refusal::NoRoot => format!("{name}: there is no schema element (refused with {number})"),
+        Refusal::GraphRoom => format!(
+            "{name}: the graph needs more than 4,096 rows or 65,536 bytes of names (refused with {number})"
+        ),
+        Refusal::UnknownBase { row } => unknown_base(file, source, sheet, *row),
+        other => format!("{name}: {other}"),
+    };
+    Failure::Answered { lines, words }
+}
+
+/// 13 names the type, and its line where the file is at hand.
+fn unknown_base(
+    file: &Path,
+    source: Option<&Source>,
+    sheet: &SchemaSheet<'_>,
+    row: usize,
+) -> String {
+    let found = sheet.declared().find(|declared| declared.row == row);
+    let (name, base) = found.map_or(("", ""), |declared| (declared.name, declared.second));
+    let words = match base {
+        "" => format!("simpleType {} has no base (refused with 13)", quoted(name)),
+        _ => format!(
+            "simpleType {} has the base {}, which is not built in (refused with 13)",
+            quoted(name),
+            quoted(base)
+        ),
+    };
+    let at = source
+        .zip(found)
+        .and_then(|(source, declared)| Some((source, opened_at(source, &declared)?)));
+    match at {
+        Some((source, at)) => source.at(at, &words),
+        None => format!("{}: {words}", file.display()),
+    }
+}
+
+/// Where the tag stands that opened the simple type of a row: of the tags of that name the last one that, read in its
+/// turn, made that row the last.
+fn opened_at(source: &Source, declared: &Declared<'_>) -> Option<usize> {
+    let document = source.document();
+    let mut sheet = SchemaSheet::new();
+    let mut found = None;
+    for (index, event) in document.events().iter().enumerate() {
+        if !opens(document, event, declared) {
+            continue;
+        }
+        let most = (index + 1).checked_sub(sheet.events_done())?;
+        crate::reading::read_on(source, &mut sheet, most, |_| Ok(())).ok()?;
+        let last = sheet.declared().last();
+        if last.is_some_and(|last| last.row == declared.row && last.kind == Kind::SimpleType) {
+            found = Some(event.at);
+        }
+    }
+    found
+}
+
+fn opens(document: &Document, event: &Event, declared: &Declared<'_>) -> bool {
+    let named = || {
+        document
+            .attribute(event, "name")
+            .is_some_and(|(name, _)| name == declared.name)
+    };
+    event.kind == EventKind::Start && document.local(event) == "simpleType" && named()
+}

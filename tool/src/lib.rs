@@ -1,0 +1,50 @@
+//! The program `lubiksan`: from an XSD file to its type graph. Whatever decides is the proved library behind the crate
+//! `lubiksan`; this crate reads files, cuts them into pieces, stores sheets and puts words to refusals.
+//!
+//! | Module | Holds |
+//! |---|---|
+//! | [`xml`], [`document`] | XML text into events, with every test that XML asks for; the events in pieces |
+//! | [`source`], [`reading`] | a schema file; its events read into a schema sheet |
+//! | [`explain`], [`losses`] | a refusal in words; what of the file was not kept |
+//! | [`stored`], [`output`] | stored sheets; files that are whole or as they were |
+//! | [`formats`], [`names`], [`identifier`], [`places`] | the graph as text, JSON, dot, Rust and rows; names that meet, and where |
+//! | [`shelf`], [`interrupt`], [`progress`] | many schemas side by side |
+//! | [`args`], [`commands`], [`failure`] | the command line |
+
+#![deny(missing_docs)]
+#![deny(unsafe_code)]
+
+pub mod args;
+pub mod commands;
+pub mod document;
+mod dtd;
+pub mod explain;
+pub mod failure;
+pub mod formats;
+pub mod identifier;
+pub mod interrupt;
+pub mod losses;
+pub mod names;
+pub mod output;
+pub mod places;
+pub mod progress;
+pub mod reading;
+mod scan;
+pub mod shelf;
+pub mod source;
+pub mod stored;
+pub mod xml;
+
+use std::ffi::OsString;
+
+/// Runs the command line and gives the exit status: 0 done, 1 the input is refused, 2 wrong use, 3 the machine.
+pub fn run(args: impl Iterator<Item = OsString>) -> u8 {
+    let done = args::parsed(args).and_then(|command| commands::run(&command));
+    match done {
+        Ok(()) => 0,
+        Err(failure) => {
+            failure.say();
+            failure.status()
+        }
+    }
+}

@@ -1,0 +1,106 @@
+//! A schema file.
+
+use std::fs::File;
+use std::io::{self, Read};
+use std::path::{Path, PathBuf};
+use std::sync::OnceLock;
+
+use sha2::{Digest, Sha256};
+
+use crate::document::{Document, BYTE_ORDER_MARK};
+use crate::failure::Failure;
+use crate::xml::{line_and_column, Fault};
+
+/// A schema file that was read.
+#[derive(Debug)]
+pub struct Source {
+    path: PathBuf,
+    document: Document,
+    /// The length of the file in bytes.
+    pub length: u64,
+    sha256: OnceLock<[u8; 32]>,
+}
+
+impl Source {
+    /// Reads a file.
+    ///
+    /// # Errors
+    ///
+    /// [`Failure`] where it can't be read or is no well-formed XML in UTF-8.
+    pub fn load(path: &Path) -> Result<Source, Failure> {
+        let bytes = bytes_of(path).map_err(|error| Failure::input(path, &error))?;
+        Source::of(path, bytes)
+    }
+
+    /// The source of the bytes of the file `path`.
+    ///
+    /// # Errors
+    ///
+    /// [`Failure`] where they are no well-formed XML in UTF-8.
+    pub fn of(path: &Path, bytes: Vec<u8>) -> Result<Source, Failure> {
+        let length = bytes.len() as u64;
+        let document = Document::of(bytes).map_err(|(fault, text)| {
+            Failure::Refused(format!("{}{}", placed(path, &text, fault.at), fault.words))
+        })?;
+        Ok(Source {
+            path: path.to_owned(),
+            document,
+            length,
+            sha256: OnceLock::new(),
+        })
+    }
+
+    /// The path as it was given.
+    pub fn path(&self) -> &Path {
+        &self.path
+    }
+
+    /// The SHA-256 of the file: of its text, and of the byte order mark where it has one.
+    pub fn sha256(&self) -> [u8; 32] {
+        *self.sha256.get_or_init(|| {
+            let text = self.document.text().as_bytes();
+            let mut hash = Sha256::new();
+            if self.length > text.len() as u64 {
+                hash.update(BYTE_ORDER_MARK);
+            }
+            hash.update(text);
+            hash.finalize().into()
+        })
+    }
+
+    /// The events.
+    pub fn document(&self) -> &Document {
+        &self.document
+    }
+
+    /// The words with the place of a byte before them.
+    pub fn at(&self, at: usize, words: &str) -> String {
+        format!("{}{words}", placed(&self.path, self.document.text(), at))
+    }
+
+    /// A tag that fits into no piece.
+    pub fn too_long(&self, fault: &Fault) -> Failure {
+        Failure::Answered {
+            lines: "read 1 0\n".to_owned(),
+            words: self.at(fault.at, &fault.words),
+        }
+    }
+}
+
+/// `FILE:LINE:COLUMN: `
+fn placed(path: &Path, text: &str, at: usize) -> String {
+    let (line, column) = line_and_column(text, at);
+    format!("{}:{line}:{column}: ", path.display())
+}
+
+/// The bytes of a file.
+///
+/// # Errors
+///
+/// The error of the machine.
+pub fn bytes_of(path: &Path) -> io::Result<Vec<u8>> {
+    let mut file = File::open(path)?;
+    let mut bytes = Vec::new();
+    file.read_to_end(&mut bytes)?;
+    Ok(bytes)
+}

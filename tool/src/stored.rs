@@ -1,0 +1,323 @@
+//! Stored sheets. The file, all numbers little-endian:
+//!
+//! | Bytes | |
+//! |---|---|
+//! | 8 | `lubiksan` |
+//! | 4 | version, 1 |
+//! | 4, 4, 4 | numbers of rows, bytes of names, bytes of the source's path |
+//! | 8, 8 | the source's length in bytes, its events |
+//! | 4, 4 | its global elements, its named types |
+//! | 32 | the source's SHA-256 |
+//! | 32 | the SHA-256 of all other bytes of this file |
+//! | | the path, the rows (4 bytes each), the names |
+
+use std::ffi::OsStr;
+use std::os::unix::ffi::OsStrExt;
+use std::path::{Path, PathBuf};
+
+use lubiksan::SchemaSheet;
+use sha2::{Digest, Sha256};
+
+use crate::failure::Failure;
+use crate::losses::{self, Counts};
+use crate::output::replace_file;
+use crate::source::{bytes_of, Source};
+
+const MAGIC: &[u8; 8] = b"lubiksan";
+const VERSION: u32 = 1;
+/// Where the SHA-256 of the file stands.
+const SUM: usize = 80;
+const HEADER: usize = SUM + 32;
+
+/// What a stored sheet says of its source.
+#[derive(Clone, Debug, PartialEq, Eq)]
+pub struct About {
+    /// The path as it was given.
+    pub path: PathBuf,
+    /// Its length in bytes.
+    pub length: u64,
+    /// Its SHA-256.
+    pub sha256: [u8; 32],
+    /// Its events.
+    pub events: u64,
+    /// Its global elements and named types.
+    pub counts: Counts,
+}
+
+/// A stored sheet.
+#[derive(Debug)]
+pub struct Stored {
+    /// The sheet.
+    pub sheet: SchemaSheet<'static>,
+    /// What it was read from.
+    pub about: About,
+}
+
+impl About {
+    /// What is said of this source.
+    pub fn of(source: &Source) -> About {
+        About {
+            path: source.path().to_owned(),
+            length: source.length,
+            sha256: source.sha256(),
+            events: source.document().events().len() as u64,
+            counts: losses::counts(source.document()),
+        }
+    }
+}
+
+impl Stored {
+    /// All events of the source are done.
+    pub fn is_whole(&self) -> bool {
+        self.sheet.events_done() as u64 == self.about.events
+    }
+
+    /// `417 of 2071 events`
+    pub fn progress(&self) -> String {
+        format!(
+            "{} of {} events",
+            self.sheet.events_done(),
+            self.about.events
+        )
+    }
+}
+
+/// Do these bytes start as a stored sheet does?
+pub fn is_stored(bytes: &[u8]) -> bool {
+    bytes.starts_with(MAGIC)
+}
+
+/// Reads a stored sheet.
+///
+/// # Errors
+///
+/// [`Failure`] where it can't be read, is cut short, altered, of another version or not good.
+pub fn load(path: &Path) -> Result<Stored, Failure> {
+    let bytes = bytes_of(path).map_err(|error| Failure::input(path, &error))?;
+    of_bytes(path, &bytes)
+}
+
+/// The stored sheet of the bytes of a file.
+///
+/// # Errors
+///
+/// [`Failure`] in words, with the path before them.
+pub fn of_bytes(path: &Path, bytes: &[u8]) -> Result<Stored, Failure> {
+    let refused = |words: String| Failure::Refused(format!("{}: {words}", path.display()));
+    let mut stored = decoded(bytes).map_err(refused)?;
+    stored
+        .sheet
+        .check()
+        .map_err(|refusal| refused(refusal.to_string()))?;
+    if stored.sheet.events_done() as u64 > stored.about.events {
+        return Err(refused(
+            "the sheet has more events done than its source has".to_owned(),
+        ));
+    }
+    Ok(stored)
+}
+
+/// Reads the bytes of a file in order.
+struct Cursor<'b>(&'b [u8]);
+
+impl<'b> Cursor<'b> {
+    fn take(&mut self, count: usize) -> Option<&'b [u8]> {
+        let (taken, rest) = self.0.split_at_checked(count)?;
+        self.0 = rest;
+        Some(taken)
+    }
+
+    fn u32(&mut self) -> Option<u32> {
+        Some(u32::from_le_bytes(self.take(4)?.try_into().ok()?))
+    }
+
+    fn u64(&mut self) -> Option<u64> {
+        Some(u64::from_le_bytes(self.take(8)?.try_into().ok()?))
+    }
+
+    fn sum(&mut self) -> Option<[u8; 32]> {
+        self.take(32)?.try_into().ok()
+    }
+}
+
+/// The header.
+struct Header {
+    rows: usize,
+    names: usize,
+    path: usize,
+    about: About,
+    sum: [u8; 32],
+}
+
+impl Header {
+    /// The header behind magic and version.
+    fn of(bytes: &mut Cursor<'_>) -> Option<Header> {
+        let (rows, names, path) = (
+            bytes.u32()? as usize,
+            bytes.u32()? as usize,
+            bytes.u32()? as usize,
+        );
+        let (length, events) = (bytes.u64()?, bytes.u64()?);
+        let counts = Counts {
+            elements: bytes.u32()? as usize,
+            types: bytes.u32()? as usize,
+        };
+        let sha256 = bytes.sum()?;
+        let about = About {
+            path: PathBuf::new(),
+            length,
+            sha256,
+            events,
+            counts,
+        };
+        Some(Header {
+            rows,
+            names,
+            path,
+            about,
+            sum: bytes.sum()?,
+        })
+    }
+
+    /// The length of the file in bytes.
+    fn length(&self) -> usize {
+        HEADER + self.path + 4 * self.rows + self.names
+    }
+}
+
+fn decoded(bytes: &[u8]) -> Result<Stored, String> {
+    let mut cursor = Cursor(bytes);
+    if cursor.take(MAGIC.len()) != Some(MAGIC) {
+        return Err("it is no stored sheet".to_owned());
+    }
+    let short = || {
+        format!(
+            "the stored sheet is cut short: it has {} bytes",
+            bytes.len()
+        )
+    };
+    let version = cursor.u32().ok_or_else(short)?;
+    if version != VERSION {
+        return Err(format!(
+            "the stored sheet has version {version}, only version {VERSION} is read"
+        ));
+    }
+    let header = Header::of(&mut cursor).ok_or_else(short)?;
+    if bytes.len() != header.length() {
+        let (there, said) = (bytes.len(), header.length());
+        return Err(format!("the stored sheet is cut short or altered: it has {there} bytes where its header says {said}"));
+    }
+    if sum_of(bytes) != header.sum {
+        return Err(
+            "the stored sheet was altered: its SHA-256 is not the one in its header".to_owned(),
+        );
+    }
+    behind_header(header, cursor).ok_or_else(short)
+}
+
+/// The path and the two buffers.
+fn behind_header(header: Header, mut bytes: Cursor<'_>) -> Option<Stored> {
+    let path = PathBuf::from(OsStr::from_bytes(bytes.take(header.path)?));
+    let numbers = bytes.take(4 * header.rows)?.chunks_exact(4);
+    let rows = numbers
+        .filter_map(|four| Some(u32::from_le_bytes(four.try_into().ok()?)))
+        .collect();
+    let names = bytes.take(header.names)?.to_vec();
+    let about = About {
+        path,
+        ..header.about
+    };
+    Some(Stored {
+        sheet: SchemaSheet::from_buffers(rows, names),
+        about,
+    })
+}
+
+/// The SHA-256 of a stored sheet without that of the header.
+fn sum_of(bytes: &[u8]) -> [u8; 32] {
+    let mut hash = Sha256::new();
+    hash.update(bytes.get(..SUM).unwrap_or_default());
+    hash.update(bytes.get(HEADER..).unwrap_or_default());
+    hash.finalize().into()
+}
+
+/// The bytes of a stored sheet.
+pub fn encoded(sheet: &SchemaSheet<'_>, about: &About) -> Vec<u8> {
+    let path = about.path.as_os_str().as_bytes();
+    let mut bytes = MAGIC.to_vec();
+    for number in [
+        VERSION as usize,
+        sheet.rows().len(),
+        sheet.names().len(),
+        path.len(),
+    ] {
+        bytes.extend((number as u32).to_le_bytes());
+    }
+    bytes.extend(about.length.to_le_bytes());
+    bytes.extend(about.events.to_le_bytes());
+    for number in [about.counts.elements, about.counts.types] {
+        bytes.extend((number as u32).to_le_bytes());
+    }
+    bytes.extend(about.sha256);
+    bytes.extend([0; 32]);
+    bytes.extend(path);
+    bytes.extend(sheet.rows().iter().flat_map(|number| number.to_le_bytes()));
+    bytes.extend(sheet.names());
+    let sum = sum_of(&bytes);
+    if let Some(place) = bytes.get_mut(SUM..HEADER) {
+        place.copy_from_slice(&sum);
+    }
+    bytes
+}
+
+/// Stores a sheet: the file is whole or as it was. A link is followed.
+///
+/// # Errors
+///
+/// [`Failure::Machine`].
+pub fn store(path: &Path, sheet: &SchemaSheet<'_>, about: &About) -> Result<(), Failure> {
+    let linked = std::fs::symlink_metadata(path).is_ok_and(|there| there.is_symlink());
+    let target = linked.then(|| std::fs::canonicalize(path).ok()).flatten();
+    replace_file(target.as_deref().unwrap_or(path), &encoded(sheet, about))
+}
+
+/// The sheet at `path` to read `source` on, or a new one where there is none or `restart` asks for it.
+///
+/// # Errors
+///
+/// [`Failure`] where the stored sheet is refused or is of another source.
+pub fn resumed(path: &Path, source: &Source, restart: bool) -> Result<Stored, Failure> {
+    let bytes = match bytes_of(path) {
+        Ok(bytes) => bytes,
+        Err(error) if error.kind() == std::io::ErrorKind::NotFound => return Ok(anew(source)),
+        Err(error) => return Err(Failure::input(path, &error)),
+    };
+    if restart && (is_stored(&bytes) || bytes.is_empty()) {
+        return Ok(anew(source));
+    }
+    let stored = of_bytes(path, &bytes)?;
+    same_source(path, &stored, source)?;
+    Ok(Stored {
+        about: About::of(source),
+        ..stored
+    })
+}
+
+fn anew(source: &Source) -> Stored {
+    Stored {
+        sheet: SchemaSheet::new(),
+        about: About::of(source),
+    }
+}
+
+fn same_source(path: &Path, stored: &Stored, source: &Source) -> Result<(), Failure> {
+    let about = &stored.about;
+    if about.sha256 == source.sha256() && about.length == source.length {
+        return Ok(());
+    }
+    Err(Failure::Refused(format!(
+        "{}: the sheet {} was read from other contents; --restart begins it anew",
+        source.path().display(),
+        path.display()
+    )))
+}

@@ -1,0 +1,154 @@
+//! What is read of XSD and what is not: the table in the README, each line tried.
+
+mod common;
+
+use common::{lubiksan, Folder, Ran};
+
+/// The text of a schema with `inside` in it, behind a type `Before` and before a type `Behind`.
+fn schema(inside: &str) -> Ran {
+    let text = format!(
+        "<schema><complexType name='Before'><choice/></complexType>{inside}<complexType name='Behind'><choice/></complexType></schema>"
+    );
+    let folder = Folder::new();
+    let file = folder.put("a.xsd", text);
+    lubiksan(["graph".as_ref(), file.as_os_str()])
+}
+
+/// The paragraphs between `Before` and `Behind`, and whether `Behind` is there.
+fn between(inside: &str) -> (String, bool) {
+    let ran = schema(inside);
+    assert_eq!(ran.status, Some(0), "{}", ran.err);
+    let parts: Vec<&str> = ran.out.trim_end().split("\n\n").collect();
+    let roots = parts[0].trim_start_matches("namespace").trim();
+    let others = parts[1..]
+        .iter()
+        .filter(|part| !["opaque Before", "opaque Behind"].contains(part));
+    let text: Vec<&str> = [roots]
+        .into_iter()
+        .chain(others.copied())
+        .filter(|part| !part.is_empty())
+        .collect();
+    (text.join("\n\n"), parts.contains(&"opaque Behind"))
+}
+
+fn complex(inside: &str) -> String {
+    format!("<complexType name='T'>{inside}</complexType>")
+}
+
+fn simple(inside: &str) -> String {
+    format!("<simpleType name='T'>{inside}</simpleType>")
+}
+
+/// The type is read as `expected`, and so is what stands behind it.
+fn reads(inside: &str, expected: &str) {
+    assert_eq!(between(inside), (expected.to_owned(), true));
+}
+
+#[test]
+fn read() {
+    reads("<element name='e' type='t'/>", "root e: t");
+    reads(
+        &simple("<restriction base='string'><maxLength value='3'/></restriction>"),
+        "newtype T(String)\n    maxLength 3 characters",
+    );
+    reads(
+        &complex("<sequence><element name='e' type='t'/></sequence>"),
+        "struct T\n    e  e  t",
+    );
+    reads(
+        &complex("<choice><element name='e' type='t'/></choice>"),
+        "choice T\n    e  e  t",
+    );
+    reads(&complex("<sequence><any/></sequence>"), "opaque T");
+    reads(
+        &complex("<simpleContent><extension base='t'><attribute name='a' type='u'/></extension></simpleContent>"),
+        "value T: t\n    a  a  Option<u>",
+    );
+}
+
+#[test]
+fn passed_over() {
+    reads(
+        &complex("<all><element name='e' type='t'/></all>"),
+        "opaque T",
+    );
+    reads(
+        &complex("<sequence><group ref='g'/><element name='e' type='t'/></sequence>"),
+        "struct T\n    e  e  t",
+    );
+    reads(
+        &complex("<attribute name='a' type='u'/><attributeGroup ref='g'/>"),
+        "opaque T",
+    );
+    reads(&complex("<complexContent><extension base='b'><sequence><element name='e' type='t'/></sequence></extension></complexContent>"), "opaque T");
+    reads(
+        "<import namespace='n'/><include schemaLocation='s'/><redefine schemaLocation='s'/>",
+        "",
+    );
+    reads(
+        "<attribute name='a' type='u'/><attributeGroup name='g'/><group name='g'/>",
+        "",
+    );
+    reads(&complex("<annotation><documentation>words</documentation></annotation><choice><element name='e' type='t'/></choice>"), "choice T\n    e  e  t");
+}
+
+#[test]
+fn changes_the_outcome() {
+    let ended = |inside: &str, tag: &str| {
+        let ran = schema(inside);
+        assert_eq!(ran.status, Some(0));
+        assert!(
+            ran.err.contains(&format!(
+                "the schema ended here by the close of \"{tag}\": "
+            )),
+            "{}",
+            ran.err
+        );
+        assert!(!ran.out.contains("Behind"));
+    };
+    ended(
+        "<annotation><documentation>words</documentation></annotation>",
+        "documentation",
+    );
+    ended("<annotation><documentation/></annotation>", "annotation");
+    ended("<group name='g'><sequence/></group>", "group");
+    ended(
+        "<attributeGroup name='g'><attribute name='a' type='u'/></attributeGroup>",
+        "attributeGroup",
+    );
+    ended("<import namespace='n'></import>", "import");
+    ended("<include schemaLocation='s'></include>", "include");
+    ended("<redefine schemaLocation='s'><simpleType name='R'><restriction base='string'/></simpleType></redefine>", "redefine");
+    ended("<element name='e' type='t'></element>", "element");
+    reads(
+        &complex("<sequence><element name='e' type='t'/><any/></sequence>"),
+        "opaque T",
+    );
+    reads(&complex("<sequence><element name='e' type='t'/><choice><element name='f' type='t'/></choice></sequence>"), "struct T\n    e  e  t\n    f  f  t");
+}
+
+#[test]
+fn refused() {
+    for (inside, words) in [
+        (
+            simple("<union memberTypes='a b'/>"),
+            "simpleType \"T\" has no base (refused with 13)",
+        ),
+        (
+            simple("<list itemType='a'/>"),
+            "simpleType \"T\" has no base (refused with 13)",
+        ),
+        (
+            simple("<restriction base='other'/>"),
+            "has the base \"other\", which is not built in (refused with 13)",
+        ),
+        (
+            "<element name='e'><complexType><choice/></complexType></element>".to_owned(),
+            "complexType has no name (refused with 9",
+        ),
+    ] {
+        let ran = schema(&inside);
+        assert_eq!(ran.status, Some(1));
+        assert!(ran.err.contains(words), "{}", ran.err);
+    }
+}

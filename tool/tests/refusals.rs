@@ -1,0 +1,480 @@
+//! Refusals in words, with file, line, column, number and event; warnings; what is read and what is not.
+
+mod common;
+
+use std::fs;
+
+use common::{lubiksan, Folder, Ran};
+
+/// Runs `graph --format rows` on a schema that is in a file `a.xsd`; its folder is cut from the words.
+fn graph(text: impl AsRef<[u8]>, more: &[&str]) -> Ran {
+    let folder = Folder::new();
+    let file = folder.put("a.xsd", text);
+    let mut args = vec!["graph", file.to_str().unwrap(), "--format", "rows"];
+    args.extend(more);
+    let mut ran = lubiksan(args);
+    ran.err = ran.err.replace(&format!("{}/", folder.0.display()), "");
+    ran
+}
+
+/// The words on standard error and the line on standard output of a refused schema.
+fn refused(text: impl AsRef<[u8]>) -> (String, String) {
+    let ran = graph(text, &[]);
+    assert_eq!(ran.status, Some(1), "{}{}", ran.out, ran.err);
+    (ran.err.trim_end().to_owned(), ran.out.trim_end().to_owned())
+}
+
+fn sequence(element: &str) -> String {
+    format!("<schema>\n <complexType name=\"T\">\n  <sequence>\n   {element}\n  </sequence>\n </complexType>\n</schema>")
+}
+
+fn facet(facet: &str) -> String {
+    format!("<schema>\n <simpleType name=\"T\">\n  <restriction base=\"string\">{facet}</restriction>\n </simpleType>\n</schema>")
+}
+
+#[test]
+fn numbers_are_refused_with_the_place_of_the_value() {
+    let (words, line) = refused(sequence(r#"<element name="a" type="b" minOccurs="x"/>"#));
+    assert_eq!(
+        words,
+        r#"a.xsd:4:42: minOccurs "x" is not a number (refused with 10, event 3)"#
+    );
+    assert_eq!(line, "read 10 3");
+    let (words, _) = refused(sequence(
+        r#"<element name="é" type="b" maxOccurs="4294967296"/>"#,
+    ));
+    assert_eq!(
+        words,
+        r#"a.xsd:4:4: name "é" is not ASCII (refused with 5, event 3)"#
+    );
+    let (words, _) = refused(sequence(
+        r#"<element name="a" type="b" minOccurs='1' maxOccurs='4294967296'/>"#,
+    ));
+    assert_eq!(
+        words,
+        r#"a.xsd:4:56: maxOccurs "4294967296" is above 4294967295 (refused with 10, event 3)"#
+    );
+    let (words, _) = refused(facet(r#"<minLength value=""/>"#));
+    assert_eq!(
+        words,
+        r#"a.xsd:3:48: minLength "" is not a number (refused with 10, event 3)"#
+    );
+    let (words, _) = refused(facet("<maxLength value='18446744073709551616'/>"));
+    assert!(words.contains("is above 18446744073709551615 (refused with 10, event 3)"));
+    let (words, _) = refused(facet("<!-- ü --><totalDigits/>"));
+    assert_eq!(
+        words,
+        "a.xsd:3:40: totalDigits has no value (refused with 10, event 3)"
+    );
+}
+
+#[test]
+fn tags_are_refused_with_the_place_of_the_tag() {
+    let (words, line) = refused("<schema>\r\n\t<complexType>\r\n</complexType></schema>");
+    assert_eq!(
+        words,
+        "a.xsd:2:2: complexType has no name (refused with 9, event 1)"
+    );
+    assert_eq!(line, "read 9 1");
+    let (words, _) = refused("<é/>");
+    assert_eq!(
+        words,
+        r#"a.xsd:1:1: the tag name "é" is not ASCII (refused with 5, event 0)"#
+    );
+    let attributes: String = (0..33).map(|i| format!(" a{i}=''")).collect();
+    let (words, line) = refused(format!("<a{attributes}/>"));
+    assert_eq!(
+        words,
+        r#"a.xsd:1:1: the tag "a" has 33 attributes, more than 32 (refused with 3, event 0)"#
+    );
+    assert_eq!(line, "read 3 0");
+    let (words, _) = refused(format!("{}{}", "<a>".repeat(256), "</a>".repeat(256)));
+    assert_eq!(
+        words,
+        r#"a.xsd:1:766: the tag "a" stands inside 255 others, the most that may be open (refused with 7, event 255)"#
+    );
+}
+
+#[test]
+fn the_limits_are_refused() {
+    let long = "x".repeat(65_536);
+    let (words, line) = refused(format!("<schema>\n<a b='{long}'/></schema>"));
+    assert!(
+        words.starts_with(r#"a.xsd:2:1: the tag "a" is too long: the tag takes 65538 bytes"#),
+        "{words}"
+    );
+    assert_eq!(line, "read 1 0");
+    let (words, line) = refused(format!(
+        "<schema>{}</schema>",
+        "<element name='a' type='b'/>".repeat(5_000)
+    ));
+    assert!(
+        words.ends_with(
+            "a schema sheet has 4,096 rows and 65,536 bytes of names (refused with 11, event 4095)"
+        ),
+        "{words}"
+    );
+    assert_eq!(line, "read 11 4095");
+    let (words, line) = refused(format!("<a>{}</a>", "<b/>".repeat(1_000_000)));
+    assert!(
+        words.contains(r#"the tag "b" stands behind 1,000,000 events"#),
+        "{words}"
+    );
+    assert_eq!(line, "read 8 1000000");
+}
+
+#[test]
+fn lowering_is_refused_in_words() {
+    let (words, line) = refused("<a/>");
+    assert_eq!(words, "a.xsd: there is no schema element (refused with 12)");
+    assert_eq!(line, "read 0 1\nlower 12 0");
+    let text = "<schema>\n<element name='e' type='t'/>\n  <simpleType name='Q'><restriction base='xs:QName'/></simpleType></schema>";
+    let (words, line) = refused(text);
+    assert_eq!(
+        words,
+        r#"a.xsd:3:3: simpleType "Q" has the base "xs:QName", which is not built in (refused with 13)"#
+    );
+    assert_eq!(line, "read 0 6\nlower 13 3");
+    let twice = "<schema><simpleType name='Q'><restriction base='string'/></simpleType>\n<simpleType name='Q'><list/></simpleType></schema>";
+    assert_eq!(
+        refused(twice).0,
+        r#"a.xsd:2:1: simpleType "Q" has no base (refused with 13)"#
+    );
+    let names: String = (0..600)
+        .map(|i| format!("<element name='{}{i}' type='b'/>", "AbcdEfgh".repeat(6)))
+        .collect();
+    let (words, line) = refused(sequence(&names));
+    assert_eq!(
+        words,
+        "a.xsd: the graph needs more than 4,096 rows or 65,536 bytes of names (refused with 15)"
+    );
+    assert_eq!(line, "read 0 606\nlower 15 0");
+}
+
+#[test]
+fn thirteen_from_a_stored_sheet_names_the_type() {
+    let folder = Folder::new();
+    let file = folder.put(
+        "a.xsd",
+        "<schema><simpleType name='Q'><list/></simpleType></schema>",
+    );
+    let sheet = folder.path("a.sheet");
+    let (file, sheet) = (file.to_str().unwrap(), sheet.to_str().unwrap());
+    assert_eq!(lubiksan(["read", file, "--sheet", sheet]).status, Some(0));
+    let ran = lubiksan(["graph", sheet]);
+    assert_eq!(ran.status, Some(1));
+    assert!(
+        ran.err
+            .ends_with("a.sheet: simpleType \"Q\" has no base (refused with 13)\n"),
+        "{}",
+        ran.err
+    );
+}
+
+/// Texts that are no XML, and why.
+const BAD: [(&[u8], &str); 30] = [
+    (
+        b"<schema>\n<a/>\n",
+        r#"a.xsd:3:1: the file ends, and "schema" of line 1 is not closed"#,
+    ),
+    (
+        b"<schema><a></schema>",
+        r#"a.xsd:1:12: the close of "schema" where "a" of line 1 is open"#,
+    ),
+    (
+        b"<schema/></a>",
+        r#"a.xsd:1:10: the close of "a" where no tag is open"#,
+    ),
+    (
+        b"<a b='1' b='2'/>",
+        r#"a.xsd:1:10: the attribute "b" stands there twice"#,
+    ),
+    (b"<a>\xff</a>", "a.xsd:1:4: a byte that is no UTF-8"),
+    (
+        b"<a>\0</a>",
+        "a.xsd:1:4: the character U+0000 is not allowed in XML",
+    ),
+    (
+        b"<a b='\x01'/>",
+        "a.xsd:1:7: the character U+0001 is not allowed in XML",
+    ),
+    (b"", "a.xsd:1:1: the file has no root element"),
+    (b"<!-- a -->", "a.xsd:1:11: the file has no root element"),
+    (b"<a/><b/>", "a.xsd:1:5: a second root element"),
+    (b"<a/>x", "a.xsd:1:5: text outside the root element"),
+    (b"x<a/>", "a.xsd:1:1: text outside the root element"),
+    (
+        b"<a><![CDATA[x]]></a><![CDATA[x]]>",
+        "a.xsd:1:21: a CDATA section outside the root element",
+    ),
+    (
+        b"<a b=c/>",
+        r#"a.xsd:1:6: the value of "b" is not in quotes"#,
+    ),
+    (b"<a b/>", r#"a.xsd:1:4: the attribute "b" has no value"#),
+    (
+        b"<a b='1'c='2'/>",
+        "a.xsd:1:9: white space is missing before an attribute",
+    ),
+    (b"<a b='<'/>", "a.xsd:1:7: \"<\" in a value"),
+    (
+        b"<a b='&x;'/>",
+        r#"a.xsd:1:7: the reference "&x;" stands for nothing"#,
+    ),
+    (b"<a b='&'/>", "a.xsd:1:7: \"&\" that starts no reference"),
+    (
+        b"<a>&#0;</a>",
+        r#"a.xsd:1:4: the reference "&#0;" stands for nothing"#,
+    ),
+    (b"<a>]]></a>", "a.xsd:1:4: \"]]>\" in text"),
+    (b"<a><!-- -- --></a>", "a.xsd:1:4: \"--\" in a comment"),
+    (b"<a", "a.xsd:1:1: the file ends inside a tag"),
+    (b"<a><!-- ", "a.xsd:1:4: the file ends inside a comment"),
+    (
+        b" <?xml version='1.0'?><a/>",
+        "a.xsd:1:2: the XML declaration is not at the start of the file",
+    ),
+    (
+        b"<?xml version='1.0' encoding='latin1'?><a/>",
+        r#"a.xsd:1:31: the encoding "latin1" is not read, only UTF-8"#,
+    ),
+    (
+        b"\xff\xfe<\0a\0",
+        "a.xsd:1:1: the file is in UTF-16 or UTF-32, only UTF-8 is read",
+    ),
+    (b"<1a/>", "a.xsd:1:2: a tag has no name"),
+    (
+        b"<a><?xml x?></a>",
+        "a.xsd:1:4: the XML declaration is not at the start of the file",
+    ),
+    (
+        b"<a/><!DOCTYPE a>",
+        "a.xsd:1:5: a document type behind the root element or another document type",
+    ),
+];
+
+#[test]
+fn what_is_no_xml_is_refused() {
+    for (text, words) in BAD {
+        let (said, line) = refused(text);
+        assert_eq!(
+            (said.as_str(), line.as_str()),
+            (words, ""),
+            "{}",
+            String::from_utf8_lossy(text)
+        );
+    }
+}
+
+#[test]
+fn a_byte_order_mark_is_passed_over() {
+    let text = sequence(r#"<element name="a" type="b" minOccurs="x"/>"#);
+    let marked = [b"\xEF\xBB\xBF", text.replacen('\n', "", 3).as_bytes()].concat();
+    let (words, _) = refused(marked);
+    assert_eq!(
+        words,
+        r#"a.xsd:1:85: minOccurs "x" is not a number (refused with 10, event 3)"#
+    );
+    let marked = "\u{feff}<?xml version=\"1.0\" encoding=\"utf-8\"?><schema/>";
+    assert_eq!(graph(marked, &[]).status, Some(0));
+}
+
+#[test]
+fn nothing_is_lost_silently() {
+    let types = "<complexType name='A'><sequence/></complexType>\n<simpleType name='B'><restriction base='string'/></simpleType>";
+    let text = format!("<schema>\n  <annotation>\n  </annotation>\n{types}</schema>");
+    let ran = graph(&text, &[]);
+    let words = "a.xsd:3:3: the schema ended here by the close of \"annotation\": 2 types in the file, 0 kept\n";
+    assert_eq!((ran.status, ran.err.as_str()), (Some(0), words));
+    let ran = graph(&text, &["--strict"]);
+    assert_eq!(
+        (ran.status, ran.err.as_str(), ran.out.as_str()),
+        (Some(1), words, "")
+    );
+    let ran = graph(&text, &["--quiet"]);
+    assert_eq!((ran.status, ran.err.as_str()), (Some(0), ""));
+    let untyped =
+        "<schema><element name='e'/><element name='f' type='g'/><complexType name='T'/></schema>";
+    let ran = graph(untyped, &[]);
+    assert_eq!(
+        ran.err,
+        "a.xsd:1:9: element \"e\" is not kept, it has no type, and 1 more like it: 1 type in the file, 0 kept; 2 elements in the file, 1 kept\n"
+    );
+}
+
+#[test]
+fn what_a_stored_sheet_lost_is_said_too() {
+    let folder = Folder::new();
+    let file = folder.put(
+        "a.xsd",
+        "<schema><annotation> </annotation><element name='e' type='t'/></schema>",
+    );
+    let sheet = folder.path("a.sheet");
+    let (file, sheet) = (file.to_str().unwrap(), sheet.to_str().unwrap());
+    let read = lubiksan(["read", file, "--sheet", sheet]);
+    assert!(
+        read.err
+            .ends_with("by the close of \"annotation\": 1 element in the file, 0 kept\n"),
+        "{}",
+        read.err
+    );
+    let ran = lubiksan(["graph", sheet]);
+    assert_eq!(ran.status, Some(0));
+    assert!(
+        ran.err
+            .ends_with("a.sheet: 1 element in the source, 0 kept\n"),
+        "{}",
+        ran.err
+    );
+    assert_eq!(lubiksan(["graph", sheet, "--strict"]).status, Some(1));
+}
+
+#[test]
+fn files_that_are_not_there_or_can_not_be_read() {
+    let folder = Folder::new();
+    let absent = folder.path("none.xsd");
+    let ran = lubiksan(["graph".as_ref(), absent.as_os_str()]);
+    assert_eq!(ran.status, Some(1));
+    assert!(ran.err.ends_with("none.xsd: there is no such file\n"));
+    let ran = lubiksan(["graph".as_ref(), folder.0.as_os_str()]);
+    assert_eq!(ran.status, Some(1));
+    assert!(ran.err.ends_with(": it is a folder, not a file\n"));
+    assert_eq!(lubiksan(["graph"]).status, Some(2));
+    assert_eq!(lubiksan(["grph", "x"]).status, Some(2));
+    assert_eq!(lubiksan(["graph", "x", "--format", "xml"]).status, Some(2));
+    assert_eq!(lubiksan(["read", "x"]).status, Some(2));
+    assert_eq!(lubiksan(["--help"]).status, Some(0));
+}
+
+#[test]
+fn values_stay_as_written() {
+    let text = facet(r#"<pattern value="a&#10;b&amp;&quot;"/>"#);
+    let ran = graph(text, &["--format=rows"]);
+    assert_eq!(ran.status, Some(2), "an option twice is wrong use");
+    let ran = graph(facet(r#"<pattern value="a&#10;b&amp;&quot;"/>"#), &[]);
+    assert!(ran.out.ends_with("Ta&#10;b&amp;&quot;\n"), "{}", ran.out);
+}
+
+#[test]
+fn pieces_are_cut_between_any_tags() {
+    let folder = Folder::new();
+    let long = "y".repeat(9_000);
+    let text = format!(
+        "<schema>{}<element name='e' type='t'/></schema>",
+        format!("<a b='{long}'/>").repeat(40)
+    );
+    let file = folder.put("a.xsd", &text);
+    let ran = lubiksan([
+        "graph".as_ref(),
+        file.as_os_str(),
+        "--format".as_ref(),
+        "rows".as_ref(),
+    ]);
+    assert_eq!(ran.out.lines().next(), Some("read 0 43"));
+    let out = folder.path("t");
+    let args: [&std::ffi::OsStr; 4] = [
+        "tape".as_ref(),
+        file.as_os_str(),
+        "--output".as_ref(),
+        out.as_os_str(),
+    ];
+    assert_eq!(lubiksan(args).status, Some(0));
+    assert_eq!(
+        folder.names(),
+        ["a.xsd", "t.000", "t.001", "t.002", "t.003", "t.004", "t.005"]
+    );
+    let lengths: u32 = (0..6)
+        .map(|i| text_length(&folder.path(&format!("t.{i:03}"))))
+        .sum();
+    assert_eq!(lengths, 40 * 9_002 + 6 + 7 + 4 + 1 + 4 + 1);
+}
+
+fn text_length(file: &std::path::Path) -> u32 {
+    let bytes = fs::read(file).unwrap();
+    u32::from_le_bytes(bytes[..4].try_into().unwrap())
+}
+
+/// Document types that are well formed.
+const TYPES: [&str; 9] = [
+    "<!DOCTYPE schema>",
+    "<!DOCTYPE schema SYSTEM 'a.dtd' >",
+    "<!DOCTYPE schema PUBLIC \"-//W3C//DTD\" 'http://a' [ ]>",
+    "<!DOCTYPE schema [<!ENTITY a '<b>]>'><!ENTITY b \"'\"><!ENTITY % p ''> %p; <!-- > ' --><?pi ]> ?>]>",
+    "<!DOCTYPE schema [<!ENTITY % p SYSTEM 'x'><!ENTITY g PUBLIC 'p' 's' NDATA n><!NOTATION n PUBLIC 'p'>]>",
+    "<!DOCTYPE schema [<!ELEMENT a EMPTY><!ELEMENT b ANY><!ELEMENT c (#PCDATA)><!ELEMENT d ( #PCDATA | a )*>]>",
+    "<!DOCTYPE schema [<!ELEMENT a (b)><!ELEMENT b (c?,(d|e)*,( f ))+ >]>",
+    "<!DOCTYPE schema [<!ATTLIST a><!ATTLIST a b CDATA #REQUIRED c (x|1y) '&lt;' d NOTATION (n) #FIXED \"v\" e IDREFS #IMPLIED >]>",
+    "<!DOCTYPE schema [<!ENTITY e '&#65;'><!ATTLIST a b CDATA '&e;'>]>",
+];
+
+/// Document types that are not, and why.
+const BAD_TYPES: [(&str, &str); 12] = [
+    ("<!DOCTYPE>", "1:10: white space is expected"),
+    ("<!DOCTYPE a", "1:12: \">\" is expected"),
+    ("<!DOCTYPE a SYSTEM>", "1:19: white space is expected"),
+    (
+        "<!DOCTYPE a PUBLIC '{' 's'>",
+        "1:21: a character that no public identifier may hold",
+    ),
+    (
+        "<!DOCTYPE a [<!ELEMENT b (c,d|e)>]>",
+        "1:30: | or , or ) is expected",
+    ),
+    (
+        "<!DOCTYPE a [<!ELEMENT b (#PCDATA|c)>]>",
+        "1:37: * is expected",
+    ),
+    (
+        "<!DOCTYPE a [<!ATTLIST b c CDATAx>]>",
+        "1:33: white space is expected",
+    ),
+    (
+        "<!DOCTYPE a [<!ATTLIST b c CDATA '<'>]>",
+        "1:35: \"<\" in a value",
+    ),
+    (
+        "<!DOCTYPE a [<!ENTITY e '%p;'>]>",
+        "1:26: \"%\" in the value of an entity",
+    ),
+    ("<!DOCTYPE a [<!-- -- -->]>", "1:21: \">\" is expected"),
+    (
+        "<!DOCTYPE a [%p;]>",
+        "1:15: a reference that stands for nothing",
+    ),
+    (
+        "<!DOCTYPE a [<!ENTTY e ''>]>",
+        "1:14: a declaration is expected",
+    ),
+];
+
+#[test]
+fn document_types_are_tested() {
+    for text in TYPES {
+        let ran = graph(format!("{text}<schema/>"), &[]);
+        assert_eq!((ran.status, ran.err.as_str()), (Some(0), ""), "{text}");
+    }
+    for (text, words) in BAD_TYPES {
+        let (said, _) = refused(format!("{text}<schema/>"));
+        assert!(
+            said.starts_with(&format!("a.xsd:{words}")),
+            "{text}: {said}"
+        );
+    }
+}
+
+#[test]
+fn entities_must_be_declared_where_all_declarations_are_read() {
+    let declared = "<!DOCTYPE a [<!ENTITY e 'x'>]><schema a='&e;'/>";
+    assert_eq!(graph(declared, &[]).status, Some(0));
+    let (words, _) = refused("<!DOCTYPE a [<!ENTITY e 'x'>]><schema a='&f;'/>");
+    assert_eq!(
+        words,
+        "a.xsd:1:42: the reference \"&f;\" stands for nothing"
+    );
+    assert_eq!(
+        graph("<!DOCTYPE a SYSTEM 's'><schema a='&f;'/>", &[]).status,
+        Some(0)
+    );
+    let alone = "<?xml version='1.0' standalone='yes'?><!DOCTYPE a SYSTEM 's'><schema a='&f;'/>";
+    assert_eq!(graph(alone, &[]).status, Some(1));
+}
