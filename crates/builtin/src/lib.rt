@@ -5,10 +5,11 @@ ghost use mathlib.Core.Option.{some};
 ghost use Prim.Native.Nat.{_≤_, _<_};
 ghost use lib.ListN.{length};
 ghost use lib.Seq.{slice};
-ghost use Rattle.text.specs.Text.{bytes, is, same};
-ghost use Rattle.builtin.specs.Builtin.{mapBuiltin, reference};
-ghost use Rattle.builtin.specs.Answers.{entryAt, ofBuiltin, keyOf};
+ghost use Rattle.text.specs.Text.{bytes, contains, is, localName, same};
+ghost use Rattle.builtin.specs.Builtin.{builtins, mapBuiltin, reference};
+ghost use Rattle.builtin.specs.Answers.{entryAt, ofBuiltin, keyOf, keysOf};
 use text::byte_at;
+use text::has_byte;
 use text::local_name;
 use text::same_text;
 
@@ -181,6 +182,30 @@ fn is_name(word: &[u8], k: usize) -> bool
     )
 }
 
+// Whether the key is that of a name.
+fn is_key(key: u32) -> bool
+    ensures { λ r. ⌜ r ≡ contains key (keysOf builtins) ⌝ }
+{
+    let keys = KEYS;
+    let mut found = false;
+    let mut k = 0;
+    while k < 38 {
+        found = found | (keys[k] == key);
+        k += 1;
+    }
+    found
+}
+
+// The word behind the last colon of a name.
+fn word_of(name: &[u8]) -> &[u8]
+    ensures { λ r. ⌜ now r ≡ localName (now (name .entry)) ⌝ }
+{
+    if has_byte(name, b':') {
+        return local_name(name);
+    }
+    &name[0..]
+}
+
 // Whether word, which has the key, is the built-in name at k of the list, whose key is `entry`.
 fn has_name(word: &[u8], key: u32, entry: u32, k: usize) -> bool
     requires { ⌜ (k < 38) × (key ≡ keyOf (now word)) × (entry ≡ keyOf (bytes (entryAt k .0))) ⌝ }
@@ -211,8 +236,11 @@ fn kind_at(k: usize) -> Builtin
 pub fn map_builtin(name: &[u8]) -> Builtin
     ensures { λ r. ⌜ ofBuiltin r ≡ mapBuiltin (now (name .entry)) ⌝ }
 {
-    let word = local_name(name);
+    let word = word_of(name);
     let key = key_of(word);
+    if !is_key(key) {
+        return Builtin::Unknown;
+    }
     let keys = KEYS;
     let mut k = 0;
     while k < 38 {

@@ -1,6 +1,7 @@
 -- `builtin::has_name` meets its contract: a word with another key is another word. Assumes nothing.
 use mathlib.Core.Path.{sym, _∙_}
 use borrow.Author.Needs.{needs}
+use Rattle.builtin.specs.Answers.{entryAt}
 use Rattle.builtin.proofs.Laws.Builtins.{other-key}
 use Rattle.builtin.proofs.has_name.Statement.{statement}
 use Rattle.builtin.proofs.has_name.Tie as tie
@@ -8,7 +9,7 @@ use Rattle.builtin.proofs.has_name.Tie as tie
 returns : tie.Need-returns
 returns c =
     let start = c .before .before in
-    sym (other-key (start .args .word .now) (start .args .k) (λ e. c .if1 .taken (start .pre .2 ∙ e ∙ sym (start .pre .1))))
+    sym (other-key (start .args .word .now) (entryAt (start .args .k) .0) (λ e. c .if1 .taken (start .pre .2 ∙ e ∙ sym (start .pre .1))))
 
 is-name-requires : tie.Need-is-name-requires
 is-name-requires c κs = search needs
