@@ -10,7 +10,7 @@ ghost use Rattle.xsd_actions.specs.Decided.{rootFound, startInSchema, decidedSt
 ghost use Rattle.xsd_values.specs.Reads.{recordTag};
 ghost use Rattle.xsd_decide.specs.Schema.{openedAs, emptyInSchema};
 use attributes::Found;
-use attributes::find_attribute;
+use event_view::attribute;
 use tape::TagRecord;
 use text::same_text;
 use xsd_actions::Decision;
@@ -39,7 +39,7 @@ fn root_found(text: &[u8], marks: &[u32], t: TagRecord, name: &[u8]) -> Decision
 fn open_type(text: &[u8], marks: &[u32], t: TagRecord, simple: bool) -> Decision
     ensures { λ r. ⌜ decision (now (text .entry)) (now (marks .entry)) r ≡ requireName (recordTag (now (text .entry)) (now (marks .entry)) t) (openedAs simple) ⌝ }
 {
-    let Found::At(i) = find_attribute(text, marks, t.pairs, t.count, b"name") else {
+    let Found::At(i) = attribute(text, marks, t.pairs, t.count, b"name") else {
         return Decision::Refuse(9);
     };
     if simple {

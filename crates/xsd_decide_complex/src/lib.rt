@@ -8,7 +8,7 @@ ghost use Rattle.xsd_actions.specs.Answers.{decision};
 ghost use Rattle.xsd_actions.specs.Decided.{contentStart, extended, startAtTwo, startInComplexType, anyContent, emptyInComplexType};
 ghost use Rattle.xsd_values.specs.Reads.{recordTag};
 use attributes::Found;
-use attributes::find_attribute;
+use event_view::attribute;
 use tape::TagRecord;
 use text::same_text;
 use xsd_actions::Decision;
@@ -90,7 +90,7 @@ pub fn start_in_complex_type(
 fn any_content(text: &[u8], marks: &[u32], t: TagRecord) -> Decision
     ensures { λ r. ⌜ decision (now (text .entry)) (now (marks .entry)) r ≡ ok (anyContent (attrValue (recordTag (now (text .entry)) (now (marks .entry)) t) "namespace")) ⌝ }
 {
-    match find_attribute(text, marks, t.pairs, t.count, b"namespace") {
+    match attribute(text, marks, t.pairs, t.count, b"namespace") {
         Found::At(second) => Decision::Content(NewContent {
             tag: 15,
             follows: true,

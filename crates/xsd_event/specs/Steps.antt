@@ -28,7 +28,7 @@ use Rattle.xsd_carry.specs.Events.{Ended}
 pub record Given (rows names : List ℕ) (text : Text) (marks : List ℕ) (p : Progress) (d : Decision) (mode : Mode) (t : Tags) (s : State) (e : Event) : Type 0 where
   pub at : At s rows names p
   pub decides : Decides e (s .reader) (decision text marks d)
-  pub modeIs : (a : Action) → decision text marks d ≡ ok a → mode ≡ modeAfter e a (modeOf (s .reader))
+  pub modeIs : (n : ℕ) → t ≡ Tags.Open n → (a : Action) → decision text marks d ≡ ok a → mode ≡ modeAfter e a (modeOf (s .reader))
   pub tagged : tags t ≡ tagsAfter e (s .openTags)
   pub texts : eventOk e ≡ true
 

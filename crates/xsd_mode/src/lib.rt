@@ -49,7 +49,8 @@ fn nesting_after(start: bool, context: u32, nesting: u32) -> u32
     }
 }
 
-fn root_after(d: Decision, seen: bool) -> bool
+// Whether the root was seen, after a start or an empty tag.
+pub fn root_after(d: Decision, seen: bool) -> bool
     ensures { λ r. ⌜ r ≡ rootOf d seen ⌝ }
 {
     match d {

@@ -1,6 +1,5 @@
 -- The event of a record on a sheet that holds a state's rows.
 --     tagEvent      the event that a tag's record stands for
---     TagTags       the open tags after a start (kind 1) or an empty tag
 --     EventRoom     the sheet holds the rows of a state, and the event's texts may stand in it
 --     EventTaken    the answer for every such state is that of `step`
 use Prim.Native.Nat.{ℕ}
@@ -10,14 +9,12 @@ use mathlib.Core.List.{List}
 use lib.ListN.{length}
 use Rattle.text.specs.Text.{Text}
 use Rattle.xsd_types.specs.State.{State}
-use Rattle.xsd_parser.specs.Event.{Tag, Event}
+use Rattle.xsd_parser.specs.Event.{Event}
 use Rattle.xsd_parser.specs.EventText.{eventOk}
 use Rattle.xsd_parser.specs.Tape.{eventOf}
-use Rattle.xsd_parser.specs.Step.{tagsAfter, step}
+use Rattle.xsd_parser.specs.Step.{step}
 use Rattle.tape_pairs.specs.Pairs.{tagAt}
 use Rattle.tape.specs.declared.TagRecord.{TagRecord}
-use Rattle.xsd_mode.specs.declared.Tags.{Tags}
-use Rattle.xsd_mode.specs.Answers.{tags}
 use Rattle.xsd_progress.specs.declared.Progress.{Progress}
 use Rattle.xsd_progress.specs.Progress.{At, lentTo, Standing}
 use Rattle.xsd_carry.specs.declared.Step.{Step}
@@ -25,9 +22,6 @@ use Rattle.xsd_carry.specs.Events.{Ended}
 
 unfoldable pub tagEvent : Text → List ℕ → TagRecord → Event
 tagEvent text marks t = eventOf (t .kind) (tagAt text marks (t .pairs) (t .count))
-
-pub record TagTags (kind n : ℕ) (r : Tags) : Type 0 where
-  pub is : (t : Tag) → tags r ≡ tagsAfter (eventOf kind t) n
 
 pub record EventRoom (rows names : List ℕ) (text : Text) (p : Progress) (e : Event) : Type 0 where
   pub standing : Standing rows names text p

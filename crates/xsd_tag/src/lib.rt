@@ -1,18 +1,19 @@
 // The event of a record on a schema sheet: what is decided for it, and the mode and the open tags after it.
+use open_tags::event_after;
 use tape::TagRecord;
 use xsd_actions::Decision;
 use xsd_actions::Mode;
 use xsd_carry::Step;
 use xsd_event::one_event;
-use xsd_mode::Tags;
-use xsd_mode::tags_after;
 use xsd_open::head_tag;
 use xsd_progress::Progress;
 ghost use mathlib.Core.Path.{_≡_};
-ghost use Rattle.xsd_parser.specs.Event.{Event};
+ghost use Rattle.xsd_parser.specs.Event.{Tag, Event};
+ghost use Rattle.xsd_parser.specs.Tape.{eventOf};
 ghost use Rattle.xsd_actions.specs.Decided.{decided};
 ghost use Rattle.xsd_actions.specs.Answers.{decision};
-ghost use Rattle.xsd_tag.specs.Steps.{tagEvent, TagTags, EventRoom, EventTaken};
+ghost use Rattle.open_tags.specs.Change.{kindOf};
+ghost use Rattle.xsd_tag.specs.Steps.{tagEvent, EventRoom, EventTaken};
 
 // What is to be done for a start (kind 1) or an empty tag.
 fn decide_tag(text: &[u8], marks: &[u32], t: TagRecord, m: Mode, head: u32) -> Decision
@@ -25,15 +26,11 @@ fn decide_tag(text: &[u8], marks: &[u32], t: TagRecord, m: Mode, head: u32) -> D
     }
 }
 
-// The open tags after it.
-fn tag_tags(kind: u32, tags: u32) -> Tags
-    ensures { λ r. ⌜ TagTags kind tags r ⌝ }
+// The kind of a tag's event: 1 a start, 2 an empty tag.
+fn tag_kind(kind: u32) -> u32
+    ensures { λ r. ⌜ ((t : Tag) → kindOf (eventOf kind t) ≡ r) ⌝ }
 {
-    if kind == 1 {
-        tags_after(1, tags)
-    } else {
-        tags_after(2, tags)
-    }
+    if kind == 1 { 1 } else { 2 }
 }
 
 pub fn on_tag(
@@ -49,8 +46,10 @@ pub fn on_tag(
 {
     let head = head_tag(rows, p.mode.context, p.head);
     let d = decide_tag(text, marks, t, p.mode, head);
-    let mode = xsd_mode::tag_mode(t.kind == 1, d, p.mode);
-    let tags = tag_tags(t.kind, p.open_tags);
+    let kind = tag_kind(t.kind);
+    let after = event_after(kind, d, p.mode, p.open_tags);
+    let mode = after.mode;
+    let tags = after.tags;
     one_event(rows, names, text, marks, p, d, mode, tags)
 }
 
@@ -60,7 +59,8 @@ pub fn on_close(rows: &mut [u32], names: &mut [u8], text: &[u8], marks: &[u32], 
 {
     let head = head_tag(rows, p.mode.context, p.head);
     let d = xsd_decide::on_close(p.mode, head);
-    let mode = xsd_mode::close_mode(p.mode);
-    let tags = tags_after(3, p.open_tags);
+    let after = event_after(3, d, p.mode, p.open_tags);
+    let mode = after.mode;
+    let tags = after.tags;
     one_event(rows, names, text, marks, p, d, mode, tags)
 }

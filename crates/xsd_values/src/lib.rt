@@ -9,7 +9,7 @@ ghost use Rattle.attributes.specs.Lookup.{lookupText};
 ghost use Rattle.xsd_actions.specs.Answers.{textAtMark};
 ghost use Rattle.xsd_values.specs.Reads.{recordTag, both, typedValues, maxAnswer};
 use attributes::Found;
-use attributes::find_attribute;
+use event_view::attribute;
 use number::U32;
 use number::parse_u32;
 use tape::TagRecord;
@@ -46,7 +46,7 @@ pub fn tag_name<'a>(text: &'a [u8], marks: &[u32], t: TagRecord) -> &'a [u8]
 pub fn value_place(text: &[u8], marks: &[u32], t: TagRecord, word: &[u8]) -> usize
     ensures { λ r. ⌜ textAtMark (now (text .entry)) (now (marks .entry)) r ≡ orEmpty (lookupText (recordTag (now (text .entry)) (now (marks .entry)) t .attributes) (now (word .entry))) ⌝ }
 {
-    match find_attribute(text, marks, t.pairs, t.count, word) {
+    match attribute(text, marks, t.pairs, t.count, word) {
         Found::At(i) => i,
         Found::Nothing => marks.len(),
     }
@@ -56,10 +56,10 @@ pub fn value_place(text: &[u8], marks: &[u32], t: TagRecord, word: &[u8]) -> usi
 pub fn name_and_type(text: &[u8], marks: &[u32], t: TagRecord) -> Typed
     ensures { λ r. ⌜ typedValues (now (text .entry)) (now (marks .entry)) r ≡ both (attrValue (recordTag (now (text .entry)) (now (marks .entry)) t) "name") (attrValue (recordTag (now (text .entry)) (now (marks .entry)) t) "type") ⌝ }
 {
-    let Found::At(name) = find_attribute(text, marks, t.pairs, t.count, b"name") else {
+    let Found::At(name) = attribute(text, marks, t.pairs, t.count, b"name") else {
         return Typed::Missing;
     };
-    let Found::At(typ) = find_attribute(text, marks, t.pairs, t.count, b"type") else {
+    let Found::At(typ) = attribute(text, marks, t.pairs, t.count, b"type") else {
         return Typed::Missing;
     };
     Typed::Both(Places { name, typ })
@@ -69,7 +69,7 @@ pub fn name_and_type(text: &[u8], marks: &[u32], t: TagRecord) -> Typed
 pub fn is_required(text: &[u8], marks: &[u32], t: TagRecord) -> bool
     ensures { λ r. ⌜ r ≡ isRequired (attrValue (recordTag (now (text .entry)) (now (marks .entry)) t) "use") ⌝ }
 {
-    match find_attribute(text, marks, t.pairs, t.count, b"use") {
+    match attribute(text, marks, t.pairs, t.count, b"use") {
         Found::At(i) => same_text(pair_part(text, marks, i), b"required"),
         Found::Nothing => false,
     }
@@ -79,7 +79,7 @@ pub fn is_required(text: &[u8], marks: &[u32], t: TagRecord) -> bool
 pub fn min_occurs(text: &[u8], marks: &[u32], t: TagRecord) -> U32
     ensures { λ r. ⌜ ofU32 r ≡ parseMinOccurs (attrValue (recordTag (now (text .entry)) (now (marks .entry)) t) "minOccurs") ⌝ }
 {
-    match find_attribute(text, marks, t.pairs, t.count, b"minOccurs") {
+    match attribute(text, marks, t.pairs, t.count, b"minOccurs") {
         Found::At(i) => parse_u32(pair_part(text, marks, i)),
         Found::Nothing => U32::Value(1),
     }
@@ -102,7 +102,7 @@ fn max_of(s: &[u8]) -> Max
 pub fn max_occurs(text: &[u8], marks: &[u32], t: TagRecord) -> Max
     ensures { λ r. ⌜ maxAnswer r ≡ parseMaxOccurs (attrValue (recordTag (now (text .entry)) (now (marks .entry)) t) "maxOccurs") ⌝ }
 {
-    match find_attribute(text, marks, t.pairs, t.count, b"maxOccurs") {
+    match attribute(text, marks, t.pairs, t.count, b"maxOccurs") {
         Found::At(i) => max_of(pair_part(text, marks, i)),
         Found::Nothing => Max::Bounded(1),
     }

@@ -1,19 +1,16 @@
 use Prim.Native.Nat.{_-_}
+use Prim.Native.Char.{code}
+use mathlib.Core.Path.{sym, _∙_}
 use native.Mathlib.Omega.{arith}
 use lib.ListN.{length}
 use lib.Seq.{take-all}
--- `builtin::word_of` meets its contract: a name with no colon is its own local name. Assumes nothing.
-use Prim.Native.Char.{code}
-use mathlib.Core.Path.{_≡_, sym, _∙_}
+use borrow.Author.Needs.{needs}
 use Rattle.text.specs.Text.{localName}
 use Rattle.text.proofs.Laws.Local.{afterLast-none}
-use borrow.Author.Needs.{needs}
 use Rattle.builtin.proofs.word_of.Statement.{statement}
 use Rattle.builtin.proofs.word_of.Tie as tie
-use Rattle.builtin.proofs.word_of.Reads as reads
-use Rattle.builtin.proofs.word_of.Lts as lts
-use Rattle.text.proofs.has_byte.Reads as has-byte-reads
-use Rattle.text.proofs.local_name.Reads as local-name-reads
+
+-- `builtin::word_of` meets its contract: a name with no colon is its own local name. Assumes nothing.
 
 has-byte-requires : tie.Need-has-byte-requires
 has-byte-requires c κs = search needs

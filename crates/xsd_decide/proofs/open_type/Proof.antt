@@ -11,11 +11,11 @@ use borrow.Author.Needs.{needs}
 use Rattle.xsd_decide.proofs.open_type.Statement.{statement}
 use Rattle.xsd_decide.proofs.open_type.Tie as tie
 
-slice-aggregate-find-attribute : tie.Need-slice-aggregate-find-attribute
-slice-aggregate-find-attribute c = search needs
+slice-aggregate-attribute : tie.Need-slice-aggregate-attribute
+slice-aggregate-attribute c = search needs
 
-find-attribute-requires : tie.Need-find-attribute-requires
-find-attribute-requires c κs = search needs
+attribute-requires : tie.Need-attribute-requires
+attribute-requires c κs = search needs
 
 enum-known-i : tie.Need-enum-known-i
 enum-known-i c = search needs
@@ -29,7 +29,7 @@ returns c =
     let called = c .before .before in
     let a = called .before .before .before .before .args in
     let t = recordTag (a .text .now) (a .marks .now) (a .t) in
-    sym (requireName-none t (openedAs (a .simple)) (attrValue-none (a .text .now) (a .marks .now) t "name" (called .find-attribute .ensures) (c .enum-told .given .1)))
+    sym (requireName-none t (openedAs (a .simple)) (attrValue-none (a .text .now) (a .marks .now) t "name" (called .attribute .ensures) (c .enum-told .given .1)))
 
 returns-2 : tie.Need-returns-2
 unfolding bytes decision openedAs
@@ -37,7 +37,7 @@ returns-2 c =
     let called = c .before .before .before .before in
     let a = called .before .before .before .before .args in
     let t = recordTag (a .text .now) (a .marks .now) (a .t) in
-    let name = attrValue-at (a .text .now) (a .marks .now) t "name" (called .find-attribute .ensures) (c .before .before .i .given .1) in
+    let name = attrValue-at (a .text .now) (a .marks .now) t "name" (called .attribute .ensures) (c .before .before .i .given .1) in
     sym (requireName-some t (openedAs (a .simple)) name ∙ ap (λ b. ok (openedAs b (textAtMark (a .text .now) (a .marks .now) (c .before .before .i .given .0 .0)))) (c .if1 .taken))
 
 returns-3 : tie.Need-returns-3
@@ -46,15 +46,15 @@ returns-3 c =
     let called = c .before .before .before .before in
     let a = called .before .before .before .before .args in
     let t = recordTag (a .text .now) (a .marks .now) (a .t) in
-    let name = attrValue-at (a .text .now) (a .marks .now) t "name" (called .find-attribute .ensures) (c .before .before .i .given .1) in
+    let name = attrValue-at (a .text .now) (a .marks .now) t "name" (called .attribute .ensures) (c .before .before .i .given .1) in
     sym (requireName-some t (openedAs (a .simple)) name ∙ ap (λ b. ok (openedAs b (textAtMark (a .text .now) (a .marks .now) (c .before .before .i .given .0 .0)))) (c .if1 .left))
 
 pub open-type-spec : {M : Type 1} → statement M
 open-type-spec =
     tie.close
     (tie.spec
-    slice-aggregate-find-attribute
-    find-attribute-requires
+    slice-aggregate-attribute
+    attribute-requires
     enum-known-i
     enum-told
     returns

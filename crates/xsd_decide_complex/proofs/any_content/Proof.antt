@@ -10,11 +10,11 @@ use borrow.Author.Needs.{needs}
 use Rattle.xsd_decide_complex.proofs.any_content.Statement.{statement}
 use Rattle.xsd_decide_complex.proofs.any_content.Tie as tie
 
-slice-aggregate-find-attribute : tie.Need-slice-aggregate-find-attribute
-slice-aggregate-find-attribute c = search needs
+slice-aggregate-attribute : tie.Need-slice-aggregate-attribute
+slice-aggregate-attribute c = search needs
 
-find-attribute-requires : tie.Need-find-attribute-requires
-find-attribute-requires c κs = search needs
+attribute-requires : tie.Need-attribute-requires
+attribute-requires c κs = search needs
 
 enum-known-second : tie.Need-enum-known-second
 enum-known-second c = search needs
@@ -30,7 +30,7 @@ unfolding bytes decision following anyContent
 returns c =
     let called = c .before .before .before in
     let a = called .before .before .before .before .args in
-    ap (λ v. ok (anyContent v)) (sym (attrValue-at (a .text .now) (a .marks .now) (recordTag (a .text .now) (a .marks .now) (a .t)) "namespace" (called .find-attribute .ensures) (c .before .second .given .1)))
+    ap (λ v. ok (anyContent v)) (sym (attrValue-at (a .text .now) (a .marks .now) (recordTag (a .text .now) (a .marks .now) (a .t)) "namespace" (called .attribute .ensures) (c .before .second .given .1)))
 
 returns-2 : tie.Need-returns-2
 unfolding bytes anyContent
@@ -38,14 +38,14 @@ returns-2 c =
     let called = c .before .before .before in
     let a = called .before .before .before .before .args in
     c .content-alone .ensures (a .text .now) (a .marks .now)
-    ∙ ap (λ v. ok (anyContent v)) (sym (attrValue-none (a .text .now) (a .marks .now) (recordTag (a .text .now) (a .marks .now) (a .t)) "namespace" (called .find-attribute .ensures) (c .before .enum-told .given .1)))
+    ∙ ap (λ v. ok (anyContent v)) (sym (attrValue-none (a .text .now) (a .marks .now) (recordTag (a .text .now) (a .marks .now) (a .t)) "namespace" (called .attribute .ensures) (c .before .enum-told .given .1)))
 
 pub any-content-spec : {M : Type 1} → statement M
 any-content-spec =
     tie.close
     (tie.spec
-    slice-aggregate-find-attribute
-    find-attribute-requires
+    slice-aggregate-attribute
+    attribute-requires
     enum-known-second
     enum-told
     content-alone-requires

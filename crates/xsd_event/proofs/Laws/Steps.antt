@@ -39,24 +39,25 @@ step-on lent s e n h q = rw (lt-ltb (s .events) 1000000 h, q)
 
 -- an event that is given with its open tags is decided
 pub decided-of : {rows names : List ℕ} {text : Text} {marks : List ℕ} {p : Progress} {d : Decision} {mode : Mode} {t : Tags} {s : State} {e : Event} (n : ℕ)
-    → Given rows names text marks p d mode t s e → p .events < 1000000 → tagsAfter e (s .openTags) ≡ ok n → Decided rows names text marks p d mode n s e
+    → Given rows names text marks p d mode t s e → p .events < 1000000 → t ≡ Tags.Open n → Decided rows names text marks p d mode n s e
+unfolding tags
 decided-of {rows} {names} {text} {marks} {p} {d} {mode} {t} {s} {e} n g h q =
     let o = proper-parts s (g .at .proper) in
+    let tagged = sym (g .tagged) ∙ ap tags q in
     record {
       at = g .at;
       decides = g .decides;
-      modeIs = g .modeIs;
-      properAfter = λ r k. counted-proper s n r (omega (arith, h, g .at .events)) (tags-kept e (s .openTags) n q (o .tags)) (reader-kept e (s .reader) r (s .openTags) n q k (g .texts) (o .reader));
+      modeIs = g .modeIs n q;
+      properAfter = λ r k. counted-proper s n r (omega (arith, h, g .at .events)) (tags-kept e (s .openTags) n tagged (o .tags)) (reader-kept e (s .reader) r (s .openTags) n tagged k (g .texts) (o .reader));
     }
 
 pub settle-room : {rows names : List ℕ} {text : Text} {marks : List ℕ} {p : Progress} {d : Decision} {mode : Mode} {t : Tags} (n : ℕ)
     → StepRoom rows names text marks p d mode t → p .events < 1000000 → t ≡ Tags.Open n → SettleRoom rows names text marks p d mode n
-unfolding tags
 settle-room n x h q =
     record {
       s = x .s;
       e = x .e;
-      decided = decided-of n (x .given) h (sym (x .given .tagged) ∙ ap tags q);
+      decided = decided-of n (x .given) h q;
       lent = x .lent;
     }
 
@@ -76,5 +77,5 @@ taken-settled {rows} {names} {rows′} {names′} {text} {marks} {p} {d} {mode} 
       ended = λ s e g.
           let tagged = sym (g .tagged) ∙ ap tags q in
           let on = step-on (lentTo rows names) s e n (omega (arith, h, g .at .events)) tagged in
-          subst (λ (o : Outcome State). Ended o rows names rows′ names′ x) (sym on) (settled .ended s e (decided-of n g h tagged));
+          subst (λ (o : Outcome State). Ended o rows names rows′ names′ x) (sym on) (settled .ended s e (decided-of n g h q));
     }

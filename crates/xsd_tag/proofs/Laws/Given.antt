@@ -18,29 +18,21 @@ use Rattle.tape_pairs.specs.Pairs.{tagAt}
 use Rattle.tape.specs.declared.TagRecord.{TagRecord}
 use Rattle.xsd_actions.specs.declared.Decision.{Decision}
 use Rattle.xsd_actions.specs.declared.Mode.{Mode}
-use Rattle.xsd_actions.specs.Actions.{Action, modeOf, headTag, behind, tagMode, closeMode, modeAfter}
+use Rattle.xsd_actions.specs.Actions.{Action, modeOf, headTag, behind, modeAfter}
 use Rattle.xsd_actions.specs.Decided.{Decides, decided, decidedClose}
 use Rattle.xsd_actions.specs.Answers.{decision}
 use Rattle.xsd_actions.proofs.Laws.Decides.{decides}
 use Rattle.xsd_mode.specs.declared.Tags.{Tags}
-use Rattle.xsd_mode.specs.Answers.{tags, TagsAfter}
+use Rattle.xsd_mode.specs.Answers.{tags}
+use Rattle.open_tags.specs.Change.{kindOf, EventAfter}
+use Rattle.open_tags.proofs.Laws.Change.{tags-event}
 use Rattle.xsd_open.specs.Open.{TagOfHead}
 use Rattle.xsd_open.proofs.Laws.Bounds.{proper-nesting}
 use Rattle.xsd_progress.specs.declared.Progress.{Progress}
 use Rattle.xsd_progress.specs.Progress.{At, Standing}
 use Rattle.xsd_carry.specs.declared.Step.{Step}
 use Rattle.xsd_event.specs.Steps.{Given, StepRoom, Taken}
-use Rattle.xsd_tag.specs.Steps.{tagEvent, TagTags, EventRoom, EventTaken}
-
--- the mode after a tag's event
-mode-if : (b : Bool) (t : Tag) (a : Action) (m : Mode) → tagMode b a m ≡ modeAfter (if b then Event.start t else Event.empty t) a m
-unfolding modeAfter
-mode-if true t a m = refl
-mode-if false t a m = refl
-
-pub mode-tag : (kind : ℕ) (t : Tag) (a : Action) (m : Mode) → tagMode (eqb kind 1) a m ≡ modeAfter (eventOf kind t) a m
-unfolding eventOf
-mode-tag kind t a m = mode-if (eqb kind 1) t a m
+use Rattle.xsd_tag.specs.Steps.{EventRoom, EventTaken}
 
 -- a record of kind 1 is a start, every other tag's an empty tag
 pub event-start : (kind : ℕ) (t : Tag) → kind ≡ 1 → eventOf kind t ≡ Event.start t
@@ -56,23 +48,17 @@ pub record Made (rows : List ℕ) (text : Text) (marks : List ℕ) (p : Progress
   pub head : ℕ
   pub headIs : TagOfHead rows (p .mode .context) (p .head) head
   pub decidedIs : decision text marks d ≡ decided e (p .mode) head
-  pub modeIs : (a : Action) → decision text marks d ≡ ok a → mode ≡ modeAfter e a (p .mode)
+  pub modeIs : (n : ℕ) → t ≡ Tags.Open n → (a : Action) → decision text marks d ≡ ok a → mode ≡ modeAfter e a (p .mode)
   pub tagged : tags t ≡ tagsAfter e (p .«open_tags»)
 
-pub made-tag : {rows : List ℕ} (text : Text) (marks : List ℕ) {p : Progress} {d : Decision} {mode : Mode} {t : Tags} (r : TagRecord) (head : ℕ) → TagOfHead rows (p .mode .context) (p .head) head
-    → decision text marks d ≡ decided (tagEvent text marks r) (p .mode) head
-    → ((text′ : Text) (marks′ : List ℕ) (a : Action) → decision text′ marks′ d ≡ ok a → mode ≡ tagMode (eqb (r .kind) 1) a (p .mode))
-    → TagTags (r .kind) (p .«open_tags») t → Made rows text marks p d mode t (tagEvent text marks r)
-unfolding tagEvent
-made-tag text marks {p} r head h e f g =
-    let tag = tagAt text marks (r .pairs) (r .count) in
-    record { head = head; headIs = h; decidedIs = e; modeIs = λ a q. f text marks a q ∙ mode-tag (r .kind) tag a (p .mode); tagged = g .is tag }
+pub made-event : {rows : List ℕ} {text : Text} {marks : List ℕ} {p : Progress} {d : Decision} {mode : Mode} {t : Tags} {kind : ℕ} (e : Event) (head : ℕ) → kindOf e ≡ kind → TagOfHead rows (p .mode .context) (p .head) head
+    → decision text marks d ≡ decided e (p .mode) head → EventAfter kind d (p .mode) (p .«open_tags») t mode → Made rows text marks p d mode t e
+made-event {text = text} {marks = marks} e head k h f g = record { head = head; headIs = h; decidedIs = f; modeIs = λ n o a q. g .modeIs n o e k text marks a q; tagged = tags-event e k (g .tagged) }
 
 pub made-close : {rows : List ℕ} (text : Text) (marks : List ℕ) {p : Progress} {d : Decision} {mode : Mode} {t : Tags} (head : ℕ) → TagOfHead rows (p .mode .context) (p .head) head
-    → ((text′ : Text) (marks′ : List ℕ) → decision text′ marks′ d ≡ ok (decidedClose (p .mode) head)) → mode ≡ closeMode (p .mode) → TagsAfter 3 (p .«open_tags») t
-    → Made rows text marks p d mode t Event.close
-unfolding decided modeAfter
-made-close text marks head h e f g = record { head = head; headIs = h; decidedIs = e text marks; modeIs = λ a q. f; tagged = g .close refl }
+    → ((text′ : Text) (marks′ : List ℕ) → decision text′ marks′ d ≡ ok (decidedClose (p .mode) head)) → EventAfter 3 d (p .mode) (p .«open_tags») t mode → Made rows text marks p d mode t Event.close
+unfolding decided kindOf
+made-close text marks head h e g = made-event Event.close head refl h (e text marks) g
 
 pub head-at : {s : State} {rows names : List ℕ} {p : Progress} {head : ℕ} → At s rows names p → TagOfHead rows (p .mode .context) (p .head) head → head ≡ headTag (s .reader .context)
 unfolding rowsOf behind modeOf
@@ -87,7 +73,7 @@ given-of {rows} {names} {text} {marks} {p} {d} {mode} {t} {s} {e} m at k =
     record {
       at = at;
       decides = subst (Decides e (s .reader)) (sym same) (decides e (s .reader));
-      modeIs = λ a q. m .modeIs a q ∙ ap (modeAfter e a) (at .mode);
+      modeIs = λ n o a q. m .modeIs n o a q ∙ ap (modeAfter e a) (at .mode);
       tagged = m .tagged ∙ ap (tagsAfter e) (at .tags);
       texts = k;
     }

@@ -9,11 +9,11 @@ use borrow.Author.Needs.{needs}
 use Rattle.xsd_values.proofs.is_required.Statement.{statement}
 use Rattle.xsd_values.proofs.is_required.Tie as tie
 
-slice-aggregate-find-attribute : tie.Need-slice-aggregate-find-attribute
-slice-aggregate-find-attribute c = search needs
+slice-aggregate-attribute : tie.Need-slice-aggregate-attribute
+slice-aggregate-attribute c = search needs
 
-find-attribute-requires : tie.Need-find-attribute-requires
-find-attribute-requires c κs = search needs
+attribute-requires : tie.Need-attribute-requires
+attribute-requires c κs = search needs
 
 enum-known-i : tie.Need-enum-known-i
 enum-known-i c = search needs
@@ -36,7 +36,7 @@ returns c =
     let called = c .before .before .before .before .before .before in
     let a = called .before .before .before .before .args in
     let t = recordTag (a .text .now) (a .marks .now) (a .t) in
-    let value = attrValue-at (a .text .now) (a .marks .now) t "use" (called .find-attribute .ensures) (c .before .before .before .before .i .given .1) in
+    let value = attrValue-at (a .text .now) (a .marks .now) t "use" (called .attribute .ensures) (c .before .before .before .before .i .given .1) in
     c .same-text .ensures ∙ ap (λ (v : Text). same v (bytes "required")) (c .before .before .pair-part .ensures) ∙ sym (ap isRequired value)
 
 returns-2 : tie.Need-returns-2
@@ -44,14 +44,14 @@ unfolding bytes isRequired
 returns-2 c =
     let called = c .before .before in
     let a = called .before .before .before .before .args in
-    sym (ap isRequired (attrValue-none (a .text .now) (a .marks .now) (recordTag (a .text .now) (a .marks .now) (a .t)) "use" (called .find-attribute .ensures) (c .enum-told .given .1)))
+    sym (ap isRequired (attrValue-none (a .text .now) (a .marks .now) (recordTag (a .text .now) (a .marks .now) (a .t)) "use" (called .attribute .ensures) (c .enum-told .given .1)))
 
 pub is-required-spec : {M : Type 1} → statement M
 is-required-spec =
     tie.close
     (tie.spec
-    slice-aggregate-find-attribute
-    find-attribute-requires
+    slice-aggregate-attribute
+    attribute-requires
     enum-known-i
     pair-part-requires
     slice-aggregate-same-text

@@ -10,11 +10,11 @@ use borrow.Author.Needs.{needs}
 use Rattle.xsd_values.proofs.min_occurs.Statement.{statement}
 use Rattle.xsd_values.proofs.min_occurs.Tie as tie
 
-slice-aggregate-find-attribute : tie.Need-slice-aggregate-find-attribute
-slice-aggregate-find-attribute c = search needs
+slice-aggregate-attribute : tie.Need-slice-aggregate-attribute
+slice-aggregate-attribute c = search needs
 
-find-attribute-requires : tie.Need-find-attribute-requires
-find-attribute-requires c κs = search needs
+attribute-requires : tie.Need-attribute-requires
+attribute-requires c κs = search needs
 
 enum-known-i : tie.Need-enum-known-i
 enum-known-i c = search needs
@@ -34,7 +34,7 @@ returns c =
     let called = c .before .before .before .before .before in
     let a = called .before .before .before .before .args in
     let t = recordTag (a .text .now) (a .marks .now) (a .t) in
-    let value = attrValue-at (a .text .now) (a .marks .now) t "minOccurs" (called .find-attribute .ensures) (c .before .before .before .i .given .1) in
+    let value = attrValue-at (a .text .now) (a .marks .now) t "minOccurs" (called .attribute .ensures) (c .before .before .before .i .given .1) in
     c .parse-u32 .ensures ∙ ap (number 32) (c .before .pair-part .ensures) ∙ sym (ap parseMinOccurs value)
 
 returns-2 : tie.Need-returns-2
@@ -42,14 +42,14 @@ unfolding bytes parseMinOccurs
 returns-2 c =
     let called = c .before .before in
     let a = called .before .before .before .before .args in
-    sym (ap parseMinOccurs (attrValue-none (a .text .now) (a .marks .now) (recordTag (a .text .now) (a .marks .now) (a .t)) "minOccurs" (called .find-attribute .ensures) (c .enum-told .given .1)))
+    sym (ap parseMinOccurs (attrValue-none (a .text .now) (a .marks .now) (recordTag (a .text .now) (a .marks .now) (a .t)) "minOccurs" (called .attribute .ensures) (c .enum-told .given .1)))
 
 pub min-occurs-spec : {M : Type 1} → statement M
 min-occurs-spec =
     tie.close
     (tie.spec
-    slice-aggregate-find-attribute
-    find-attribute-requires
+    slice-aggregate-attribute
+    attribute-requires
     enum-known-i
     pair-part-requires
     parse-u32-requires

@@ -9,11 +9,11 @@ use borrow.Author.Needs.{needs}
 use Rattle.xsd_values.proofs.name_and_type.Statement.{statement}
 use Rattle.xsd_values.proofs.name_and_type.Tie as tie
 
-slice-aggregate-find-attribute : tie.Need-slice-aggregate-find-attribute
-slice-aggregate-find-attribute c = search needs
+slice-aggregate-attribute : tie.Need-slice-aggregate-attribute
+slice-aggregate-attribute c = search needs
 
-find-attribute-requires : tie.Need-find-attribute-requires
-find-attribute-requires c κs = search needs
+attribute-requires : tie.Need-attribute-requires
+attribute-requires c κs = search needs
 
 enum-known-name : tie.Need-enum-known-name
 enum-known-name c = search needs
@@ -27,13 +27,13 @@ returns c =
     let called = c .before .before in
     let a = called .before .before .before .before .args in
     let t = recordTag (a .text .now) (a .marks .now) (a .t) in
-    sym (ap (λ (v : Option Text). both v (attrValue t "type")) (attrValue-none (a .text .now) (a .marks .now) t "name" (called .find-attribute .ensures) (c .enum-told .given .1)))
+    sym (ap (λ (v : Option Text). both v (attrValue t "type")) (attrValue-none (a .text .now) (a .marks .now) t "name" (called .attribute .ensures) (c .enum-told .given .1)))
 
-slice-aggregate-find-attribute-2 : tie.Need-slice-aggregate-find-attribute-2
-slice-aggregate-find-attribute-2 c = search needs
+slice-aggregate-attribute-2 : tie.Need-slice-aggregate-attribute-2
+slice-aggregate-attribute-2 c = search needs
 
-find-attribute-requires-2 : tie.Need-find-attribute-requires-2
-find-attribute-requires-2 c κs = search needs
+attribute-requires-2 : tie.Need-attribute-requires-2
+attribute-requires-2 c κs = search needs
 
 enum-known-typ : tie.Need-enum-known-typ
 enum-known-typ c = search needs
@@ -48,8 +48,8 @@ returns-2 c =
     let first = called .before .before .before .before .before in
     let a = first .before .before .before .before .args in
     let t = recordTag (a .text .now) (a .marks .now) (a .t) in
-    let name = attrValue-at (a .text .now) (a .marks .now) t "name" (first .find-attribute .ensures) (called .before .before .before .name .given .1) in
-    let type = attrValue-none (a .text .now) (a .marks .now) t "type" (called .find-attribute2 .ensures) (c .enum-told2 .given .1) in
+    let name = attrValue-at (a .text .now) (a .marks .now) t "name" (first .attribute .ensures) (called .before .before .before .name .given .1) in
+    let type = attrValue-none (a .text .now) (a .marks .now) t "type" (called .attribute2 .ensures) (c .enum-told2 .given .1) in
     rw (name, type)
 
 returns-3 : tie.Need-returns-3
@@ -59,21 +59,21 @@ returns-3 c =
     let first = called .before .before .before .before .before in
     let a = first .before .before .before .before .args in
     let t = recordTag (a .text .now) (a .marks .now) (a .t) in
-    let name = attrValue-at (a .text .now) (a .marks .now) t "name" (first .find-attribute .ensures) (called .before .before .before .name .given .1) in
-    let type = attrValue-at (a .text .now) (a .marks .now) t "type" (called .find-attribute2 .ensures) (c .before .typ .given .1) in
+    let name = attrValue-at (a .text .now) (a .marks .now) t "name" (first .attribute .ensures) (called .before .before .before .name .given .1) in
+    let type = attrValue-at (a .text .now) (a .marks .now) t "type" (called .attribute2 .ensures) (c .before .typ .given .1) in
     rw (name, type)
 
 pub name-and-type-spec : {M : Type 1} → statement M
 name-and-type-spec =
     tie.close
     (tie.spec
-    slice-aggregate-find-attribute
-    find-attribute-requires
+    slice-aggregate-attribute
+    attribute-requires
     enum-known-name
     enum-told
     returns
-    slice-aggregate-find-attribute-2
-    find-attribute-requires-2
+    slice-aggregate-attribute-2
+    attribute-requires-2
     enum-known-typ
     enum-told-2
     returns-2

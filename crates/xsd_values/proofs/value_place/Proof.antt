@@ -10,8 +10,8 @@ use borrow.Author.Needs.{needs}
 use Rattle.xsd_values.proofs.value_place.Statement.{statement}
 use Rattle.xsd_values.proofs.value_place.Tie as tie
 
-find-attribute-requires : tie.Need-find-attribute-requires
-find-attribute-requires c κs = search needs
+attribute-requires : tie.Need-attribute-requires
+attribute-requires c κs = search needs
 
 enum-known-i : tie.Need-enum-known-i
 enum-known-i c = search needs
@@ -24,7 +24,7 @@ unfolding orEmpty foundValue textAtMark
 returns c =
     let called = c .before .before .before in
     let a = called .before .before .before .before .args in
-    ap orEmpty (sym (ap (foundValue (a .text .now) (a .marks .now)) (c .before .i .given .1)) ∙ called .find-attribute .ensures)
+    ap orEmpty (sym (ap (foundValue (a .text .now) (a .marks .now)) (c .before .i .given .1)) ∙ called .attribute .ensures)
 
 returns-2 : tie.Need-returns-2
 unfolding orEmpty foundValue textAtMark
@@ -32,8 +32,8 @@ returns-2 c =
     let called = c .before .before in
     let a = called .before .before .before .before .args in
     pair-past (a .text .now) (a .marks .now) (length (a .marks .now)) (le-refl (length (a .marks .now)))
-    ∙ ap orEmpty (sym (ap (foundValue (a .text .now) (a .marks .now)) (c .enum-told .given .1)) ∙ called .find-attribute .ensures)
+    ∙ ap orEmpty (sym (ap (foundValue (a .text .now) (a .marks .now)) (c .enum-told .given .1)) ∙ called .attribute .ensures)
 
 pub value-place-spec : {M : Type 1} → statement M
 value-place-spec =
-    tie.close (tie.spec find-attribute-requires enum-known-i enum-told returns returns-2)
+    tie.close (tie.spec attribute-requires enum-known-i enum-told returns returns-2)

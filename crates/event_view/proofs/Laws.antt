@@ -1,0 +1,2 @@
+-- Laws of the definitions in specs/: Cut of an event's marks.
+pub mod Cut
