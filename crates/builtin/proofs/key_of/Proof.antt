@@ -1,11 +1,10 @@
+-- `builtin::key_of` meets its contract: the definition's test, then its sum. Assumes nothing.
 use lib.ListN.{length}
 use borrow.Author.Tests.{lt-ltb, le-ltb}
 use borrow.Author.Needs.{needs}
 use Rattle.builtin.specs.Answers.{keyOf}
 use Rattle.builtin.proofs.key_of.Statement.{statement}
 use Rattle.builtin.proofs.key_of.Tie as tie
-
--- `builtin::key_of` meets its contract: the definition's test, then its sum. Assumes nothing.
 
 returns : tie.Need-returns
 unfolding keyOf

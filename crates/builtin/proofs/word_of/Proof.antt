@@ -1,3 +1,4 @@
+-- `builtin::word_of` meets its contract: a name with no colon is its own local name. Assumes nothing.
 use Prim.Native.Nat.{_-_}
 use Prim.Native.Char.{code}
 use mathlib.Core.Path.{sym, _∙_}
@@ -9,8 +10,6 @@ use Rattle.text.specs.Text.{localName}
 use Rattle.text.proofs.Laws.Local.{afterLast-none}
 use Rattle.builtin.proofs.word_of.Statement.{statement}
 use Rattle.builtin.proofs.word_of.Tie as tie
-
--- `builtin::word_of` meets its contract: a name with no colon is its own local name. Assumes nothing.
 
 has-byte-requires : tie.Need-has-byte-requires
 has-byte-requires c κs = search needs

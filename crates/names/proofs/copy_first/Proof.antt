@@ -1,3 +1,5 @@
+-- `names::copy_first` meets its contract. The loop's invariant: the first i bytes are written, and the text from i on is left. The measure is what is left up
+-- to the end. Assumes nothing.
 use Prim.Native.Nat.{ℕ, _≤_, _-_}
 use mathlib.Core.Path.{sym, ap, _≡_}
 use native.Mathlib.Omega.{arith}
@@ -7,9 +9,6 @@ use lib.Seq.{drop-cons}
 use Rattle.names.proofs.Laws.Writing.{Writing, writing-start, writing-length, writing-as, writing-more}
 use Rattle.names.proofs.copy_first.Statement.{statement}
 use Rattle.names.proofs.copy_first.Tie as tie
-
--- `names::copy_first` meets its contract. The loop's invariant: the first i bytes are written, and the text from i on is left. The measure is what is left
--- up to the end. Assumes nothing.
 
 abbrev Inv-loop : tie.InvT-loop
 Inv-loop s out₀ end i₀ out i = (i ≤ end) × Writing s out₀ i out (drop i s)
