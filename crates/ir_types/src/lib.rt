@@ -1,1 +1,2 @@
-// The type graph (003, ir/types.rs) and the graph sheet. Definitions only (specs/).
+// The type graph (003, ir/types.rs) and the graph sheet (specs/). The tags of its rows, by name.
+pub mod tags;

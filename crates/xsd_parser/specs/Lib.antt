@@ -1,6 +1,7 @@
 -- The definitions of the crate `xsd_parser`: Event is the abstract event, Tape the records that stand for events, Handlers 000's handlers,
 -- Step one event with its refusals, Read the reading call, EventText events that are texts, Accepted records that are accepted, Whole where a tape
 -- may be cut, Pieces a tape read in pieces.
+pub mod Kinds
 pub mod Event
 pub mod Tape
 pub mod Handlers

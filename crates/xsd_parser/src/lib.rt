@@ -1,1 +1,2 @@
-// Reading a tape into a schema sheet (000, xsd/parser.rs). Definitions only (specs/).
+// Reading a tape into a schema sheet (000, xsd/parser.rs; specs/). The kinds of an event, by name.
+pub mod kinds;

@@ -1,5 +1,7 @@
 -- The definitions of the crate `xsd_types`: Types has 002's values, State the reader's state, Rows the state as rows, Sheet the sheet of a state,
 -- Good the test of a good sheet, Back the way back, Clear the clearing call.
+pub mod Tags
+pub mod Contexts
 pub mod Types
 pub mod State
 pub mod Rows

@@ -1,0 +1,85 @@
+-- Paper 01, "Returned numbers": the numbers that the calls return, in the order of the table, and those of an event's refusals.
+--     accepted .. badLabel    the numbers 0 to 16
+--     refusalNumber           the number of a refusal that an event can meet
+use Prim.Native.Nat.{ℕ}
+use Rattle.sheet.specs.declared.refusal.Refusal.{Refusal}
+
+-- "accepted; place is events read, rows used, or 0"
+abbrev pub accepted : ℕ
+accepted = 0
+
+-- "a rows length not a multiple of 10, below 20 or above 40,960; names above 65,536; tape buffers too long"
+abbrev pub badLength : ℕ
+badLength = 1
+
+-- "schema sheet not good"
+abbrev pub notGood : ℕ
+notGood = 2
+
+-- "kind not 1 to 3, record cut short, over 32 attributes, a close with any"
+abbrev pub badRecord : ℕ
+badRecord = 3
+
+-- "pair outside the text or out of order"
+abbrev pub badPair : ℕ
+badPair = 4
+
+-- "byte above 127 under a pair"
+abbrev pub notAscii : ℕ
+notAscii = 5
+
+-- "close with no tag open"
+abbrev pub noTagOpen : ℕ
+noTagOpen = 6
+
+-- "start with 255 open"
+abbrev pub tooManyOpen : ℕ
+tooManyOpen = 7
+
+-- "1,000,000 events done"
+abbrev pub tooManyEvents : ℕ
+tooManyEvents = 8
+
+-- "`MissingAttribute`"
+abbrev pub missingAttribute : ℕ
+missingAttribute = 9
+
+-- "`InvalidAttributeValue`"
+abbrev pub invalidAttributeValue : ℕ
+invalidAttributeValue = 10
+
+-- "the state after the event needs more rows or names than lent"
+abbrev pub noRoom : ℕ
+noRoom = 11
+
+-- "lowering, no root seen"
+abbrev pub noRoot : ℕ
+noRoot = 12
+
+-- "`UnknownBase`; place is the row of the first such simple type"
+abbrev pub unknownBase : ℕ
+unknownBase = 13
+
+-- "scratch below one number for each finished type"
+abbrev pub shortScratch : ℕ
+shortScratch = 14
+
+-- "graph needs more rows or names than lent"
+abbrev pub noRoomInGraph : ℕ
+noRoomInGraph = 15
+
+-- "label: length not a multiple of 10, no such row, tag not 5, 7, 9, 10 or 19, .."
+abbrev pub badLabel : ℕ
+badLabel = 16
+
+-- "event by event 3, 4, 5, 8, then 6 or 7, 9, 10, 11"
+abbrev pub refusalNumber : Refusal → ℕ
+refusalNumber Refusal.BadRecord = badRecord
+refusalNumber Refusal.BadPair = badPair
+refusalNumber Refusal.NotAscii = notAscii
+refusalNumber Refusal.NoTagOpen = noTagOpen
+refusalNumber Refusal.TooManyOpen = tooManyOpen
+refusalNumber Refusal.TooManyEvents = tooManyEvents
+refusalNumber Refusal.MissingAttribute = missingAttribute
+refusalNumber Refusal.InvalidAttributeValue = invalidAttributeValue
+refusalNumber Refusal.NoRoom = noRoom

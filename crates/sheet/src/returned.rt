@@ -1,0 +1,52 @@
+// Paper 01, "Returned numbers": the numbers that the calls return, in the order of the table.
+
+// "accepted; place is events read, rows used, or 0"
+pub const ACCEPTED: u32 = 0;
+
+// "a rows length not a multiple of 10, below 20 or above 40,960; names above 65,536; tape buffers too long"
+pub const BAD_LENGTH: u32 = 1;
+
+// "schema sheet not good"
+pub const NOT_GOOD: u32 = 2;
+
+// "kind not 1 to 3, record cut short, over 32 attributes, a close with any"
+pub const BAD_RECORD: u32 = 3;
+
+// "pair outside the text or out of order"
+pub const BAD_PAIR: u32 = 4;
+
+// "byte above 127 under a pair"
+pub const NOT_ASCII: u32 = 5;
+
+// "close with no tag open"
+pub const NO_TAG_OPEN: u32 = 6;
+
+// "start with 255 open"
+pub const TOO_MANY_OPEN: u32 = 7;
+
+// "1,000,000 events done"
+pub const TOO_MANY_EVENTS: u32 = 8;
+
+// "`MissingAttribute`"
+pub const MISSING_ATTRIBUTE: u32 = 9;
+
+// "`InvalidAttributeValue`"
+pub const INVALID_ATTRIBUTE_VALUE: u32 = 10;
+
+// "the state after the event needs more rows or names than lent"
+pub const NO_ROOM: u32 = 11;
+
+// "lowering, no root seen"
+pub const NO_ROOT: u32 = 12;
+
+// "`UnknownBase`; place is the row of the first such simple type"
+pub const UNKNOWN_BASE: u32 = 13;
+
+// "scratch below one number for each finished type"
+pub const SHORT_SCRATCH: u32 = 14;
+
+// "graph needs more rows or names than lent"
+pub const NO_ROOM_IN_GRAPH: u32 = 15;
+
+// "label: length not a multiple of 10, no such row, tag not 5, 7, 9, 10 or 19, .."
+pub const BAD_LABEL: u32 = 16;
