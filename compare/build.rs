@@ -2,8 +2,11 @@
 //! libraries `lubiksan` and `sheet_bench` where the features `ours` and `sheets` are on.
 
 use std::env;
-use std::fs;
-use std::path::{Path, PathBuf};
+use std::path::Path;
+
+mod copy;
+
+use copy::write_copy;
 
 /// The private functions that the judge calls.
 const PARSER_LEAVES: [&str; 3] = ["local_name", "parse_u32", "parse_u64"];
@@ -11,6 +14,7 @@ const LOWER_LEAVES: [&str; 2] = ["map_builtin", "normalize_type_name"];
 
 fn main() {
     println!("cargo:rerun-if-changed=build.rs");
+    println!("cargo:rerun-if-changed=copy.rs");
     write_copy("src/xsd/parser.rs", "parser.rs", &PARSER_LEAVES);
     write_copy("src/ir/lower.rs", "lower.rs", &LOWER_LEAVES);
     if env::var_os("CARGO_FEATURE_OURS").is_some() {
@@ -19,39 +23,6 @@ fn main() {
     if env::var_os("CARGO_FEATURE_SHEETS").is_some() {
         link("sheet_bench");
     }
-}
-
-/// Writes the copy of `source` to OUT_DIR under `name`.
-fn write_copy(source: &str, name: &str, leaves: &[&str]) {
-    println!("cargo:rerun-if-changed={source}");
-    let text = fs::read_to_string(source).expect("the source can be read");
-    let mut copy = without_inner_docs(&text);
-    for leaf in leaves {
-        copy = with_leaf_visible(&copy, leaf);
-    }
-    let out = PathBuf::from(env::var_os("OUT_DIR").expect("cargo sets OUT_DIR"));
-    fs::write(out.join(name), copy).expect("OUT_DIR can be written");
-}
-
-/// Turns `//!` lines into `//` lines: `include!` takes no inner documentation.
-fn without_inner_docs(text: &str) -> String {
-    text.lines()
-        .map(|line| match line.strip_prefix("//!") {
-            Some(rest) => format!("//{rest}\n"),
-            None => format!("{line}\n"),
-        })
-        .collect()
-}
-
-/// Puts `pub(crate)` before the one definition of `leaf`.
-fn with_leaf_visible(text: &str, leaf: &str) -> String {
-    let private = format!("\nfn {leaf}(");
-    assert_eq!(
-        text.matches(&private).count(),
-        1,
-        "one definition of {leaf}"
-    );
-    text.replace(&private, &format!("\npub(crate) fn {leaf}("))
 }
 
 /// Says where a static library stands: LUBIKSAN_LIB_DIR, or else ../target/staticlib.

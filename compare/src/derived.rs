@@ -1,6 +1,7 @@
 //! Copies of parser.rs and lower.rs that build.rs derives from the unchanged files: the private
-//! leaves are `pub(crate)` in them, and `//!` is `//`. Nothing else differs. `handlers` is a child
-//! module of the copy of parser.rs and calls its handlers on any state.
+//! leaves are `pub(crate)` in them, and `//!` is `//`. Nothing else differs. `handlers` and `prepared`
+//! are child modules of the copy of parser.rs: they call its handlers, on any state and on a list of
+//! events.
 
 #![allow(dead_code)]
 
@@ -11,6 +12,7 @@ pub(crate) mod xsd {
         include!(concat!(env!("OUT_DIR"), "/parser.rs"));
 
         pub(crate) mod handlers;
+        pub(crate) mod prepared;
     }
 }
 

@@ -3,33 +3,8 @@
 use quick_xml::events::{BytesStart, Event as XmlEvent};
 use quick_xml::{Error, Reader};
 
-use crate::derived::xsd::parser::handlers::schema_of;
+pub use crate::derived::xsd::parser::prepared::{with_prepared, Prepared};
 use crate::tape::{Event, Tag, Tape};
-use crate::xsd::types::Schema;
-
-/// The events of a text as quick-xml gives them.
-pub struct Prepared<'a>(Vec<XmlEvent<'a>>);
-
-impl Prepared<'_> {
-    /// The schema that the handlers of parser.rs make of the events; none where they refuse one.
-    pub fn schema(&self) -> Option<Schema> {
-        schema_of(&self.0).ok()
-    }
-}
-
-/// Reads the events of `text` and then calls `run` with them.
-///
-/// # Panics
-///
-/// Panics where quick-xml refuses the text.
-pub fn with_prepared<A>(text: &str, run: impl FnOnce(&Prepared<'_>) -> A) -> A {
-    let mut xml = Reader::from_str(text);
-    let tags = text.matches('<').count();
-    let mut buffers = vec![Vec::new(); tags];
-    let read = |buffer| xml.read_event_into(buffer).expect("the text is XML");
-    let events = buffers.iter_mut().map(read).collect();
-    run(&Prepared(events))
-}
 
 /// The tags of `text` in order.
 ///

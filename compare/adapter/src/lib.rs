@@ -8,6 +8,7 @@
 
 use std::io::BufRead;
 
+pub use quick_xml::reader::Config;
 pub use quick_xml::Error;
 
 pub mod events;
@@ -28,7 +29,7 @@ impl<R> Reader<R> {
     }
 
     /// The settings of the reader.
-    pub fn config_mut(&mut self) -> &mut quick_xml::reader::Config {
+    pub fn config_mut(&mut self) -> &mut Config {
         self.inner.config_mut()
     }
 }

@@ -1,5 +1,5 @@
--- Laws of lists and of `filled`, in the order in which they build on each other.
---     Copy          a loop that copies, or stores zeros
---     Buffer        a buffer with zeros behind its used part
+-- Laws of the definitions in specs/ and of those that they cite, those below before those above. The head of each file says what it holds.
 pub mod Copy
 pub mod Buffer
+pub mod Shift
+pub mod Middle

@@ -1,4 +1,8 @@
-// Stores into the buffers of a sheet: a text, zeros. The contracts speak of lists of numbers.
+// Stores into the buffers of a sheet: a text, zeros. `shift`: a part moved; `replace`: a part replaced. The contracts speak of lists of
+// numbers.
+pub mod replace;
+pub mod shift;
+
 ghost use mathlib.Core.Path.{_≡_};
 ghost use Prim.Native.Nat.{_+_, _≤_};
 ghost use lib.ListN.{length, replicate};

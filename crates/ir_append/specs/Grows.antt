@@ -9,17 +9,18 @@ use mathlib.Core.Path.{_≡_}
 use mathlib.Core.Bool.{false}
 use mathlib.Core.List.{List, _++_}
 use lib.ListN.{length}
+use Rattle.sheet.specs.Limits.{rowsLimit, namesLimit}
 use Rattle.sheet.specs.Rows.{Row, namesOf}
 use Rattle.sheet.specs.Lengths.{fits}
-use Rattle.xsd_numbers.specs.declared.Used.{Used}
-use Rattle.xsd_row.specs.Packing.{Holds}
+use Rattle.xsd_rows.specs.declared.numbers.Used.{Used}
+use Rattle.xsd_rows.specs.Packing.{Holds}
 use Rattle.ir_append.specs.declared.Grown.{Grown}
 
 pub record Room (rows names : List ℕ) (used : Used) : Type 0 where
   pub rowsInside : 10 * used .rows ≤ length rows
   pub namesInside : used .names ≤ length names
-  pub fewRows : length rows ≤ 40960
-  pub fewNames : length names ≤ 65536
+  pub fewRows : length rows ≤ rowsLimit
+  pub fewNames : length names ≤ namesLimit
 
 pub record GrownTo (rows names : List ℕ) (used : Used) (more : List Row) (rows′ names′ : List ℕ) (used′ : Used) : Type 0 where
   pub rowsLength : length rows′ ≡ length rows

@@ -3,20 +3,22 @@ use buffer::copy_text;
 use names::Written;
 use names::code_to_pascal_case;
 use names::normalize_type_name;
+use names::snake::xml_to_snake_case;
 use number::CharacterCount;
 use number::DigitCount;
-use snake::xml_to_snake_case;
-use xsd_numbers::RowNumbers;
-use xsd_numbers::Used;
-use xsd_row::put_row;
+use sheet::limits;
+use xsd_rows::numbers::RowNumbers;
+use xsd_rows::numbers::Used;
+use xsd_rows::row::put_row;
 ghost use mathlib.Core.Path.{_≡_};
 ghost use mathlib.Core.Bool.{true};
 ghost use mathlib.Core.List.{[], _∷_};
 ghost use Prim.Native.Nat.{_+_, _*_, _/_, _%_, _^_, _≤_};
 ghost use lib.ListN.{length};
 ghost use Rattle.names.specs.Names.{normalizeTypeName, xmlToSnakeCase, codeToPascalCase};
+ghost use Rattle.sheet.specs.Limits.{namesLimit};
 ghost use Rattle.sheet.specs.Rows.{row};
-ghost use Rattle.xsd_row.specs.Packing.{rowOf};
+ghost use Rattle.xsd_rows.specs.Packing.{rowOf};
 ghost use Rattle.ir_append.specs.Grows.{Room, Grows};
 ghost use Rattle.ir_append.specs.Spelled.{spelledText, recipeRow, orderly};
 ghost use Rattle.ir_append.specs.Stored.{Stores, Spreads, offsetOf, rowNumbers};
@@ -55,7 +57,6 @@ enum TextLengths {
     NoRoom,
 }
 
-// Stores a text as it is.
 fn put_plain(names: &mut [u8], at: usize, text: &[u8]) -> Written
     requires { ⌜ at ≤ length (now names) ⌝ }
     ensures { λ r. ⌜ Stores (now (names .entry)) at (now (text .entry)) (now (names .exit)) r ⌝ }
@@ -67,7 +68,6 @@ fn put_plain(names: &mut [u8], at: usize, text: &[u8]) -> Written
     Written::Bytes(text.len())
 }
 
-// Stores a type name as a Rust name.
 fn put_normalized(names: &mut [u8], at: usize, text: &[u8]) -> Written
     requires { ⌜ at ≤ length (now names) ⌝ }
     ensures { λ r. ⌜ Stores (now (names .entry)) at (normalizeTypeName (now (text .entry))) (now (names .exit)) r ⌝ }
@@ -75,7 +75,6 @@ fn put_normalized(names: &mut [u8], at: usize, text: &[u8]) -> Written
     normalize_type_name(text, &mut names[at..])
 }
 
-// Stores an element's or attribute's name as a field's name.
 fn put_snake(names: &mut [u8], at: usize, text: &[u8]) -> Written
     requires { ⌜ at ≤ length (now names) ⌝ }
     ensures { λ r. ⌜ Stores (now (names .entry)) at (xmlToSnakeCase (now (text .entry))) (now (names .exit)) r ⌝ }
@@ -83,7 +82,6 @@ fn put_snake(names: &mut [u8], at: usize, text: &[u8]) -> Written
     xml_to_snake_case(text, &mut names[at..])
 }
 
-// Stores an enumeration's value as a variant's name.
 fn put_pascal(names: &mut [u8], at: usize, text: &[u8]) -> Written
     requires { ⌜ at ≤ length (now names) ⌝ }
     ensures { λ r. ⌜ Stores (now (names .entry)) at (codeToPascalCase (now (text .entry))) (now (names .exit)) r ⌝ }
@@ -91,7 +89,6 @@ fn put_pascal(names: &mut [u8], at: usize, text: &[u8]) -> Written
     code_to_pascal_case(text, &mut names[at..])
 }
 
-// Stores a text in its spelling.
 fn put_spelled(names: &mut [u8], at: usize, how: Spelling, first: &[u8], second: &[u8]) -> Written
     requires { ⌜ at ≤ length (now names) ⌝ }
     ensures { λ r. ⌜ Stores (now (names .entry)) at (spelledText how (now (first .entry)) (now (second .entry))) (now (names .exit)) r ⌝ }
@@ -107,7 +104,6 @@ fn put_spelled(names: &mut [u8], at: usize, how: Spelling, first: &[u8], second:
     }
 }
 
-// Stores the three texts of a row, one behind the other.
 fn put_texts(
     names: &mut [u8],
     at: usize,
@@ -135,9 +131,9 @@ fn put_texts(
     TextLengths::Of(n, m, k)
 }
 
-// The offset of a row's pair: none where the pair is unused.
+// "an unused pair is 0 0"
 fn offset(how: Spelling, at: usize) -> u32
-    requires { ⌜ at ≤ 65536 ⌝ }
+    requires { ⌜ at ≤ namesLimit ⌝ }
     ensures { λ r. ⌜ r ≡ offsetOf how at ⌝ }
 {
     if let Spelling::Nothing = how {
@@ -147,9 +143,8 @@ fn offset(how: Spelling, at: usize) -> u32
     }
 }
 
-// The numbers of a row whose texts, so long, stand in the names from `at`.
 fn spelled_row(recipe: Recipe, at: usize, n: usize, m: usize, k: usize) -> [u32; 10]
-    requires { ⌜ at + (n + (m + k)) ≤ 65536 ⌝ }
+    requires { ⌜ at + (n + (m + k)) ≤ namesLimit ⌝ }
     ensures { λ r. ⌜ r ≡ rowNumbers recipe at n m k ⌝ }
 {
     let one = recipe.first;
@@ -169,7 +164,6 @@ fn spelled_row(recipe: Recipe, at: usize, n: usize, m: usize, k: usize) -> [u32;
     ]
 }
 
-// Adds a row of the graph with its texts, each in its spelling, or answers that there is no room.
 // Where there is no room, what the buffers hold is the caller's to clear.
 pub fn append_spelled(
     rows: &mut [u32],
@@ -184,7 +178,7 @@ pub fn append_spelled(
 {
     let place = used.rows;
     let at = used.names;
-    if rows.len() < 10 * place + 10 {
+    if rows.len() < limits::ROW * place + limits::ROW {
         return Grown::Full;
     }
     let TextLengths::Of(n, m, k) = put_texts(names, at, recipe, first, second) else {
@@ -198,7 +192,6 @@ pub fn append_spelled(
     })
 }
 
-// Adds a row of the graph that has no texts.
 fn append_numbers(rows: &mut [u32], names: &mut [u8], used: Used, n: RowNumbers) -> Grown
     requires { ⌜ Room (now rows) (now names) used ⌝ }
     ensures { λ r. ⌜ Grows (now (rows .entry)) (now (names .entry)) used (rowOf n [] ∷ []) (now (rows .exit)) (now (names .exit)) r ⌝ }
@@ -215,7 +208,6 @@ fn append_numbers(rows: &mut [u32], names: &mut [u8], used: Used, n: RowNumbers)
     append_spelled(rows, names, used, recipe, b"", b"")
 }
 
-// Adds the row of a length facet: the count's low and high 32 bits.
 pub fn grow_characters(
     rows: &mut [u32],
     names: &mut [u8],
@@ -236,7 +228,6 @@ pub fn grow_characters(
     append_numbers(rows, names, used, numbers)
 }
 
-// Adds the row of a digit facet.
 pub fn grow_digits(rows: &mut [u32], names: &mut [u8], used: Used, tag: u32, n: DigitCount) -> Grown
     requires { ⌜ Room (now rows) (now names) used ⌝ }
     ensures { λ r. ⌜ Grows (now (rows .entry)) (now (names .entry)) used (row tag [] (n .0) 0 0 ∷ []) (now (rows .exit)) (now (names .exit)) r ⌝ }

@@ -1,52 +1,39 @@
 -- The steps of a lowering.
+--     Sized         the lengths of a sheet's buffers are in the paper's bounds
 --     lowered       what a lowering leaves, as one value
 --     Finished      a schema sheet whose finished items' rows end at `end`, and scratch enough for its types
---     Cleared       a graph sheet of zeros, of lengths that the paper allows
+--     Cleared       a graph sheet of zeros, of such lengths
 --     GraphOf       the rows of a schema sheet up to `end` are lowered to the graph g
---     row0Of        row 0 of a graph, as numbers
+--     asRow0        the code's row 0 of a graph as the definitions' row 0
+--     row0Of        row 0 of a graph, as the numbers that a sheet holds
 --     GraphWritten  the graph g written into a sheet of zeros, or that it has no room
-use Prim.Native.Nat.{ℕ, _*_, _%_, _≤_}
+use Prim.Native.Nat.{ℕ, _*_, _≤_}
 use mathlib.Core.Path.{_≡_}
 use mathlib.Core.Bool.{Bool, true, false}
 use mathlib.Core.Option.{none, some}
-use mathlib.Core.List.{List, [], _∷_, map}
-use lib.ListN.{length, take}
-use Rattle.sheet.specs.Rows.{Sheet}
+use mathlib.Core.List.{List, [], _∷_}
+use lib.ListN.{length}
+use Rattle.sheet.specs.Limits.{leastRows, rowsLimit, namesLimit}
+use Rattle.sheet.specs.Rows.{numbers}
 use Rattle.sheet.specs.Calls.{sheet, answered}
-use Rattle.xsd_numbers.specs.declared.Used.{Used}
+use Rattle.xsd_rows.specs.declared.numbers.Used.{Used}
 use Rattle.ir_types.specs.Types.{TypeGraph}
+use Rattle.ir_types.specs.Row0.{GraphRow0, graphRow0Of, graphRow0Ten}
 use Rattle.ir_types.specs.Rows.{rowsOf, rowsUsed}
 use Rattle.ir_types.specs.Sheet.{graphFits, graphSheet}
-use Rattle.text.specs.Text.{if_then_else_}
 use Rattle.xsd_types.specs.State.{State}
-use Rattle.xsd_types.specs.Good.{good}
 use Rattle.ir_lower.specs.Lower.{lower, unknownRow}
-use Rattle.ir_lower.specs.Call.{Lowered, zeros, cleared, written}
+use Rattle.ir_lower.specs.Call.{Lowered, zeros}
 use Rattle.ir_rows.specs.Places.{rowsFrom}
 use Rattle.ir_rows.specs.Lowered.{rootRows, unknownPlace}
 use Rattle.ir_rows.specs.Types.{typePlaces, keptPlaces, graphRows}
 use Rattle.ir_append.specs.declared.Grown.{Grown}
+use Rattle.ir_call.specs.declared.GraphRow0.{GraphRow0 as Numbers}
 
--- the lengths of a graph sheet's buffers are as the paper has them
-pub record Lent (rows names : List ℕ) : Type 0 where
-  pub someRows : 20 ≤ length rows
-  pub fewRows : length rows ≤ 40960
-  pub fewNames : length names ≤ 65536
-
--- a good sheet, whose rows are no longer than the paper has it
-pub record GoodSheet (rows names : List ℕ) : Type 0 where
-  pub isGood : good (sheet rows names) ≡ true
-  pub fewRows : length rows ≤ 40960
-
--- "12, 13, 15": a lowering with scratch enough
-unfoldable pub rootSeenLowered : State → Sheet → List ℕ → Lowered
-rootSeenLowered s graph scratch =
-    if s .reader .rootSeen
-    then elim (lower (s .reader .schema)) [
-      | none ↦ cleared 13 (unknownRow 2 (s .reader .schema .items)) graph scratch
-      | some g ↦ written g graph scratch
-    ]
-    else cleared 12 0 graph scratch
+pub record Sized (rows names : List ℕ) : Type 0 where
+  pub someRows : leastRows ≤ length rows
+  pub fewRows : length rows ≤ rowsLimit
+  pub fewNames : length names ≤ namesLimit
 
 abbrev pub lowered : ℕ → ℕ → List ℕ → List ℕ → List ℕ → Lowered
 lowered number place rows names scratch = record { answer = answered number place; graph = sheet rows names; scratch = scratch }
@@ -54,23 +41,24 @@ lowered number place rows names scratch = record { answer = answered number plac
 pub record Finished (rows names : List ℕ) (end : ℕ) (scratch : List ℕ) : Type 0 where
   pub atLeast : 2 ≤ end
   pub inside : 10 * end ≤ length rows
-  pub few : length rows ≤ 40960
+  pub few : length rows ≤ rowsLimit
   pub enough : length (typePlaces 2 (rowsFrom rows names 2 end)) ≤ length scratch
 
 pub record Cleared (rows names : List ℕ) : Type 0 where
   pub rowsZero : rows ≡ zeros rows
   pub namesZero : names ≡ zeros names
-  pub someRows : 20 ≤ length rows
-  pub fewRows : length rows ≤ 40960
-  pub fewNames : length names ≤ 65536
+  pub sized : Sized rows names
 
 pub record GraphOf (rows names : List ℕ) (end : ℕ) (g : TypeGraph) : Type 0 where
   pub rowsAre : graphRows rows names end (keptPlaces rows names end) ≡ rowsOf g
   pub roots : length (rootRows (rowsFrom rows names 2 end)) ≡ length (g .rootElements)
   pub types : length (keptPlaces rows names end) ≡ length (g .types)
 
+abbrev pub asRow0 : Numbers → GraphRow0
+asRow0 z = graphRow0Of (z .«rows_used») (z .«names_used») (z .«root_elements») (z .types)
+
 abbrev pub row0Of : Used → ℕ → ℕ → List ℕ
-row0Of used roots types = 0 ∷ used .rows ∷ used .names ∷ roots ∷ types ∷ 0 ∷ 0 ∷ 0 ∷ 0 ∷ 0 ∷ []
+row0Of used roots types = numbers (graphRow0Ten (graphRow0Of (used .rows) (used .names) roots types) ∷ [])
 
 -- the rows up to `end` are the finished items of the state
 pub record Lowers (rows names : List ℕ) (end : ℕ) (rootSeen : Bool) (s : State) : Type 0 where

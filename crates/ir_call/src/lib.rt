@@ -5,55 +5,58 @@ use ir_checks::count_types;
 use ir_checks::first_unknown;
 use ir_index::index_types;
 use ir_write::put_graph;
-use xsd_clear::Answer;
-use xsd_numbers::Used;
+use sheet::returned;
+use xsd_good::clear;
+use xsd_good::clear::Answer;
 use xsd_progress::Progress;
+use xsd_rows::numbers::Used;
+use xsd_rows::row;
+use xsd_types::contexts;
 ghost use mathlib.Core.Bool.{true, _&&_};
 ghost use mathlib.Core.Path.{_≡_};
-ghost use mathlib.Core.List.{List};
+ghost use mathlib.Core.List.{List, [], _∷_};
 ghost use Prim.Native.Nat.{ℕ, _+_, _*_, _≤_, _<_};
 ghost use lib.ListN.{length, replicate};
 ghost use lib.Dec.{ltb};
 ghost use Rattle.text.specs.Text.{every};
+ghost use Rattle.sheet.specs.Rows.{numbers};
 ghost use Rattle.sheet.specs.Lengths.{sheetLengths};
 ghost use Rattle.sheet.specs.Calls.{sheet, answered};
 ghost use Rattle.xsd_types.specs.State.{State};
+ghost use Rattle.xsd_types.specs.Good.{good};
 ghost use Rattle.xsd_types.specs.Back.{stateOf};
 ghost use Rattle.ir_types.specs.Types.{TypeGraph};
-ghost use Rattle.ir_lower.specs.Call.{LowerIs, zeros, written, lowerState};
+ghost use Rattle.ir_types.specs.Row0.{graphRow0Ten};
+ghost use Rattle.ir_lower.specs.Call.{LowerIs, zeros, written, lowerFinished, lowerState};
 ghost use Rattle.ir_rows.specs.Places.{rowsFrom};
 ghost use Rattle.ir_rows.specs.Lowered.{rootRows, unknownPlace};
 ghost use Rattle.ir_rows.specs.Types.{typePlaces, keptPlaces, placesIn, graphRows};
 ghost use Rattle.ir_rows.specs.End.{finishedEnd};
 ghost use Rattle.ir_append.specs.Grows.{Room, Grows};
-ghost use Rattle.ir_call.specs.Steps.{lowered, Finished, Cleared, Lent, GoodSheet, Lowers, rootSeenLowered, GraphOf, row0Of, GraphWritten};
+ghost use Rattle.ir_call.specs.Steps.{Sized, lowered, Finished, Cleared, Lowers, GraphOf, asRow0, row0Of, GraphWritten};
 
-// A call that is refused, with its place.
-fn refused(number: u32, place: usize) -> Answer
+fn answer(number: u32, place: usize) -> Answer
     ensures { λ r. ⌜ answered (r .number) (r .place) ≡ answered number place ⌝ }
 {
     Answer { number, place }
 }
 
-// Whether the lengths of both sheets' buffers are as the paper has them.
 fn lower_lengths(rows: usize, names: usize, graph_rows: usize, graph_names: usize) -> bool
     ensures { λ r. ⌜ r ≡ (sheetLengths rows names && sheetLengths «graph_rows» «graph_names») ⌝ }
 {
-    xsd_clear::sheet_lengths(rows, names) & xsd_clear::sheet_lengths(graph_rows, graph_names)
+    clear::sheet_lengths(rows, names) & clear::sheet_lengths(graph_rows, graph_names)
 }
 
-// The place behind the last finished item's rows.
 fn finished_end(p: Progress) -> usize
     ensures { λ r. ⌜ r ≡ finishedEnd p ⌝ }
 {
-    if 2 <= p.mode.context {
+    if contexts::SIMPLE_TYPE <= p.mode.context {
         p.head
     } else {
         p.used.rows
     }
 }
 
-// Stores zeros into all of the graph's buffers.
 fn zero_graph(graph_rows: &mut [u32], graph_names: &mut [u8])
     ensures { λ _. ⌜ (now («graph_rows» .exit) ≡ zeros (now («graph_rows» .entry))) × (now («graph_names» .exit) ≡ zeros (now («graph_names» .entry))) ⌝ }
 {
@@ -63,7 +66,6 @@ fn zero_graph(graph_rows: &mut [u32], graph_names: &mut [u8])
     buffer::zero_names(graph_names, 0, m);
 }
 
-// Stores zeros into all of the scratch.
 fn zero_scratch(scratch: &mut [u32])
     ensures { λ _. ⌜ now (scratch .exit) ≡ zeros (now (scratch .entry)) ⌝ }
 {
@@ -71,17 +73,24 @@ fn zero_scratch(scratch: &mut [u32])
     buffer::zero_rows(scratch, 0, n);
 }
 
-// Row 0 of a graph: rows used, names used, root elements, types.
-fn row0_of(used: Used, roots: usize, types: usize) -> [u32; 10]
-    requires { ⌜ (used .rows ≤ 65536) × (used .names ≤ 65536) × (roots ≤ 65536) × (types ≤ 65536) ⌝ }
-    ensures { λ r. ⌜ r ≡ row0Of used roots types ⌝ }
+// "Row 0: 0, rows used, names used, root elements, types, then zeros.": what it says of a graph.
+struct GraphRow0 {
+    rows_used: u32,
+    names_used: u32,
+    root_elements: u32,
+    types: u32,
+}
+
+// Row 0 as the ten numbers that a graph sheet holds.
+fn row0_numbers(z: GraphRow0) -> [u32; 10]
+    ensures { λ r. ⌜ r ≡ numbers (graphRow0Ten (asRow0 z) ∷ []) ⌝ }
 {
     [
         0,
-        used.rows as u32,
-        used.names as u32,
-        roots as u32,
-        types as u32,
+        z.rows_used,
+        z.names_used,
+        z.root_elements,
+        z.types,
         0,
         0,
         0,
@@ -90,8 +99,19 @@ fn row0_of(used: Used, roots: usize, types: usize) -> [u32; 10]
     ]
 }
 
-// Writes the graph into a graph sheet of zeros: its rows behind each other, then row 0. Where they have no room, the sheet is left to be
-// cleared.
+fn row0_of(used: Used, roots: usize, types: usize) -> [u32; 10]
+    requires { ⌜ (used .rows ≤ 65536) × (used .names ≤ 65536) × (roots ≤ 65536) × (types ≤ 65536) ⌝ }
+    ensures { λ r. ⌜ r ≡ row0Of used roots types ⌝ }
+{
+    row0_numbers(GraphRow0 {
+        rows_used: used.rows as u32,
+        names_used: used.names as u32,
+        root_elements: roots as u32,
+        types: types as u32,
+    })
+}
+
+// Row 0 is written last, since it says how much is used. Where there is no room, the sheet is left to be cleared.
 fn write_graph(
     rows: &[u32],
     names: &[u8],
@@ -105,25 +125,16 @@ fn write_graph(
 {
     let types = index_types(rows, names, end, scratch);
     let first = Used { rows: 1, names: 0 };
-    let grown = put_graph(
-        graph_rows,
-        graph_names,
-        first,
-        rows,
-        names,
-        end,
-        scratch,
-        types,
-    );
+    let kept = &scratch[..types];
+    let grown = put_graph(graph_rows, graph_names, first, rows, names, end, kept);
     let Grown::To(used) = grown else {
         return Grown::Full;
     };
     let row0 = row0_of(used, count_roots(rows, end), types);
-    xsd_row::put_row0(graph_rows, row0);
+    row::put_row0(graph_rows, row0);
     Grown::To(used)
 }
 
-// Lowers the finished items into a graph sheet of zeros: the graph, or 15 with the sheet cleared again.
 fn lower_known(
     rows: &[u32],
     names: &[u8],
@@ -139,12 +150,12 @@ fn lower_known(
     zero_scratch(scratch);
     let Grown::To(used) = grown else {
         zero_graph(graph_rows, graph_names);
-        return refused(15, 0);
+        return answer(returned::NO_ROOM_IN_GRAPH, 0);
     };
-    refused(0, used.rows)
+    answer(returned::ACCEPTED, used.rows)
 }
 
-// Lowers the finished items of a good sheet, with graph sheet and scratch cleared: 12, 13, 15 or the graph.
+// From 12 on graph sheet and scratch are left zero, so they are cleared before the tests.
 fn lower_finished(
     rows: &[u32],
     names: &[u8],
@@ -154,22 +165,22 @@ fn lower_finished(
     graph_names: &mut [u8],
     scratch: &mut [u32],
 ) -> Answer
-    requires { ⌜ Finished (now rows) (now names) end (now scratch) × Lent (now «graph_rows») (now «graph_names») ⌝ }
-    ensures { λ r. ⌜ ((s : State) → Lowers (now (rows .entry)) (now (names .entry)) end «root_seen» s → lowered (r .number) (r .place) (now («graph_rows» .exit)) (now («graph_names» .exit)) (now (scratch .exit)) ≡ rootSeenLowered s (sheet (now («graph_rows» .entry)) (now («graph_names» .entry))) (now (scratch .entry))) ⌝ }
+    requires { ⌜ Finished (now rows) (now names) end (now scratch) × Sized (now «graph_rows») (now «graph_names») ⌝ }
+    ensures { λ r. ⌜ ((s : State) → Lowers (now (rows .entry)) (now (names .entry)) end «root_seen» s → lowered (r .number) (r .place) (now («graph_rows» .exit)) (now («graph_names» .exit)) (now (scratch .exit)) ≡ lowerFinished s (sheet (now («graph_rows» .entry)) (now («graph_names» .entry))) (now (scratch .entry))) ⌝ }
 {
     zero_graph(graph_rows, graph_names);
     zero_scratch(scratch);
     if !root_seen {
-        return refused(12, 0);
+        return answer(returned::NO_ROOT, 0);
     }
     let unknown = first_unknown(rows, names, end);
     if unknown != 0 {
-        return refused(13, unknown);
+        return answer(returned::UNKNOWN_BASE, unknown);
     }
     lower_known(rows, names, end, graph_rows, graph_names, scratch)
 }
 
-// Lowers a good sheet: 14, or what lowering its finished items gives.
+// 14 changes nothing, so it is judged before anything is cleared.
 fn lower_good(
     rows: &[u32],
     names: &[u8],
@@ -177,13 +188,13 @@ fn lower_good(
     graph_names: &mut [u8],
     scratch: &mut [u32],
 ) -> Answer
-    requires { ⌜ GoodSheet (now rows) (now names) × Lent (now «graph_rows») (now «graph_names») ⌝ }
+    requires { ⌜ (good (sheet (now rows) (now names)) ≡ true) × Sized (now rows) (now names) × Sized (now «graph_rows») (now «graph_names») ⌝ }
     ensures { λ r. ⌜ lowered (r .number) (r .place) (now («graph_rows» .exit)) (now («graph_names» .exit)) (now (scratch .exit)) ≡ lowerState (stateOf (sheet (now (rows .entry)) (now (names .entry)))) (sheet (now («graph_rows» .entry)) (now («graph_names» .entry))) (now (scratch .entry)) ⌝ }
 {
     let p = xsd_progress::progress_of(rows);
     let end = finished_end(p);
     if scratch.len() < count_types(rows, end) {
-        return refused(14, 0);
+        return answer(returned::SHORT_SCRATCH, 0);
     }
     lower_finished(
         rows,
@@ -207,10 +218,10 @@ pub fn lower(
     ensures { λ r. ⌜ LowerIs (sheet (now (rows .entry)) (now (names .entry))) (sheet (now («graph_rows» .entry)) (now («graph_names» .entry))) (now (scratch .entry)) (lowered (r .number) (r .place) (now («graph_rows» .exit)) (now («graph_names» .exit)) (now (scratch .exit))) ⌝ }
 {
     if !lower_lengths(rows.len(), names.len(), graph_rows.len(), graph_names.len()) {
-        return refused(1, 0);
+        return answer(returned::BAD_LENGTH, 0);
     }
-    if !xsd_sheet::is_good(rows, names) {
-        return refused(2, 0);
+    if !xsd_good::is_good(rows, names) {
+        return answer(returned::NOT_GOOD, 0);
     }
     lower_good(rows, names, graph_rows, graph_names, scratch)
 }

@@ -1,6 +1,5 @@
 -- What the entries stored so far say. An entry is a place and, above its 16 bits, the fingerprint of the name of the type whose head stands there.
 --     isKind        a finished type's head: of a complex type, or of a simple one
---     isType        a finished type's head
 --     kindPlaces    the places of such heads from place p up to place end
 --     headName      the name in a row's first pair
 --     firstSame     how many places stand before the first one whose name is that of p
@@ -20,15 +19,11 @@ use lib.ListN.{length, getD}
 use Rattle.text.specs.Text.{Text, if_then_else_, same}
 use Rattle.sheet.specs.Rows.{textAt}
 use Rattle.ir_rows.specs.Places.{rowsFrom, nameAt}
-use Rattle.ir_rows.specs.Types.{isSimple, isComplex, placesOf, insertPlaces}
-use Rattle.ir_rows.specs.Types.{placesIn}
+use Rattle.ir_rows.specs.Types.{isSimple, isComplex, isType, placesOf, insertPlaces, placesIn}
 use Rattle.ir_index.specs.Prints.{fingerprint}
 
 unfoldable pub isKind : Bool → ℕ → Bool
 isKind complex tag = if complex then isComplex tag else isSimple tag
-
-unfoldable pub isType : ℕ → Bool
-isType tag = isSimple tag || isComplex tag
 
 unfoldable pub kindPlaces : List ℕ → List ℕ → ℕ → Bool → ℕ → List ℕ
 kindPlaces rows names end complex p = placesOf (isKind complex) p (rowsFrom rows names p end)

@@ -6,19 +6,20 @@ ghost use mathlib.Core.List.{[], _∷_};
 ghost use lib.ListN.{length};
 ghost use Rattle.text.specs.Text.{same};
 ghost use Rattle.names.specs.Names.{normalizeTypeName};
+ghost use Rattle.sheet.specs.Limits.{rowsLimit};
 ghost use Rattle.ir_rows.specs.Places.{rowsFrom, nameAt};
-ghost use Rattle.ir_rows.specs.Types.{typePlaces, keptPlaces};
+ghost use Rattle.ir_rows.specs.Types.{typePlaces, keptPlaces, placesIn};
 ghost use Rattle.ir_index.specs.Index.{Indexed};
-ghost use Rattle.ir_rows.specs.Types.{placesIn};
 ghost use Rattle.ir_index.specs.Prints.{mixed, fingerprint};
 ghost use Rattle.ir_index.specs.Entries.{isKind, kindPlaces, headName, firstSame, hasPrint, HeadAt, EntryOf, Entries, Known, Entered};
 use names::cased;
-use same_names::same_normalized;
-use tape_pairs::part_of;
-use tape_pairs::wide;
+use names::same::same_normalized;
+use sheet::limits;
+use tape::pairs::part_of;
+use tape::pairs::wide;
 use text::has_byte;
+use xsd_types::tags;
 
-// A fingerprint with one byte more.
 fn mix(h: u32, b: u8) -> u32
     requires { ⌜ h < 65536 ⌝ }
     ensures { λ r. ⌜ r ≡ mixed h b ⌝ }
@@ -26,7 +27,6 @@ fn mix(h: u32, b: u8) -> u32
     (h * 60493 + b as u32) % 65536
 }
 
-// The fingerprint of a name as it normalises.
 fn print_of(name: &[u8]) -> u32
     ensures { λ r. ⌜ r ≡ fingerprint (normalizeTypeName (now (name .entry))) ⌝ }
 {
@@ -46,28 +46,26 @@ fn print_of(name: &[u8]) -> u32
     h
 }
 
-// Whether a row is the head of a finished type: of a complex one, or of a simple one.
 fn is_kind(complex: bool, tag: u32) -> bool
     ensures { λ r. ⌜ r ≡ isKind complex tag ⌝ }
 {
     if complex {
-        (12 <= tag) & (tag <= 15)
+        (tags::SEQUENCE <= tag) & (tag <= tags::ANY)
     } else {
-        tag == 3
+        tag == tags::SIMPLE_TYPE
     }
 }
 
-// The name in the first pair of the row at a place.
 fn name_at<'a>(rows: &[u32], names: &'a [u8], place: usize) -> &'a [u8]
     requires { ⌜ 10 * place + 10 ≤ length (now rows) ⌝ }
     ensures { λ r. ⌜ now r ≡ headName (now (rows .entry)) (now (names .entry)) place ⌝ }
 {
-    let at = wide(rows[10 * place + 1]);
-    let len = wide(rows[10 * place + 2]);
+    let at = wide(rows[limits::ROW * place + 1]);
+    let len = wide(rows[limits::ROW * place + 2]);
     part_of(names, at, len)
 }
 
-// Whether an entry's name is that of the type at a place, whose fingerprint is given.
+// The fingerprints are compared first: names that differ mostly differ there.
 fn entry_same(rows: &[u32], names: &[u8], entry: u32, place: usize, print: u32) -> bool
     requires { ⌜ EntryOf (now rows) (now names) entry ⌝ }
     requires { ⌜ HeadAt (now rows) place ⌝ }
@@ -82,7 +80,6 @@ fn entry_same(rows: &[u32], names: &[u8], entry: u32, place: usize, print: u32) 
     same_normalized(held, asked)
 }
 
-// How many entries stand before the first one whose name is that of the type at a place.
 fn find_same(
     rows: &[u32],
     names: &[u8],
@@ -106,7 +103,7 @@ fn find_same(
     n
 }
 
-// Whether an entry has a fingerprint. No early exit: the compiler makes wide compares of it.
+// No early exit: the compiler makes wide compares of it.
 fn has_print(entries: &[u32], print: u32) -> bool
     ensures { λ r. ⌜ r ≡ hasPrint print (now (entries .entry)) ⌝ }
 {
@@ -119,8 +116,7 @@ fn has_print(entries: &[u32], print: u32) -> bool
     found
 }
 
-// Where the type at a place goes: to the entry of its name, or behind the others. A flag that is not
-// set says that there is no entry with its fingerprint.
+// A flag that is not set says that there is no entry with its fingerprint.
 fn spot_of(
     rows: &[u32],
     names: &[u8],
@@ -145,7 +141,6 @@ fn spot_of(
     find_same(rows, names, place, print, scratch, n)
 }
 
-// Puts the type at a place in, and gives how many entries there are then.
 fn enter(
     rows: &[u32],
     names: &[u8],
@@ -156,7 +151,7 @@ fn enter(
 ) -> usize
     requires { ⌜ Known (now rows) (now names) (now scratch) n (now flags) ⌝ }
     requires { ⌜ HeadAt (now rows) place ⌝ }
-    requires { ⌜ (length (now rows) ≤ 40960) × (n < length (now scratch)) ⌝ }
+    requires { ⌜ (length (now rows) ≤ rowsLimit) × (n < length (now scratch)) ⌝ }
     ensures { λ r. ⌜ Entered (now (rows .entry)) (now (names .entry)) (now (scratch .entry)) n (place ∷ []) (now (scratch .exit)) r (now (flags .exit)) ⌝ }
 {
     let print = print_of(name_at(rows, names, place));
@@ -167,7 +162,6 @@ fn enter(
     if at == n { n + 1 } else { n }
 }
 
-// Puts in the simple types, or the complex ones.
 fn enter_kind(
     rows: &[u32],
     names: &[u8],
@@ -178,13 +172,13 @@ fn enter_kind(
     flags: &mut [u8],
 ) -> usize
     requires { ⌜ Known (now rows) (now names) (now scratch) n (now flags) ⌝ }
-    requires { ⌜ (10 * end ≤ length (now rows)) × (length (now rows) ≤ 40960) × (n + length (kindPlaces (now rows) (now names) end complex 2) ≤ length (now scratch)) ⌝ }
+    requires { ⌜ (10 * end ≤ length (now rows)) × (length (now rows) ≤ rowsLimit) × (n + length (kindPlaces (now rows) (now names) end complex 2) ≤ length (now scratch)) ⌝ }
     ensures { λ r. ⌜ Entered (now (rows .entry)) (now (names .entry)) (now (scratch .entry)) n (kindPlaces (now (rows .entry)) (now (names .entry)) end complex 2) (now (scratch .exit)) r (now (flags .exit)) ⌝ }
 {
     let mut count = n;
     let mut place = 2;
     while place < end {
-        if is_kind(complex, rows[10 * place]) {
+        if is_kind(complex, rows[limits::ROW * place]) {
             count = enter(rows, names, place, scratch, count, flags);
         }
         place += 1;
@@ -192,10 +186,9 @@ fn enter_kind(
     count
 }
 
-// Stores for each name of the finished types, in the order in which the names came, the place of its
-// last definition, and gives how many names there are.
+// "Only finished types are lowered, simple ones before complex."
 pub fn index_types(rows: &[u32], names: &[u8], end: usize, scratch: &mut [u32]) -> usize
-    requires { ⌜ (2 ≤ end) × (10 * end ≤ length (now rows)) × (length (now rows) ≤ 40960) × (length (typePlaces 2 (rowsFrom (now rows) (now names) 2 end)) ≤ length (now scratch)) ⌝ }
+    requires { ⌜ (2 ≤ end) × (10 * end ≤ length (now rows)) × (length (now rows) ≤ rowsLimit) × (length (typePlaces 2 (rowsFrom (now rows) (now names) 2 end)) ≤ length (now scratch)) ⌝ }
     ensures { λ r. ⌜ Indexed (keptPlaces (now (rows .entry)) (now (names .entry)) end) (now (scratch .exit)) r ⌝ }
 {
     let mut flags = [0u8; 65536];

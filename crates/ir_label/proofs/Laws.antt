@@ -1,3 +1,6 @@
--- Laws of the definitions in specs/ and of ir_types' Label: Spots of where a label stands, Parts of the part that stands there.
+-- Laws of the definitions in specs/ and of those that they cite, those below before those above. The head of each file says what it holds.
+pub mod Lines
+pub mod Good
+pub mod Start
 pub mod Spots
 pub mod Parts

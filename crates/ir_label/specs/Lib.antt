@@ -1,2 +1,3 @@
--- The definitions that the contracts of the crate `ir_label` cite.
+-- The definitions of the crate `ir_label`, those below before those above. The head of each file says what it holds.
+pub mod Lines
 pub mod Spot

@@ -1,9 +1,15 @@
-// The label call (paper 01): a row's type reference, as a part of the names or of the word list, and the call's number.
-use xsd_forms::row;
-use xsd_forms::row::Ten;
+// The label call (paper 01): a row's type reference, as a part of the names or of the word list, and the call's number. `words`: the words
+// of the word list.
+pub mod words;
+
+use ir_types::tags;
+use sheet::limits;
+use sheet::returned;
+use xsd_good::forms::row;
+use xsd_good::forms::row::Ten;
 ghost use mathlib.Core.Path.{_≡_};
 ghost use Prim.Native.Nat.{_≤_};
-ghost use Rattle.xsd_forms.specs.Forms.{asTen};
+ghost use Rattle.xsd_good.specs.Forms.{asTen};
 ghost use Rattle.ir_types.specs.Label.{noLabel, hasReference, namedLabel, wordLabel, rowLabel, label as labelled, LabelIs, LabelNumberIs};
 ghost use Rattle.ir_label.specs.Spot.{spotOf};
 
@@ -20,14 +26,13 @@ fn nowhere() -> Spot
     ensures { λ r. ⌜ r ≡ spotOf noLabel ⌝ }
 {
     Spot {
-        number: 16,
+        number: returned::BAD_LABEL,
         in_words: false,
         at: 0,
         len: 0,
     }
 }
 
-// The part of the names under a pair.
 fn name_spot(names: &[u8], at: u32, len: u32) -> Spot
     ensures { λ r. ⌜ r ≡ spotOf (namedLabel (now (names .entry)) at len) ⌝ }
 {
@@ -35,7 +40,7 @@ fn name_spot(names: &[u8], at: u32, len: u32) -> Spot
     let size = len as usize;
     if from + size <= names.len() {
         Spot {
-            number: 0,
+            number: returned::ACCEPTED,
             in_words: false,
             at: from,
             len: size,
@@ -50,29 +55,31 @@ fn word_spot(words: &[u8], a: u32) -> Spot
     requires { ⌜ (1 ≤ a) × (a ≤ 5) ⌝ }
     ensures { λ r. ⌜ r ≡ spotOf (wordLabel (now (words .entry)) a) ⌝ }
 {
-    if !ir_words::five_words(words) {
+    if !words::five_words(words) {
         return nowhere();
     }
     let n = a as usize;
-    let at = ir_words::word_start(words, n - 1);
-    let end = ir_words::line_end(words, at);
+    let at = words::word_start(words, n - 1);
+    let end = words::line_end(words, at);
     Spot {
-        number: 0,
+        number: returned::ACCEPTED,
         in_words: true,
         at,
         len: end - at,
     }
 }
 
-// Whether a row has a type reference.
 fn has_reference(t: Ten) -> bool
     ensures { λ r. ⌜ r ≡ hasReference (asTen t) ⌝ }
 {
-    let tagged = (t.tag == 5) | (t.tag == 7) | (t.tag == 9) | (t.tag == 10) | (t.tag == 19);
-    tagged & (t.a <= 5) & ((t.tag != 5) | (1 <= t.a))
+    let tagged = (t.tag == tags::NEWTYPE)
+        | (t.tag == tags::VALUE_WITH_ATTRIBUTES)
+        | (t.tag == tags::FIELD)
+        | (t.tag == tags::VARIANT)
+        | (t.tag == tags::ATTRIBUTE);
+    tagged & (t.a <= 5) & ((t.tag != tags::NEWTYPE) | (1 <= t.a))
 }
 
-// The label of a row.
 fn row_spot(names: &[u8], words: &[u8], t: Ten) -> Spot
     ensures { λ r. ⌜ r ≡ spotOf (rowLabel (now (names .entry)) (now (words .entry)) (asTen t)) ⌝ }
 {
@@ -82,28 +89,26 @@ fn row_spot(names: &[u8], words: &[u8], t: Ten) -> Spot
     if t.a != 0 {
         return word_spot(words, t.a);
     }
-    if t.tag == 7 {
+    if t.tag == tags::VALUE_WITH_ATTRIBUTES {
         name_spot(names, t.at1, t.len1)
     } else {
         name_spot(names, t.at2, t.len2)
     }
 }
 
-// The label of row k: number and part, as numbers.
 pub fn find_label(rows: &[u32], names: &[u8], words: &[u8], k: usize) -> Spot
     ensures { λ r. ⌜ r ≡ spotOf (labelled (now (rows .entry)) (now (names .entry)) (now (words .entry)) k) ⌝ }
 {
     let n = rows.len();
-    if n % 10 != 0 {
+    if n % limits::ROW != 0 {
         return nowhere();
     }
-    if n / 10 <= k {
+    if n / limits::ROW <= k {
         return nowhere();
     }
-    row_spot(names, words, row::ten_at(rows, 10 * k))
+    row_spot(names, words, row::ten_at(rows, limits::ROW * k))
 }
 
-// The label of row k: a part of the names or of the word list.
 pub fn label<'a>(rows: &[u32], names: &'a [u8], words: &'a [u8], k: usize) -> &'a [u8]
     ensures { λ r. ⌜ LabelIs (now (rows .entry)) (now (names .entry)) (now (words .entry)) k (names .entry .ptr) (words .entry .ptr) (r .ptr) (now r) ⌝ }
 {
@@ -117,7 +122,6 @@ pub fn label<'a>(rows: &[u32], names: &'a [u8], words: &'a [u8], k: usize) -> &'
     }
 }
 
-// Its number: 0, or 16 where the row has no label.
 pub fn label_number(rows: &[u32], names: &[u8], words: &[u8], k: usize) -> u32
     ensures { λ r. ⌜ LabelNumberIs (now (rows .entry)) (now (names .entry)) (now (words .entry)) k r ⌝ }
 {

@@ -1,8 +1,13 @@
 -- The lowering call: paper 01, "Returned numbers". "Lowering: 1, 2, 14, 12, 13, 15."
---     Lowered       a lowering's answer with the graph sheet and the scratch afterwards
---     zeros         as many zeros as the list is long
---     lowerState    the call on a state, from 14 on
---     lowering      the call; LowerIs: what it says of itself
+--     Lowered           a lowering's answer with the graph sheet and the scratch afterwards
+--     zeros             as many zeros as the list is long
+--     unchanged         a refusal that changes nothing
+--     cleared           a refusal that clears graph and scratch
+--     written           the graph, or 15
+--     refusedOrWritten  13, or the graph
+--     lowerFinished     the call on a state with scratch enough, from 12 on
+--     lowerState        the call on a state, from 14 on
+--     lowering          the call; LowerIs: what it says of itself
 use Prim.Native.Nat.{ℕ}
 use mathlib.Core.Path.{_≡_}
 use mathlib.Core.List.{List}
@@ -12,7 +17,9 @@ use lib.Dec.{leb}
 use lib.ListN.{length, replicate}
 use Rattle.text.specs.Text.{if_then_else_}
 use Rattle.sheet.specs.Rows.{Sheet}
-use Rattle.sheet.specs.Lengths.{sheetLengths, Answer, lengthsOf, goodLengths}
+use Rattle.sheet.specs.Lengths.{Answer, lengthsOf, goodLengths}
+use Rattle.sheet.specs.Returned as returned
+use Rattle.xsd_types.specs.Types.{Schema}
 use Rattle.xsd_types.specs.State.{State}
 use Rattle.xsd_types.specs.Good.{good}
 use Rattle.xsd_types.specs.Back.{stateOf}
@@ -47,28 +54,36 @@ unfoldable pub written : TypeGraph → Sheet → List ℕ → Lowered
 written g graph scratch =
     if graphFits (length (graph .rows)) (length (graph .names)) g
     then record {
-      answer = record { number = 0; place = rowsUsed g };
+      answer = record { number = returned.accepted; place = rowsUsed g };
       graph = graphSheet g (length (graph .rows)) (length (graph .names));
       scratch = zeros scratch;
     }
-    else cleared 15 0 graph scratch
+    else cleared returned.noRoomInGraph 0 graph scratch
 
+-- 13: "`UnknownBase`; place is the row of the first such simple type"
+abbrev pub refusedOrWritten : Schema → Option TypeGraph → Sheet → List ℕ → Lowered
+refusedOrWritten s none graph scratch = cleared returned.unknownBase (unknownRow 2 (s .items)) graph scratch
+refusedOrWritten s (some g) graph scratch = written g graph scratch
+
+-- 12: "lowering, no root seen"
+unfoldable pub lowerFinished : State → Sheet → List ℕ → Lowered
+lowerFinished s graph scratch =
+    if s .reader .rootSeen
+    then refusedOrWritten (s .reader .schema) (lower (s .reader .schema)) graph scratch
+    else cleared returned.noRoot 0 graph scratch
+
+-- 14: "scratch below one number for each finished type"
 unfoldable pub lowerState : State → Sheet → List ℕ → Lowered
 lowerState s graph scratch =
     if leb (finishedTypes (s .reader .schema)) (length scratch)
-    then if s .reader .rootSeen
-    then elim (lower (s .reader .schema)) [
-      | none ↦ cleared 13 (unknownRow 2 (s .reader .schema .items)) graph scratch
-      | some g ↦ written g graph scratch
-    ]
-    else cleared 12 0 graph scratch
-    else unchanged 14 graph scratch
+    then lowerFinished s graph scratch
+    else unchanged returned.shortScratch graph scratch
 
 unfoldable pub lowering : Sheet → Sheet → List ℕ → Lowered
 lowering x graph scratch =
     if goodLengths (lengthsOf x) && goodLengths (lengthsOf graph)
-    then if good x then lowerState (stateOf x) graph scratch else unchanged 2 graph scratch
-    else unchanged 1 graph scratch
+    then if good x then lowerState (stateOf x) graph scratch else unchanged returned.notGood graph scratch
+    else unchanged returned.badLength graph scratch
 
 -- what a lowering says of itself: number, place, graph and scratch afterwards are the definition's
 abbrev pub LowerIs : Sheet → Sheet → List ℕ → Lowered → Type 0

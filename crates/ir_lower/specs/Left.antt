@@ -8,16 +8,17 @@ use mathlib.Core.Bool.{Bool, _||_}
 use lib.Dec.{eqb}
 use Rattle.text.specs.Text.{between}
 use Rattle.sheet.specs.Rows.{Sheet}
+use Rattle.sheet.specs.Returned.{accepted, badLength, notGood, noRoot, unknownBase, shortScratch, noRoomInGraph}
 use Rattle.ir_lower.specs.Call.{zeros}
 
 unfoldable pub changesNothing : ℕ → Bool
-changesNothing n = between 1 2 n || eqb n 14
+changesNothing n = between badLength notGood n || eqb n shortScratch
 
 unfoldable pub clearsGraph : ℕ → Bool
-clearsGraph n = between 12 13 n || eqb n 15
+clearsGraph n = between noRoot unknownBase n || eqb n noRoomInGraph
 
 unfoldable pub clearsScratch : ℕ → Bool
-clearsScratch n = eqb n 0 || clearsGraph n
+clearsScratch n = eqb n accepted || clearsGraph n
 
 unfoldable pub noGraph : Sheet → Sheet
 noGraph x = record { rows = zeros (x .rows); names = zeros (x .names) }

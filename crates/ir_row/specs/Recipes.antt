@@ -1,5 +1,5 @@
 -- Which rows lowering makes by a recipe, and what the recipe has to give. Paper 01, "Graph sheet", Tags.
---     hasRecipe         the row of the tag has one: all but the counts' rows 6, 7, 10, 11, the open type's 16, and an enumeration outside a code enum
+--     hasRecipe         the row of the tag has one: all but the counts' rows, the open type's, and an enumeration outside a code enum
 --     refers            the row's second text gives a reference
 --     referenceSpelling how the text of a reference is spelled
 --     namespaceSpelling how the namespace of an opaque type is spelled
@@ -18,7 +18,8 @@ use lib.Dec.{eqb}
 use Rattle.text.specs.Text.{Text, if_then_else_, between}
 use Rattle.builtin.specs.Builtin.{mapBuiltin, reference}
 use Rattle.sheet.specs.Rows.{Row, textAt}
-use Rattle.xsd_forms.specs.declared.row.Ten.{Ten}
+use Rattle.xsd_types.specs.Tags.{namespaceTag, simpleTypeTag, enumerationTag, minLengthTag, maxLengthTag, totalDigitsTag, fractionDigitsTag, simpleContentTag, noContentTag, boundElementTag, attributeTag}
+use Rattle.xsd_good.specs.declared.forms.row.Ten.{Ten}
 use Rattle.ir_types.specs.Types.{Cardinality}
 use Rattle.ir_types.specs.Rows.{cardinalityB, cardinalityC}
 use Rattle.ir_rows.specs.Lowered.{loweredAs}
@@ -30,10 +31,11 @@ use Rattle.ir_row.specs.declared.FieldNumbers.{FieldNumbers}
 -- "else newtype, enumerations dropped"; "16 no content yet (name; only while open)"
 unfoldable pub hasRecipe : Bool → ℕ → Bool
 hasRecipe codeEnum tag =
-    between 1 20 tag && not (between 6 7 tag) && not (between 10 11 tag) && not (eqb tag 16) && (not (eqb tag 4) || codeEnum)
+    between namespaceTag attributeTag tag && not (between minLengthTag maxLengthTag tag) && not (between totalDigitsTag fractionDigitsTag tag)
+    && not (eqb tag noContentTag) && (not (eqb tag enumerationTag) || codeEnum)
 
 unfoldable pub refers : ℕ → Bool
-refers tag = eqb tag 3 || eqb tag 14 || between 17 20 tag
+refers tag = eqb tag simpleTypeTag || eqb tag simpleContentTag || between boundElementTag attributeTag tag
 
 -- "0 named (the pair, normalised), 1 String .. (pair unused)"
 unfoldable pub referenceSpelling : ℕ → Spelling
@@ -60,7 +62,7 @@ pub record Lowers (codeEnum : Bool) (tag a b n : ℕ) (r : Recipe) : Type 0 wher
   pub lowers : (t u : Text) → hasRecipe codeEnum tag ≡ true → (refers tag ≡ true → n ≡ reference (mapBuiltin u)) → loweredAs codeEnum tag a b t u ≡ recipeRow r t u ∷ []
 
 abbrev pub isCount : ℕ → Type 0
-isCount tag = (tag ≡ 6) ⊎ ((tag ≡ 7) ⊎ ((tag ≡ 10) ⊎ (tag ≡ 11)))
+isCount tag = (tag ≡ minLengthTag) ⊎ ((tag ≡ maxLengthTag) ⊎ ((tag ≡ totalDigitsTag) ⊎ (tag ≡ fractionDigitsTag)))
 
 unfoldable pub tenRows : Bool → List ℕ → Ten → List Row
 tenRows codeEnum names t =

@@ -6,24 +6,37 @@ use ir_append::append_spelled;
 use ir_append::grow_characters;
 use ir_append::grow_digits;
 use ir_checks::reference_of;
+use ir_types::tags as graph;
 use number::CharacterCount;
 use number::DigitCount;
-use tape_pairs::part_of;
-use tape_pairs::wide;
-use xsd_forms::row;
-use xsd_forms::row::Ten;
-use xsd_numbers::Used;
+use sheet::limits;
+use tape::pairs::part_of;
+use tape::pairs::wide;
+use xsd_good::forms::row;
+use xsd_good::forms::row::Ten;
+use xsd_rows::numbers::Used;
+use xsd_types::tags as schema;
 ghost use Prim.Native.Nat.{ℕ, _+_, _*_, _/_, _%_, _^_, _≤_, _<_};
 ghost use mathlib.Core.Path.{_≡_};
 ghost use mathlib.Core.Bool.{Bool, true};
 ghost use lib.ListN.{length};
 ghost use Rattle.builtin.specs.Builtin.{mapBuiltin, reference as referenceNumber};
 ghost use Rattle.xsd_types.specs.Types.{MaxOccurs};
+ghost use Rattle.xsd_types.specs.Tags.{simpleTypeTag, fractionDigitsTag, anyTag, boundElementTag};
 ghost use Rattle.ir_lower.specs.Lower.{lowerCardinality};
 ghost use Rattle.ir_rows.specs.Places.{rowAt};
 ghost use Rattle.ir_rows.specs.Lowered.{loweredRow};
 ghost use Rattle.ir_append.specs.Grows.{Room, Grows};
 ghost use Rattle.ir_row.specs.Recipes.{hasRecipe, refers, referenceSpelling, namespaceSpelling, textsRecipe, childRecipe, IsCardinality, Lowers, isCount, tenRows};
+
+// "b cardinality 0 required, 1 optional, 2 vec, 3 bounded with c the bound, above 1"
+const REQUIRED: u32 = 0;
+
+const OPTIONAL: u32 = 1;
+
+const VEC: u32 = 2;
+
+const BOUNDED: u32 = 3;
 
 // b and c of a field's row: its cardinality, and the bound where it is bounded.
 pub struct FieldNumbers {
@@ -31,25 +44,24 @@ pub struct FieldNumbers {
     pub c: u32,
 }
 
-// Whether the row of a tag is made by a recipe. An enumeration is where it belongs to a code enum.
 fn has_recipe(codes: bool, tag: u32) -> bool
     ensures { λ r. ⌜ r ≡ hasRecipe codes tag ⌝ }
 {
-    row::in_range(1, 20, tag)
-        & !row::in_range(6, 7, tag)
-        & !row::in_range(10, 11, tag)
-        & (tag != 16)
-        & ((tag != 4) | codes)
+    row::in_range(schema::NAMESPACE, schema::ATTRIBUTE, tag)
+        & !row::in_range(schema::MIN_LENGTH, schema::MAX_LENGTH, tag)
+        & !row::in_range(schema::TOTAL_DIGITS, schema::FRACTION_DIGITS, tag)
+        & (tag != schema::NO_CONTENT)
+        & ((tag != schema::ENUMERATION) | codes)
 }
 
-// Whether the second text of a row gives a reference.
 fn refers_to(tag: u32) -> bool
     ensures { λ r. ⌜ r ≡ refers tag ⌝ }
 {
-    (tag == 3) | (tag == 14) | row::in_range(17, 20, tag)
+    (tag == schema::SIMPLE_TYPE)
+        | (tag == schema::SIMPLE_CONTENT)
+        | row::in_range(schema::BOUND_ELEMENT, schema::ATTRIBUTE, tag)
 }
 
-// The text of a reference: a named type's, normalised.
 fn reference_text(reference: u32) -> Spelling
     ensures { λ r. ⌜ r ≡ referenceSpelling reference ⌝ }
 {
@@ -60,7 +72,6 @@ fn reference_text(reference: u32) -> Spelling
     }
 }
 
-// The namespace of an opaque type, where it has one.
 fn namespace_text(a: u32) -> Spelling
     ensures { λ r. ⌜ r ≡ namespaceSpelling a ⌝ }
 {
@@ -71,7 +82,6 @@ fn namespace_text(a: u32) -> Spelling
     }
 }
 
-// A row with up to two texts and one number.
 fn with_texts(tag: u32, a: u32, first: Spelling, second: Spelling) -> Recipe
     ensures { λ r. ⌜ r ≡ textsRecipe tag a first second ⌝ }
 {
@@ -86,7 +96,6 @@ fn with_texts(tag: u32, a: u32, first: Spelling, second: Spelling) -> Recipe
     }
 }
 
-// A row of a child with its xml name, its Rust name and its reference.
 fn child(tag: u32, reference: u32, b: u32, c: u32, second: Spelling) -> Recipe
     ensures { λ r. ⌜ r ≡ childRecipe tag reference b c second ⌝ }
 {
@@ -107,109 +116,132 @@ fn bounded_numbers(min: u32, max: u32) -> FieldNumbers
     ensures { λ r. ⌜ IsCardinality (lowerCardinality min (MaxOccurs.bounded max)) r ⌝ }
 {
     if 1 < max {
-        return FieldNumbers { b: 3, c: max };
+        return FieldNumbers { b: BOUNDED, c: max };
     }
     if (min == 0) & (max == 1) {
-        FieldNumbers { b: 1, c: 0 }
+        FieldNumbers { b: OPTIONAL, c: 0 }
     } else {
-        FieldNumbers { b: 0, c: 0 }
+        FieldNumbers { b: REQUIRED, c: 0 }
     }
 }
 
 // The head of a simple type: a code enum, or a newtype with its inner type's number.
 fn simple_recipe(codes: bool, reference: u32) -> Recipe
-    ensures { λ r. ⌜ ((a b : ℕ) → Lowers codes 3 a b reference r) ⌝ }
+    ensures { λ r. ⌜ ((a b : ℕ) → Lowers codes simpleTypeTag a b reference r) ⌝ }
 {
     if codes {
-        with_texts(6, 0, Spelling::FirstNormalized, Spelling::Nothing)
+        with_texts(
+            graph::CODE_ENUM,
+            0,
+            Spelling::FirstNormalized,
+            Spelling::Nothing,
+        )
     } else {
-        with_texts(5, reference, Spelling::FirstNormalized, Spelling::Nothing)
+        with_texts(
+            graph::NEWTYPE,
+            reference,
+            Spelling::FirstNormalized,
+            Spelling::Nothing,
+        )
     }
 }
 
 // The namespace's row, an element's or a simple type's.
 fn first_recipe(codes: bool, tag: u32, reference: u32) -> Recipe
-    requires { ⌜ tag ≤ 3 ⌝ }
+    requires { ⌜ tag ≤ simpleTypeTag ⌝ }
     ensures { λ r. ⌜ ((a b : ℕ) → Lowers codes tag a b reference r) ⌝ }
 {
     match tag {
-        2 => with_texts(2, 0, Spelling::First, Spelling::Second),
-        3 => simple_recipe(codes, reference),
-        _ => with_texts(1, 0, Spelling::First, Spelling::Nothing),
+        schema::ELEMENT => with_texts(graph::ROOT, 0, Spelling::First, Spelling::Second),
+        schema::SIMPLE_TYPE => simple_recipe(codes, reference),
+        _ => with_texts(graph::NAMESPACE, 0, Spelling::First, Spelling::Nothing),
     }
 }
 
 // The row of a facet that is a text.
 fn facet_recipe(tag: u32) -> Recipe
-    requires { ⌜ (3 < tag) × (tag ≤ 11) ⌝ }
+    requires { ⌜ (simpleTypeTag < tag) × (tag ≤ fractionDigitsTag) ⌝ }
     ensures { λ r. ⌜ ((codes : Bool) (a b n : ℕ) → Lowers codes tag a b n r) ⌝ }
 {
     match tag {
-        5 => with_texts(11, 0, Spelling::First, Spelling::Nothing),
-        8 => with_texts(14, 0, Spelling::First, Spelling::Nothing),
-        9 => with_texts(15, 0, Spelling::First, Spelling::Nothing),
-        _ => with_texts(18, 0, Spelling::First, Spelling::FirstPascal),
+        schema::PATTERN => with_texts(graph::PATTERN, 0, Spelling::First, Spelling::Nothing),
+        schema::MIN_INCLUSIVE => {
+            with_texts(graph::MIN_INCLUSIVE, 0, Spelling::First, Spelling::Nothing)
+        }
+        schema::MAX_INCLUSIVE => {
+            with_texts(graph::MAX_INCLUSIVE, 0, Spelling::First, Spelling::Nothing)
+        }
+        _ => with_texts(graph::CODE, 0, Spelling::First, Spelling::FirstPascal),
     }
 }
 
 // The head of a complex type.
 fn complex_recipe(tag: u32, a: u32, reference: u32) -> Recipe
-    requires { ⌜ (11 < tag) × (tag ≤ 15) ⌝ }
+    requires { ⌜ (fractionDigitsTag < tag) × (tag ≤ anyTag) ⌝ }
     ensures { λ r. ⌜ ((codes : Bool) (b : ℕ) → Lowers codes tag a b reference r) ⌝ }
 {
     match tag {
-        12 => with_texts(3, 0, Spelling::FirstNormalized, Spelling::Nothing),
-        13 => with_texts(4, 0, Spelling::FirstNormalized, Spelling::Nothing),
-        14 => with_texts(
-            7,
+        schema::SEQUENCE => with_texts(
+            graph::STRUCT,
+            0,
+            Spelling::FirstNormalized,
+            Spelling::Nothing,
+        ),
+        schema::CHOICE => with_texts(graph::ENUM, 0, Spelling::FirstNormalized, Spelling::Nothing),
+        schema::SIMPLE_CONTENT => with_texts(
+            graph::VALUE_WITH_ATTRIBUTES,
             reference,
             Spelling::FirstNormalized,
             reference_text(reference),
         ),
-        _ => with_texts(8, a, Spelling::FirstNormalized, namespace_text(a)),
+        _ => with_texts(
+            graph::OPAQUE,
+            a,
+            Spelling::FirstNormalized,
+            namespace_text(a),
+        ),
     }
 }
 
 // The row of a field whose number is bounded.
 fn bounded_field(min: u32, max: u32, reference: u32) -> Recipe
-    ensures { λ r. ⌜ ((codes : Bool) → Lowers codes 17 min max reference r) ⌝ }
+    ensures { λ r. ⌜ ((codes : Bool) → Lowers codes boundElementTag min max reference r) ⌝ }
 {
     let k = bounded_numbers(min, max);
-    child(9, reference, k.b, k.c, Spelling::FirstSnake)
+    child(graph::FIELD, reference, k.b, k.c, Spelling::FirstSnake)
 }
 
 // The row of a field, a variant or an attribute.
 fn child_recipe(tag: u32, a: u32, b: u32, reference: u32) -> Recipe
-    requires { ⌜ 15 < tag ⌝ }
+    requires { ⌜ anyTag < tag ⌝ }
     ensures { λ r. ⌜ ((codes : Bool) → Lowers codes tag a b reference r) ⌝ }
 {
     match tag {
-        17 => bounded_field(a, b, reference),
-        18 => child(9, reference, 2, 0, Spelling::FirstSnake),
-        19 => child(10, reference, 0, 0, Spelling::First),
-        _ => child(19, reference, a, 0, Spelling::FirstSnake),
+        schema::BOUND_ELEMENT => bounded_field(a, b, reference),
+        schema::UNBOUNDED_ELEMENT => child(graph::FIELD, reference, VEC, 0, Spelling::FirstSnake),
+        schema::CHOICE_VARIANT => child(graph::VARIANT, reference, 0, 0, Spelling::First),
+        _ => child(graph::ATTRIBUTE, reference, a, 0, Spelling::FirstSnake),
     }
 }
 
-// The graph's row for a schema's row that has a recipe: its numbers, and how its texts are spelled. `reference` is that of the second text, where
-// the row refers to a type.
+// `reference` is that of the second text, where the row refers to a type.
 pub fn recipe_of(tag: u32, a: u32, b: u32, codes: bool, reference: u32) -> Recipe
     ensures { λ r. ⌜ Lowers codes tag a b reference r ⌝ }
 {
-    if tag <= 3 {
+    if tag <= schema::SIMPLE_TYPE {
         return first_recipe(codes, tag, reference);
     }
-    if tag <= 11 {
+    if tag <= schema::FRACTION_DIGITS {
         return facet_recipe(tag);
     }
-    if tag <= 15 {
+    if tag <= schema::ANY {
         complex_recipe(tag, a, reference)
     } else {
         child_recipe(tag, a, b, reference)
     }
 }
 
-// The number of the reference that the second text of a row gives; 0 where the row refers to no type.
+// 0 where the row refers to no type: no recipe reads it there.
 fn row_reference(tag: u32, second: &[u8]) -> u32
     ensures { λ r. ⌜ (refers tag ≡ true → r ≡ referenceNumber (mapBuiltin (now (second .entry)))) ⌝ }
 {
@@ -220,14 +252,13 @@ fn row_reference(tag: u32, second: &[u8]) -> u32
     }
 }
 
-// A count of characters from its low and high 32 bits.
 fn count_of(low: u32, high: u32) -> CharacterCount
     ensures { λ r. ⌜ (r .0 % 2 ^ 32 ≡ low) × (r .0 / 2 ^ 32 ≡ high) ⌝ }
 {
     CharacterCount(row::wide(low) + row::wide(high) * 4294967296)
 }
 
-// Adds what lowering makes of a row that is no count: `out` and `texts` are the graph's rows and names.
+// `out` and `texts` are the graph's rows and names.
 fn put_spelled(
     out: &mut [u32],
     texts: &mut [u8],
@@ -249,7 +280,7 @@ fn put_spelled(
     append_spelled(out, texts, used, recipe, first, second)
 }
 
-// Adds to a graph sheet, its rows `out` and its names `texts`, what lowering makes of the row at a place of a schema sheet.
+// `out` and `texts` are the graph's rows and names, `rows` and `names` the schema's.
 pub fn put_lowered(
     out: &mut [u32],
     texts: &mut [u8],
@@ -262,13 +293,21 @@ pub fn put_lowered(
     requires { ⌜ Room (now out) (now texts) used × (10 * place + 10 ≤ length (now rows)) ⌝ }
     ensures { λ r. ⌜ Grows (now (out .entry)) (now (texts .entry)) used (loweredRow codes (rowAt (now (rows .entry)) (now (names .entry)) place)) (now (out .exit)) (now (texts .exit)) r ⌝ }
 {
-    let t = row::ten_at(rows, 10 * place);
+    let t = row::ten_at(rows, limits::ROW * place);
     let tag = t.tag;
     match tag {
-        6 => grow_characters(out, texts, used, 12, count_of(t.a, t.b)),
-        7 => grow_characters(out, texts, used, 13, count_of(t.a, t.b)),
-        10 => grow_digits(out, texts, used, 16, DigitCount(t.a)),
-        11 => grow_digits(out, texts, used, 17, DigitCount(t.a)),
+        schema::MIN_LENGTH => {
+            grow_characters(out, texts, used, graph::MIN_LENGTH, count_of(t.a, t.b))
+        }
+        schema::MAX_LENGTH => {
+            grow_characters(out, texts, used, graph::MAX_LENGTH, count_of(t.a, t.b))
+        }
+        schema::TOTAL_DIGITS => {
+            grow_digits(out, texts, used, graph::TOTAL_DIGITS, DigitCount(t.a))
+        }
+        schema::FRACTION_DIGITS => {
+            grow_digits(out, texts, used, graph::FRACTION_DIGITS, DigitCount(t.a))
+        }
         _ => put_spelled(out, texts, used, names, t, codes),
     }
 }

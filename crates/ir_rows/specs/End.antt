@@ -3,7 +3,8 @@
 use Prim.Native.Nat.{ℕ}
 use lib.Dec.{leb}
 use Rattle.text.specs.Text.{if_then_else_}
+use Rattle.xsd_types.specs.Contexts.{simpleTypeContext}
 use Rattle.xsd_progress.specs.declared.Progress.{Progress}
 
 unfoldable pub finishedEnd : Progress → ℕ
-finishedEnd p = if leb 2 (p .mode .context) then p .head else p .used .rows
+finishedEnd p = if leb simpleTypeContext (p .mode .context) then p .head else p .used .rows

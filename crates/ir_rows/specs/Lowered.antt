@@ -18,9 +18,11 @@ use Rattle.builtin.specs.Builtin.{mapBuiltin, reference}
 use Rattle.names.specs.Names.{normalizeTypeName, xmlToSnakeCase, codeToPascalCase}
 use Rattle.sheet.specs.Rows.{Row, row}
 use Rattle.xsd_types.specs.Types.{MaxOccurs}
+use Rattle.xsd_types.specs.Tags as schema
 use Rattle.xsd_types.specs.Good.{isHead}
 use Rattle.xsd_types.specs.Back.{text0, text1}
 use Rattle.ir_types.specs.Types.{Cardinality}
+use Rattle.ir_types.specs.Tags as graph
 use Rattle.ir_types.specs.Rows.{headC, cardinalityB, cardinalityC}
 use Rattle.ir_lower.specs.Lower.{isNone, lowerCardinality}
 
@@ -30,59 +32,59 @@ referenceTexts name = if eqb (reference (mapBuiltin name)) 0 then normalizeTypeN
 
 -- "7 value with attributes (name, reference)"
 unfoldable pub valueRow : Text → Text → Row
-valueRow t u = row 7 (normalizeTypeName t ∷ referenceTexts u) (reference (mapBuiltin u)) 0 headC
+valueRow t u = row graph.valueWithAttributesTag (normalizeTypeName t ∷ referenceTexts u) (reference (mapBuiltin u)) 0 headC
 
 -- "8 opaque (name; a and namespace as in 15)"
 unfoldable pub opaqueRow : ℕ → Text → Text → Row
-opaqueRow a t u = row 8 (normalizeTypeName t ∷ (if eqb a 1 then u ∷ [] else [])) a 0 headC
+opaqueRow a t u = row graph.opaqueTag (normalizeTypeName t ∷ (if eqb a 1 then u ∷ [] else [])) a 0 headC
 
 -- "9 field (xml, Rust name, reference; b cardinality 0 required, 1 optional, 2 vec, 3 bounded with c the bound, above 1)"
 unfoldable pub fieldRow : Cardinality → Text → Text → Row
-fieldRow k t u = row 9 (t ∷ xmlToSnakeCase t ∷ referenceTexts u) (reference (mapBuiltin u)) (cardinalityB k) (cardinalityC k)
+fieldRow k t u = row graph.fieldTag (t ∷ xmlToSnakeCase t ∷ referenceTexts u) (reference (mapBuiltin u)) (cardinalityB k) (cardinalityC k)
 
 -- a simple type's head: code enum or newtype
 unfoldable pub simpleRow : Bool → Text → Text → Row
 simpleRow codeEnum t u =
     if codeEnum
-    then row 6 (normalizeTypeName t ∷ []) 0 0 headC
-    else row 5 (normalizeTypeName t ∷ []) (reference (mapBuiltin u)) 0 headC
+    then row graph.codeEnumTag (normalizeTypeName t ∷ []) 0 0 headC
+    else row graph.newtypeTag (normalizeTypeName t ∷ []) (reference (mapBuiltin u)) 0 headC
 
 -- "else newtype, enumerations dropped"
 unfoldable pub codeRows : Bool → Text → List Row
-codeRows codeEnum t = if codeEnum then row 18 (t ∷ codeToPascalCase t ∷ []) 0 0 0 ∷ [] else []
+codeRows codeEnum t = if codeEnum then row graph.codeTag (t ∷ codeToPascalCase t ∷ []) 0 0 0 ∷ [] else []
 
 unfoldable pub loweredAs : Bool → ℕ → ℕ → ℕ → Text → Text → List Row
 loweredAs codeEnum tag a b t u =
-    if eqb tag 1 then row 1 (t ∷ []) 0 0 0 ∷ [] else
-    if eqb tag 2 then row 2 (t ∷ u ∷ []) 0 0 headC ∷ [] else
-    if eqb tag 3 then simpleRow codeEnum t u ∷ [] else
-    if eqb tag 4 then codeRows codeEnum t else
-    if eqb tag 5 then row 11 (t ∷ []) 0 0 0 ∷ [] else
-    if eqb tag 6 then row 12 [] a b 0 ∷ [] else
-    if eqb tag 7 then row 13 [] a b 0 ∷ [] else
-    if eqb tag 8 then row 14 (t ∷ []) 0 0 0 ∷ [] else
-    if eqb tag 9 then row 15 (t ∷ []) 0 0 0 ∷ [] else
-    if eqb tag 10 then row 16 [] a 0 0 ∷ [] else
-    if eqb tag 11 then row 17 [] a 0 0 ∷ [] else
-    if eqb tag 12 then row 3 (normalizeTypeName t ∷ []) 0 0 headC ∷ [] else
-    if eqb tag 13 then row 4 (normalizeTypeName t ∷ []) 0 0 headC ∷ [] else
-    if eqb tag 14 then valueRow t u ∷ [] else
-    if eqb tag 15 then opaqueRow a t u ∷ [] else
-    if eqb tag 17 then fieldRow (lowerCardinality a (MaxOccurs.bounded b)) t u ∷ [] else
-    if eqb tag 18 then fieldRow (lowerCardinality a MaxOccurs.unbounded) t u ∷ [] else
-    if eqb tag 19 then row 10 (t ∷ t ∷ referenceTexts u) (reference (mapBuiltin u)) 0 0 ∷ [] else
-    if eqb tag 20 then row 19 (t ∷ xmlToSnakeCase t ∷ referenceTexts u) (reference (mapBuiltin u)) a 0 ∷ [] else []
+    if eqb tag schema.namespaceTag then row graph.namespaceTag (t ∷ []) 0 0 0 ∷ [] else
+    if eqb tag schema.elementTag then row graph.rootTag (t ∷ u ∷ []) 0 0 headC ∷ [] else
+    if eqb tag schema.simpleTypeTag then simpleRow codeEnum t u ∷ [] else
+    if eqb tag schema.enumerationTag then codeRows codeEnum t else
+    if eqb tag schema.patternTag then row graph.patternTag (t ∷ []) 0 0 0 ∷ [] else
+    if eqb tag schema.minLengthTag then row graph.minLengthTag [] a b 0 ∷ [] else
+    if eqb tag schema.maxLengthTag then row graph.maxLengthTag [] a b 0 ∷ [] else
+    if eqb tag schema.minInclusiveTag then row graph.minInclusiveTag (t ∷ []) 0 0 0 ∷ [] else
+    if eqb tag schema.maxInclusiveTag then row graph.maxInclusiveTag (t ∷ []) 0 0 0 ∷ [] else
+    if eqb tag schema.totalDigitsTag then row graph.totalDigitsTag [] a 0 0 ∷ [] else
+    if eqb tag schema.fractionDigitsTag then row graph.fractionDigitsTag [] a 0 0 ∷ [] else
+    if eqb tag schema.sequenceTag then row graph.structTag (normalizeTypeName t ∷ []) 0 0 headC ∷ [] else
+    if eqb tag schema.choiceTag then row graph.enumTag (normalizeTypeName t ∷ []) 0 0 headC ∷ [] else
+    if eqb tag schema.simpleContentTag then valueRow t u ∷ [] else
+    if eqb tag schema.anyTag then opaqueRow a t u ∷ [] else
+    if eqb tag schema.boundElementTag then fieldRow (lowerCardinality a (MaxOccurs.bounded b)) t u ∷ [] else
+    if eqb tag schema.unboundedElementTag then fieldRow (lowerCardinality a MaxOccurs.unbounded) t u ∷ [] else
+    if eqb tag schema.choiceVariantTag then row graph.variantTag (t ∷ t ∷ referenceTexts u) (reference (mapBuiltin u)) 0 0 ∷ [] else
+    if eqb tag schema.attributeTag then row graph.attributeTag (t ∷ xmlToSnakeCase t ∷ referenceTexts u) (reference (mapBuiltin u)) a 0 ∷ [] else []
 
 unfoldable pub loweredRow : Bool → Row → List Row
 loweredRow codeEnum r = loweredAs codeEnum (r .tag) (r .a) (r .b) (text0 r) (text1 r)
 
 unfoldable pub onlyCodes : List Row → Bool
 onlyCodes [] = true
-onlyCodes (r ∷ rs) = if eqb (r .tag) 4 then onlyCodes rs else not (between 5 11 (r .tag))
+onlyCodes (r ∷ rs) = if eqb (r .tag) schema.enumerationTag then onlyCodes rs else not (between schema.patternTag schema.fractionDigitsTag (r .tag))
 
 unfoldable pub isCodeEnum : List Row → Bool
 isCodeEnum [] = false
-isCodeEnum (r ∷ rs) = eqb (r .tag) 4 && onlyCodes rs
+isCodeEnum (r ∷ rs) = eqb (r .tag) schema.enumerationTag && onlyCodes rs
 
 unfoldable pub childRows : Bool → List Row → List Row
 childRows codeEnum [] = []
@@ -95,11 +97,11 @@ typeRowsOf (r ∷ rs) = loweredRow (isCodeEnum rs) r ++ childRows (isCodeEnum rs
 
 unfoldable pub rootRows : List Row → List Row
 rootRows [] = []
-rootRows (r ∷ rs) = if eqb (r .tag) 2 then loweredRow false r ++ rootRows rs else rootRows rs
+rootRows (r ∷ rs) = if eqb (r .tag) schema.elementTag then loweredRow false r ++ rootRows rs else rootRows rs
 
 -- 13: "place is the row of the first such simple type"
 unfoldable pub isUnknown : Row → List Row → Bool
-isUnknown r rs = eqb (r .tag) 3 && not (isCodeEnum rs) && isNone (mapBuiltin (text1 r))
+isUnknown r rs = eqb (r .tag) schema.simpleTypeTag && not (isCodeEnum rs) && isNone (mapBuiltin (text1 r))
 
 unfoldable pub unknownPlace : ℕ → List Row → ℕ
 unknownPlace p [] = 0

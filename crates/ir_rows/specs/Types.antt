@@ -1,29 +1,34 @@
 -- The types of a schema sheet by the places of their heads. Paper 01: "Only finished types are lowered, simple ones before complex." "Each normalised
 -- name holds its last definition at the place where it first came."
---     isSimple, isComplex    the tag of a finished type's head
+--     isSimple, isComplex, isType    the tag of a finished type's head: of a simple one, of a complex one, of either
 --     placesOf          the places of the rows whose tag passes a test; the list's first row is at place p
 --     typePlaces        the places of the finished types' heads in lowering's order
 --     insertPlace       a place put where its name first came, or behind the others; name gives the name at a place
 --     insertPlaces      places put so one after the other
 --     keptPlaces        the places of the definitions that a sheet's graph keeps
---     placesIn          the places that the first n entries of a scratch hold, each in its low 16 bits
+--     entryPlaces       the places that entries hold, each in its low 16 bits
+--     placesIn          those of the first n entries of a scratch
 --     typesRows         the graph's rows for the types at the given places
 --     graphRows         the graph's rows behind row 0
 use Prim.Native.Nat.{ℕ, _+_, _%_}
 use mathlib.Core.List.{List, [], _∷_, _++_, map}
-use mathlib.Core.Bool.{Bool, false}
+use mathlib.Core.Bool.{Bool, false, _||_}
 use lib.Dec.{eqb}
 use lib.ListN.{take}
 use Rattle.text.specs.Text.{Text, if_then_else_, same, between}
 use Rattle.sheet.specs.Rows.{Row}
+use Rattle.xsd_types.specs.Tags.{simpleTypeTag, sequenceTag, anyTag}
 use Rattle.ir_rows.specs.Places.{rowAt, rowsFrom, nameAt}
 use Rattle.ir_rows.specs.Lowered.{loweredRow, typeRowsOf, rootRows}
 
 unfoldable pub isSimple : ℕ → Bool
-isSimple tag = eqb tag 3
+isSimple tag = eqb tag simpleTypeTag
 
 unfoldable pub isComplex : ℕ → Bool
-isComplex tag = between 12 15 tag
+isComplex tag = between sequenceTag anyTag tag
+
+unfoldable pub isType : ℕ → Bool
+isType tag = isSimple tag || isComplex tag
 
 unfoldable pub placesOf : (ℕ → Bool) → ℕ → List Row → List ℕ
 placesOf test p [] = []
@@ -43,8 +48,11 @@ insertPlaces name (p ∷ ps) qs = insertPlaces name ps (insertPlace name p qs)
 unfoldable pub keptPlaces : List ℕ → List ℕ → ℕ → List ℕ
 keptPlaces rows names end = insertPlaces (nameAt rows names) (typePlaces 2 (rowsFrom rows names 2 end)) []
 
-unfoldable pub placesIn : ℕ → List ℕ → List ℕ
-placesIn n scratch = map (λ (e : ℕ). e % 65536) (take n scratch)
+unfoldable pub entryPlaces : List ℕ → List ℕ
+entryPlaces entries = map (λ (e : ℕ). e % 65536) entries
+
+abbrev pub placesIn : ℕ → List ℕ → List ℕ
+placesIn n scratch = entryPlaces (take n scratch)
 
 unfoldable pub typesRows : List ℕ → List ℕ → ℕ → List ℕ → List Row
 typesRows rows names end [] = []

@@ -1,4 +1,5 @@
 -- Laws of the definitions in specs/.
+pub mod Row0
 pub mod Insert
 pub mod Order
 pub mod GraphRows

@@ -1,7 +1,9 @@
--- The definitions of the crate `ir_types`: Types has 003's values, Rows the graph as rows, Sheet the graph sheet, Form the test of a graph's form,
--- Label the label call, Refuses its refusal as the table lists it, Distinct names in a list of definitions, Ok the widths of a graph's texts and numbers.
+-- The definitions of the crate `ir_types`: Types has 003's values, Row0 the numbers of row 0 by name, Rows the graph as rows, Sheet the graph
+-- sheet, Form the test of a graph's form, Label the label call, Refuses its refusal as the table lists it, Distinct names in a list of
+-- definitions, Ok the widths of a graph's texts and numbers.
 pub mod Tags
 pub mod Types
+pub mod Row0
 pub mod Rows
 pub mod Sheet
 pub mod Form

@@ -1,9 +1,13 @@
 -- The graph as rows. Paper 01, "Graph sheet", Tags. Tags 3 to 8 all have the name as their first text.
 --     refA, refText     a of a reference, and its text where it is named
+--     headC             c of a head
+--     cardinalityB, cardinalityC    b and c of a field
 --     fieldRow .. attrRow    the rows of children
---     typeRows          a definition's rows: its head, its children behind it
+--     typeRows, typesRows    a definition's rows: its head, its children behind it; those of all
+--     rootRow           the row of a root
 --     rowsOf            all rows behind row 0: "Row 1: tag 1, namespace. Then roots, then types, children behind each."
---     row0              "Row 0: 0, rows used, names used, root elements, types, then zeros."
+--     rowsUsed, namesUsed    how much of a sheet is used
+--     row0              row 0 of a graph
 use Prim.Native.Nat.{ℕ, _+_, _%_, _/_, _^_}
 use mathlib.Core.List.{List, [], _∷_, _++_, map}
 use mathlib.Core.Bool.{Bool, true, false}
@@ -11,7 +15,9 @@ use mathlib.Core.Option.{Option, some, none}
 use lib.ListN.{length}
 use Rattle.text.specs.Text.{Text}
 use Rattle.builtin.specs.Builtin.{RustType, rustTypeNumber}
-use Rattle.sheet.specs.Rows.{Row, Ten, namesOf, row, bit}
+use Rattle.sheet.specs.Rows.{Row, namesOf, row, bit}
+use Rattle.ir_types.specs.Tags.{namespaceTag, rootTag, structTag, enumTag, newtypeTag, codeEnumTag, valueWithAttributesTag, opaqueTag, fieldTag, variantTag, patternTag, minLengthTag, maxLengthTag, minInclusiveTag, maxInclusiveTag, totalDigitsTag, fractionDigitsTag, codeTag, attributeTag}
+use Rattle.ir_types.specs.Row0.{GraphRow0, graphRow0Of}
 use Rattle.ir_types.specs.Types.{TypeRef, Cardinality, FieldDef, VariantDef, Constraint, CodeValue, AttrDef, TypeDef, RootElement, TypeGraph}
 
 -- "A reference is a: 0 named (the pair, normalised), 1 String, 2 Bool, 3 Decimal, 4 Date, 5 DateTime (pair unused)."
@@ -42,39 +48,39 @@ cardinalityC (Cardinality.boundedVec n) = n
 
 -- "9 field (xml, Rust name, reference; b cardinality)"
 unfoldable pub fieldRow : FieldDef → Row
-fieldRow f = row 9 (f .xmlName ∷ f .rustName ∷ refText (f .typeRef)) (refA (f .typeRef)) (cardinalityB (f .cardinality)) (cardinalityC (f .cardinality))
+fieldRow f = row fieldTag (f .xmlName ∷ f .rustName ∷ refText (f .typeRef)) (refA (f .typeRef)) (cardinalityB (f .cardinality)) (cardinalityC (f .cardinality))
 
 -- "10 variant (xml, same name, reference)"
 unfoldable pub variantRow : VariantDef → Row
-variantRow v = row 10 (v .xmlName ∷ v .rustName ∷ refText (v .typeRef)) (refA (v .typeRef)) 0 0
+variantRow v = row variantTag (v .xmlName ∷ v .rustName ∷ refText (v .typeRef)) (refA (v .typeRef)) 0 0
 
 -- "11 pattern, 12 minLength, 13 maxLength, 14 minInclusive, 15 maxInclusive, 16 totalDigits, 17 fractionDigits (each as the facet's row)"
 unfoldable pub constraintRow : Constraint → Row
-constraintRow (Constraint.pattern v) = row 11 (v ∷ []) 0 0 0
-constraintRow (Constraint.minLength n) = row 12 [] (n % 2 ^ 32) (n / 2 ^ 32) 0
-constraintRow (Constraint.maxLength n) = row 13 [] (n % 2 ^ 32) (n / 2 ^ 32) 0
-constraintRow (Constraint.minInclusive v) = row 14 (v ∷ []) 0 0 0
-constraintRow (Constraint.maxInclusive v) = row 15 (v ∷ []) 0 0 0
-constraintRow (Constraint.totalDigits n) = row 16 [] n 0 0
-constraintRow (Constraint.fractionDigits n) = row 17 [] n 0 0
+constraintRow (Constraint.pattern v) = row patternTag (v ∷ []) 0 0 0
+constraintRow (Constraint.minLength n) = row minLengthTag [] (n % 2 ^ 32) (n / 2 ^ 32) 0
+constraintRow (Constraint.maxLength n) = row maxLengthTag [] (n % 2 ^ 32) (n / 2 ^ 32) 0
+constraintRow (Constraint.minInclusive v) = row minInclusiveTag (v ∷ []) 0 0 0
+constraintRow (Constraint.maxInclusive v) = row maxInclusiveTag (v ∷ []) 0 0 0
+constraintRow (Constraint.totalDigits n) = row totalDigitsTag [] n 0 0
+constraintRow (Constraint.fractionDigits n) = row fractionDigitsTag [] n 0 0
 
 -- "18 code (xml, Rust name)"
 unfoldable pub codeRow : CodeValue → Row
-codeRow v = row 18 (v .xmlValue ∷ v .rustName ∷ []) 0 0 0
+codeRow v = row codeTag (v .xmlValue ∷ v .rustName ∷ []) 0 0 0
 
 -- "19 attribute (xml, Rust name, reference, b required)"
 unfoldable pub attrRow : AttrDef → Row
-attrRow x = row 19 (x .xmlName ∷ x .rustName ∷ refText (x .typeRef)) (refA (x .typeRef)) (bit (x .required)) 0
+attrRow x = row attributeTag (x .xmlName ∷ x .rustName ∷ refText (x .typeRef)) (refA (x .typeRef)) (bit (x .required)) 0
 
 -- "3 struct, 4 enum, 5 newtype (a inner), 6 code enum, 7 value with attributes (name, reference), 8 opaque (name; a and namespace as in 15)"
 unfoldable pub typeRows : TypeDef → List Row
-typeRows (TypeDef.struct n fs) = row 3 (n ∷ []) 0 0 headC ∷ map fieldRow fs
-typeRows (TypeDef.enum n vs) = row 4 (n ∷ []) 0 0 headC ∷ map variantRow vs
-typeRows (TypeDef.newtype n i cs) = row 5 (n ∷ []) (rustTypeNumber i) 0 headC ∷ map constraintRow cs
-typeRows (TypeDef.codeEnum n cs) = row 6 (n ∷ []) 0 0 headC ∷ map codeRow cs
-typeRows (TypeDef.valueWithAttr n v xs) = row 7 (n ∷ refText v) (refA v) 0 headC ∷ map attrRow xs
-typeRows (TypeDef.opaque n none) = row 8 (n ∷ []) 0 0 headC ∷ []
-typeRows (TypeDef.opaque n (some ns)) = row 8 (n ∷ ns ∷ []) 1 0 headC ∷ []
+typeRows (TypeDef.struct n fs) = row structTag (n ∷ []) 0 0 headC ∷ map fieldRow fs
+typeRows (TypeDef.enum n vs) = row enumTag (n ∷ []) 0 0 headC ∷ map variantRow vs
+typeRows (TypeDef.newtype n i cs) = row newtypeTag (n ∷ []) (rustTypeNumber i) 0 headC ∷ map constraintRow cs
+typeRows (TypeDef.codeEnum n cs) = row codeEnumTag (n ∷ []) 0 0 headC ∷ map codeRow cs
+typeRows (TypeDef.valueWithAttr n v xs) = row valueWithAttributesTag (n ∷ refText v) (refA v) 0 headC ∷ map attrRow xs
+typeRows (TypeDef.opaque n none) = row opaqueTag (n ∷ []) 0 0 headC ∷ []
+typeRows (TypeDef.opaque n (some ns)) = row opaqueTag (n ∷ ns ∷ []) 1 0 headC ∷ []
 
 unfoldable pub typesRows : List TypeDef → List Row
 typesRows [] = []
@@ -82,10 +88,10 @@ typesRows (d ∷ ds) = typeRows d ++ typesRows ds
 
 -- "2 root (xml name, type name unchanged)"
 unfoldable pub rootRow : RootElement → Row
-rootRow e = row 2 (e .xmlName ∷ e .typeName ∷ []) 0 0 headC
+rootRow e = row rootTag (e .xmlName ∷ e .typeName ∷ []) 0 0 headC
 
 unfoldable pub rowsOf : TypeGraph → List Row
-rowsOf g = row 1 (g .namespace ∷ []) 0 0 0 ∷ (map rootRow (g .rootElements) ++ typesRows (g .types))
+rowsOf g = row namespaceTag (g .namespace ∷ []) 0 0 0 ∷ (map rootRow (g .rootElements) ++ typesRows (g .types))
 
 unfoldable pub rowsUsed : TypeGraph → ℕ
 rowsUsed g = 1 + length (rowsOf g)
@@ -93,17 +99,6 @@ rowsUsed g = 1 + length (rowsOf g)
 unfoldable pub namesUsed : TypeGraph → ℕ
 namesUsed g = length (namesOf (rowsOf g))
 
-unfoldable pub row0 : TypeGraph → Ten
-row0 g =
-    record {
-      tag = 0;
-      at0 = rowsUsed g;
-      len0 = namesUsed g;
-      at1 = length (g .rootElements);
-      len1 = length (g .types);
-      at2 = 0;
-      len2 = 0;
-      a = 0;
-      b = 0;
-      c = 0;
-    }
+-- "Row 0: 0, rows used, names used, root elements, types, then zeros."
+unfoldable pub row0 : TypeGraph → GraphRow0
+row0 g = graphRow0Of (rowsUsed g) (namesUsed g) (length (g .rootElements)) (length (g .types))

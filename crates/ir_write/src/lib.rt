@@ -2,50 +2,55 @@
 use ir_append::Grown;
 use ir_checks::is_code_enum;
 use ir_row::put_lowered;
-use xsd_forms::row;
-use xsd_numbers::Used;
+use sheet::limits;
+use xsd_good::forms::row;
+use xsd_rows::numbers::Used;
+use xsd_types::tags;
 ghost use mathlib.Core.Path.{_≡_};
-ghost use mathlib.Core.List.{List, [], _∷_};
-ghost use Prim.Native.Nat.{ℕ, _+_, _*_, _≤_, _<_};
+ghost use mathlib.Core.Bool.{true};
+ghost use mathlib.Core.List.{[], _∷_};
+ghost use Prim.Native.Nat.{_+_, _*_, _%_, _≤_, _<_};
+ghost use lib.Dec.{ltb};
 ghost use lib.ListN.{length};
+ghost use Rattle.text.specs.Text.{every};
 ghost use Rattle.ir_rows.specs.Places.{rowAt, rowsFrom};
 ghost use Rattle.ir_rows.specs.Lowered.{loweredRow, childRows, typeRowsOf, rootRows, isCodeEnum};
-ghost use Rattle.ir_rows.specs.Types.{typesRows, graphRows};
+ghost use Rattle.ir_rows.specs.Types.{typesRows, graphRows, entryPlaces};
 ghost use Rattle.ir_append.specs.Grows.{Room, Grows};
-ghost use mathlib.Core.Bool.{true};
-ghost use Prim.Native.Nat.{_%_};
-ghost use lib.Dec.{ltb};
-ghost use Rattle.text.specs.Text.{every};
-ghost use Rattle.ir_rows.specs.Types.{placesIn};
 
-// The place that an entry of the scratch holds.
-pub fn place_of(entry: u32) -> usize
+// An entry of the scratch has its place in its low 16 bits.
+fn place_of(entry: u32) -> usize
     ensures { λ r. ⌜ r ≡ entry % 65536 ⌝ }
 {
     (entry % 65536) as usize
 }
 
-// Adds the children that stand from a place on, up to the next head.
+// The children of a type: they stand from `first` up to the next head, or up to `end`.
+struct Children {
+    first: usize,
+    end: usize,
+    code_enum: bool,
+}
+
 fn put_children(
     graph_rows: &mut [u32],
     graph_names: &mut [u8],
     from: Used,
     rows: &[u32],
     names: &[u8],
-    first: usize,
-    end: usize,
-    code_enum: bool,
+    children: Children,
 ) -> Grown
-    requires { ⌜ Room (now «graph_rows») (now «graph_names») from × (10 * end ≤ length (now rows)) ⌝ }
-    ensures { λ r. ⌜ Grows (now («graph_rows» .entry)) (now («graph_names» .entry)) from (childRows «code_enum» (rowsFrom (now (rows .entry)) (now (names .entry)) first end)) (now («graph_rows» .exit)) (now («graph_names» .exit)) r ⌝ }
+    requires { ⌜ Room (now «graph_rows») (now «graph_names») from × (10 * children .end ≤ length (now rows)) ⌝ }
+    ensures { λ r. ⌜ Grows (now («graph_rows» .entry)) (now («graph_names» .entry)) from (childRows (children .«code_enum») (rowsFrom (now (rows .entry)) (now (names .entry)) (children .first) (children .end))) (now («graph_rows» .exit)) (now («graph_names» .exit)) r ⌝ }
 {
     let mut used = from;
-    let mut place = first;
-    while place < end {
-        if row::is_head(rows[10 * place]) {
+    let mut place = children.first;
+    while place < children.end {
+        if row::is_head(rows[limits::ROW * place]) {
             return Grown::To(used);
         }
-        let grown = put_lowered(graph_rows, graph_names, used, rows, names, place, code_enum);
+        let codes = children.code_enum;
+        let grown = put_lowered(graph_rows, graph_names, used, rows, names, place, codes);
         let Grown::To(next) = grown else {
             return Grown::Full;
         };
@@ -55,7 +60,6 @@ fn put_children(
     Grown::To(used)
 }
 
-// Adds the type whose head stands at a place.
 fn put_type(
     graph_rows: &mut [u32],
     graph_names: &mut [u8],
@@ -73,19 +77,14 @@ fn put_type(
     let Grown::To(next) = head else {
         return Grown::Full;
     };
-    put_children(
-        graph_rows,
-        graph_names,
-        next,
-        rows,
-        names,
-        place + 1,
+    let children = Children {
+        first: place + 1,
         end,
         code_enum,
-    )
+    };
+    put_children(graph_rows, graph_names, next, rows, names, children)
 }
 
-// Adds the row at a place where it is an element.
 fn put_root(
     graph_rows: &mut [u32],
     graph_names: &mut [u8],
@@ -97,13 +96,12 @@ fn put_root(
     requires { ⌜ Room (now «graph_rows») (now «graph_names») used × (10 * place + 10 ≤ length (now rows)) ⌝ }
     ensures { λ r. ⌜ Grows (now («graph_rows» .entry)) (now («graph_names» .entry)) used (rootRows (rowAt (now (rows .entry)) (now (names .entry)) place ∷ [])) (now («graph_rows» .exit)) (now («graph_names» .exit)) r ⌝ }
 {
-    if rows[10 * place] != 2 {
+    if rows[limits::ROW * place] != tags::ELEMENT {
         return Grown::To(used);
     }
     put_lowered(graph_rows, graph_names, used, rows, names, place, false)
 }
 
-// Adds the elements.
 fn put_roots(
     graph_rows: &mut [u32],
     graph_names: &mut [u8],
@@ -128,7 +126,6 @@ fn put_roots(
     Grown::To(used)
 }
 
-// Adds the types whose heads stand at the places that the scratch holds.
 fn put_types(
     graph_rows: &mut [u32],
     graph_names: &mut [u8],
@@ -136,17 +133,16 @@ fn put_types(
     rows: &[u32],
     names: &[u8],
     end: usize,
-    scratch: &[u32],
-    count: usize,
+    entries: &[u32],
 ) -> Grown
     requires room { ⌜ Room (now «graph_rows») (now «graph_names») from × (10 * end ≤ length (now rows)) ⌝ }
-    requires places { ⌜ (count ≤ length (now scratch)) × (every (λ p. ltb p end) (placesIn count (now scratch)) ≡ true) ⌝ }
-    ensures { λ r. ⌜ Grows (now («graph_rows» .entry)) (now («graph_names» .entry)) from (typesRows (now (rows .entry)) (now (names .entry)) end (placesIn count (now (scratch .entry)))) (now («graph_rows» .exit)) (now («graph_names» .exit)) r ⌝ }
+    requires places { ⌜ every (λ p. ltb p end) (entryPlaces (now entries)) ≡ true ⌝ }
+    ensures { λ r. ⌜ Grows (now («graph_rows» .entry)) (now («graph_names» .entry)) from (typesRows (now (rows .entry)) (now (names .entry)) end (entryPlaces (now (entries .entry)))) (now («graph_rows» .exit)) (now («graph_names» .exit)) r ⌝ }
 {
     let mut used = from;
     let mut k = 0;
-    while k < count {
-        let place = place_of(scratch[k]);
+    while k < entries.len() {
+        let place = place_of(entries[k]);
         let grown = put_type(graph_rows, graph_names, used, rows, names, place, end);
         let Grown::To(next) = grown else {
             return Grown::Full;
@@ -157,7 +153,6 @@ fn put_types(
     Grown::To(used)
 }
 
-// Adds all of the graph's rows behind row 0.
 pub fn put_graph(
     graph_rows: &mut [u32],
     graph_names: &mut [u8],
@@ -165,12 +160,11 @@ pub fn put_graph(
     rows: &[u32],
     names: &[u8],
     end: usize,
-    scratch: &[u32],
-    count: usize,
+    entries: &[u32],
 ) -> Grown
     requires room { ⌜ Room (now «graph_rows») (now «graph_names») from × (10 * end ≤ length (now rows)) × (2 ≤ end) ⌝ }
-    requires places { ⌜ (count ≤ length (now scratch)) × (every (λ p. ltb p end) (placesIn count (now scratch)) ≡ true) ⌝ }
-    ensures { λ r. ⌜ Grows (now («graph_rows» .entry)) (now («graph_names» .entry)) from (graphRows (now (rows .entry)) (now (names .entry)) end (placesIn count (now (scratch .entry)))) (now («graph_rows» .exit)) (now («graph_names» .exit)) r ⌝ }
+    requires places { ⌜ every (λ p. ltb p end) (entryPlaces (now entries)) ≡ true ⌝ }
+    ensures { λ r. ⌜ Grows (now («graph_rows» .entry)) (now («graph_names» .entry)) from (graphRows (now (rows .entry)) (now (names .entry)) end (entryPlaces (now (entries .entry)))) (now («graph_rows» .exit)) (now («graph_names» .exit)) r ⌝ }
 {
     let namespace = put_lowered(graph_rows, graph_names, from, rows, names, 1, false);
     let Grown::To(after) = namespace else {
@@ -180,14 +174,5 @@ pub fn put_graph(
     let Grown::To(used) = roots else {
         return Grown::Full;
     };
-    put_types(
-        graph_rows,
-        graph_names,
-        used,
-        rows,
-        names,
-        end,
-        scratch,
-        count,
-    )
+    put_types(graph_rows, graph_names, used, rows, names, end, entries)
 }

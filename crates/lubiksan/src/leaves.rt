@@ -10,8 +10,11 @@ ghost use Rattle.names.specs.Names.{normalizeTypeName, xmlToSnakeCase, codeToPa
 ghost use Rattle.names.specs.Answers.{written, placed};
 ghost use Rattle.lubiksan.specs.Exported.{Exported, countOf};
 use names::Written;
+use names::same;
+use names::snake;
 use number::U32;
 use number::U64;
+use sheet::returned;
 
 // The bytes written, or the largest number where the part is shorter than the conversion.
 fn count_of(w: Written) -> usize
@@ -49,7 +52,7 @@ pub extern "C" fn lubiksan_parse_u32(s: &[u8], value: &mut u32) -> u32
             *value = v;
             0
         }
-        U32::Invalid => 10,
+        U32::Invalid => returned::INVALID_ATTRIBUTE_VALUE,
     }
 }
 
@@ -62,7 +65,7 @@ pub extern "C" fn lubiksan_parse_u64(s: &[u8], value: &mut u64) -> u32
             *value = v;
             0
         }
-        U64::Invalid => 10,
+        U64::Invalid => returned::INVALID_ATTRIBUTE_VALUE,
     }
 }
 
@@ -102,5 +105,5 @@ pub extern "C" fn lubiksan_code_to_pascal_case(value: &[u8], out: &mut [u8]) -> 
 pub extern "C" fn lubiksan_same_normalized(a: &[u8], b: &[u8]) -> u32
     ensures { λ r. ⌜ r ≡ bit (same (normalizeTypeName (now (a .entry))) (normalizeTypeName (now (b .entry)))) ⌝ }
 {
-    bit_of(same_names::same_normalized(a, b))
+    bit_of(same::same_normalized(a, b))
 }

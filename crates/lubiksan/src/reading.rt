@@ -1,4 +1,5 @@
 // Clearing and reading exported.
+use xsd_good::clear;
 ghost use Rattle.sheet.specs.Calls.{sheet, answered};
 ghost use Rattle.xsd_types.specs.Clear.{ClearIs};
 ghost use Rattle.xsd_parser.specs.Read.{ReadIs};
@@ -8,7 +9,7 @@ ghost use Rattle.xsd_parser.specs.Read.{ReadIs};
 pub extern "C" fn lubiksan_clear(rows: &mut [u32], names: &mut [u8], place: &mut usize) -> u32
     ensures { λ r. ⌜ ClearIs (sheet (now (rows .entry)) (now (names .entry))) (answered r (now (place .exit))) (sheet (now (rows .exit)) (now (names .exit))) ⌝ }
 {
-    let cleared = xsd_clear::clear(rows, names);
+    let cleared = clear::clear(rows, names);
     *place = cleared.place;
     cleared.number
 }

@@ -1,6 +1,7 @@
--- Laws of the definitions in specs/: Writing of what a writer leaves, Scans of the scans, Names of the conversions,
--- Examples of values that the conversions give.
+-- Laws of the definitions in specs/ and of those that they cite, those below before those above. The head of each file says what it holds.
 pub mod Writing
 pub mod Scans
 pub mod Names
 pub mod Examples
+pub mod Words
+pub mod Next

@@ -1,5 +1,6 @@
--- The definitions of the crate `names`: Names has the conversions, Answers what a writer answers and leaves, Scans what the code computes byte by byte.
+-- The definitions of the crate `names`, those below before those above. The head of each file says what it holds.
 pub mod Names
 pub mod Answers
 pub mod Scans
 pub mod Unfold
+pub mod Same

@@ -1,5 +1,8 @@
-// Two of the three name conversions of 001 (lower.rs), each written into a lent part. The third is
-// in the crate `snake`.
+// The name conversions of 001 (lower.rs), each written into a lent part: two here, `xml_to_snake_case` in `snake`. `same`: two names
+// compared as they normalise.
+pub mod same;
+pub mod snake;
+
 ghost use mathlib.Core.Path.{_≡_};
 ghost use mathlib.Core.List.{_++_};
 ghost use Prim.Native.Nat.{_≤_};
@@ -7,8 +10,8 @@ ghost use lib.ListN.{length, take, drop};
 ghost use Rattle.names.specs.Names.{normalizeTypeName, codeToPascalCase};
 ghost use Rattle.names.specs.Answers.{Put};
 ghost use Rattle.names.specs.Scans.{casedByte, segments};
-use ascii::to_lower;
-use ascii::to_upper;
+use text::ascii::to_lower;
+use text::ascii::to_upper;
 use text::has_byte;
 
 // How many bytes a conversion wrote, or that the part is shorter than the conversion.

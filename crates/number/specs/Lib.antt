@@ -1,4 +1,5 @@
--- The definitions of the crate `number`: Number says what a number's text gives, Answers what the code's enums say in those terms.
+-- The definitions of the crate `number`, those below before those above. The head of each file says what it holds.
 pub mod Number
 pub mod Answers
 pub mod Unfold
+pub mod Counts

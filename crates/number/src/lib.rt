@@ -1,10 +1,12 @@
 // Numbers: 000, `parse_u32` and `parse_u64`. An occurrence number is a plain u32; lengths count
 // characters and digit facets count digits, each with a type of its own (read in `counts`).
+pub mod counts;
+
 ghost use mathlib.Core.Path.{_≡_};
 ghost use Prim.Native.Nat.{_+_, _≤_};
 ghost use Rattle.number.specs.Number.{number, numeral, afterPlus};
 ghost use Rattle.number.specs.Answers.{ofU32, ofU64};
-use ascii::is_digit;
+use text::ascii::is_digit;
 
 // The value of a minLength or maxLength facet.
 pub struct CharacterCount(pub u64);

@@ -4,7 +4,10 @@
 //     i       the input of as many bytes as there are numbers, each number a byte
 // The label is printed in front. compare/run holds the lines of stdout to a model of paper 01.
 use libc::STDOUT_FILENO;
-use tape_pairs::mark_at;
+use program::lines;
+use program::numbers;
+use tape::pairs::mark_at;
+use tape::pairs::part_of;
 
 // A number below 256 as a byte, 255 for any other.
 fn byte_of(n: u32) -> u8 {
@@ -20,18 +23,10 @@ fn copy_bytes(numbers: &[u32], bytes: &mut [u8]) {
     }
 }
 
-// The first n of the bytes, or all.
-fn first_bytes(bytes: &[u8], n: usize) -> &[u8] {
-    if n <= bytes.len() {
-        return &bytes[0..n];
-    }
-    bytes
-}
-
 fn put_bytes(numbers: &[u32]) {
     let mut bytes = [0u8; 256];
     copy_bytes(numbers, &mut bytes);
-    printing::put_input(first_bytes(&bytes, numbers.len()));
+    printing::put_input(part_of(&bytes, 0, numbers.len()));
 }
 
 // What the letter of a line says, done with its text and its numbers.
@@ -46,12 +41,8 @@ fn put_done(letter: u8, t: &[u8], numbers: &[u32]) {
 // The end of a line: its text and its numbers.
 fn put_end(letter: u8, end: &[u8]) {
     let mut space = [0u32; 16384];
-    let n = number_list::read_numbers(lines::behind(end, b';'), &mut space);
-    put_done(
-        letter,
-        lines::before(end, b';'),
-        number_list::first(&space, n),
-    );
+    let n = numbers::read_numbers(lines::behind(end, b';'), &mut space);
+    put_done(letter, lines::before(end, b';'), numbers::first(&space, n));
 }
 
 fn put_line(line: &[u8]) {

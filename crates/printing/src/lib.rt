@@ -1,7 +1,9 @@
 // The printing program's work (paper 01, "Specimens"): a tape is cleared, read and lowered, and what came of it is printed.
 use libc::STDOUT_FILENO;
-use tape_pairs::wide;
-use xsd_clear::Answer;
+use program::print;
+use tape::pairs::wide;
+use xsd_good::clear;
+use xsd_good::clear::Answer;
 ghost use mathlib.Core.Path.{_≡_};
 ghost use Prim.Native.Nat.{_+_, _≤_};
 ghost use lib.ListN.{length, getD};
@@ -27,7 +29,7 @@ pub fn work(
 ) -> Made
     ensures { λ r. ⌜ WorkIs (sheet (now (rows .entry)) (now (names .entry))) (now (text .entry)) (now (marks .entry)) (sheet (now («graph_rows» .entry)) (now («graph_names» .entry))) (now (scratch .entry)) (answered (r .read .number) (r .read .place)) (record { answer = answered (r .lowered .number) (r .lowered .place); graph = sheet (now («graph_rows» .exit)) (now («graph_names» .exit)); scratch = now (scratch .exit) }) (sheet (now (rows .exit)) (now (names .exit))) ⌝ }
 {
-    xsd_clear::clear(rows, names);
+    clear::clear(rows, names);
     let read = xsd_read::read(rows, names, text, marks);
     let lowered = ir_call::lower(rows, names, graph_rows, graph_names, scratch);
     Made { read, lowered }
@@ -50,7 +52,7 @@ fn put_made(made: Made, graph_rows: &[u32], graph_names: &[u8]) {
     if read.number == 0 {
         put_answer(b"lower ", lowered);
         if lowered.number == 0 {
-            sheet_print::put_sheet(graph_rows, graph_names);
+            print::put_sheet(graph_rows, graph_names);
         }
     }
 }

@@ -1,13 +1,11 @@
 -- "From a good sheet no call of the run gives 2." Assumes nothing.
 use Prim.Native.Nat.{ℕ}
-use mathlib.Core.Path.{_≡_, refl, sym, _∙_}
-use mathlib.Core.Bool.{Bool, true, false}
+use mathlib.Core.Path.{_≡_, refl}
+use mathlib.Core.Bool.{true}
 use mathlib.Core.List.{List, [], _∷_}
-use mathlib.Core.Option.{Option, some, none}
 use native.Mathlib.Omega.{arith}
-use lib.Dec.{leb}
 use lib.ListN.{length}
-use Rattle.text.specs.Text.{Text, if_then_else_}
+use Rattle.text.specs.Text.{Text}
 use Rattle.text.proofs.Laws.Tests.{if-cases}
 use Rattle.sheet.specs.Rows.{Sheet}
 use Rattle.sheet.specs.Lengths.{tapeLengths, Lengths, lengthsOf, goodLengths}
@@ -16,10 +14,9 @@ use Rattle.xsd_types.specs.Good.{good}
 use Rattle.xsd_types.specs.Back.{stateOf}
 use Rattle.xsd_parser.specs.Read.{readState}
 use Rattle.xsd_parser.proofs.Laws.Answers.{reading-not-two}
-use Rattle.ir_types.specs.Types.{TypeGraph}
-use Rattle.ir_types.specs.Sheet.{graphFits}
-use Rattle.ir_lower.specs.Lower.{lower, finishedTypes, unknownRow}
-use Rattle.ir_lower.specs.Call.{Lowered, unchanged, cleared, written, lowerState}
+use Rattle.ir_lower.specs.Call.{Lowered, unchanged, cleared, lowerState}
+use Rattle.ir_lower.specs.Outcome.{Outcome}
+use Rattle.ir_lower.proofs.Laws.Outcome.{outcome}
 use Rattle.runs.specs.Runs.{Call, Answered, Held, Stepped, hold, runCalls, answeredFirst, run, readHeld, lowerHeld, heldAfter, refusedWith}
 
 -- the number of an answer
@@ -40,28 +37,18 @@ unfolding readHeld heldAfter refusedWith
 read-not-two lent s text marks =
     if-cases (λ (st : Stepped). st .answer .number ≡ 2 → ⊥) (tapeLengths (length text) (length marks)) (λ t e. reading-not-two lent s text marks e) (λ t e. omega arith)
 
-written-not-two : (g : TypeGraph) (graph : Sheet) (scratch : List ℕ) → written g graph scratch .answer .number ≡ 2 → ⊥
-unfolding written cleared
-written-not-two g graph scratch =
-    if-cases (λ (l : Lowered). l .answer .number ≡ 2 → ⊥) (graphFits (length (graph .rows)) (length (graph .names)) g) (λ t e. omega arith) (λ t e. omega arith)
-
-lowered-not-two : (s : State) (graph : Sheet) (scratch : List ℕ) (o : Option TypeGraph) → (elim o as (λ (x : Option TypeGraph). Lowered) [ none ↦ cleared 13 (unknownRow 2 (s .reader .schema .items)) graph scratch | some g ↦ written g graph scratch ]) .answer .number ≡ 2 → ⊥
-unfolding cleared
-lowered-not-two s graph scratch none e = omega arith
-lowered-not-two s graph scratch (some g) e = written-not-two g graph scratch e
-
-state-not-two : (s : State) (graph : Sheet) (scratch : List ℕ) → lowerState s graph scratch .answer .number ≡ 2 → ⊥
-unfolding lowerState unchanged cleared
-state-not-two s graph scratch =
-    if-cases (λ (l : Lowered). l .answer .number ≡ 2 → ⊥) (leb (finishedTypes (s .reader .schema)) (length scratch))
-    (λ t. if-cases (λ (l : Lowered). l .answer .number ≡ 2 → ⊥) (s .reader .rootSeen)
-    (λ r. lowered-not-two s graph scratch (lower (s .reader .schema))) (λ r e. omega arith))
-    (λ t e. omega arith)
+outcome-not-two : (s : State) (graph : Sheet) (scratch : List ℕ) (l : Lowered) → Outcome s graph scratch l → l .answer .number ≡ 2 → ⊥
+unfolding unchanged cleared
+outcome-not-two s graph scratch l (Outcome.short a e) z = omega (arith, rw e at z)
+outcome-not-two s graph scratch l (Outcome.rootless a b e) z = omega (arith, rw e at z)
+outcome-not-two s graph scratch l (Outcome.unknown a b c e) z = omega (arith, rw e at z)
+outcome-not-two s graph scratch l (Outcome.tight a b g c f e) z = omega (arith, rw e at z)
+outcome-not-two s graph scratch l (Outcome.fitting a b g c f e) z = omega (arith, rw e at z)
 
 lower-not-two : (lent : Lengths) (s : State) (graph : Sheet) (scratch : List ℕ) → lowerHeld (Held.holding lent s) graph scratch .answer .number ≡ 2 → ⊥
 unfolding lowerHeld unchanged
 lower-not-two lent s graph scratch =
-    if-cases (λ (l : Lowered). l .answer .number ≡ 2 → ⊥) (goodLengths (lengthsOf graph)) (λ t. state-not-two s graph scratch) (λ t e. omega arith)
+    if-cases (λ (l : Lowered). l .answer .number ≡ 2 → ⊥) (goodLengths (lengthsOf graph)) (λ t. outcome-not-two s graph scratch (lowerState s graph scratch) (outcome s graph scratch)) (λ t e. omega arith)
 
 -- a reading on a state leaves a state
 pub read-holds : (lent : Lengths) (s : State) (text : Text) (marks : List ℕ) → (s′ : State) × (readHeld (Held.holding lent s) text marks .held ≡ Held.holding lent s′)

@@ -9,6 +9,7 @@ use Rattle.text.specs.Text.{Text, if_then_else_, between}
 use Rattle.sheet.specs.Rows.{Sheet, Ten}
 use Rattle.sheet.specs.Lengths.{tapeLengths, Answer, Lengths, lengthsOf, goodLengths}
 use Rattle.xsd_types.specs.State.{State, proper}
+use Rattle.xsd_types.specs.Row0.{row0From}
 use Rattle.xsd_types.specs.Rows.{row0}
 use Rattle.xsd_types.specs.Sheet.{sheetOf, stateFits}
 use Rattle.xsd_types.specs.Good.{good}
@@ -54,7 +55,7 @@ lower-state lent s graph scratch l p f =
 -- the events done in the sheet of a state
 eventsDone-sheetOf : (lent : Lengths) (s : State) → eventsDone (sheetOf s (lent .rows) (lent .names)) ≡ s .events
 unfolding eventsDone row0
-eventsDone-sheetOf lent s = ap (λ (t : Ten). t .len2) (row0-made s (lent .rows) (lent .names))
+eventsDone-sheetOf lent s = ap (λ (t : Ten). row0From t .events) (row0-made s (lent .rows) (lent .names))
 
 -- what a step leaves: the definition's answer, the refused event's number in the run, and a pair again
 pub record Kept (x : Sheet) (a : ReadAnswer) (st : Stepped) : Type 0 where

@@ -5,15 +5,15 @@ use Prim.Native.Nat.{ℕ}
 use mathlib.Core.List.{List, [], _∷_}
 use Rattle.text.specs.Text.{Text}
 use Rattle.sheet.specs.Rows.{Sheet}
-use Rattle.sheet.specs.Form.{row0Of}
 use Rattle.sheet.specs.Lengths.{Answer}
+use Rattle.xsd_types.specs.Row0.{row0In}
 use Rattle.xsd_parser.specs.Read.{ReadIs}
 use Rattle.ir_lower.specs.Call.{Lowered, LowerIs}
 use Rattle.runs.specs.Runs.{Call, Answered, numberInRun}
 
 -- "Row 0 instead: 0, rows used, names used, context .., nesting, root seen, events done"
 unfoldable pub eventsDone : Sheet → ℕ
-eventsDone x = row0Of x .len2
+eventsDone x = row0In x .events
 
 -- a refused event's number in the run: "Added to events done before the call"
 pub data Trace : Sheet → List Call → List Answered → Sheet → Type 0 where

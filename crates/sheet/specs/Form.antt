@@ -4,7 +4,8 @@
 --     pairForm, rowCovers, covers    the used pairs cover the names from k, unused pairs are 0 0
 --     endOf, covered    where a row's, or a list of rows', pairs end
 --     counted       a row with its texts has as many as it uses
---     row0Of, tensOf    row 0 of a sheet, and the used rows behind it
+--     rowsUsedIn, namesUsedIn    rows used and names used among the ten numbers of row 0
+--     row0Of        row 0 of a sheet as ten numbers; rowsUsedOf, namesUsedOf: what it says is used; tensOf: the used rows behind it
 --     usedParts, zerosBehind    the used parts lie inside the buffers, and behind them all is zero
 use Prim.Native.Nat.{ℕ, _+_, _-_, _*_, _^_}
 use mathlib.Core.List.{List, [], _∷_}
@@ -13,6 +14,7 @@ use lib.Dec.{eqb, leb, ltb}
 use Rattle.text.specs.Text.{if_then_else_, every}
 use lib.ListN.{length, drop}
 use Rattle.sheet.specs.Rows.{Ten, Row, ten, tens, allZero, Sheet}
+use Rattle.sheet.specs.Limits.{rowNumbers}
 use Rattle.sheet.specs.Lengths.{fits}
 
 -- the numbers of a buffer of u32
@@ -49,17 +51,30 @@ covered k (t ∷ ts) = covered (endOf k t) ts
 unfoldable pub counted : (ℕ → ℕ → ℕ) → Row → Bool
 counted usedPairs r = eqb (length (r .texts)) (usedPairs (r .tag) (r .a)) && leb (length (r .texts)) 3
 
--- row 0 of a sheet, and the used rows behind it
+-- row 0 of both sheets begins: "0, rows used, names used"
+abbrev pub rowsUsedIn : Ten → ℕ
+rowsUsedIn z = z .at0
+
+abbrev pub namesUsedIn : Ten → ℕ
+namesUsedIn z = z .len0
+
 unfoldable pub row0Of : Sheet → Ten
 row0Of x = ten (x .rows)
 
-unfoldable pub tensOf : Sheet → List Ten
-tensOf x = tens (row0Of x .at0 - 1) (drop 10 (x .rows))
+abbrev pub rowsUsedOf : Sheet → ℕ
+rowsUsedOf x = rowsUsedIn (row0Of x)
 
--- the used parts lie inside the buffers; rows used counts row 0 and row 1
+abbrev pub namesUsedOf : Sheet → ℕ
+namesUsedOf x = namesUsedIn (row0Of x)
+
+-- rows used counts row 0
+unfoldable pub tensOf : Sheet → List Ten
+tensOf x = tens (rowsUsedOf x - 1) (drop rowNumbers (x .rows))
+
+-- the used parts lie inside the buffers; row 0 and row 1 are always used
 unfoldable pub usedParts : Sheet → Bool
-usedParts x = leb 2 (row0Of x .at0) && fits (row0Of x .at0) (row0Of x .len0) (length (x .rows)) (length (x .names))
+usedParts x = leb 2 (rowsUsedOf x) && fits (rowsUsedOf x) (namesUsedOf x) (length (x .rows)) (length (x .names))
 
 -- "all past the used parts, are zero"
 unfoldable pub zerosBehind : Sheet → Bool
-zerosBehind x = allZero (drop (10 * row0Of x .at0) (x .rows)) && allZero (drop (row0Of x .len0) (x .names))
+zerosBehind x = allZero (drop (rowNumbers * rowsUsedOf x) (x .rows)) && allZero (drop (namesUsedOf x) (x .names))

@@ -9,6 +9,7 @@ use mathlib.Core.Bool.{Bool, _&&_}
 use lib.Dec.{eqb, leb}
 use lib.ListN.{length}
 use Rattle.sheet.specs.Rows.{Sheet}
+use Rattle.sheet.specs.Limits.{rowNumbers}
 
 -- 1: "a rows length not a multiple of 10, below 20 or above 40,960; names above 65,536"
 unfoldable pub sheetLengths : ℕ → ℕ → Bool
@@ -30,7 +31,7 @@ unfoldable pub goodLengths : Lengths → Bool
 goodLengths lent = sheetLengths (lent .rows) (lent .names)
 
 unfoldable pub fits : ℕ → ℕ → ℕ → ℕ → Bool
-fits rowsUsed namesUsed rowsLength namesLength = leb (10 * rowsUsed) rowsLength && leb namesUsed namesLength
+fits rowsUsed namesUsed rowsLength namesLength = leb (rowNumbers * rowsUsed) rowsLength && leb namesUsed namesLength
 
 pub record Answer : Type 0 where
   pub number : ℕ

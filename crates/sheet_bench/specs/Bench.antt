@@ -9,8 +9,8 @@ use lib.Dec.{ltb, leb}
 use lib.ListN.{length}
 use Rattle.text.specs.Text.{Text}
 use Rattle.sheet.specs.Rows.{row}
-use Rattle.xsd_numbers.specs.declared.Used.{Used}
-use Rattle.xsd_append.specs.Append.{Appended}
+use Rattle.xsd_rows.specs.declared.numbers.Used.{Used}
+use Rattle.xsd_rows.specs.Append.{Appended}
 
 unfoldable pub hasRoom : Used → ℕ → ℕ → ℕ → Bool
 hasRoom used rows names text =

@@ -5,19 +5,17 @@ ghost use Rattle.xsd_types.specs.Good.{good};
 ghost use Rattle.xsd_types.specs.Clear.{ClearIs};
 ghost use Rattle.sheet.specs.Calls.{sheet, answered};
 ghost use Rattle.sheet_bench.specs.Bench.{hasRoom, AppendIs};
-use xsd_numbers::RowNumbers;
-use xsd_numbers::Used;
+use xsd_good::clear;
+use xsd_rows::append;
+use xsd_rows::numbers::RowNumbers;
+use xsd_rows::numbers::Used;
 
 // 1 where the sheet is good, else 0.
 #[no_mangle]
 pub extern "C" fn sheet_bench_is_good(rows: &[u32], names: &[u8]) -> u32
     ensures { λ r. ⌜ r ≡ bit (good (sheet (now (rows .entry)) (now (names .entry)))) ⌝ }
 {
-    if xsd_sheet::is_good(rows, names) {
-        1
-    } else {
-        0
-    }
+    if xsd_good::is_good(rows, names) { 1 } else { 0 }
 }
 
 // Clears a sheet and gives the number; the place is stored.
@@ -25,7 +23,7 @@ pub extern "C" fn sheet_bench_is_good(rows: &[u32], names: &[u8]) -> u32
 pub extern "C" fn sheet_bench_clear(rows: &mut [u32], names: &mut [u8], place: &mut usize) -> u32
     ensures { λ r. ⌜ ClearIs (sheet (now (rows .entry)) (now (names .entry))) (answered r (now (place .exit))) (sheet (now (rows .exit)) (now (names .exit))) ⌝ }
 {
-    let answer = xsd_clear::clear(rows, names);
+    let answer = clear::clear(rows, names);
     *place = answer.place;
     answer.number
 }
@@ -64,7 +62,7 @@ pub extern "C" fn sheet_bench_append(
         b: 0,
         c: 0,
     };
-    let next = xsd_append::append(rows, names, used, numbers, text, b"", 1);
+    let next = append::append(rows, names, used, numbers, text, b"", 1);
     *rows_used = next.rows;
     *names_used = next.names;
     1

@@ -3,8 +3,10 @@
 use builtin::Builtin;
 use libc::STDOUT_FILENO;
 use names::Written;
+use names::snake;
 use number::U32;
 use number::U64;
+use program::lines;
 
 // The text in quotes.
 fn put_quoted(t: &[u8]) {

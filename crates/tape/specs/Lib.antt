@@ -1,3 +1,5 @@
--- The definitions of the crate `tape`: Answers says what the code's enum says in the terms of xsd_parser's Tape and Event.
+-- The definitions of the crate `tape`, those below before those above. The head of each file says what it holds.
+pub mod Pairs
+pub mod Lookup
+pub mod Marks
 pub mod Answers
-pub mod Unfold

@@ -1,12 +1,25 @@
-// The tape (paper 01, "Tape"): a record at a place of the marks, judged for the refusals 3, 4 and 5.
+// The tape (paper 01, "Tape"): a record at a place of the marks, judged for 3 (`form`), 4 and 5 (`tests`). `pairs`: the parts of the text
+// under its pairs; `attributes`: a tag compared with a word, and its lookups; `view`: the event view.
+pub mod attributes;
+pub mod form;
+pub mod pairs;
+pub mod tests;
+pub mod view;
+
+use sheet::refusal::Refusal;
+use xsd_parser::kinds;
 ghost use mathlib.Core.Path.{_≡_};
+ghost use mathlib.Core.Bool.{true};
 ghost use Prim.Native.Nat.{_+_, _*_, _≤_};
 ghost use lib.ListN.{length};
+ghost use Rattle.text.specs.Text.{isText};
+ghost use Rattle.sheet.specs.Limits.{attributesLimit};
+ghost use Rattle.xsd_parser.specs.Kinds.{closeKind};
 ghost use Rattle.xsd_parser.specs.Tape.{pairCount};
 ghost use Rattle.tape.specs.Answers.{RecordAt, TagAnswer};
 
-// An accepted start (kind 1) or empty tag (kind 2): its number of attributes, where its pairs start in the marks (the first is the
-// name's) and where the next record starts.
+// An accepted record: kind 1 a start, 2 an empty tag, 3 a close, which has no attributes; its number of attributes, where its pairs
+// start in the marks (the first is the name's) and where the next record starts.
 pub struct TagRecord {
     pub kind: u32,
     pub count: usize,
@@ -14,30 +27,29 @@ pub struct TagRecord {
     pub next: usize,
 }
 
-// What stands at a place of the marks: nothing, a record that is refused with a number, a close, or a tag. A close holds where the
-// next record starts.
+// What stands at a place of the marks: nothing, a record that is refused, or an event's.
 pub enum Record {
     End,
-    Bad(u32),
-    Close(usize),
-    Tag(TagRecord),
+    Bad(Refusal),
+    Event(TagRecord),
 }
 
 // A record of a good form that is a tag: judged for 4 over all its pairs, then for 5.
-fn tag_at(text: &[u8], marks: &[u32], at: usize, kind: u32, count: usize) -> Record
-    requires { ⌜ (count ≤ 32) × (at + 2 + 2 * pairCount count ≤ length (now marks)) ⌝ }
+fn tag_at(text: &[u8], marks: &[u32], at: usize, kind: u32, count: usize, plain: bool) -> Record
+    requires { ⌜ (kind ≡ closeKind → ⊥) × (count ≤ attributesLimit) × (at + 2 + 2 * pairCount count ≤ length (now marks)) ⌝ }
+    requires { ⌜ (plain ≡ true → isText (now text) ≡ true) ⌝ }
     ensures { λ r. ⌜ TagAnswer (now (text .entry)) (now (marks .entry)) at kind count r ⌝ }
 {
     let pairs = at + 2;
     let n = 1 + 2 * count;
-    if !pair_tests::pairs_inside(text.len(), marks, pairs, n) {
-        return Record::Bad(4);
+    if !tests::pairs_inside(text.len(), marks, pairs, n) {
+        return Record::Bad(Refusal::BadPair);
     }
-    if !pair_tests::pairs_ascii(text, marks, pairs, n) {
-        return Record::Bad(5);
+    if !tests::pairs_ascii(text, marks, pairs, n, plain) {
+        return Record::Bad(Refusal::NotAscii);
     }
     let next = pairs + 2 * n;
-    Record::Tag(TagRecord {
+    Record::Event(TagRecord {
         kind,
         count,
         pairs,
@@ -45,8 +57,10 @@ fn tag_at(text: &[u8], marks: &[u32], at: usize, kind: u32, count: usize) -> Rec
     })
 }
 
-// The record at a place of the marks, judged as a whole for 3, then 4, then 5.
-pub fn record_at(text: &[u8], marks: &[u32], at: usize) -> Record
+// The record at a place of the marks, judged as a whole for 3, then 4, then 5. Where `plain` says that the whole text was judged before,
+// no byte is read for 5.
+pub fn record_at(text: &[u8], marks: &[u32], at: usize, plain: bool) -> Record
+    requires { ⌜ (plain ≡ true → isText (now text) ≡ true) ⌝ }
     ensures { λ r. ⌜ RecordAt (now (text .entry)) (now (marks .entry)) at r ⌝ }
 {
     if marks.len() <= at {
@@ -54,15 +68,21 @@ pub fn record_at(text: &[u8], marks: &[u32], at: usize) -> Record
     }
     let left = marks.len() - at;
     if left < 2 {
-        return Record::Bad(3);
+        return Record::Bad(Refusal::BadRecord);
     }
     let kind = marks[at];
-    let count = tape_pairs::wide(marks[at + 1]);
-    if !record_form::has_form(kind, count, left - 2) {
-        return Record::Bad(3);
+    let count = pairs::wide(marks[at + 1]);
+    if !form::has_form(kind, count, left - 2) {
+        return Record::Bad(Refusal::BadRecord);
     }
-    if kind == 3 {
-        return Record::Close(at + 2);
+    if kind == kinds::CLOSE {
+        let next = at + 2;
+        return Record::Event(TagRecord {
+            kind: kinds::CLOSE,
+            count: 0,
+            pairs: next,
+            next,
+        });
     }
-    tag_at(text, marks, at, kind, count)
+    tag_at(text, marks, at, kind, count, plain)
 }

@@ -1,5 +1,4 @@
--- Laws of the definitions in specs/ and of lists: Tests of tests, Texts of texts, Every of tests over lists, Local of local names, Table of a rule over a
--- table and of a part of a list.
+-- Laws of the definitions in specs/ and of those that they cite, those below before those above. The head of each file says what it holds.
 pub mod Tests
 pub mod Texts
 pub mod Every

@@ -13,6 +13,7 @@
 --     first         the first byte, 0 where there is none: 0 is no letter
 --     same          the two texts are equal
 --     is            the text is the quoted word
+--     colon         the byte of the colon
 --     localName     the part after the last colon (000, `local_name`)
 --     startsAt      where a part starts in a buffer; LocalPart: a part of a name that is its local name
 use Prim.Native.Nat.{ℕ, _+_, _-_}
@@ -100,10 +101,13 @@ unfoldable pub afterLast : ℕ → Text → Text → Text
 afterLast c kept [] = kept
 afterLast c kept (b ∷ s) = afterLast c (if eqb b c then s else kept) s
 
+abbrev pub colon : ℕ
+colon = code ":"
+
 -- "Tag names and attribute keys are compared after their last colon."
 -- 000: name.rfind(':').map_or(name, |pos| &name[pos + 1..]). Namespaces in XML 1.0, section 4: the LocalPart of a QName.
 unfoldable pub localName : Text → Text
-localName name = afterLast (code ":") name name
+localName name = afterLast colon name name
 
 -- a part starts `at` bytes behind the start of a buffer; a place in memory is a block and an offset in it
 abbrev pub startsAt : ℕ × ℕ → ℕ → ℕ × ℕ → Type 0

@@ -1,6 +1,9 @@
-// Texts: which bytes they may have, a byte of a text, equality, the local name.
+// Texts: which bytes they may have, a byte of a text, equality, the local name. `ascii`: the classes and the case of letters.
+pub mod ascii;
+
 ghost use mathlib.Core.Path.{_≡_};
-ghost use Rattle.text.specs.Text.{isText, contains, first, same, LocalPart};
+ghost use mathlib.Core.Bool.{false};
+ghost use Rattle.text.specs.Text.{isText, contains, first, same, colon, localName, LocalPart};
 ghost use lib.ListN.{drop};
 
 // Whether all bytes of s may stand in a text.
@@ -66,4 +69,24 @@ pub fn local_name(name: &[u8]) -> &[u8]
         i += 1;
     }
     &name[start..]
+}
+
+// Whether the local name of a part is the word, which has no colon: no local name is made.
+pub fn local_is(part: &[u8], word: &[u8]) -> bool
+    requires { ⌜ contains colon (now word) ≡ false ⌝ }
+    ensures { λ r. ⌜ r ≡ same (localName (now (part .entry))) (now (word .entry)) ⌝ }
+{
+    let n = part.len();
+    let k = word.len();
+    if n < k {
+        return false;
+    }
+    let start = n - k;
+    if !same_text(&part[start..], word) {
+        return false;
+    }
+    if start == 0 {
+        return true;
+    }
+    part[start - 1] == b':'
 }

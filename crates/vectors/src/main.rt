@@ -1,6 +1,8 @@
 // Replays the vectors: for each line of the input the answers of the text leaves, one line each.
 // The file stdout beside this holds the answers of the Rust (compare/VECTORS.md).
 use libc::STDOUT_FILENO;
+use names::same;
+use names::snake;
 ghost use Prim.Native.Nat.{_≤_};
 ghost use lib.ListN.{length};
 use names::Written;
@@ -72,7 +74,7 @@ fn put_line(before: &[u8], line: &[u8]) {
         builtin::reference_number(builtin::map_builtin(line)) as u64,
     );
     put_names(line, &mut space);
-    let same = same_names::same_normalized(before, line);
+    let same = same::same_normalized(before, line);
     if same {
         io::write_all(STDOUT_FILENO, b" same=1\n");
     } else {

@@ -10,10 +10,10 @@ use Rattle.text.specs.Text.{Text}
 use Rattle.sheet.specs.Rows.{Row, namesOf}
 use Rattle.sheet.specs.Lengths.{fits}
 use Rattle.xsd_parser.specs.Handlers.{Outcome, ok}
-use Rattle.xsd_numbers.specs.declared.Used.{Used}
-use Rattle.xsd_row.specs.Packing.{Holds}
+use Rattle.xsd_rows.specs.declared.numbers.Used.{Used}
+use Rattle.xsd_rows.specs.Packing.{Holds}
 use Rattle.xsd_actions.specs.Actions.{Action, Fitting}
-use Rattle.xsd_needs.specs.Ready.{Ready, rowsAfterAll}
+use Rattle.xsd_act.specs.Ready.{Ready, rowsAfterAll}
 
 pub record ActRoom (rows names : List ℕ) (used : Used) (head : ℕ) (o : Outcome Action) : Type 0 where
   pub z : List ℕ

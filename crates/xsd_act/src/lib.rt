@@ -1,17 +1,38 @@
-// What was decided for an event, done to a schema sheet: by the writer of a row, of the open type's
-// head, or of a text.
+// What was decided for an event, done to a schema sheet: by the writer of a row, of the open type's head, or of a text. `needs`: the rows and
+// names used after it; `put`: the writers by places in the marks.
+pub mod needs;
+pub mod put;
+
+use crate::put::TextPlace;
+use crate::put::TypeHead;
+use crate::put::add_row;
+use crate::put::open_type;
+use crate::put::put_content;
+use crate::put::put_text;
 use xsd_actions::Decision;
-use xsd_facets::append_characters;
-use xsd_facets::append_digits;
-use xsd_numbers::Used;
-use xsd_put::add_row;
-use xsd_put::open_type;
-use xsd_put::put_content;
-use xsd_put::put_text;
+use xsd_rows::facets::append_characters;
+use xsd_rows::facets::append_digits;
+use xsd_rows::numbers::Used;
+use xsd_types::tags;
 ghost use Prim.Native.Nat.{_≤_};
 ghost use lib.ListN.{length};
+ghost use Rattle.sheet.specs.Limits.{namesLimit};
 ghost use Rattle.xsd_actions.specs.Answers.{decision};
 ghost use Rattle.xsd_act.specs.Acts.{ActRoom, Done};
+
+// The target namespace: the first text of row 1.
+const NAMESPACE: TextPlace = TextPlace { row: 1, pair: 0 };
+
+// The head of a type without its content: a simple type's has a base that is still empty.
+const SIMPLE: TypeHead = TypeHead {
+    tag: tags::SIMPLE_TYPE,
+    pairs: 2,
+};
+
+const COMPLEX: TypeHead = TypeHead {
+    tag: tags::NO_CONTENT,
+    pairs: 1,
+};
 
 // Does what was decided to the sheet.
 pub fn act(
@@ -24,19 +45,22 @@ pub fn act(
     marks: &[u32],
 ) -> Used
     requires room { ⌜ ActRoom (now rows) (now names) used head (decision (now text) (now marks) d) ⌝ }
-    requires names { ⌜ length (now names) ≤ 65536 ⌝ }
+    requires names { ⌜ length (now names) ≤ namesLimit ⌝ }
     ensures { λ r. ⌜ Done (now (rows .entry)) (now (names .entry)) used head (decision (now (text .entry)) (now (marks .entry)) d) (now (rows .exit)) (now (names .exit)) r ⌝ }
 {
     match d {
         Decision::Refuse(_) => used,
         Decision::Keep => used,
-        Decision::Root(at) => put_text(rows, names, used, 1, 0, text, marks, at),
-        Decision::OpenSimple(at) => open_type(rows, names, used, 3, 2, text, marks, at),
-        Decision::OpenComplex(at) => open_type(rows, names, used, 16, 1, text, marks, at),
+        Decision::Root(at) => put_text(rows, names, used, NAMESPACE, text, marks, at),
+        Decision::OpenSimple(at) => open_type(rows, names, used, SIMPLE, text, marks, at),
+        Decision::OpenComplex(at) => open_type(rows, names, used, COMPLEX, text, marks, at),
         Decision::Add(n) => add_row(rows, names, used, n, text, marks),
         Decision::Characters(f) => append_characters(rows, names, used, f.tag, f.count),
         Decision::Digits(f) => append_digits(rows, names, used, f.tag, f.count),
         Decision::Content(n) => put_content(rows, names, used, head, n, text, marks),
-        Decision::Base(at) => put_text(rows, names, used, head, 1, text, marks, at),
+        Decision::Base(at) => {
+            let base = TextPlace { row: head, pair: 1 };
+            put_text(rows, names, used, base, text, marks, at)
+        }
     }
 }

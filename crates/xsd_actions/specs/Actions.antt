@@ -14,6 +14,8 @@ use mathlib.Core.Bool.{Bool, true, false, _&&_}
 use lib.Dec.{eqb, leb}
 use Rattle.text.specs.Text.{Text, if_then_else_}
 use Rattle.sheet.specs.Rows.{Row, row}
+use Rattle.xsd_types.specs.Tags.{simpleTypeTag, sequenceTag, choiceTag, simpleContentTag, anyTag, noContentTag}
+use Rattle.xsd_types.specs.Contexts.{noneContext, schemaContext, simpleTypeContext, complexTypeContext}
 use Rattle.xsd_types.specs.State.{ComplexContentBuilder, Context, Reader}
 use Rattle.xsd_types.specs.Rows.{headC, itemsRows, contextRows, contextNumber, nesting, extensionFlag}
 use Rattle.xsd_parser.specs.Event.{Event}
@@ -29,16 +31,16 @@ modeOf r =
     }
 
 unfoldable pub contentTag : ComplexContentBuilder → ℕ
-contentTag ComplexContentBuilder.empty = 16
-contentTag (ComplexContentBuilder.sequence es) = 12
-contentTag (ComplexContentBuilder.choice vs) = 13
-contentTag (ComplexContentBuilder.simpleContent base xs flag) = 14
-contentTag (ComplexContentBuilder.any n) = 15
+contentTag ComplexContentBuilder.empty = noContentTag
+contentTag (ComplexContentBuilder.sequence es) = sequenceTag
+contentTag (ComplexContentBuilder.choice vs) = choiceTag
+contentTag (ComplexContentBuilder.simpleContent base xs flag) = simpleContentTag
+contentTag (ComplexContentBuilder.any n) = anyTag
 
 unfoldable pub headTag : Context → ℕ
 headTag Context.noContext = 0
 headTag Context.inSchema = 0
-headTag (Context.inSimpleType t) = 3
+headTag (Context.inSimpleType t) = simpleTypeTag
 headTag (Context.inComplexType t) = contentTag (t .content)
 
 unfoldable pub behind : Reader → List Row
@@ -56,9 +58,9 @@ pub data Action : Type 0 where
 -- "only a start enters context 1"; "start `simpleType` or `complexType` .. opens a type"
 unfoldable pub contextAfter : Bool → Action → ℕ → ℕ
 contextAfter start Action.keep context = context
-contextAfter start (Action.root n) context = if start then 1 else context
-contextAfter start (Action.openSimple n) context = 2
-contextAfter start (Action.openComplex n) context = 3
+contextAfter start (Action.root n) context = if start then schemaContext else context
+contextAfter start (Action.openSimple n) context = simpleTypeContext
+contextAfter start (Action.openComplex n) context = complexTypeContext
 contextAfter start (Action.add r) context = context
 contextAfter start (Action.content tag more a) context = context
 contextAfter start (Action.base v) context = context
@@ -80,14 +82,14 @@ flagAfter (Action.openSimple n) context flag = flag
 flagAfter (Action.openComplex n) context flag = flag
 flagAfter (Action.add r) context flag = flag
 flagAfter (Action.content tag more a) context flag = false
-flagAfter (Action.base v) context flag = eqb context 3
+flagAfter (Action.base v) context flag = eqb context complexTypeContext
 
 -- "each start raises nesting", in the contexts 2 and 3
 unfoldable pub tagMode : Bool → Action → Mode → Mode
 tagMode start a m =
     record {
       context = contextAfter start a (m .context);
-      nesting = if start && leb 2 (m .context) then suc (m .nesting) else m .nesting;
+      nesting = if start && leb simpleTypeContext (m .context) then suc (m .nesting) else m .nesting;
       «root_seen» = rootAfter a (m .«root_seen»);
       extension = flagAfter a (m .context) (m .extension);
     }
@@ -95,10 +97,10 @@ tagMode start a m =
 -- "A close lowers nesting, or at 0 finishes the type, flag 0, and returns to context 1." "Any close leads to context 0."
 unfoldable pub closeMode : Mode → Mode
 closeMode m =
-    if leb (m .context) 1
-    then record { context = 0; nesting = m .nesting; «root_seen» = m .«root_seen»; extension = m .extension }
+    if leb (m .context) schemaContext
+    then record { context = noneContext; nesting = m .nesting; «root_seen» = m .«root_seen»; extension = m .extension }
     else if eqb (m .nesting) 0
-    then record { context = 1; nesting = 0; «root_seen» = m .«root_seen»; extension = false }
+    then record { context = schemaContext; nesting = 0; «root_seen» = m .«root_seen»; extension = false }
     else record { context = m .context; nesting = m .nesting - 1; «root_seen» = m .«root_seen»; extension = m .extension }
 
 unfoldable pub modeAfter : Event → Action → Mode → Mode
@@ -130,10 +132,10 @@ baseWith v [] = []
 baseWith v (r ∷ kids) = row (r .tag) (firstText (r .texts) ∷ v ∷ []) (r .a) (r .b) (r .c) ∷ kids
 
 unfoldable pub openSimpleRow : Text → Row
-openSimpleRow name = row 3 (name ∷ [] ∷ []) 0 0 headC
+openSimpleRow name = row simpleTypeTag (name ∷ [] ∷ []) 0 0 headC
 
 unfoldable pub openComplexRow : Text → Row
-openComplexRow name = row 16 (name ∷ []) 0 0 headC
+openComplexRow name = row noContentTag (name ∷ []) 0 0 headC
 
 -- the rows behind row 1, of which `last` are the open type's
 unfoldable pub rowsAfter : Action → List Row → List Row → List Row
@@ -179,5 +181,5 @@ pub record Acted (e : Event) (r : Reader) (a : Action) (r′ : Reader) : Type 0 
   pub mode : modeOf r′ ≡ modeAfter e a (modeOf r)
   pub namespace : r′ .schema .targetNamespace ≡ namespaceAfter a (r .schema .targetNamespace)
   pub rows : behind r′ ≡ rowsAfter a (itemsRows (r .schema .items)) (contextRows (r .context))
-  pub items : 2 ≤ contextNumber (r′ .context) → r′ .schema .items ≡ r .schema .items
+  pub items : simpleTypeContext ≤ contextNumber (r′ .context) → r′ .schema .items ≡ r .schema .items
   pub fitting : Fitting a (contextRows (r .context))

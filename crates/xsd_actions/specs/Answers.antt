@@ -4,11 +4,12 @@
 use Prim.Native.Nat.{ℕ, _%_, _/_, _^_}
 use mathlib.Core.List.{List, [], _∷_}
 use Rattle.text.specs.Text.{Text, if_then_else_}
+use Rattle.sheet.specs.Returned.{refusalNumber}
 use Rattle.sheet.specs.Rows.{Row, row}
 use Rattle.xsd_parser.specs.Tape.{pairText}
 use Rattle.xsd_parser.specs.Handlers.{Outcome, ok, refuse}
-use Rattle.tape_pairs.specs.Pairs.{pairAt}
-use Rattle.xsd_texts.specs.Texts.{usedTexts}
+use Rattle.tape.specs.Pairs.{pairAt}
+use Rattle.xsd_rows.specs.Texts.{usedTexts}
 use Rattle.xsd_actions.specs.declared.NewRow.{NewRow}
 use Rattle.xsd_actions.specs.declared.NewContent.{NewContent}
 use Rattle.xsd_actions.specs.declared.Decision.{Decision}
@@ -25,7 +26,7 @@ unfoldable pub following : Text → List ℕ → NewContent → List Text
 following text marks n = if n .follows then textAtMark text marks (n .second) ∷ [] else []
 
 unfoldable pub decision : Text → List ℕ → Decision → Outcome Action
-decision text marks (Decision.Refuse n) = refuse n
+decision text marks (Decision.Refuse r) = refuse (refusalNumber r)
 decision text marks Decision.Keep = ok Action.keep
 decision text marks (Decision.Root at) = ok (Action.root (textAtMark text marks at))
 decision text marks (Decision.OpenSimple at) = ok (Action.openSimple (textAtMark text marks at))

@@ -11,6 +11,8 @@ use lib.Dec.{eqb}
 use Rattle.text.specs.Text.{Text, if_then_else_}
 use Rattle.number.specs.Number.{number}
 use Rattle.sheet.specs.Rows.{Row, row}
+use Rattle.xsd_types.specs.Tags.{elementTag, sequenceTag, choiceTag, simpleContentTag, anyTag, noContentTag}
+use Rattle.xsd_types.specs.Contexts.{noneContext, schemaContext, simpleTypeContext}
 use Rattle.xsd_types.specs.Types.{Facet}
 use Rattle.xsd_types.specs.State.{Reader}
 use Rattle.xsd_types.specs.Rows.{headC, facetRow, occursRow, variantRow, attributeRow}
@@ -30,7 +32,7 @@ unfoldable pub named : Tag → (Text → Text → Row) → Action
 named t f = typed (attrValue t "name") (attrValue t "type") f
 
 unfoldable pub topElement : Tag → Action
-topElement t = named t (λ name typeName. row 2 (name ∷ typeName ∷ []) 0 0 headC)
+topElement t = named t (λ name typeName. row elementTag (name ∷ typeName ∷ []) 0 0 headC)
 
 unfoldable pub rootFound : Tag → Action
 rootFound t = if tagIs t "schema" then Action.root (orEmpty (attrValue t "targetNamespace")) else Action.keep
@@ -49,8 +51,8 @@ occursAdded t (some name) (some typeName) =
 
 unfoldable pub elementInside : Tag → ℕ → Outcome Action
 elementInside t head =
-    if eqb head 12 then occursAdded t (attrValue t "name") (attrValue t "type") else
-    if eqb head 13 then ok (named t (λ name typeName. variantRow (record { name = name; typeName = typeName }))) else ok Action.keep
+    if eqb head sequenceTag then occursAdded t (attrValue t "name") (attrValue t "type") else
+    if eqb head choiceTag then ok (named t (λ name typeName. variantRow (record { name = name; typeName = typeName }))) else ok Action.keep
 
 -- 000, `on_attribute_inside_complex`
 unfoldable pub attributeInside : Tag → Bool → Action
@@ -72,12 +74,12 @@ startInSimpleType t depth = if eqb depth 1 && tagIs t "restriction" then baseSet
 
 unfoldable pub contentStart : Tag → Action
 contentStart t =
-    if tagIs t "sequence" then Action.content 12 [] 0 else
-    if tagIs t "choice" then Action.content 13 [] 0 else
-    if tagIs t "simpleContent" then Action.content 14 ([] ∷ []) 0 else Action.keep
+    if tagIs t "sequence" then Action.content sequenceTag [] 0 else
+    if tagIs t "choice" then Action.content choiceTag [] 0 else
+    if tagIs t "simpleContent" then Action.content simpleContentTag ([] ∷ []) 0 else Action.keep
 
 unfoldable pub extended : Tag → ℕ → Action
-extended t head = if eqb head 14 then baseSet t else Action.keep
+extended t head = if eqb head simpleContentTag then baseSet t else Action.keep
 
 unfoldable pub startAtTwo : Tag → ℕ → Outcome Action
 startAtTwo t head =
@@ -92,9 +94,9 @@ startInComplexType t depth head =
 -- the nesting is counted after the raise, as in 000
 unfoldable pub decidedStart : Tag → Mode → ℕ → Outcome Action
 decidedStart t m head =
-    if eqb (m .context) 0 then ok (rootFound t) else
-    if eqb (m .context) 1 then startInSchema t else
-    if eqb (m .context) 2 then ok (startInSimpleType t (suc (m .nesting))) else startInComplexType t (suc (m .nesting)) head
+    if eqb (m .context) noneContext then ok (rootFound t) else
+    if eqb (m .context) schemaContext then startInSchema t else
+    if eqb (m .context) simpleTypeContext then ok (startInSimpleType t (suc (m .nesting))) else startInComplexType t (suc (m .nesting)) head
 
 -- ---- on_empty
 
@@ -115,8 +117,8 @@ emptyInSimpleType t =
     if tagIs t "fractionDigits" then onParsed (number 32 v) (λ n. facetAdded (Facet.fractionDigits n)) else ok Action.keep
 
 unfoldable pub anyContent : Option Text → Action
-anyContent none = Action.content 15 [] 0
-anyContent (some n) = Action.content 15 (n ∷ []) 1
+anyContent none = Action.content anyTag [] 0
+anyContent (some n) = Action.content anyTag (n ∷ []) 1
 
 unfoldable pub emptyInComplexType : Tag → Bool → ℕ → Outcome Action
 emptyInComplexType t flag head =
@@ -126,15 +128,15 @@ emptyInComplexType t flag head =
 
 unfoldable pub decidedEmpty : Tag → Mode → ℕ → Outcome Action
 decidedEmpty t m head =
-    if eqb (m .context) 0 then ok (rootFound t) else
-    if eqb (m .context) 1 then ok (if tagIs t "element" then topElement t else Action.keep) else
-    if eqb (m .context) 2 then emptyInSimpleType t else emptyInComplexType t (m .extension) head
+    if eqb (m .context) noneContext then ok (rootFound t) else
+    if eqb (m .context) schemaContext then ok (if tagIs t "element" then topElement t else Action.keep) else
+    if eqb (m .context) simpleTypeContext then emptyInSimpleType t else emptyInComplexType t (m .extension) head
 
 -- ---- on_end
 
 -- "Content still absent at the close becomes 15 with a = 0."
 unfoldable pub decidedClose : Mode → ℕ → Action
-decidedClose m head = if eqb head 16 && eqb (m .nesting) 0 then Action.content 15 [] 0 else Action.keep
+decidedClose m head = if eqb head noContentTag && eqb (m .nesting) 0 then Action.content anyTag [] 0 else Action.keep
 
 unfoldable pub decided : Event → Mode → ℕ → Outcome Action
 decided (Event.start t) m head = decidedStart t m head

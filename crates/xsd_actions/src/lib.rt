@@ -1,6 +1,7 @@
 // What an event does to a schema sheet: the reader's mode, and the decisions, whose texts are given by places in the marks.
 use number::CharacterCount;
 use number::DigitCount;
+use sheet::refusal::Refusal;
 
 // What the handlers go by, beside the open head: the context, nesting, root seen and extension flag of row 0.
 pub struct Mode {
@@ -42,7 +43,7 @@ pub struct NewContent {
 
 // What is to be done for an event. Texts are given by the places of their pairs in the marks; past the end is the empty text.
 pub enum Decision {
-    Refuse(u32),
+    Refuse(Refusal),
     Keep,
     Root(usize),
     OpenSimple(usize),

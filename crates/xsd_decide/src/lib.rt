@@ -1,35 +1,44 @@
-// What an event decides, by the mode and the tag of the open head: 000, `on_start`, `on_empty` and `on_end`.
+// What an event decides, by the mode and the tag of the open head: 000, `on_start`, `on_empty` and `on_end`. `values`: what a tag says;
+// `rows`: decisions that several handlers share; `simple`, `complex`: inside a simple, a complex type.
+pub mod complex;
+pub mod rows;
+pub mod simple;
+pub mod values;
+
 ghost use mathlib.Core.Path.{_≡_};
 ghost use mathlib.Core.List.{List};
 ghost use Prim.Native.Nat.{ℕ};
-ghost use Rattle.text.specs.Text.{Text, localName};
+ghost use Rattle.text.specs.Text.{Text};
 ghost use Rattle.xsd_parser.specs.Handlers.{ok, requireName};
-ghost use Rattle.tape_pairs.specs.Pairs.{tagAt};
+ghost use Rattle.tape.specs.Pairs.{tagAt};
 ghost use Rattle.xsd_actions.specs.Answers.{decision};
 ghost use Rattle.xsd_actions.specs.Decided.{rootFound, startInSchema, decidedStart, decidedEmpty, decidedClose};
-ghost use Rattle.xsd_values.specs.Reads.{recordTag};
+ghost use Rattle.xsd_decide.specs.Reads.{recordTag};
 ghost use Rattle.xsd_decide.specs.Schema.{openedAs, emptyInSchema};
-use attributes::Found;
-use event_view::attribute;
+use crate::complex::empty_in_complex_type;
+use crate::complex::start_in_complex_type;
+use crate::rows::content_alone;
+use crate::rows::top_element;
+use crate::simple::empty_in_simple_type;
+use crate::simple::start_in_simple_type;
+use crate::values::raw_name;
+use crate::values::value_place;
+use sheet::refusal::Refusal;
 use tape::TagRecord;
-use text::same_text;
+use tape::attributes::Found;
+use tape::view::attribute;
+use text::local_is;
 use xsd_actions::Decision;
 use xsd_actions::Mode;
-use xsd_decide_complex::empty_in_complex_type;
-use xsd_decide_complex::start_in_complex_type;
-use xsd_decide_rows::content_alone;
-use xsd_decide_rows::top_element;
-use xsd_decide_simple::empty_in_simple_type;
-use xsd_decide_simple::start_in_simple_type;
-use xsd_values::tag_name;
-use xsd_values::value_place;
+use xsd_types::contexts;
+use xsd_types::tags;
 
 // A schema tag sets the namespace anew.
 fn root_found(text: &[u8], marks: &[u32], t: TagRecord, name: &[u8]) -> Decision
-    requires { ⌜ now name ≡ localName (recordTag (now text) (now marks) t .name) ⌝ }
+    requires { ⌜ now name ≡ recordTag (now text) (now marks) t .name ⌝ }
     ensures { λ r. ⌜ decision (now (text .entry)) (now (marks .entry)) r ≡ ok (rootFound (recordTag (now (text .entry)) (now (marks .entry)) t)) ⌝ }
 {
-    if same_text(name, b"schema") {
+    if local_is(name, b"schema") {
         return Decision::Root(value_place(text, marks, t, b"targetNamespace"));
     }
     Decision::Keep
@@ -40,7 +49,7 @@ fn open_type(text: &[u8], marks: &[u32], t: TagRecord, simple: bool) -> Decision
     ensures { λ r. ⌜ decision (now (text .entry)) (now (marks .entry)) r ≡ requireName (recordTag (now (text .entry)) (now (marks .entry)) t) (openedAs simple) ⌝ }
 {
     let Found::At(i) = attribute(text, marks, t.pairs, t.count, b"name") else {
-        return Decision::Refuse(9);
+        return Decision::Refuse(Refusal::MissingAttribute);
     };
     if simple {
         return Decision::OpenSimple(i);
@@ -50,16 +59,16 @@ fn open_type(text: &[u8], marks: &[u32], t: TagRecord, simple: bool) -> Decision
 
 // A start at the top level opens a type or is an element.
 fn start_in_schema(text: &[u8], marks: &[u32], t: TagRecord, name: &[u8]) -> Decision
-    requires { ⌜ now name ≡ localName (recordTag (now text) (now marks) t .name) ⌝ }
+    requires { ⌜ now name ≡ recordTag (now text) (now marks) t .name ⌝ }
     ensures { λ r. ⌜ decision (now (text .entry)) (now (marks .entry)) r ≡ startInSchema (recordTag (now (text .entry)) (now (marks .entry)) t) ⌝ }
 {
-    if same_text(name, b"simpleType") {
+    if local_is(name, b"simpleType") {
         return open_type(text, marks, t, true);
     }
-    if same_text(name, b"complexType") {
+    if local_is(name, b"complexType") {
         return open_type(text, marks, t, false);
     }
-    if same_text(name, b"element") {
+    if local_is(name, b"element") {
         return top_element(text, marks, t);
     }
     Decision::Keep
@@ -67,44 +76,44 @@ fn start_in_schema(text: &[u8], marks: &[u32], t: TagRecord, name: &[u8]) -> Dec
 
 // An empty tag at the top level: only an element counts.
 fn empty_in_schema(text: &[u8], marks: &[u32], t: TagRecord, name: &[u8]) -> Decision
-    requires { ⌜ now name ≡ localName (recordTag (now text) (now marks) t .name) ⌝ }
+    requires { ⌜ now name ≡ recordTag (now text) (now marks) t .name ⌝ }
     ensures { λ r. ⌜ decision (now (text .entry)) (now (marks .entry)) r ≡ ok (emptyInSchema (recordTag (now (text .entry)) (now (marks .entry)) t)) ⌝ }
 {
-    if same_text(name, b"element") {
+    if local_is(name, b"element") {
         return top_element(text, marks, t);
     }
     Decision::Keep
 }
 
-// What a start tag decides. Its local name is taken once.
+// What a start tag decides.
 pub fn on_start(text: &[u8], marks: &[u32], t: TagRecord, m: Mode, head: u32) -> Decision
     ensures { λ r. ⌜ decision (now (text .entry)) (now (marks .entry)) r ≡ decidedStart (tagAt (now (text .entry)) (now (marks .entry)) (t .pairs) (t .count)) m head ⌝ }
 {
-    let name = tag_name(text, marks, t);
-    if m.context == 0 {
+    let name = raw_name(text, marks, t);
+    if m.context == contexts::NONE {
         return root_found(text, marks, t, name);
     }
-    if m.context == 1 {
+    if m.context == contexts::SCHEMA {
         return start_in_schema(text, marks, t, name);
     }
-    if m.context == 2 {
+    if m.context == contexts::SIMPLE_TYPE {
         return start_in_simple_type(text, marks, t, name, m.nesting);
     }
     start_in_complex_type(text, marks, t, name, m.nesting, head)
 }
 
-// What an empty tag decides. Its local name is taken once.
+// What an empty tag decides.
 pub fn on_empty(text: &[u8], marks: &[u32], t: TagRecord, m: Mode, head: u32) -> Decision
     ensures { λ r. ⌜ decision (now (text .entry)) (now (marks .entry)) r ≡ decidedEmpty (tagAt (now (text .entry)) (now (marks .entry)) (t .pairs) (t .count)) m head ⌝ }
 {
-    let name = tag_name(text, marks, t);
-    if m.context == 0 {
+    let name = raw_name(text, marks, t);
+    if m.context == contexts::NONE {
         return root_found(text, marks, t, name);
     }
-    if m.context == 1 {
+    if m.context == contexts::SCHEMA {
         return empty_in_schema(text, marks, t, name);
     }
-    if m.context == 2 {
+    if m.context == contexts::SIMPLE_TYPE {
         return empty_in_simple_type(text, marks, t, name);
     }
     empty_in_complex_type(text, marks, t, name, m.extension, head)
@@ -114,11 +123,11 @@ pub fn on_empty(text: &[u8], marks: &[u32], t: TagRecord, m: Mode, head: u32) ->
 pub fn on_close(m: Mode, head: u32) -> Decision
     ensures { λ r. ⌜ ((text : Text) (marks : List ℕ) → decision text marks r ≡ ok (decidedClose m head)) ⌝ }
 {
-    if head != 16 {
+    if head != tags::NO_CONTENT {
         return Decision::Keep;
     }
     if m.nesting != 0 {
         return Decision::Keep;
     }
-    content_alone(15)
+    content_alone(tags::ANY)
 }

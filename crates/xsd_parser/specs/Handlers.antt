@@ -10,6 +10,7 @@ use mathlib.Core.Option.{Option, some, none}
 use lib.Dec.{eqb}
 use Rattle.text.specs.Text.{Text, if_then_else_, is}
 use Rattle.number.specs.Number.{Parsed, parsed, refused, number}
+use Rattle.sheet.specs.Returned.{missingAttribute}
 use Rattle.xsd_types.specs.Types.{Element, Facet, SimpleType, MaxOccurs, SequenceElement, ChoiceVariant, Attribute, ComplexContent, ComplexType, Item, Schema}
 use Rattle.xsd_types.specs.State.{SimpleTypeBuilder, ComplexContentBuilder, ComplexTypeBuilder, Context, Reader, State, finish}
 use Rattle.xsd_parser.specs.Event.{Tag, tagIs, attrValue, orEmpty}
@@ -59,7 +60,7 @@ onTopLevelElement t r = keptElement (attrValue t "name") (attrValue t "type") r
 
 -- 000, `require_attr`: 9 where it is absent
 unfoldable pub requireName : {A : Type 0} → Tag → (Text → A) → Outcome A
-requireName t f = elim (attrValue t "name") [ none ↦ refuse 9 | some name ↦ ok (f name) ]
+requireName t f = elim (attrValue t "name") [ none ↦ refuse missingAttribute | some name ↦ ok (f name) ]
 
 -- 000, `parse_min_occurs` and `parse_max_occurs`. XML Schema Part 1, 3.9.2: minOccurs and maxOccurs default to 1
 unfoldable pub parseMinOccurs : Option Text → Parsed

@@ -8,6 +8,8 @@ use Prim.Native.Nat.{ℕ, zero, suc, _+_}
 use mathlib.Core.Bool.{Bool, true, false}
 use lib.Dec.{leb, ltb}
 use Rattle.text.specs.Text.{if_then_else_}
+use Rattle.sheet.specs.Limits.{eventsLimit, openTagsLimit}
+use Rattle.sheet.specs.Returned.{noTagOpen, tooManyOpen, tooManyEvents, noRoom}
 use Rattle.sheet.specs.Lengths.{Lengths}
 use Rattle.xsd_types.specs.State.{Reader, State}
 use Rattle.xsd_types.specs.Sheet.{stateFits}
@@ -20,11 +22,11 @@ handled (Event.empty t) r = onEmpty t r (r .context)
 handled Event.close r = ok (onEnd r (r .context))
 
 unfoldable pub closed : ℕ → Outcome ℕ
-closed zero = refuse 6
+closed zero = refuse noTagOpen
 closed (suc n) = ok n
 
 unfoldable pub tagsAfter : Event → ℕ → Outcome ℕ
-tagsAfter (Event.start t) n = if ltb n 255 then ok (suc n) else refuse 7
+tagsAfter (Event.start t) n = if ltb n openTagsLimit then ok (suc n) else refuse tooManyOpen
 tagsAfter (Event.empty t) n = ok n
 tagsAfter Event.close n = closed n
 
@@ -32,13 +34,13 @@ unfoldable pub counted : State → ℕ → Reader → State
 counted s openTags r = record { reader = r; events = suc (s .events); openTags = openTags }
 
 unfoldable pub roomFor : Lengths → State → Outcome State
-roomFor lent s = if stateFits (lent .rows) (lent .names) s then ok s else refuse 11
+roomFor lent s = if stateFits (lent .rows) (lent .names) s then ok s else refuse noRoom
 
 -- 8: "1,000,000 events done"
 unfoldable pub step : Lengths → State → Event → Outcome State
 step lent s e =
-    if ltb (s .events) 1000000
+    if ltb (s .events) eventsLimit
     then tagsAfter e (s .openTags) andThen (λ openTags.
     handled e (s .reader) andThen (λ r.
     roomFor lent (counted s openTags r)))
-    else refuse 8
+    else refuse tooManyEvents

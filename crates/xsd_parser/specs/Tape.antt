@@ -15,6 +15,9 @@ use mathlib.Core.Bool.{Bool, true, false, not, _&&_, _||_}
 use lib.Dec.{eqb, leb, ltb}
 use lib.ListN.{length, take, drop}
 use Rattle.text.specs.Text.{Text, if_then_else_, every, isText, between}
+use Rattle.sheet.specs.Limits.{attributesLimit}
+use Rattle.sheet.specs.Returned.{badRecord, badPair, notAscii}
+use Rattle.xsd_parser.specs.Kinds.{startKind, closeKind}
 use Rattle.xsd_parser.specs.Event.{Attr, Tag, Event}
 
 pub record Pair : Type 0 where
@@ -65,28 +68,28 @@ pairCount n = 1 + 2 * n
 
 -- "Kind 1 start, 2 empty, 3 close; a close is just `3 0`."
 unfoldable pub eventOf : ℕ → Tag → Event
-eventOf kind t = if eqb kind 1 then Event.start t else Event.empty t
+eventOf kind t = if eqb kind startKind then Event.start t else Event.empty t
 
 -- 3: "kind not 1 to 3, record cut short, over 32 attributes, a close with any"
 unfoldable pub formTest : ℕ → ℕ → ℕ → Bool
 formTest kind count left =
-    between 1 3 kind && leb count 32 && (if eqb kind 3 then eqb count 0 else leb (2 * pairCount count) left)
+    between startKind closeKind kind && leb count attributesLimit && (if eqb kind closeKind then eqb count 0 else leb (2 * pairCount count) left)
 
 unfoldable pub tagRecord : Text → ℕ → List Pair → List ℕ → Recorded
 tagRecord text kind ps rest =
     if allInside (length text) 0 ps
-    then if allAscii text ps then next (eventOf kind (tagOf text ps)) rest else bad 5
-    else bad 4
+    then if allAscii text ps then next (eventOf kind (tagOf text ps)) rest else bad notAscii
+    else bad badPair
 
 unfoldable pub record1 : Text → List ℕ → Recorded
 record1 text [] = finished
-record1 text (kind ∷ []) = bad 3
+record1 text (kind ∷ []) = bad badRecord
 record1 text (kind ∷ count ∷ rest) =
     if formTest kind count (length rest)
-    then if eqb kind 3
+    then if eqb kind closeKind
     then next Event.close rest
     else tagRecord text kind (pairsOf (pairCount count) rest) (drop (2 * pairCount count) rest)
-    else bad 3
+    else bad badRecord
 
 -- the records of the marks; each takes at least two numbers, so `fuel` records are all where the marks have no more numbers than that
 unfoldable pub recordsFrom : ℕ → Text → List ℕ → List Judged

@@ -1,6 +1,14 @@
 // The reading call: a piece of a tape read into a schema sheet.
-use xsd_clear::Answer;
-use xsd_records::read_records;
+pub mod carry;
+pub mod event;
+pub mod records;
+
+use crate::records::read_records;
+use sheet::limits;
+use sheet::returned;
+use xsd_good::clear;
+use xsd_good::clear::Answer;
+use xsd_rows::row;
 ghost use mathlib.Core.Bool.{_&&_};
 ghost use mathlib.Core.Path.{_≡_};
 ghost use Rattle.sheet.specs.Lengths.{sheetLengths, tapeLengths};
@@ -12,7 +20,7 @@ ghost use Rattle.xsd_read.specs.Good.{GoodSheet, GoodRead};
 fn read_lengths(rows: usize, names: usize, text: usize, marks: usize) -> bool
     ensures { λ r. ⌜ r ≡ (sheetLengths rows names && tapeLengths text marks) ⌝ }
 {
-    xsd_clear::sheet_lengths(rows, names) & ((text <= 65536) & (marks <= 16384))
+    clear::sheet_lengths(rows, names) & ((text <= limits::TEXT) & (marks <= limits::MARKS))
 }
 
 // A call that is refused before any record is read.
@@ -30,7 +38,7 @@ fn read_good(rows: &mut [u32], names: &mut [u8], text: &[u8], marks: &[u32]) -> 
     let from = xsd_progress::progress_of(rows);
     let to = read_records(rows, names, text, marks, from);
     let row0 = xsd_progress::row0_of(to.progress);
-    xsd_row::put_row0(rows, row0);
+    row::put_row0(rows, row0);
     Answer {
         number: to.number,
         place: to.place,
@@ -43,10 +51,10 @@ pub fn read(rows: &mut [u32], names: &mut [u8], text: &[u8], marks: &[u32]) -> A
     ensures { λ r. ⌜ ReadIs (sheet (now (rows .entry)) (now (names .entry))) (now (text .entry)) (now (marks .entry)) (answered (r .number) (r .place)) (sheet (now (rows .exit)) (now (names .exit))) ⌝ }
 {
     if !read_lengths(rows.len(), names.len(), text.len(), marks.len()) {
-        return refused(1);
+        return refused(returned::BAD_LENGTH);
     }
-    if !xsd_sheet::is_good(rows, names) {
-        return refused(2);
+    if !xsd_good::is_good(rows, names) {
+        return refused(returned::NOT_GOOD);
     }
     read_good(rows, names, text, marks)
 }

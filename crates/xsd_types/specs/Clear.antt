@@ -6,6 +6,7 @@ use lib.ListN.{length}
 use Rattle.text.specs.Text.{if_then_else_}
 use Rattle.sheet.specs.Rows.{Sheet}
 use Rattle.sheet.specs.Lengths.{sheetLengths, Answer}
+use Rattle.sheet.specs.Returned.{accepted, badLength}
 use Rattle.xsd_types.specs.State.{firstState}
 use Rattle.xsd_types.specs.Sheet.{sheetOf}
 
@@ -16,8 +17,8 @@ pub record Cleared : Type 0 where
 unfoldable pub clear : Sheet → Cleared
 clear x =
     if sheetLengths (length (x .rows)) (length (x .names))
-    then record { answer = record { number = 0; place = 0 }; sheet = sheetOf firstState (length (x .rows)) (length (x .names)) }
-    else record { answer = record { number = 1; place = 0 }; sheet = x }
+    then record { answer = record { number = accepted; place = 0 }; sheet = sheetOf firstState (length (x .rows)) (length (x .names)) }
+    else record { answer = record { number = badLength; place = 0 }; sheet = x }
 
 -- what a clearing says of itself: number, place and the sheet afterwards are the definition's
 abbrev pub ClearIs : Sheet → Answer → Sheet → Type 0

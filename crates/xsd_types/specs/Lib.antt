@@ -1,9 +1,11 @@
--- The definitions of the crate `xsd_types`: Types has 002's values, State the reader's state, Rows the state as rows, Sheet the sheet of a state,
+-- The definitions of the crate `xsd_types`: Types has 002's values, State the reader's state, Row0 the numbers of row 0 by name, Rows the
+-- state as rows, Sheet the sheet of a state,
 -- Good the test of a good sheet, Back the way back, Clear the clearing call.
 pub mod Tags
 pub mod Contexts
 pub mod Types
 pub mod State
+pub mod Row0
 pub mod Rows
 pub mod Sheet
 pub mod Good

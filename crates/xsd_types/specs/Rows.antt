@@ -1,9 +1,12 @@
 -- The state as rows. Paper 01, "Schema sheet", Tags.
---     headC         c of a head
---     facetRow, elementRow, variantRow, attributeRow    the rows of children
---     itemRows      a finished item's rows: its head, its children behind it
+--     headC, namespaceA, row0Last    unused numbers: c of a head, a of row 1, the last of row 0
+--     namespaceRow  row 1
+--     facetRow, elementRow (occursRow), variantRow, attributeRow    the rows of children
+--     simpleTypeRows, complexTypeRows    a type's rows: its head, its children behind it
+--     itemRows, itemsRows    a finished item's rows; those of all
 --     contextRows   the open type's rows, which stand last
 --     rowsOf        all rows behind row 0
+--     contextNumber, nesting, extensionFlag (contentFlag), rowsUsed, namesUsed    the numbers of row 0
 --     row0          row 0 of a state
 use Prim.Native.Nat.{ℕ, _+_, _%_, _/_, _^_}
 use mathlib.Core.List.{List, [], _∷_, _++_, map}
@@ -11,8 +14,10 @@ use mathlib.Core.Bool.{Bool, true, false}
 use mathlib.Core.Option.{Option, some, none}
 use lib.ListN.{length}
 use Rattle.text.specs.Text.{Text}
-use Rattle.sheet.specs.Rows.{Row, Ten, namesOf, row, bit}
+use Rattle.sheet.specs.Rows.{Row, namesOf, row, bit}
+use Rattle.xsd_types.specs.Tags.{namespaceTag, elementTag, simpleTypeTag, enumerationTag, patternTag, minLengthTag, maxLengthTag, minInclusiveTag, maxInclusiveTag, totalDigitsTag, fractionDigitsTag, sequenceTag, choiceTag, simpleContentTag, anyTag, noContentTag, boundElementTag, unboundedElementTag, choiceVariantTag, attributeTag}
 use Rattle.xsd_types.specs.Types.{Element, Facet, SimpleType, MaxOccurs, SequenceElement, ChoiceVariant, Attribute, ComplexContent, ComplexType, Item, Schema}
+use Rattle.xsd_types.specs.Row0.{Row0}
 use Rattle.xsd_types.specs.State.{SimpleTypeBuilder, ComplexContentBuilder, ComplexTypeBuilder, Context, Reader, State, started}
 
 -- c of a head is unused
@@ -29,52 +34,52 @@ row0Last = 0
 
 -- "1 target namespace (always row 1)"
 unfoldable pub namespaceRow : Text → Row
-namespaceRow n = row 1 (n ∷ []) namespaceA 0 0
+namespaceRow n = row namespaceTag (n ∷ []) namespaceA 0 0
 
 -- "facets 4 enumeration, 5 pattern, 8 minInclusive, 9 maxInclusive (value), 6 minLength, 7 maxLength (a low, b high 32 bits), 10 totalDigits, 11 fractionDigits (a)"
 unfoldable pub facetRow : Facet → Row
-facetRow (Facet.enumeration v) = row 4 (v ∷ []) 0 0 0
-facetRow (Facet.pattern v) = row 5 (v ∷ []) 0 0 0
-facetRow (Facet.minLength n) = row 6 [] (n % 2 ^ 32) (n / 2 ^ 32) 0
-facetRow (Facet.maxLength n) = row 7 [] (n % 2 ^ 32) (n / 2 ^ 32) 0
-facetRow (Facet.minInclusive v) = row 8 (v ∷ []) 0 0 0
-facetRow (Facet.maxInclusive v) = row 9 (v ∷ []) 0 0 0
-facetRow (Facet.totalDigits n) = row 10 [] n 0 0
-facetRow (Facet.fractionDigits n) = row 11 [] n 0 0
+facetRow (Facet.enumeration v) = row enumerationTag (v ∷ []) 0 0 0
+facetRow (Facet.pattern v) = row patternTag (v ∷ []) 0 0 0
+facetRow (Facet.minLength n) = row minLengthTag [] (n % 2 ^ 32) (n / 2 ^ 32) 0
+facetRow (Facet.maxLength n) = row maxLengthTag [] (n % 2 ^ 32) (n / 2 ^ 32) 0
+facetRow (Facet.minInclusive v) = row minInclusiveTag (v ∷ []) 0 0 0
+facetRow (Facet.maxInclusive v) = row maxInclusiveTag (v ∷ []) 0 0 0
+facetRow (Facet.totalDigits n) = row totalDigitsTag [] n 0 0
+facetRow (Facet.fractionDigits n) = row fractionDigitsTag [] n 0 0
 
 -- "17 element with bound (name, type, a min, b max), 18 unbounded element (name, type, a min)"
 unfoldable pub occursRow : Text → Text → ℕ → MaxOccurs → Row
-occursRow name typeName min (MaxOccurs.bounded max) = row 17 (name ∷ typeName ∷ []) min max 0
-occursRow name typeName min MaxOccurs.unbounded = row 18 (name ∷ typeName ∷ []) min 0 0
+occursRow name typeName min (MaxOccurs.bounded max) = row boundElementTag (name ∷ typeName ∷ []) min max 0
+occursRow name typeName min MaxOccurs.unbounded = row unboundedElementTag (name ∷ typeName ∷ []) min 0 0
 
 unfoldable pub elementRow : SequenceElement → Row
 elementRow e = occursRow (e .name) (e .typeName) (e .minOccurs) (e .maxOccurs)
 
 -- "19 choice variant (name, type)"
 unfoldable pub variantRow : ChoiceVariant → Row
-variantRow v = row 19 (v .name ∷ v .typeName ∷ []) 0 0 0
+variantRow v = row choiceVariantTag (v .name ∷ v .typeName ∷ []) 0 0 0
 
 -- "20 attribute (name, type, a required)"
 unfoldable pub attributeRow : Attribute → Row
-attributeRow x = row 20 (x .name ∷ x .typeName ∷ []) (bit (x .required)) 0 0
+attributeRow x = row attributeTag (x .name ∷ x .typeName ∷ []) (bit (x .required)) 0 0
 
 -- "3 simple type (name, base)"
 unfoldable pub simpleTypeRows : Text → Text → List Facet → List Row
-simpleTypeRows name base facets = row 3 (name ∷ base ∷ []) 0 0 headC ∷ map facetRow facets
+simpleTypeRows name base facets = row simpleTypeTag (name ∷ base ∷ []) 0 0 headC ∷ map facetRow facets
 
 -- "complex types 12 sequence, 13 choice (name), 14 simple content (name, base), 15 any (name; a is 1 and the namespace follows if present),
 -- 16 no content yet (name; only while open)"
 unfoldable pub complexTypeRows : Text → ComplexContentBuilder → List Row
-complexTypeRows name ComplexContentBuilder.empty = row 16 (name ∷ []) 0 0 headC ∷ []
-complexTypeRows name (ComplexContentBuilder.sequence es) = row 12 (name ∷ []) 0 0 headC ∷ map elementRow es
-complexTypeRows name (ComplexContentBuilder.choice vs) = row 13 (name ∷ []) 0 0 headC ∷ map variantRow vs
-complexTypeRows name (ComplexContentBuilder.simpleContent base xs flag) = row 14 (name ∷ base ∷ []) 0 0 headC ∷ map attributeRow xs
-complexTypeRows name (ComplexContentBuilder.any none) = row 15 (name ∷ []) 0 0 headC ∷ []
-complexTypeRows name (ComplexContentBuilder.any (some n)) = row 15 (name ∷ n ∷ []) 1 0 headC ∷ []
+complexTypeRows name ComplexContentBuilder.empty = row noContentTag (name ∷ []) 0 0 headC ∷ []
+complexTypeRows name (ComplexContentBuilder.sequence es) = row sequenceTag (name ∷ []) 0 0 headC ∷ map elementRow es
+complexTypeRows name (ComplexContentBuilder.choice vs) = row choiceTag (name ∷ []) 0 0 headC ∷ map variantRow vs
+complexTypeRows name (ComplexContentBuilder.simpleContent base xs flag) = row simpleContentTag (name ∷ base ∷ []) 0 0 headC ∷ map attributeRow xs
+complexTypeRows name (ComplexContentBuilder.any none) = row anyTag (name ∷ []) 0 0 headC ∷ []
+complexTypeRows name (ComplexContentBuilder.any (some n)) = row anyTag (name ∷ n ∷ []) 1 0 headC ∷ []
 
 -- "2 element (name, type)"
 unfoldable pub itemRows : Item → List Row
-itemRows (Item.element e) = row 2 (e .name ∷ e .typeName ∷ []) 0 0 headC ∷ []
+itemRows (Item.element e) = row elementTag (e .name ∷ e .typeName ∷ []) 0 0 headC ∷ []
 itemRows (Item.simpleType t) = simpleTypeRows (t .name) (t .base) (t .facets)
 itemRows (Item.complexType t) = complexTypeRows (t .name) (started (t .content))
 
@@ -127,17 +132,17 @@ unfoldable pub namesUsed : State → ℕ
 namesUsed s = length (namesOf (rowsOf s))
 
 -- "Row 0 instead: 0, rows used, names used, context, nesting, root seen, events done, open tags, extension flag, 0."
-unfoldable pub row0 : State → Ten
+unfoldable pub row0 : State → Row0
 row0 s =
     record {
-      tag = 0;
-      at0 = rowsUsed s;
-      len0 = namesUsed s;
-      at1 = contextNumber (s .reader .context);
-      len1 = nesting (s .reader .context);
-      at2 = bit (s .reader .rootSeen);
-      len2 = s .events;
-      a = s .openTags;
-      b = extensionFlag (s .reader .context);
-      c = row0Last;
+      first = 0;
+      rowsUsed = rowsUsed s;
+      namesUsed = namesUsed s;
+      context = contextNumber (s .reader .context);
+      nesting = nesting (s .reader .context);
+      rootSeen = bit (s .reader .rootSeen);
+      events = s .events;
+      openTags = s .openTags;
+      extension = extensionFlag (s .reader .context);
+      last = row0Last;
     }

@@ -6,10 +6,11 @@ use mathlib.Core.Bool.{Bool}
 use Rattle.sheet.specs.Rows.{Sheet, sheetOfRows}
 use Rattle.sheet.specs.Lengths.{fits}
 use Rattle.xsd_types.specs.State.{State}
+use Rattle.xsd_types.specs.Row0.{row0Ten}
 use Rattle.xsd_types.specs.Rows.{rowsOf, row0, rowsUsed, namesUsed}
 
 unfoldable pub stateFits : ℕ → ℕ → State → Bool
 stateFits rowsLength namesLength s = fits (rowsUsed s) (namesUsed s) rowsLength namesLength
 
 unfoldable pub sheetOf : State → ℕ → ℕ → Sheet
-sheetOf s rowsLength namesLength = sheetOfRows (row0 s) (rowsOf s) rowsLength namesLength
+sheetOf s rowsLength namesLength = sheetOfRows (row0Ten (row0 s)) (rowsOf s) rowsLength namesLength

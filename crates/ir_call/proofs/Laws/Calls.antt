@@ -7,12 +7,13 @@ use mathlib.Core.Option.{Option, some, none}
 use mathlib.Core.List.{List}
 use native.Mathlib.Omega.{arith}
 use lib.Dec.{eqb, leb}
-use lib.ListN.{length, replicate, length-replicate}
+use lib.ListN.{length, replicate}
 use borrow.Author.Tests.{le-leb, lt-leb, leb-true}
 use Rattle.text.proofs.Laws.Tests.{two, four}
 use Rattle.sheet.specs.Lengths.{Answer, sheetLengths, lengthsOf, goodLengths}
 use Rattle.sheet.specs.Calls.{sheet, answered}
-use Rattle.xsd_numbers.specs.declared.Used.{Used}
+use Rattle.sheet.specs.Limits.{rowNumbers, leastRows, rowsLimit, namesLimit}
+use Rattle.xsd_rows.specs.declared.numbers.Used.{Used}
 use Rattle.xsd_types.specs.State.{State}
 use Rattle.xsd_types.specs.Good.{good}
 use Rattle.xsd_types.specs.Back.{stateOf}
@@ -22,24 +23,21 @@ use Rattle.xsd_actions.specs.declared.Mode.{Mode}
 use Rattle.xsd_actions.specs.Actions.{modeOf}
 use Rattle.ir_types.specs.Types.{TypeGraph}
 use Rattle.ir_types.specs.Sheet.{graphFits}
-use Rattle.ir_lower.specs.Lower.{lower, unknownRow, finishedTypes}
-use Rattle.ir_lower.specs.Call.{Lowered, zeros, unchanged, cleared, written, lowerState, lowering}
+use Rattle.ir_lower.specs.Lower.{lower, finishedTypes}
+use Rattle.ir_lower.specs.Call.{Lowered, zeros, unchanged, cleared, written, refusedOrWritten, lowerFinished, lowerState, lowering}
+use Rattle.ir_lower.proofs.Laws.Left.{length-zeros}
 use Rattle.ir_rows.specs.Places.{rowsFrom}
 use Rattle.ir_rows.specs.Lowered.{unknownPlace}
 use Rattle.ir_rows.specs.Types.{typePlaces}
 use Rattle.ir_rows.specs.End.{finishedEnd}
 use Rattle.ir_rows.proofs.Laws.Graph.{finished-types, unknown-place, unknown-refused, unknown-lowered, root-count, type-count, graph-rows}
-use Rattle.ir_call.specs.Steps.{Cleared, Lent, Lowers, rootSeenLowered, GraphOf, GraphStands}
+use Rattle.ir_call.specs.Steps.{Sized, Cleared, Lowers, GraphOf, GraphStands}
 
 -- an answer, a graph sheet and a scratch as one value
 abbrev left : Answer → List ℕ → List ℕ → List ℕ → Lowered
 left a rows names scratch = record { answer = a; graph = sheet rows names; scratch = scratch }
 
 -- ---- zeros
-
-pub length-zeros : (xs : List ℕ) → length (zeros xs) ≡ length xs
-unfolding zeros
-length-zeros xs = length-replicate (length xs) 0
 
 pub zeros-as : (xs ys : List ℕ) → length xs ≡ length ys → zeros xs ≡ zeros ys
 unfolding zeros
@@ -48,14 +46,16 @@ zeros-as xs ys e = ap (λ (n : ℕ). replicate n 0) e
 pub zeros-twice : (xs : List ℕ) → zeros xs ≡ zeros (zeros xs)
 zeros-twice xs = zeros-as xs (zeros xs) (sym (length-zeros xs))
 
-pub cleared-zeros : {rows names : List ℕ} → Lent rows names → Cleared (zeros rows) (zeros names)
-cleared-zeros {rows} {names} lent =
+pub cleared-zeros : {rows names : List ℕ} → Sized rows names → Cleared (zeros rows) (zeros names)
+cleared-zeros {rows} {names} s =
     record {
       rowsZero = zeros-twice rows;
       namesZero = zeros-twice names;
-      someRows = rw (length-zeros rows) (lent .someRows);
-      fewRows = rw (length-zeros rows) (lent .fewRows);
-      fewNames = rw (length-zeros names) (lent .fewNames);
+      sized = record {
+        someRows = rw (length-zeros rows) (s .someRows);
+        fewRows = rw (length-zeros rows) (s .fewRows);
+        fewNames = rw (length-zeros names) (s .fewNames);
+      };
     }
 
 -- ---- a graph, and 15
@@ -82,36 +82,36 @@ written-zeros g rows names scratch = rw (length-zeros rows, length-zeros names, 
 
 module _ {rows names : List ℕ} {end : ℕ} {root : Bool} {s : State} (l : Lowers rows names end root s) (gr gn scratch : List ℕ) where
   pub finished-rootless : {gr₁ gn₁ scratch₁ : List ℕ} {a : Answer} → root ≡ false → a ≡ answered 12 0 → gr₁ ≡ zeros gr → gn₁ ≡ zeros gn → scratch₁ ≡ zeros scratch
-      → left a gr₁ gn₁ scratch₁ ≡ rootSeenLowered s (sheet gr gn) scratch
-  unfolding rootSeenLowered cleared
+      → left a gr₁ gn₁ scratch₁ ≡ lowerFinished s (sheet gr gn) scratch
+  unfolding lowerFinished cleared
   finished-rootless f e r n z =
       let seen = sym (l .root) ∙ f in
       rw seen (λ i. left (e i) (r i) (n i) (z i))
 
   refused-place : {gr₁ gn₁ scratch₁ : List ℕ} {a : Answer} {unknown : ℕ} (o : Option TypeGraph) → lower (s .reader .schema) ≡ o → (unknown ≡ 0 → ⊥) → unknown ≡ unknownPlace 2 (rowsFrom rows names 2 end)
       → a ≡ answered 13 unknown → gr₁ ≡ zeros gr → gn₁ ≡ zeros gn → scratch₁ ≡ zeros scratch
-      → left a gr₁ gn₁ scratch₁ ≡ elim o [ none ↦ cleared 13 (unknownRow 2 (s .reader .schema .items)) (sheet gr gn) scratch | some g ↦ written g (sheet gr gn) scratch ]
+      → left a gr₁ gn₁ scratch₁ ≡ refusedOrWritten (s .reader .schema) o (sheet gr gn) scratch
   unfolding cleared
   refused-place none q some? u e r n z = λ i. left ((e ∙ ap (answered 13) (u ∙ l .place)) i) (r i) (n i) (z i)
   refused-place (some g) q some? u e r n z = absurd (some? (u ∙ l .lowers g q .0))
 
   pub finished-unknown : {gr₁ gn₁ scratch₁ : List ℕ} {a : Answer} {unknown : ℕ} → root ≡ true → (unknown ≡ 0 → ⊥) → unknown ≡ unknownPlace 2 (rowsFrom rows names 2 end)
       → a ≡ answered 13 unknown → gr₁ ≡ zeros gr → gn₁ ≡ zeros gn → scratch₁ ≡ zeros scratch
-      → left a gr₁ gn₁ scratch₁ ≡ rootSeenLowered s (sheet gr gn) scratch
-  unfolding rootSeenLowered
+      → left a gr₁ gn₁ scratch₁ ≡ lowerFinished s (sheet gr gn) scratch
+  unfolding lowerFinished
   finished-unknown t some? u e r n z =
       let seen = sym (l .root) ∙ t in
       rw seen (refused-place (lower (s .reader .schema)) refl some? u e r n z)
 
   known-graph : {x : Lowered} (o : Option TypeGraph) → lower (s .reader .schema) ≡ o → 0 ≡ unknownPlace 2 (rowsFrom rows names 2 end)
       → ((g : TypeGraph) → GraphOf rows names end g → x ≡ written g (sheet (zeros gr) (zeros gn)) (zeros scratch))
-      → x ≡ elim o [ none ↦ cleared 13 (unknownRow 2 (s .reader .schema .items)) (sheet gr gn) scratch | some g ↦ written g (sheet gr gn) scratch ]
+      → x ≡ refusedOrWritten (s .reader .schema) o (sheet gr gn) scratch
   known-graph none q u w = absurd (omega (arith, l .refuses q))
   known-graph (some g) q u w = w g (l .lowers g q .1) ∙ written-zeros g gr gn scratch
 
   pub finished-known : {x : Lowered} → root ≡ true → 0 ≡ unknownPlace 2 (rowsFrom rows names 2 end)
-      → ((g : TypeGraph) → GraphOf rows names end g → x ≡ written g (sheet (zeros gr) (zeros gn)) (zeros scratch)) → x ≡ rootSeenLowered s (sheet gr gn) scratch
-  unfolding rootSeenLowered
+      → ((g : TypeGraph) → GraphOf rows names end g → x ≡ written g (sheet (zeros gr) (zeros gn)) (zeros scratch)) → x ≡ lowerFinished s (sheet gr gn) scratch
+  unfolding lowerFinished
   finished-known t u w =
       let seen = sym (l .root) ∙ t in
       rw seen (known-graph (lower (s .reader .schema)) refl u w)
@@ -137,8 +137,8 @@ module _ {s : State} {rows names : List ℕ} {p : Progress} (at : At s rows name
       rw short (λ i. left (f i) gr gn scratch)
 
   pub state-enough : (gr gn scratch : List ℕ) {n : ℕ} {x : Lowered} → n ≡ length (typePlaces 2 (rowsFrom rows names 2 (finishedEnd p))) → n ≤ length scratch
-      → x ≡ rootSeenLowered s (sheet gr gn) scratch → x ≡ lowerState s (sheet gr gn) scratch
-  unfolding lowerState rootSeenLowered
+      → x ≡ lowerFinished s (sheet gr gn) scratch → x ≡ lowerState s (sheet gr gn) scratch
+  unfolding lowerState
   state-enough gr gn scratch e h f =
       let enough = le-leb (finishedTypes (s .reader .schema)) (length scratch) (rw (← finished-types at, ← e) h) in
       rw enough f
@@ -147,6 +147,12 @@ module _ {s : State} {rows names : List ℕ} {p : Progress} (at : At s rows name
 
 abbrev pub bothLengths : List ℕ → List ℕ → List ℕ → List ℕ → Bool
 bothLengths rows names gr gn = sheetLengths (length rows) (length names) && sheetLengths (length gr) (length gn)
+
+sized : (rows names : List ℕ) → sheetLengths (length rows) (length names) ≡ true → Sized rows names
+unfolding sheetLengths
+sized rows names e =
+    let x = four (eqb (length rows % rowNumbers) 0) (leb leastRows (length rows)) (leb (length rows) rowsLimit) (leb (length names) namesLimit) e in
+    record { someRows = leb-true _ _ (x .1); fewRows = leb-true _ _ (x .2); fewNames = leb-true _ _ (x .3) }
 
 module _ (rows names gr gn scratch : List ℕ) where
   pub lower-one : {a : Answer} → a ≡ answered 1 0 → bothLengths rows names gr gn ≡ false → left a gr gn scratch ≡ lowering (sheet rows names) (sheet gr gn) scratch
@@ -161,10 +167,7 @@ module _ (rows names gr gn scratch : List ℕ) where
   unfolding lowering goodLengths lengthsOf
   lower-through t g e = rw (t, g) e
 
-  pub lent-both : bothLengths rows names gr gn ≡ true → (length rows ≤ 40960) × Lent gr gn
-  unfolding sheetLengths
-  lent-both t =
+  pub sized-both : bothLengths rows names gr gn ≡ true → Sized rows names × Sized gr gn
+  sized-both t =
       let both = two (sheetLengths (length rows) (length names)) (sheetLengths (length gr) (length gn)) t in
-      let x = four (eqb (length rows % 10) 0) (leb 20 (length rows)) (leb (length rows) 40960) (leb (length names) 65536) (both .0) in
-      let g = four (eqb (length gr % 10) 0) (leb 20 (length gr)) (leb (length gr) 40960) (leb (length gn) 65536) (both .1) in
-      (leb-true _ _ (x .2), record { someRows = leb-true 20 (length gr) (g .1); fewRows = leb-true (length gr) 40960 (g .2); fewNames = leb-true (length gn) 65536 (g .3) })
+      (sized rows names (both .0), sized gr gn (both .1))

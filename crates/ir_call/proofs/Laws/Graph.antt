@@ -10,10 +10,11 @@ use borrow.Author.Tests.{le-leb}
 use Rattle.text.proofs.Laws.Tests.{and-true}
 use Rattle.sheet.specs.Rows.{Row, numbers, pack, namesOf, filled, sheetOfRows}
 use Rattle.sheet.specs.Lengths.{fits}
-use Rattle.xsd_numbers.specs.declared.Used.{Used}
-use Rattle.xsd_row.specs.Packing.{Packs, Holds, Row0Put}
-use Rattle.xsd_row.proofs.Laws.Sheet.{packs-sheet}
+use Rattle.xsd_rows.specs.declared.numbers.Used.{Used}
+use Rattle.xsd_rows.specs.Packing.{Packs, Holds, Row0Put}
+use Rattle.xsd_rows.proofs.Laws.Sheet.{packs-sheet}
 use Rattle.ir_types.specs.Types.{TypeGraph}
+use Rattle.ir_types.specs.Row0.{graphRow0Ten}
 use Rattle.ir_types.specs.Rows.{rowsOf, rowsUsed, namesUsed, row0}
 use Rattle.ir_types.specs.Sheet.{graphFits, graphSheet}
 use Rattle.ir_lower.specs.Call.{zeros}
@@ -27,14 +28,14 @@ first = record { rows = 1; names = 0 }
 
 pub first-room : {rows names : List ℕ} → Cleared rows names → Room rows names first
 first-room c =
-    record { rowsInside = omega (arith, c .someRows); namesInside = omega arith; fewRows = c .fewRows; fewNames = c .fewNames }
+    record { rowsInside = omega (arith, c .sized .someRows); namesInside = omega arith; fewRows = c .sized .fewRows; fewNames = c .sized .fewNames }
 
 -- zeros are the packing of no rows behind ten zeros
 pub first-holds : {rows names : List ℕ} → Cleared rows names → Holds rows names first (replicate 10 0) []
 unfolding filled numbers pack namesOf zeros
 first-holds {rows} {names} c =
     let n = length rows in
-    let count : 10 + (n - 10) ≡ n = omega (arith, c .someRows) in
+    let count : 10 + (n - 10) ≡ n = omega (arith, c .sized .someRows) in
     let split : replicate {A = ℕ} n 0 ≡ replicate 10 0 ++ replicate (n - 10) 0 = rw (replicate-append-replicate {A = ℕ} 10 (n - 10) 0, count) in
     record {
       packs = record { ten = refl; rowsAre = c .rowsZero ∙ split; namesAre = c .namesZero ∙ ap (λ (k : ℕ). replicate k 0) (sym (sub-zero (length names))) };
@@ -46,7 +47,7 @@ pub graph-short : {rows names rows′ names′ : List ℕ} {more : List Row} (g 
 unfolding graphFits rowsUsed namesUsed
 graph-short {rows} {names} g c e s = subst (λ (rs : List Row). fits (1 + length rs) (length (namesOf rs)) (length rows) (length names) ≡ false) e (s .short (replicate 10 0) [] (first-holds c))
 
-pub row0-graph : (g : TypeGraph) (used : Used) (roots types : ℕ) → used .rows ≡ rowsUsed g → used .names ≡ namesUsed g → roots ≡ length (g .rootElements) → types ≡ length (g .types) → row0Of used roots types ≡ numbers (row0 g ∷ [])
+pub row0-graph : (g : TypeGraph) (used : Used) (roots types : ℕ) → used .rows ≡ rowsUsed g → used .names ≡ namesUsed g → roots ≡ length (g .rootElements) → types ≡ length (g .types) → row0Of used roots types ≡ numbers (graphRow0Ten (row0 g) ∷ [])
 unfolding row0 numbers
 row0-graph g used roots types a b c d = rw (a, b, c, d)
 
@@ -57,11 +58,11 @@ graph-stands {rows} {names} {rows₁} {names₁} {rows₂} {z} {more} {used} {ro
     let h = subst (λ (rs : List Row). Holds rows₁ names₁ used (replicate 10 0) rs) e (grown .holds (replicate 10 0) [] (first-holds c)) in
     let set = f ∙ row0-graph g used roots types (h .rowsUsed) (h .namesUsed) r t in
     let packs = put .packs names₁ (replicate 10 0) (rowsOf g) (h .packs) in
-    let whole = packs-sheet (row0 g) (subst (λ (l : List ℕ). Packs rows₂ names₁ l (rowsOf g)) set packs) in
+    let whole = packs-sheet (graphRow0Ten (row0 g)) (subst (λ (l : List ℕ). Packs rows₂ names₁ l (rowsOf g)) set packs) in
     record {
       fits = and-true (le-leb (10 * (1 + length (rowsOf g))) (length rows) (omega (arith, grown .rowsInside, grown .rowsLength, h .rowsUsed))) (le-leb (length (namesOf (rowsOf g))) (length names) (omega (arith, grown .namesInside, grown .namesLength, h .namesUsed)));
       place = h .rowsUsed;
-      graph = whole ∙ ap (λ (n : ℕ). sheetOfRows (row0 g) (rowsOf g) n (length names₁)) (put .rowsLength ∙ grown .rowsLength) ∙ ap (sheetOfRows (row0 g) (rowsOf g) (length rows)) (grown .namesLength);
+      graph = whole ∙ ap (λ (n : ℕ). sheetOfRows (graphRow0Ten (row0 g)) (rowsOf g) n (length names₁)) (put .rowsLength ∙ grown .rowsLength) ∙ ap (sheetOfRows (graphRow0Ten (row0 g)) (rowsOf g) (length rows)) (grown .namesLength);
     }
 
 -- what an answer says, by its case

@@ -2,42 +2,42 @@
 use mathlib.Core.Path.{sym, _∙_}
 use borrow.Author.Tests.{not-true, not-false}
 use borrow.Author.Needs.{needs}
-use Rattle.ir_call.proofs.Laws.Calls.{lower-one, lower-two, lower-through, lent-both}
+use Rattle.ir_call.proofs.Laws.Calls.{lower-one, lower-two, lower-through, sized-both}
 use Rattle.ir_call.proofs.lower.Statement.{statement}
 use Rattle.ir_call.proofs.lower.Tie as tie
 
 lower-lengths-requires : tie.Need-lower-lengths-requires
 lower-lengths-requires c κs = search needs
 
-refused-requires : tie.Need-refused-requires
-refused-requires c κs = search needs
+answer-requires : tie.Need-answer-requires
+answer-requires c κs = search needs
 
 returns : tie.Need-returns
 returns c =
     let lengths = c .before .before in
     let a = lengths .before .before .before .before .before .before .args in
-    lower-one (a .rows .now) (a .names .now) (a .graph-rows .now) (a .graph-names .now) (a .scratch .now) (c .refused .ensures) (sym (lengths .lower-lengths .ensures) ∙ not-true _ (c .before .if1 .taken))
+    lower-one (a .rows .now) (a .names .now) (a .graph-rows .now) (a .graph-names .now) (a .scratch .now) (c .answer .ensures) (sym (lengths .lower-lengths .ensures) ∙ not-true _ (c .before .if1 .taken))
 
 is-good-requires : tie.Need-is-good-requires
 is-good-requires c κs = search needs
 
-refused-requires-2 : tie.Need-refused-requires-2
-refused-requires-2 c κs = search needs
+answer-requires-2 : tie.Need-answer-requires-2
+answer-requires-2 c κs = search needs
 
 returns-2 : tie.Need-returns-2
 returns-2 c =
     let good = c .before .before in
     let lengths = good .before .before in
     let a = lengths .before .before .before .before .before .before .args in
-    lower-two (a .rows .now) (a .names .now) (a .graph-rows .now) (a .graph-names .now) (a .scratch .now) (c .refused2 .ensures) (sym (lengths .lower-lengths .ensures) ∙ not-false _ (good .before .if1 .left)) (sym (good .is-good .ensures) ∙ not-true _ (c .before .if2 .taken))
+    lower-two (a .rows .now) (a .names .now) (a .graph-rows .now) (a .graph-names .now) (a .scratch .now) (c .answer2 .ensures) (sym (lengths .lower-lengths .ensures) ∙ not-false _ (good .before .if1 .left)) (sym (good .is-good .ensures) ∙ not-true _ (c .before .if2 .taken))
 
 lower-good-requires : tie.Need-lower-good-requires
 lower-good-requires c κs =
     let good = c .before .before .before .before in
     let lengths = good .before .before in
     let a = lengths .before .before .before .before .before .before .args in
-    let lent = lent-both (a .rows .now) (a .names .now) (a .graph-rows .now) (a .graph-names .now) (a .scratch .now) (sym (lengths .lower-lengths .ensures) ∙ not-false _ (good .before .if1 .left)) in
-    (record { isGood = sym (good .is-good .ensures) ∙ not-false _ (c .before .before .before .if2 .left); fewRows = lent .0 }, lent .1)
+    let sizes = sized-both (a .rows .now) (a .names .now) (a .graph-rows .now) (a .graph-names .now) (a .scratch .now) (sym (lengths .lower-lengths .ensures) ∙ not-false _ (good .before .if1 .left)) in
+    (sym (good .is-good .ensures) ∙ not-false _ (c .before .before .before .if2 .left), sizes .0, sizes .1)
 
 same-length : tie.Need-same-length
 same-length c = search needs
@@ -61,10 +61,10 @@ lower-spec =
     tie.close
     (tie.spec
     lower-lengths-requires
-    refused-requires
+    answer-requires
     returns
     is-good-requires
-    refused-requires-2
+    answer-requires-2
     returns-2
     lower-good-requires
     same-length

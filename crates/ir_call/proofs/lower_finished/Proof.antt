@@ -2,7 +2,8 @@
 use mathlib.Core.Path.{sym, _∙_}
 use borrow.Author.Tests.{not-true, not-false}
 use borrow.Author.Needs.{needs}
-use Rattle.ir_call.proofs.Laws.Calls.{length-zeros, cleared-zeros, finished-rootless, finished-unknown, finished-known}
+use Rattle.ir_lower.proofs.Laws.Left.{length-zeros}
+use Rattle.ir_call.proofs.Laws.Calls.{cleared-zeros, finished-rootless, finished-unknown, finished-known}
 use Rattle.ir_call.proofs.lower_finished.Statement.{statement}
 use Rattle.ir_call.proofs.lower_finished.Tie as tie
 
@@ -12,8 +13,8 @@ zero-graph-requires c κs = search needs
 zero-scratch-requires : tie.Need-zero-scratch-requires
 zero-scratch-requires c κs = search needs
 
-refused-requires : tie.Need-refused-requires
-refused-requires c κs = search needs
+answer-requires : tie.Need-answer-requires
+answer-requires c κs = search needs
 
 same-length : tie.Need-same-length
 same-length c = search needs
@@ -32,13 +33,13 @@ returns c =
     let a = start .args in
     let z = graph .zero-graph .ensures in
     let s = scr .zero-scratch .ensures in
-    λ st l. finished-rootless l (a .graph-rows .now) (a .graph-names .now) (a .scratch .now) (not-true _ (c .before .if1 .taken)) (c .refused .ensures) (z .0) (z .1) s
+    λ st l. finished-rootless l (a .graph-rows .now) (a .graph-names .now) (a .scratch .now) (not-true _ (c .before .if1 .taken)) (c .answer .ensures) (z .0) (z .1) s
 
 first-unknown-requires : tie.Need-first-unknown-requires
 first-unknown-requires c κs = search needs
 
-refused-requires-2 : tie.Need-refused-requires-2
-refused-requires-2 c κs = search needs
+answer-requires-2 : tie.Need-answer-requires-2
+answer-requires-2 c κs = search needs
 
 same-length-4 : tie.Need-same-length-4
 same-length-4 c = search needs
@@ -58,7 +59,7 @@ returns-2 c =
     let a = start .args in
     let z = graph .zero-graph .ensures in
     let s = scr .zero-scratch .ensures in
-    λ st l. finished-unknown l (a .graph-rows .now) (a .graph-names .now) (a .scratch .now) (not-false _ (unknown .before .if1 .left)) (c .before .if2 .taken) (unknown .first-unknown .ensures) (c .refused2 .ensures) (z .0) (z .1) s
+    λ st l. finished-unknown l (a .graph-rows .now) (a .graph-names .now) (a .scratch .now) (not-false _ (unknown .before .if1 .left)) (c .before .if2 .taken) (unknown .first-unknown .ensures) (c .answer2 .ensures) (z .0) (z .1) s
 
 lower-known-requires : tie.Need-lower-known-requires
 lower-known-requires c κs =
@@ -100,13 +101,13 @@ lower-finished-spec =
     (tie.spec
     zero-graph-requires
     zero-scratch-requires
-    refused-requires
+    answer-requires
     same-length
     same-length-2
     same-length-3
     returns
     first-unknown-requires
-    refused-requires-2
+    answer-requires-2
     same-length-4
     same-length-5
     same-length-6

@@ -4,7 +4,7 @@ use borrow.Author.Needs.{needs}
 use Rattle.sheet.specs.Calls.{sheet}
 use Rattle.xsd_types.specs.Back.{stateOf}
 use Rattle.xsd_progress.specs.Progress.{At}
-use Rattle.xsd_read.proofs.Laws.Good.{good-used, at-row0}
+use Rattle.xsd_progress.proofs.Laws.Row0.{good-used, at-row0}
 use Rattle.ir_rows.proofs.Laws.Graph.{finishedEnd-room}
 use Rattle.ir_call.specs.Steps.{Lowers}
 use Rattle.ir_call.proofs.Laws.Calls.{lowers-at, state-short, state-enough}
@@ -14,14 +14,14 @@ use Rattle.ir_call.proofs.lower_good.Tie as tie
 progress-of-requires : tie.Need-progress-of-requires
 progress-of-requires c κs =
     let start = c .before .before .before .before .before in
-    good-used (start .args .rows .now) (start .args .names .now) (start .pre .0 .isGood)
+    good-used (start .args .rows .now) (start .args .names .now) (start .pre .0)
 
 -- where the sheet stands
 stands : (c : tie.After-progress-of) → let a = c .before .before .before .before .before .before .args in At (stateOf (sheet (a .rows .now) (a .names .now))) (a .rows .now) (a .names .now) (c .progress-of .result)
 stands c =
     let start = c .before .before .before .before .before .before in
     let a = start .args in
-    subst (At (stateOf (sheet (a .rows .now) (a .names .now))) (a .rows .now) (a .names .now)) (sym (c .progress-of .ensures .0)) (at-row0 (a .rows .now) (a .names .now) (start .pre .0 .isGood) (c .progress-of .ensures .1))
+    subst (At (stateOf (sheet (a .rows .now) (a .names .now))) (a .rows .now) (a .names .now)) (sym (c .progress-of .ensures .0)) (at-row0 (a .rows .now) (a .names .now) (start .pre .0) (c .progress-of .ensures .1))
 
 finished-end-requires : tie.Need-finished-end-requires
 finished-end-requires c κs = search needs
@@ -31,15 +31,15 @@ count-types-requires c κs =
     let room = finishedEnd-room (stands (c .before)) in
     rw (c .finished-end .ensures) (room .0, room .1)
 
-refused-requires : tie.Need-refused-requires
-refused-requires c κs = search needs
+answer-requires : tie.Need-answer-requires
+answer-requires c κs = search needs
 
 returns : tie.Need-returns
 returns c =
     let count = c .before .before in
     let end = count .before in
     let a = end .before .before .before .before .before .before .before .args in
-    state-short (stands (end .before)) (a .graph-rows .now) (a .graph-names .now) (a .scratch .now) (rw (← end .finished-end .ensures) (count .count-types .ensures (a .names .now))) (c .before .if1 .taken) (c .refused .ensures)
+    state-short (stands (end .before)) (a .graph-rows .now) (a .graph-names .now) (a .scratch .now) (rw (← end .finished-end .ensures) (count .count-types .ensures (a .names .now))) (c .before .if1 .taken) (c .answer .ensures)
 
 lower-finished-requires : tie.Need-lower-finished-requires
 lower-finished-requires c κs =
@@ -48,7 +48,7 @@ lower-finished-requires c κs =
     let start = end .before .before .before .before .before .before .before in
     let a = start .args in
     let room = finishedEnd-room (stands (end .before)) in
-    (record { atLeast = rw (end .finished-end .ensures) (room .0); inside = rw (end .finished-end .ensures) (room .1); few = start .pre .0 .fewRows; enough = rw (← count .count-types .ensures (a .names .now)) (c .before .before .before .if1 .left) }, start .pre .1)
+    (record { atLeast = rw (end .finished-end .ensures) (room .0); inside = rw (end .finished-end .ensures) (room .1); few = start .pre .1 .fewRows; enough = rw (← count .count-types .ensures (a .names .now)) (c .before .before .before .if1 .left) }, start .pre .2)
 
 same-length : tie.Need-same-length
 same-length c = search needs
@@ -77,7 +77,7 @@ lower-good-spec =
     progress-of-requires
     finished-end-requires
     count-types-requires
-    refused-requires
+    answer-requires
     returns
     lower-finished-requires
     same-length

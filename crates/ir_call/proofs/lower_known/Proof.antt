@@ -20,8 +20,8 @@ enum-told c = search needs
 zero-graph-requires : tie.Need-zero-graph-requires
 zero-graph-requires c κs = search needs
 
-refused-requires : tie.Need-refused-requires
-refused-requires c κs = search needs
+answer-requires : tie.Need-answer-requires
+answer-requires c κs = search needs
 
 same-length : tie.Need-same-length
 same-length c = search needs
@@ -43,11 +43,11 @@ returns c =
     let w = write .write-graph in
     let s = scr .zero-scratch in
     λ g o. known-full (a .graph-rows .now) (a .graph-names .now) (a .scratch .now) (w .last .1 .1 .1 .0) (w .last .1 .1 .1 .1 .0) (w .last .1 .1 .1 .1 .1 .0) g
-    (full-of g _ _ (w .result) _ _ (w .ensures g o) (told .enum-told .given .1)) (c .refused .ensures)
+    (full-of g _ _ (w .result) _ _ (w .ensures g o) (told .enum-told .given .1)) (c .answer .ensures)
     (w .kept .1 .1 .1 .0) (zero .zero-graph .ensures .0) (w .kept .1 .1 .1 .1 .0) (zero .zero-graph .ensures .1) (w .kept .1 .1 .1 .1 .1 .0) (s .ensures)
 
-refused-requires-2 : tie.Need-refused-requires-2
-refused-requires-2 c κs = search needs
+answer-requires-2 : tie.Need-answer-requires-2
+answer-requires-2 c κs = search needs
 
 same-length-4 : tie.Need-same-length-4
 same-length-4 c = search needs
@@ -68,7 +68,7 @@ returns-2 c =
     let w = write .write-graph in
     let s = scr .zero-scratch in
     λ g o. known-stands (a .scratch .now) (w .last .1 .1 .1 .1 .1 .0) g
-    (stands-of g _ _ (w .result) _ _ (w .ensures g o) (grown .grown .given .1)) (c .refused2 .ensures) (w .kept .1 .1 .1 .1 .1 .0) (s .ensures)
+    (stands-of g _ _ (w .result) _ _ (w .ensures g o) (grown .grown .given .1)) (c .answer2 .ensures) (w .kept .1 .1 .1 .1 .1 .0) (s .ensures)
 
 pub lower-known-spec : {M : Type 1} → statement M
 lower-known-spec =
@@ -79,12 +79,12 @@ lower-known-spec =
     enum-known-grown
     enum-told
     zero-graph-requires
-    refused-requires
+    answer-requires
     same-length
     same-length-2
     same-length-3
     returns
-    refused-requires-2
+    answer-requires-2
     same-length-4
     same-length-5
     same-length-6

@@ -1,6 +1,7 @@
 -- `ir_call::write_graph` meets its contract: the kept places are indexed, the graph's rows are added to a sheet of zeros, and row 0 is set. Assumes nothing.
-use mathlib.Core.Path.{ap, _∙_}
+use mathlib.Core.Path.{sym, ap, _∙_}
 use native.Mathlib.Omega.{arith}
+use lib.Seq.{length-take-le}
 use borrow.Author.Needs.{needs}
 use Rattle.ir_rows.specs.Types.{graphRows}
 use Rattle.ir_append.proofs.Laws.Grows.{grown-of, short-of}
@@ -12,13 +13,19 @@ use Rattle.ir_call.proofs.write_graph.Tie as tie
 index-types-requires : tie.Need-index-types-requires
 index-types-requires c κs = search needs
 
+slice-reshare-prefix-kept : tie.Need-slice-reshare-prefix-kept
+slice-reshare-prefix-kept c = omega (arith, c .before .before .index-types .ensures .inside)
+
+slice-aggregate-kept : tie.Need-slice-aggregate-kept
+slice-aggregate-kept c = sym (length-take-le _ _ (c .before .before .before .index-types .ensures .inside))
+
 put-graph-requires : tie.Need-put-graph-requires
 put-graph-requires c κs =
     let index = c .before .before .before .before .before in
     let start = index .before .before .before .before .before .before .before in
     let a = start .args in
     let i = index .index-types .ensures in
-    ((first-room (start .pre .1), search needs, search needs), (i .inside, rw (i .places) (kept-below (a .rows .now) (a .names .now) (a .end))))
+    ((first-room (start .pre .1), search needs, search needs), rw (i .places) (kept-below (a .rows .now) (a .names .now) (a .end)))
 
 enum-known-grown : tie.Need-enum-known-grown
 enum-known-grown c = search needs
@@ -56,14 +63,17 @@ row0-of-requires c κs =
     let i = index .index-types .ensures in
     let g = grown-of _ _ _ _ _ _ _ (put .put-graph .ensures) (c .before .before .grown .given .1) in
     let f = start .pre .0 in (
-      omega (arith, g .rowsInside, g .rowsLength, start .pre .1 .fewRows),
-      omega (arith, g .namesInside, g .namesLength, start .pre .1 .fewNames),
+      omega (arith, g .rowsInside, g .rowsLength, start .pre .1 .sized .fewRows),
+      omega (arith, g .namesInside, g .namesLength, start .pre .1 .sized .fewNames),
       omega (arith, c .count-roots .ensures (a .names .now), roots-few (a .rows .now) (a .names .now) (a .end), f .inside, f .few),
       omega (arith, i .count, kept-twice (a .rows .now) (a .names .now) (a .end), f .inside, f .few),
     )
 
 put-row0-requires : tie.Need-put-row0-requires
-put-row0-requires c κs = search needs
+put-row0-requires c κs =
+    let put = c .before .before .before .before .before .before .before .before .before .before in
+    let start = put .before .before .before .before .before .before .before .before .before .before .before .before .before in
+    omega (arith, start .pre .1 .sized .someRows, put .put-graph .kept .0)
 
 same-length-4 : tie.Need-same-length-4
 same-length-4 c = search needs
@@ -91,6 +101,8 @@ write-graph-spec =
     tie.close
     (tie.spec
     index-types-requires
+    slice-reshare-prefix-kept
+    slice-aggregate-kept
     put-graph-requires
     enum-known-grown
     enum-told

@@ -3,8 +3,7 @@ use mathlib.Core.Bool.{Bool, _||_}
 use mathlib.Core.Path.{ap}
 use lib.Dec.{eqb}
 use borrow.Author.Needs.{needs}
-use Rattle.ir_rows.specs.Types.{isSimple, isComplex}
-use Rattle.ir_checks.specs.Types.{isType}
+use Rattle.ir_rows.specs.Types.{isSimple, isComplex, isType}
 use Rattle.ir_checks.proofs.is_type.Statement.{statement}
 use Rattle.ir_checks.proofs.is_type.Tie as tie
 

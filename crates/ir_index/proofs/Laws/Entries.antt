@@ -1,55 +1,26 @@
--- Laws of the entries: the places in them, which entry has the name of a place, and what one entry more leaves known. An entry whose fingerprint is
+-- Laws of the entries: which entry has the name of a place, and what one entry more leaves known. An entry whose fingerprint is
 -- another has another name, and an entry whose flag is not set is not there. Assumes nothing.
-use Prim.Native.Nat.{ℕ, zero, suc, _+_, _*_, _/_, _%_, _≤_, _<_}
-use mathlib.Core.Path.{_≡_, refl, sym, ap, _∙_}
+use Prim.Native.Nat.{ℕ, suc, _+_, _*_, _/_, _%_, _≤_, _<_}
+use mathlib.Core.Path.{_≡_, sym, ap, _∙_}
 use mathlib.Core.Bool.{true, false}
-use mathlib.Core.List.{List, [], _∷_, _++_, map, map-append}
+use mathlib.Core.List.{List, [], _∷_}
 use native.Mathlib.Omega.{arith}
 use native.Mathlib.Nat.{not-suc-le-zero}
-use native.Mathlib.Numerals.{add-one}
 use lib.Dec.{eqb}
-use lib.ListN.{length, getD, take, drop, set, replicate, length-map, length-set, length-replicate, drop-of-length-le, List·getD-map}
-use lib.Seq.{length-take-le, getD-take, drop-cons, take-set-lt, take-suc-set, getD-set-same, getD-set-other}
+use lib.ListN.{length, getD, take, drop, set, replicate, length-set, length-replicate, drop-of-length-le}
+use lib.Seq.{length-take-le, getD-take, getD-set-same, getD-set-other}
 use borrow.Author.Tests.{eqb-true, eqb-false}
 use Rattle.text.specs.Text.{Text, same}
 use Rattle.text.proofs.Laws.Tests.{bool-cases}
 use Rattle.text.proofs.Laws.Texts.{same-differ}
+use Rattle.sheet.specs.Limits.{rowsLimit}
 use Rattle.ir_rows.specs.Places.{nameAt}
 use Rattle.ir_rows.specs.Types.{insertPlaces, placesIn}
+use Rattle.ir_rows.proofs.Laws.Entries.{places-length, places-at, places-cons, places-set, places-more}
 use Rattle.ir_index.specs.Prints.{fingerprint}
 use Rattle.ir_index.specs.Entries.{firstSame, hasPrint, HeadAt, EntryOf, Entries, Known, Entered}
 use Rattle.ir_index.proofs.Laws.Prints.{fingerprint-below, no-print}
 use Rattle.ir_index.proofs.Laws.Insert.{first-hit, first-on, first-none, first-within, insert-found, insert-new}
-
--- maps
-map-set : (f : ℕ → ℕ) (l : List ℕ) (i a : ℕ) → map f (set l i a) ≡ set (map f l) i (f a)
-map-set f [] i a = refl
-map-set f (x ∷ l) zero a = refl
-map-set f (x ∷ l) (suc i) a = ap (λ (m : List ℕ). f x ∷ m) (map-set f l i a)
-
--- the places in the entries
-module _ (n : ℕ) (scratch : List ℕ) where
-  pub places-length : n ≤ length scratch → length (placesIn n scratch) ≡ n
-  unfolding placesIn
-  places-length h = length-map (take n scratch) (λ e. e % 65536) ∙ length-take-le n scratch h
-
-  pub places-at : (k : ℕ) → k < n → getD (placesIn n scratch) k 0 ≡ getD scratch k 0 % 65536
-  unfolding placesIn
-  places-at k h = List·getD-map (λ e. e % 65536) (take n scratch) k 0 ∙ ap (λ (e : ℕ). e % 65536) (getD-take n scratch k 0 h)
-
-  pub places-cons : (k : ℕ) → k < n → n ≤ length scratch → drop k (placesIn n scratch) ≡ getD scratch k 0 % 65536 ∷ drop (suc k) (placesIn n scratch)
-  places-cons k h i =
-      drop-cons (placesIn n scratch) k 0 (omega (arith, places-length i))
-      ∙ ap (λ (q : ℕ). q ∷ drop (suc k) (placesIn n scratch)) (places-at k h)
-
-  pub places-set : (k e : ℕ) → k < n → placesIn n (set scratch k e) ≡ set (placesIn n scratch) k (e % 65536)
-  unfolding placesIn
-  places-set k e h = ap (map (λ x. x % 65536)) (take-set-lt n scratch k e h) ∙ map-set (λ x. x % 65536) (take n scratch) k e
-
-  pub places-more : (e : ℕ) → n < length scratch → placesIn (n + 1) (set scratch n e) ≡ placesIn n scratch ++ (e % 65536 ∷ [])
-  unfolding placesIn
-  places-more e h =
-      rw add-one (ap (map (λ x. x % 65536)) (take-suc-set scratch n e h) ∙ map-append (λ x. x % 65536) (take n scratch) (e ∷ []))
 
 -- names with different fingerprints differ
 pub prints-differ : (s t : Text) → (fingerprint s ≡ fingerprint t → ⊥) → same s t ≡ false
@@ -126,7 +97,7 @@ known-none rows names scratch m h =
 pub record Putting (rows names scratch : List ℕ) (n : ℕ) (flags : List ℕ) (p f at : ℕ) : Type 0 where
   pub known : Known rows names scratch n flags
   pub head : HeadAt rows p
-  pub small : length rows ≤ 40960
+  pub small : length rows ≤ rowsLimit
   pub room : n < length scratch
   pub print : f ≡ fingerprint (nameAt rows names p)
   pub spot : at ≡ firstSame (nameAt rows names) p (placesIn n scratch)

@@ -7,7 +7,7 @@ use native.Mathlib.Omega.{arith}
 use lib.ListN.{length, getD, set}
 use Rattle.text.specs.Text.{Text, same}
 use Rattle.text.proofs.Laws.Tests.{bool-cases}
-use Rattle.ir_rows.specs.Types.{insertPlace, insertPlaces}
+use Rattle.ir_rows.specs.Types.{insertPlace}
 use Rattle.ir_index.specs.Entries.{firstSame}
 
 module _ (name : ℕ → Text) (p : ℕ) where
@@ -47,8 +47,3 @@ module _ (name : ℕ → Text) (p : ℕ) where
   first-within [] = omega arith
   first-within (q ∷ qs) =
       bool-cases (same (name q) (name p)) (λ e. rw e (omega arith)) (λ e. rw e (omega (arith, first-within qs)))
-
-pub insert-append : (name : ℕ → Text) (ps qs places : List ℕ) → insertPlaces name (ps ++ qs) places ≡ insertPlaces name qs (insertPlaces name ps places)
-unfolding insertPlaces
-insert-append name [] qs places = refl
-insert-append name (p ∷ ps) qs places = insert-append name ps qs (insertPlace name p places)

@@ -7,12 +7,12 @@ use mathlib.Core.List.{List, [], _∷_}
 use native.Mathlib.Omega.{arith}
 use lib.ListN.{length, getD, length-append}
 use Rattle.ir_rows.specs.Places.{rowsFrom, nameAt}
-use Rattle.ir_rows.specs.Types.{typePlaces, insertPlaces, keptPlaces, placesIn}
+use Rattle.ir_rows.specs.Types.{typePlaces, insertPlaces, keptPlaces, entryPlaces, placesIn}
+use Rattle.ir_rows.proofs.Laws.Inside.{insert-append}
+use Rattle.ir_rows.proofs.Laws.Entries.{places-length}
 use Rattle.ir_index.specs.Index.{Indexed}
 use Rattle.ir_index.specs.Entries.{isKind, kindPlaces, Known, Entered}
 use Rattle.ir_index.proofs.Laws.Kinds.{kind-hit, kind-on, kind-end, kinds-types}
-use Rattle.ir_index.proofs.Laws.Insert.{insert-append}
-use Rattle.ir_index.proofs.Laws.Entries.{places-length}
 
 pub record Walking (rows names : List ℕ) (end : ℕ) (complex : Bool) (before : List ℕ) (n : ℕ) (scratch : List ℕ) (count : ℕ) (flags : List ℕ) (p : ℕ) : Type 0 where
   pub known : Known rows names scratch count flags
@@ -60,7 +60,7 @@ pub types-length : (rows names : List ℕ) (end : ℕ) → length (typePlaces 2 
 types-length rows names end = ap length (kinds-types rows names end) ∙ length-append (kindPlaces rows names end false 2) (kindPlaces rows names end true 2)
 
 pub both-kinds : (end : ℕ) {rows names before scratch after : List ℕ} {n m : ℕ} {some all : List ℕ} → Entered rows names before 0 (kindPlaces rows names end false 2) scratch n some → Entered rows names scratch n (kindPlaces rows names end true 2) after m all → Indexed (keptPlaces rows names end) after m
-unfolding keptPlaces placesIn
+unfolding keptPlaces entryPlaces
 both-kinds end {rows} {names} {before} {scratch} {after} {n} {m} v w =
     let e : placesIn m after ≡ keptPlaces rows names end =
     w .places ∙ ap (insertPlaces (nameAt rows names) (kindPlaces rows names end true 2)) (v .places)

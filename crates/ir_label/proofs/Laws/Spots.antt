@@ -11,8 +11,8 @@ use Rattle.sheet.specs.Rows.{Ten}
 use Rattle.sheet.proofs.Laws.Unpacks.{length-textAt}
 use Rattle.ir_types.specs.Label.{noLabel, wordsOf, goodWords, wordAt, rowTen, hasReference, referenceAt, referenceLength, namedLabel, wordLabel, rowLabel, label}
 use Rattle.ir_types.proofs.Laws.Words.{six-words}
-use Rattle.ir_words.specs.Lines.{lineLength}
-use Rattle.ir_words.proofs.Laws.Start.{word-line}
+use Rattle.ir_label.specs.Lines.{lineLength}
+use Rattle.ir_label.proofs.Laws.Start.{word-line}
 use Rattle.ir_label.specs.Spot.{spotOf}
 
 -- a pair inside the names, and one that is not

@@ -15,8 +15,8 @@ use Rattle.xsd_types.specs.Good.{good}
 use Rattle.xsd_types.specs.Back.{stateOf}
 use Rattle.ir_types.specs.Types.{TypeGraph}
 use Rattle.ir_types.specs.Sheet.{graphFits}
-use Rattle.ir_lower.specs.Lower.{lower, unknownRow, finishedTypes}
-use Rattle.ir_lower.specs.Call.{Lowered, unchanged, cleared, written, lowerState, lowering}
+use Rattle.ir_lower.specs.Lower.{lower, finishedTypes}
+use Rattle.ir_lower.specs.Call.{unchanged, cleared, written, refusedOrWritten, lowerFinished, lowerState, lowering}
 use Rattle.ir_lower.specs.Outcome.{Outcome}
 use Rattle.ir_lower.proofs.Laws.Refusals.{refused-exactly}
 use Rattle.text.proofs.Laws.Tests.{test-cases}
@@ -35,25 +35,22 @@ unfolding lowering
 lowering-state x graph scratch h k = rw (h, k)
 
 -- the state's call, branch by branch
-abbrev lowered : State → Sheet → List ℕ → Option TypeGraph → Lowered
-lowered s graph scratch o = elim o [ none ↦ cleared 13 (unknownRow 2 (s .reader .schema .items)) graph scratch | some g ↦ written g graph scratch ]
-
 state-short : (s : State) (graph : Sheet) (scratch : List ℕ) → leb (finishedTypes (s .reader .schema)) (length scratch) ≡ false → lowerState s graph scratch ≡ unchanged 14 graph scratch
 unfolding lowerState
 state-short s graph scratch h = rw h
 
 state-rootless : (s : State) (graph : Sheet) (scratch : List ℕ) → leb (finishedTypes (s .reader .schema)) (length scratch) ≡ true → s .reader .rootSeen ≡ false
     → lowerState s graph scratch ≡ cleared 12 0 graph scratch
-unfolding lowerState
+unfolding lowerState lowerFinished
 state-rootless s graph scratch h k = rw (h, k)
 
 state-lowered : (s : State) (graph : Sheet) (scratch : List ℕ) → leb (finishedTypes (s .reader .schema)) (length scratch) ≡ true → s .reader .rootSeen ≡ true
-    → lowerState s graph scratch ≡ lowered s graph scratch (lower (s .reader .schema))
-unfolding lowerState
+    → lowerState s graph scratch ≡ refusedOrWritten (s .reader .schema) (lower (s .reader .schema)) graph scratch
+unfolding lowerState lowerFinished
 state-lowered s graph scratch h k = rw (h, k)
 
 lowered-outcome : (s : State) (graph : Sheet) (scratch : List ℕ) → finishedTypes (s .reader .schema) ≤ length scratch → s .reader .rootSeen ≡ true
-    → (o : Option TypeGraph) → lower (s .reader .schema) ≡ o → Outcome s graph scratch (lowered s graph scratch o)
+    → (o : Option TypeGraph) → lower (s .reader .schema) ≡ o → Outcome s graph scratch (refusedOrWritten (s .reader .schema) o graph scratch)
 unfolding written
 lowered-outcome s graph scratch h k none e = Outcome.unknown h k (refused-exactly (s .reader .schema) .0 e) refl
 lowered-outcome s graph scratch h k (some g) e =

@@ -9,8 +9,8 @@ use lib.ListN.{drop}
 use borrow.Author.Tests.{ne-eqb}
 use Rattle.text.specs.Text.{Text, if_then_else_, between}
 use Rattle.sheet.specs.Rows.{Row, row, ten}
-use Rattle.xsd_forms.specs.declared.row.Ten.{Ten as Numbers}
-use Rattle.xsd_forms.specs.Forms.{asTen}
+use Rattle.xsd_good.specs.declared.forms.row.Ten.{Ten as Numbers}
+use Rattle.xsd_good.specs.Forms.{asTen}
 use Rattle.ir_rows.specs.Places.{rowAt}
 use Rattle.ir_rows.specs.Lowered.{codeRows, loweredAs, loweredRow}
 use Rattle.ir_row.specs.Recipes.{hasRecipe, isCount, tenRows}

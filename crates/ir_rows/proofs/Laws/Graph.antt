@@ -21,7 +21,7 @@ use Rattle.xsd_types.specs.Rows.{namespaceRow, itemsRows, contextRows, contextN
 use Rattle.xsd_types.specs.Good.{usedPairs}
 use Rattle.xsd_types.specs.Back.{text0}
 use Rattle.xsd_types.proofs.Laws.Sound.{counted-rows}
-use Rattle.xsd_row.specs.Packing.{Packs}
+use Rattle.xsd_rows.specs.Packing.{Packs}
 use Rattle.xsd_actions.specs.declared.Mode.{Mode}
 use Rattle.xsd_actions.specs.Actions.{modeOf}
 use Rattle.xsd_progress.specs.declared.Progress.{Progress}

@@ -1,31 +1,24 @@
 -- The places that are kept: each is one of the finished types' places, so it lies behind row 1 and before the end, its row is a type's head, and there
 -- are no more of them than finished types. Inserting a place adds that place alone. Assumes nothing.
 --     inside low high    the test of a place from low on and before high
---     typeTag       the tag is that of a finished type's head
 use Prim.Native.Nat.{ℕ, zero, suc, _+_, _≤_, _<_}
 use mathlib.Core.Path.{_≡_, refl, ap, _∙_}
 use mathlib.Core.Logic.{⊎-elim}
-use mathlib.Core.Bool.{Bool, true, _&&_, _||_}
-use mathlib.Core.List.{List, [], _∷_}
+use mathlib.Core.Bool.{Bool, true, _&&_}
+use mathlib.Core.List.{List, [], _∷_, _++_}
 use native.Mathlib.Omega.{arith}
 use lib.Dec.{leb, ltb}
 use lib.ListN.{length, getD}
 use borrow.Author.Tests.{leb-true, ltb-true, le-leb, lt-ltb}
 use Rattle.text.specs.Text.{Text, same, every}
 use Rattle.text.proofs.Laws.Tests.{two, and-true, or-left, or-right, or-cases, if-keeps, if-cases}
-use Rattle.text.proofs.Laws.Every.{every-head, every-tail, every-append-true, every-weaken}
+use Rattle.text.proofs.Laws.Every.{every-head, every-tail, every-at, every-append-true, every-weaken}
 use Rattle.sheet.specs.Rows.{Row}
 use Rattle.xsd_types.specs.Good.{isHead}
 use Rattle.ir_rows.specs.Places.{rowAt, rowsFrom, nameAt}
-use Rattle.ir_rows.specs.Types.{isSimple, isComplex, placesOf, typePlaces, insertPlace, insertPlaces, keptPlaces}
+use Rattle.ir_rows.specs.Types.{isSimple, isComplex, isType, placesOf, typePlaces, insertPlace, insertPlaces, keptPlaces}
 use Rattle.ir_rows.proofs.Laws.Places.{rowsFrom-some, rowsFrom-parts}
 use Rattle.ir_rows.proofs.Laws.Groups.{simple-head, complex-head}
-
--- what every element of a list passes, the element at an index passes
-pub every-at : {A : Type 0} (p : A → Bool) (d : A) (xs : List A) (i : ℕ) → every p xs ≡ true → i < length xs → p (getD xs i d) ≡ true
-every-at p d [] i e h = absurd (omega arith)
-every-at p d (x ∷ xs) zero e h = every-head p x xs e
-every-at p d (x ∷ xs) (suc i) e h = every-at p d xs i (every-tail p x xs e) (omega arith)
 
 -- ---- inserting
 
@@ -43,6 +36,11 @@ module _ (name : ℕ → Text) where
   insertPlaces-every test (p ∷ ps) qs h e =
       insertPlaces-every test ps (insertPlace name p qs) (every-tail test p ps h) (insertPlace-every test p qs (every-head test p ps h) e)
 
+  pub insert-append : (ps qs places : List ℕ) → insertPlaces name (ps ++ qs) places ≡ insertPlaces name qs (insertPlaces name ps places)
+  unfolding insertPlaces
+  insert-append [] qs places = refl
+  insert-append (p ∷ ps) qs places = insert-append ps qs (insertPlace name p places)
+
   insertPlace-length : (p : ℕ) (qs : List ℕ) → length (insertPlace name p qs) ≤ 1 + length qs
   unfolding insertPlace
   insertPlace-length p [] = omega arith
@@ -58,12 +56,9 @@ module _ (name : ℕ → Text) where
 unfoldable pub inside : ℕ → ℕ → ℕ → Bool
 inside low high p = leb low p && ltb p high
 
-unfoldable pub typeTag : ℕ → Bool
-typeTag tag = isSimple tag || isComplex tag
-
-pub typeTag-head : (tag : ℕ) → typeTag tag ≡ true → isHead tag ≡ true
-unfolding typeTag
-typeTag-head tag e = ⊎-elim (simple-head tag) (complex-head tag) (or-cases (isSimple tag) (isComplex tag) e)
+pub type-head : (tag : ℕ) → isType tag ≡ true → isHead tag ≡ true
+unfolding isType
+type-head tag e = ⊎-elim (simple-head tag) (complex-head tag) (or-cases (isSimple tag) (isComplex tag) e)
 
 module _ (rows names : List ℕ) (end : ℕ) where
   -- a place of the rows from k on is at least k and before the end, and its row's tag passes
@@ -94,12 +89,12 @@ module _ (rows names : List ℕ) (end : ℕ) where
   kept-few = omega (arith, insertPlaces-length (nameAt rows names) (typePlaces 2 (rowsFrom rows names 2 end)) [])
 
   -- each is the place of a type's head
-  pub kept-types : every (λ (q : ℕ). typeTag (rowAt rows names q .tag)) (keptPlaces rows names end) ≡ true
-  unfolding typePlaces typeTag
+  pub kept-types : every (λ (q : ℕ). isType (rowAt rows names q .tag)) (keptPlaces rows names end) ≡ true
+  unfolding typePlaces isType
   kept-types =
-      let simple = every-weaken (λ (q : ℕ). isSimple (rowAt rows names q .tag)) (λ (q : ℕ). typeTag (rowAt rows names q .tag)) (λ q h. or-left _ h) _ (placesOf-tags isSimple 2 _ refl) in
-      let complex = every-weaken (λ (q : ℕ). isComplex (rowAt rows names q .tag)) (λ (q : ℕ). typeTag (rowAt rows names q .tag)) (λ q h. or-right (isSimple (rowAt rows names q .tag)) h) _ (placesOf-tags isComplex 2 _ refl) in
-      kept-every (λ (q : ℕ). typeTag (rowAt rows names q .tag)) (every-append-true (λ (q : ℕ). typeTag (rowAt rows names q .tag)) _ _ simple complex)
+      let simple = every-weaken (λ (q : ℕ). isSimple (rowAt rows names q .tag)) (λ (q : ℕ). isType (rowAt rows names q .tag)) (λ q h. or-left _ h) _ (placesOf-tags isSimple 2 _ refl) in
+      let complex = every-weaken (λ (q : ℕ). isComplex (rowAt rows names q .tag)) (λ (q : ℕ). isType (rowAt rows names q .tag)) (λ q h. or-right (isSimple (rowAt rows names q .tag)) h) _ (placesOf-tags isComplex 2 _ refl) in
+      kept-every (λ (q : ℕ). isType (rowAt rows names q .tag)) (every-append-true (λ (q : ℕ). isType (rowAt rows names q .tag)) _ _ simple complex)
 
   -- each lies behind row 1 and before the end
   pub types-inside : every (inside 2 end) (typePlaces 2 (rowsFrom rows names 2 end)) ≡ true
@@ -120,4 +115,4 @@ module _ (rows names : List ℕ) (end k : ℕ) (h : k < length (keptPlaces rows 
   kept-at = inside-both 2 end _ (every-at (inside 2 end) 0 (keptPlaces rows names end) k (kept-inside rows names end) h)
 
   pub kept-head : isHead (rowAt rows names (getD (keptPlaces rows names end) k 0) .tag) ≡ true
-  kept-head = typeTag-head _ (every-at (λ (q : ℕ). typeTag (rowAt rows names q .tag)) 0 (keptPlaces rows names end) k (kept-types rows names end) h)
+  kept-head = type-head _ (every-at (λ (q : ℕ). isType (rowAt rows names q .tag)) 0 (keptPlaces rows names end) k (kept-types rows names end) h)

@@ -12,6 +12,7 @@ use Rattle.sheet.specs.Rows.{Row, numbers, row, packRow, pack, namesOf, filled,
 use Rattle.sheet.specs.Lengths.{fits}
 use Rattle.ir_types.specs.Types.{TypeGraph}
 use Rattle.ir_types.specs.Rows.{typesRows, rootRow, rowsOf, rowsUsed, namesUsed, row0}
+use Rattle.ir_types.specs.Row0.{graphRow0Ten}
 use Rattle.ir_types.specs.Sheet.{graphFits, graphSheet}
 use Rattle.ir_types.specs.Form.{usedPairs, tenForm, row0Form, rowsForm, namesForm, graphForm}
 use Rattle.ir_types.specs.Ok.{rootOk, typeOk, graphOk, rowForm, rowSmall, rowOk}
@@ -25,15 +26,15 @@ use Rattle.sheet.proofs.Laws.Packs.{length-pack, covers-pack, covered-pack, isT
 
 -- ---- the sheet read back
 
-pub sheet-row0 : (g : TypeGraph) (r n : ℕ) → row0Of (graphSheet g r n) ≡ row0 g
+pub sheet-row0 : (g : TypeGraph) (r n : ℕ) → row0Of (graphSheet g r n) ≡ graphRow0Ten (row0 g)
 unfolding row0Of graphSheet sheetOfRows filled
-sheet-row0 g r n = ten-numbers (row0 g) (pack 0 (rowsOf g)) _
+sheet-row0 g r n = ten-numbers (graphRow0Ten (row0 g)) (pack 0 (rowsOf g)) _
 
 pub sheet-tens : (g : TypeGraph) (r n : ℕ) → tensOf (graphSheet g r n) ≡ pack 0 (rowsOf g)
 unfolding tensOf graphSheet sheetOfRows filled row0 rowsUsed row0Of
 sheet-tens g r n =
     let e : rowsUsed g - 1 ≡ length (pack 0 (rowsOf g)) = rw (length-pack 0 (rowsOf g)) (omega arith) in
-    rw (ten-numbers (row0 g) (pack 0 (rowsOf g)) _, drop-numbers (row0 g) (pack 0 (rowsOf g)) _, e) (tens-numbers (pack 0 (rowsOf g)) _)
+    rw (ten-numbers (graphRow0Ten (row0 g)) (pack 0 (rowsOf g)) _, drop-numbers (graphRow0Ten (row0 g)) (pack 0 (rowsOf g)) _, e) (tens-numbers (pack 0 (rowsOf g)) _)
 
 module _ (g : TypeGraph) (r n : ℕ) (h : graphFits r n g ≡ true) where
   pub rows-fit : 10 * rowsUsed g ≤ r
@@ -44,13 +45,13 @@ module _ (g : TypeGraph) (r n : ℕ) (h : graphFits r n g ≡ true) where
   unfolding graphFits fits
   names-fit = leb-true (namesUsed g) n (and-true-right (leb (10 * rowsUsed g) r) (leb (namesUsed g) n) h)
 
-  length-used : length (numbers (row0 g ∷ pack 0 (rowsOf g))) ≡ 10 * rowsUsed g
+  length-used : length (numbers (graphRow0Ten (row0 g) ∷ pack 0 (rowsOf g))) ≡ 10 * rowsUsed g
   unfolding rowsUsed
-  length-used = length-numbers (row0 g ∷ pack 0 (rowsOf g)) ∙ rw (length-pack 0 (rowsOf g)) (omega arith)
+  length-used = length-numbers (graphRow0Ten (row0 g) ∷ pack 0 (rowsOf g)) ∙ rw (length-pack 0 (rowsOf g)) (omega arith)
 
   pub sheet-rows-length : length (graphSheet g r n .rows) ≡ r
   unfolding graphSheet sheetOfRows
-  sheet-rows-length = length-filled r (numbers (row0 g ∷ pack 0 (rowsOf g))) (rw length-used rows-fit)
+  sheet-rows-length = length-filled r (numbers (graphRow0Ten (row0 g) ∷ pack 0 (rowsOf g))) (rw length-used rows-fit)
 
   pub sheet-names-length : length (graphSheet g r n .names) ≡ n
   unfolding graphSheet sheetOfRows namesUsed
@@ -64,7 +65,7 @@ module _ (g : TypeGraph) (r n : ℕ) (h : graphFits r n g ≡ true) where
 
   rows-zero : allZero (drop (10 * rowsUsed g) (graphSheet g r n .rows)) ≡ true
   unfolding graphSheet sheetOfRows
-  rows-zero = rw (← length-used) (zeros-filled r (numbers (row0 g ∷ pack 0 (rowsOf g))))
+  rows-zero = rw (← length-used) (zeros-filled r (numbers (graphRow0Ten (row0 g) ∷ pack 0 (rowsOf g))))
 
   names-zero : allZero (drop (namesUsed g) (graphSheet g r n .names)) ≡ true
   unfolding graphSheet sheetOfRows namesUsed

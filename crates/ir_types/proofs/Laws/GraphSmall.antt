@@ -9,6 +9,7 @@ use lib.ListN.{length, replicate, length-append, length-map}
 use Rattle.text.specs.Text.{Text, every, join}
 use Rattle.sheet.specs.Rows.{Ten, Row, Pairs, numbers, row, pairs, packRow, pack, namesOf, filled, sheetOfRows}
 use Rattle.ir_types.specs.Types.{TypeGraph, TypeDef}
+use Rattle.ir_types.specs.Row0.{graphRow0Ten}
 use Rattle.ir_types.specs.Rows.{typeRows, typesRows, rootRow, rowsOf, rowsUsed, namesUsed, row0}
 use Rattle.ir_types.specs.Sheet.{graphFits, graphSheet}
 use Rattle.ir_types.specs.Form.{usedPairs}
@@ -95,7 +96,7 @@ counts-fewer g =
     let l = length-append (map rootRow (g .rootElements)) (typesRows (g .types)) in let m = length-map (g .rootElements) rootRow in let t = types-fewer (g .types) in
     omega arith
 
-row0-small : (g : TypeGraph) (ts : List Ten) → rowsUsed g < 2 ^ 32 → namesUsed g < 2 ^ 32 → every isSmall (numbers ts) ≡ true → every isSmall (numbers (row0 g ∷ ts)) ≡ true
+row0-small : (g : TypeGraph) (ts : List Ten) → rowsUsed g < 2 ^ 32 → namesUsed g < 2 ^ 32 → every isSmall (numbers ts) ≡ true → every isSmall (numbers (graphRow0Ten (row0 g) ∷ ts)) ≡ true
 unfolding every numbers row0
 row0-small g ts r n e =
     let f = counts-fewer g in
@@ -112,7 +113,7 @@ names-small g n q b = omega arith
 pub sheet-small : (g : TypeGraph) (r n : ℕ) → graphOk g ≡ true → graphFits r n g ≡ true → r < 2 ^ 32 → n < 2 ^ 32 → every isSmall (graphSheet g r n .rows) ≡ true
 unfolding graphSheet sheetOfRows filled
 sheet-small g r n h k a b =
-    let p = rows-fit g r n k in let q = names-fit g r n k in let more = r - length (numbers (row0 g ∷ pack 0 (rowsOf g))) in
-    every-append-true isSmall (numbers (row0 g ∷ pack 0 (rowsOf g))) (replicate more 0)
+    let p = rows-fit g r n k in let q = names-fit g r n k in let more = r - length (numbers (graphRow0Ten (row0 g) ∷ pack 0 (rowsOf g))) in
+    every-append-true isSmall (numbers (graphRow0Ten (row0 g) ∷ pack 0 (rowsOf g))) (replicate more 0)
     (row0-small g (pack 0 (rowsOf g)) (omega arith) (omega arith) (pack-small 0 (rowsOf g) (rows-small g h) (rows-use g h) (names-small g n q b)))
     (zeros-small more)

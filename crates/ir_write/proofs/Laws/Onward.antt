@@ -3,7 +3,7 @@ use Prim.Native.Nat.{ℕ}
 use mathlib.Core.Path.{_≡_}
 use mathlib.Core.List.{List, [], _++_}
 use Rattle.sheet.specs.Rows.{Row}
-use Rattle.xsd_numbers.specs.declared.Used.{Used}
+use Rattle.xsd_rows.specs.declared.numbers.Used.{Used}
 use Rattle.ir_append.specs.declared.Grown.{Grown}
 use Rattle.ir_append.specs.Grows.{Room, GrownTo, Short}
 use Rattle.ir_append.proofs.Laws.Grows.{grows-none, room-after, grows-then, short-more}
@@ -19,10 +19,6 @@ onward-step xs ys o e g =
       room = room-after (o .room) g;
       on = λ rows₁ names₁ r k. o .on rows₁ names₁ r (rw e (grows-then ys rows₁ names₁ r g k));
     }
-
--- what is to be added is the same list
-pub onward-same : {rows₀ names₀ rows names : List ℕ} {used₀ used : Used} {all rest : List Row} (ys : List Row) → Onward rows₀ names₀ used₀ all rows names used rest → rest ≡ ys → Onward rows₀ names₀ used₀ all rows names used ys
-onward-same ys o e = rw e at o
 
 pub onward-end : {rows₀ names₀ rows names : List ℕ} {used₀ used : Used} {all rest : List Row} → Onward rows₀ names₀ used₀ all rows names used rest → rest ≡ [] → GrownTo rows₀ names₀ used₀ all rows names used
 onward-end {rows = rows} {names} {used = used} o e = o .on rows names (Grown.To used) (rw e (grows-none (o .room)))

@@ -14,122 +14,102 @@ use Rattle.ir_write.proofs.put_children.Statement.{statement}
 use Rattle.ir_write.proofs.put_children.Tie as tie
 
 abbrev Inv-loop : tie.InvT-loop
-Inv-loop graph-rows₀ graph-names₀ rows names first end code-enum used₀ place₀ graph-rows graph-names used place =
-    Onward graph-rows₀ graph-names₀ used₀ (childRows code-enum (rowsFrom rows names first end)) graph-rows graph-names used (childRows code-enum (rowsFrom rows names place end)) × (length graph-rows ≡ length graph-rows₀) × (length graph-names ≡ length graph-names₀)
+Inv-loop graph-rows₀ graph-names₀ rows names children used₀ place₀ graph-rows graph-names used place =
+    Onward graph-rows₀ graph-names₀ used₀ (childRows (children .«code_enum») (rowsFrom rows names (children .first) (children .end))) graph-rows graph-names used (childRows (children .«code_enum») (rowsFrom rows names place (children .end))) × (length graph-rows ≡ length graph-rows₀) × (length graph-names ≡ length graph-names₀)
 
 abbrev μ-loop : tie.MeasureT-loop
-μ-loop graph-rows₀ graph-names₀ rows names first end code-enum used₀ place₀ graph-rows graph-names used place = end - place
+μ-loop graph-rows₀ graph-names₀ rows names children used₀ place₀ graph-rows graph-names used place = children .end - place
 
--- src/lib.rt:44:5
 loop-holds : tie.Need-loop-holds Inv-loop μ-loop
 loop-holds c = (onward-start _ (c .before .before .before .before .pre .0), refl, refl)
 
--- src/lib.rt:45:30
 mul-is-head : tie.Need-mul-is-head Inv-loop μ-loop
 mul-is-head c = search needs
 
--- src/lib.rt:45:25
 mul-is-head-2 : tie.Need-mul-is-head-2 Inv-loop μ-loop
 mul-is-head-2 c = search needs
 
--- src/lib.rt:45:25
 shared-slice-read-is-head : tie.Need-shared-slice-read-is-head Inv-loop μ-loop
 shared-slice-read-is-head c = search needs
 
--- src/lib.rt:45:12
 is-head-requires : tie.Need-is-head-requires Inv-loop μ-loop
 is-head-requires c κs = search needs
 
--- src/lib.rt:46:13
 same-length : tie.Need-same-length Inv-loop μ-loop
 same-length c = search needs
 
--- src/lib.rt:46:13
 same-length-2 : tie.Need-same-length-2 Inv-loop μ-loop
 same-length-2 c = search needs
 
--- src/lib.rt:46:13
 returns : tie.Need-returns Inv-loop μ-loop
 returns c =
-    let at = c .before .before .before .before in
+    let at = c .before .before .before .before .before in
     let a = at .before .before .before .before .before .args in
-    onward-end (at .loop .inv .0) (children-head (a .rows .now) (a .names .now) (a .code-enum) (at .loop .place) (a .end) (c .before .before .before .loop-test .taken) (sym (c .before .is-head .ensures) ∙ c .if1 .taken))
+    onward-end (at .loop .inv .0) (children-head (a .rows .now) (a .names .now) (a .children .«code_enum») (at .loop .place) (a .children .end) (c .before .before .before .if1 .taken) (sym (c .before .is-head .ensures) ∙ c .if2 .taken))
 
--- src/lib.rt:48:13
 put-lowered-requires : tie.Need-put-lowered-requires Inv-loop μ-loop
 put-lowered-requires c κs =
-    let at = c .before .before .before .before .before .before in
+    let at = c .before .before .before .before .before .before .before in
     (at .loop .inv .0 .room, search needs)
 
--- src/lib.rt:57:23
 enum-known-grown : tie.Need-enum-known-grown Inv-loop μ-loop
 enum-known-grown c = search needs
 
--- src/lib.rt:58:13
 enum-told : tie.Need-enum-told Inv-loop μ-loop
 enum-told c = search needs
 
--- src/lib.rt:58:13
 same-length-3 : tie.Need-same-length-3 Inv-loop μ-loop
 same-length-3 c = search needs
 
--- src/lib.rt:58:13
 same-length-4 : tie.Need-same-length-4 Inv-loop μ-loop
 same-length-4 c = search needs
 
--- src/lib.rt:58:13
 -- the rest is the row at hand, which is no head, and what is behind it
-on : (c : tie.Else1 Inv-loop μ-loop) → let at = c .before .before .before .before in let a = at .before .before .before .before .before .args in
-    childRows (a .code-enum) (rowsFrom (a .rows .now) (a .names .now) (at .loop .place) (a .end)) ≡ loweredRow (a .code-enum) (rowAt (a .rows .now) (a .names .now) (at .loop .place)) ++ childRows (a .code-enum) (rowsFrom (a .rows .now) (a .names .now) (at .loop .place + 1) (a .end))
+on : (c : tie.Else2 Inv-loop μ-loop) → let at = c .before .before .before .before .before in let a = at .before .before .before .before .before .args in
+    childRows (a .children .«code_enum») (rowsFrom (a .rows .now) (a .names .now) (at .loop .place) (a .children .end)) ≡ loweredRow (a .children .«code_enum») (rowAt (a .rows .now) (a .names .now) (at .loop .place)) ++ childRows (a .children .«code_enum») (rowsFrom (a .rows .now) (a .names .now) (at .loop .place + 1) (a .children .end))
 on c =
-    let at = c .before .before .before .before in
+    let at = c .before .before .before .before .before in
     let a = at .before .before .before .before .before .args in
-    children-on (a .rows .now) (a .names .now) (a .code-enum) (at .loop .place) (a .end) (c .before .before .before .loop-test .taken) (sym (c .before .is-head .ensures) ∙ c .if1 .left)
+    children-on (a .rows .now) (a .names .now) (a .children .«code_enum») (at .loop .place) (a .children .end) (c .before .before .before .if1 .taken) (sym (c .before .is-head .ensures) ∙ c .if2 .left)
 
 returns-2 : tie.Need-returns-2 Inv-loop μ-loop
 returns-2 c =
     let put = c .before .before .before .before .before .before in
     let no-head = put .before .before .before in
-    let at = no-head .before .before .before .before in
+    let at = no-head .before .before .before .before .before in
     let a = at .before .before .before .before .before .args in
-    onward-full (loweredRow (a .code-enum) (rowAt (a .rows .now) (a .names .now) (at .loop .place))) (childRows (a .code-enum) (rowsFrom (a .rows .now) (a .names .now) (at .loop .place + 1) (a .end)))
+    onward-full (loweredRow (a .children .«code_enum») (rowAt (a .rows .now) (a .names .now) (at .loop .place))) (childRows (a .children .«code_enum») (rowsFrom (a .rows .now) (a .names .now) (at .loop .place + 1) (a .children .end)))
     (at .loop .inv .0) (on no-head) (short-of _ _ _ _ _ _ _ (put .put-lowered .ensures) (c .enum-told .given .1))
 
--- src/lib.rt:61:9
 add-place : tie.Need-add-place Inv-loop μ-loop
 add-place c = search needs
 
--- src/lib.rt:44:5
 loop-less : tie.Need-loop-less Inv-loop μ-loop
 loop-less c = search needs
 
--- src/lib.rt:44:5
 loop-again : tie.Need-loop-again Inv-loop μ-loop
 loop-again c =
     let put = c .before .before .before .before .before .before .before in
     let no-head = put .before .before .before in
-    let at = no-head .before .before .before .before in
+    let at = no-head .before .before .before .before .before in
     let a = at .before .before .before .before .before .args in (
-      onward-step (loweredRow (a .code-enum) (rowAt (a .rows .now) (a .names .now) (at .loop .place))) (childRows (a .code-enum) (rowsFrom (a .rows .now) (a .names .now) (at .loop .place + 1) (a .end)))
+      onward-step (loweredRow (a .children .«code_enum») (rowAt (a .rows .now) (a .names .now) (at .loop .place))) (childRows (a .children .«code_enum») (rowsFrom (a .rows .now) (a .names .now) (at .loop .place + 1) (a .children .end)))
           (at .loop .inv .0) (on no-head) (grown-of _ _ _ _ _ _ _ (put .put-lowered .ensures) (c .before .grown .given .1)),
       search needs,
       search needs,
     )
 
--- src/lib.rt:29:1
 same-length-5 : tie.Need-same-length-5 Inv-loop μ-loop
 same-length-5 c = search needs
 
--- src/lib.rt:29:1
 same-length-6 : tie.Need-same-length-6 Inv-loop μ-loop
 same-length-6 c = search needs
 
--- src/lib.rt:29:1
 returns-3 : tie.Need-returns-3 Inv-loop μ-loop
 returns-3 c =
-    let at = c .before in
+    let at = c .before .before in
     let a = at .before .before .before .before .before .args in
-    onward-end (at .loop .inv .0) (children-end (a .rows .now) (a .names .now) (a .code-enum) (at .loop .place) (a .end) (c .loop-test .left))
+    onward-end (at .loop .inv .0) (children-end (a .rows .now) (a .names .now) (a .children .«code_enum») (at .loop .place) (a .children .end) (c .if1 .left))
 
 pub put-children-spec : {M : Type 1} → statement M
 put-children-spec =

@@ -6,7 +6,7 @@ use borrow.Author.Needs.{needs}
 use Rattle.ir_append.proofs.Laws.Grows.{room-after, grown-of, short-of}
 use Rattle.ir_rows.specs.Places.{rowAt, rowsFrom}
 use Rattle.ir_rows.specs.Lowered.{loweredRow, rootRows}
-use Rattle.ir_rows.specs.Types.{typesRows, placesIn}
+use Rattle.ir_rows.specs.Types.{typesRows, entryPlaces}
 use Rattle.ir_write.proofs.Laws.Onward.{onward-start, onward-step, onward-full}
 use Rattle.ir_write.proofs.Laws.Rest.{graph-on}
 use Rattle.ir_write.proofs.put_graph.Statement.{statement}
@@ -34,8 +34,8 @@ returns c =
     let a = start .args in
     let ns = loweredRow false (rowAt (a .rows .now) (a .names .now) 1) in
     let rs = rootRows (rowsFrom (a .rows .now) (a .names .now) 2 (a .end)) in
-    let ts = typesRows (a .rows .now) (a .names .now) (a .end) (placesIn (a .count) (a .scratch .now)) in
-    onward-full ns (rs ++ ts) (onward-start _ (start .pre .0 .0)) (graph-on (a .rows .now) (a .names .now) (a .end) (placesIn (a .count) (a .scratch .now))) (short-of _ _ _ _ _ _ _ (put .put-lowered .ensures) (c .enum-told .given .1))
+    let ts = typesRows (a .rows .now) (a .names .now) (a .end) (entryPlaces (a .entries .now)) in
+    onward-full ns (rs ++ ts) (onward-start _ (start .pre .0 .0)) (graph-on (a .rows .now) (a .names .now) (a .end) (entryPlaces (a .entries .now))) (short-of _ _ _ _ _ _ _ (put .put-lowered .ensures) (c .enum-told .given .1))
 
 put-roots-requires : tie.Need-put-roots-requires
 put-roots-requires c κs =
@@ -63,8 +63,8 @@ returns-2 c =
     let a = start .args in
     let ns = loweredRow false (rowAt (a .rows .now) (a .names .now) 1) in
     let rs = rootRows (rowsFrom (a .rows .now) (a .names .now) 2 (a .end)) in
-    let ts = typesRows (a .rows .now) (a .names .now) (a .end) (placesIn (a .count) (a .scratch .now)) in
-    let o = onward-step ns (rs ++ ts) (onward-start _ (start .pre .0 .0)) (graph-on (a .rows .now) (a .names .now) (a .end) (placesIn (a .count) (a .scratch .now))) (grown-of _ _ _ _ _ _ _ (put .put-lowered .ensures) (roots .before .before .before .before .namespace .given .1)) in
+    let ts = typesRows (a .rows .now) (a .names .now) (a .end) (entryPlaces (a .entries .now)) in
+    let o = onward-step ns (rs ++ ts) (onward-start _ (start .pre .0 .0)) (graph-on (a .rows .now) (a .names .now) (a .end) (entryPlaces (a .entries .now))) (grown-of _ _ _ _ _ _ _ (put .put-lowered .ensures) (roots .before .before .before .before .namespace .given .1)) in
     onward-full rs ts o refl (short-of _ _ _ _ _ _ _ (roots .put-roots .ensures) (c .enum-told2 .given .1))
 
 put-types-requires : tie.Need-put-types-requires
@@ -90,8 +90,8 @@ returns-3 c =
     let a = start .args in
     let ns = loweredRow false (rowAt (a .rows .now) (a .names .now) 1) in
     let rs = rootRows (rowsFrom (a .rows .now) (a .names .now) 2 (a .end)) in
-    let ts = typesRows (a .rows .now) (a .names .now) (a .end) (placesIn (a .count) (a .scratch .now)) in
-    let o = onward-step ns (rs ++ ts) (onward-start _ (start .pre .0 .0)) (graph-on (a .rows .now) (a .names .now) (a .end) (placesIn (a .count) (a .scratch .now))) (grown-of _ _ _ _ _ _ _ (put .put-lowered .ensures) (roots .before .before .before .before .namespace .given .1)) in
+    let ts = typesRows (a .rows .now) (a .names .now) (a .end) (entryPlaces (a .entries .now)) in
+    let o = onward-step ns (rs ++ ts) (onward-start _ (start .pre .0 .0)) (graph-on (a .rows .now) (a .names .now) (a .end) (entryPlaces (a .entries .now))) (grown-of _ _ _ _ _ _ _ (put .put-lowered .ensures) (roots .before .before .before .before .namespace .given .1)) in
     let o₂ = onward-step rs ts o refl (grown-of _ _ _ _ _ _ _ (roots .put-roots .ensures) (types .before .before .before .before .roots .given .1)) in
     let last = types .put-types in
     o₂ .on (last .last .0) (last .last .1 .0) (last .result) (last .ensures)

@@ -40,8 +40,8 @@ returns c =
     onward-full (loweredRow e (rowAt (a .rows .now) (a .names .now) (a .place))) (childRows e (rowsFrom (a .rows .now) (a .names .now) (a .place + 1) (a .end)))
     (onward-start _ (start .pre .0)) (type-on (a .rows .now) (a .names .now) e (a .place) (a .end) (start .pre .2) (enum .is-code-enum .ensures (a .names .now))) (short-of _ _ _ _ _ _ _ (put .put-lowered .ensures) (c .enum-told .given .1))
 
-add-put-children : tie.Need-add-put-children
-add-put-children c = search needs
+add-children : tie.Need-add-t12
+add-children c = search needs
 
 put-children-requires : tie.Need-put-children-requires
 put-children-requires c κs =
@@ -79,7 +79,7 @@ put-type-spec =
     same-length
     same-length-2
     returns
-    add-put-children
+    add-children
     put-children-requires
     same-length-3
     same-length-4

@@ -12,28 +12,26 @@ use Rattle.ir_rows.specs.Lowered.{typeRowsOf}
 use Rattle.ir_append.proofs.Laws.Grows.{grown-of, short-of}
 use Rattle.ir_rows.specs.Places.{rowsFrom}
 use Rattle.text.specs.Text.{every}
-use Rattle.ir_rows.specs.Types.{typesRows, placesIn}
+use Rattle.ir_rows.specs.Types.{typesRows, entryPlaces}
+use Rattle.ir_rows.proofs.Laws.Entries.{entries-on, entries-end}
 use Rattle.ir_write.proofs.Laws.Rest.{types-on, types-end}
 use Rattle.ir_write.specs.Onward.{Onward}
-use Rattle.ir_write.proofs.Laws.Onward.{onward-start, onward-step, onward-same, onward-end, onward-full}
-use Rattle.ir_write.proofs.Laws.Scratch.{places-start, places-on, places-end}
+use Rattle.ir_write.proofs.Laws.Onward.{onward-start, onward-step, onward-end, onward-full}
 use Rattle.ir_write.proofs.put_types.Statement.{statement}
 use Rattle.ir_write.proofs.put_types.Tie as tie
 
 abbrev Inv-loop : tie.InvT-loop
-Inv-loop graph-rows₀ graph-names₀ rows names end scratch count used₀ k₀ graph-rows graph-names used k =
-    Onward graph-rows₀ graph-names₀ used₀ (typesRows rows names end (placesIn count scratch)) graph-rows graph-names used (typesRows rows names end (placesIn (count - k) (drop k scratch))) × (length graph-rows ≡ length graph-rows₀) × (length graph-names ≡ length graph-names₀)
-    × (every (λ (p : ℕ). ltb p end) (placesIn (count - k) (drop k scratch)) ≡ true)
+Inv-loop graph-rows₀ graph-names₀ rows names end entries used₀ k₀ graph-rows graph-names used k =
+    Onward graph-rows₀ graph-names₀ used₀ (typesRows rows names end (entryPlaces entries)) graph-rows graph-names used (typesRows rows names end (entryPlaces (drop k entries))) × (length graph-rows ≡ length graph-rows₀) × (length graph-names ≡ length graph-names₀)
+    × (every (λ (p : ℕ). ltb p end) (entryPlaces (drop k entries)) ≡ true)
 
 abbrev μ-loop : tie.MeasureT-loop
-μ-loop graph-rows₀ graph-names₀ rows names end scratch count used₀ k₀ graph-rows graph-names used k = count - k
+μ-loop graph-rows₀ graph-names₀ rows names end entries used₀ k₀ graph-rows graph-names used k = length entries - k
 
 loop-holds : tie.Need-loop-holds Inv-loop μ-loop
 loop-holds c =
     let start = c .before .before .before .before .before in
-    let a = start .args in
-    let same = sym (places-start (a .scratch .now) (a .count)) in
-    (onward-same _ (onward-start _ (start .pre .0 .0)) (ap (typesRows (a .rows .now) (a .names .now) (a .end)) same), refl, refl, rw (places-start (a .scratch .now) (a .count)) (start .pre .1 .1))
+    (onward-start _ (start .pre .0 .0), refl, refl, start .pre .1)
 
 mul-place-of : tie.Need-mul-place-of Inv-loop μ-loop
 mul-place-of c = search needs
@@ -46,13 +44,11 @@ place-of-requires c κs = search needs
 
 -- the places that are left are the one at hand, which is below the end, and those behind it
 left : (c : tie.In-loop Inv-loop μ-loop) → let a = c .before .before .before .before .before .before .before .args in
-    placesIn (a .count - c .before .loop .k) (drop (c .before .loop .k) (a .scratch .now)) ≡ getD (a .scratch .now) (c .before .loop .k) 0 % 65536 ∷ placesIn (a .count - (c .before .loop .k + 1)) (drop (c .before .loop .k + 1) (a .scratch .now))
-left c =
-    let start = c .before .before .before .before .before .before .before in
-    places-on (start .args .scratch .now) (c .before .loop .k) (start .args .count) (c .loop-test .taken) (start .pre .1 .0)
+    entryPlaces (drop (c .before .loop .k) (a .entries .now)) ≡ getD (a .entries .now) (c .before .loop .k) 0 % 65536 ∷ entryPlaces (drop (c .before .loop .k + 1) (a .entries .now))
+left c = entries-on (c .before .before .before .before .before .before .before .args .entries .now) (c .before .loop .k) (c .loop-test .taken)
 
 inside : (c : tie.In-loop Inv-loop μ-loop) → let a = c .before .before .before .before .before .before .before .args in
-    (ltb (getD (a .scratch .now) (c .before .loop .k) 0 % 65536) (a .end) ≡ true) × (every (λ (p : ℕ). ltb p (a .end)) (placesIn (a .count - (c .before .loop .k + 1)) (drop (c .before .loop .k + 1) (a .scratch .now))) ≡ true)
+    (ltb (getD (a .entries .now) (c .before .loop .k) 0 % 65536) (a .end) ≡ true) × (every (λ (p : ℕ). ltb p (a .end)) (entryPlaces (drop (c .before .loop .k + 1) (a .entries .now))) ≡ true)
 unfolding every
 inside c = two _ _ (rw (left c) at (c .before .loop .inv .3))
 
@@ -76,8 +72,8 @@ same-length-2 c = search needs
 
 -- what is left to be added is the type at that place, and those behind it
 rest : (c : tie.After-place-of Inv-loop μ-loop) → let at = c .before .before .before in let a = at .before .before .before .before .before .before .args in
-    typesRows (a .rows .now) (a .names .now) (a .end) (placesIn (a .count - at .loop .k) (drop (at .loop .k) (a .scratch .now)))
-    ≡ typeRowsOf (rowsFrom (a .rows .now) (a .names .now) (c .place-of .result) (a .end)) ++ typesRows (a .rows .now) (a .names .now) (a .end) (placesIn (a .count - (at .loop .k + 1)) (drop (at .loop .k + 1) (a .scratch .now)))
+    typesRows (a .rows .now) (a .names .now) (a .end) (entryPlaces (drop (at .loop .k) (a .entries .now)))
+    ≡ typeRowsOf (rowsFrom (a .rows .now) (a .names .now) (c .place-of .result) (a .end)) ++ typesRows (a .rows .now) (a .names .now) (a .end) (entryPlaces (drop (at .loop .k + 1) (a .entries .now)))
 rest c =
     let at = c .before .before .before in
     let a = at .before .before .before .before .before .before .args in
@@ -90,7 +86,7 @@ returns c =
     let on = found .before .before in
     let at = on .before in
     let a = at .before .before .before .before .before .before .args in
-    onward-full (typeRowsOf (rowsFrom (a .rows .now) (a .names .now) (found .place-of .result) (a .end))) (typesRows (a .rows .now) (a .names .now) (a .end) (placesIn (a .count - (at .loop .k + 1)) (drop (at .loop .k + 1) (a .scratch .now))))
+    onward-full (typeRowsOf (rowsFrom (a .rows .now) (a .names .now) (found .place-of .result) (a .end))) (typesRows (a .rows .now) (a .names .now) (a .end) (entryPlaces (drop (at .loop .k + 1) (a .entries .now))))
     (at .loop .inv .0) (rest found) (short-of _ _ _ _ _ _ _ (put .put-type .ensures) (c .enum-told .given .1))
 
 add-k : tie.Need-add-k Inv-loop μ-loop
@@ -106,7 +102,7 @@ loop-again c =
     let on = found .before .before in
     let at = on .before in
     let a = at .before .before .before .before .before .before .args in (
-      onward-step (typeRowsOf (rowsFrom (a .rows .now) (a .names .now) (found .place-of .result) (a .end))) (typesRows (a .rows .now) (a .names .now) (a .end) (placesIn (a .count - (at .loop .k + 1)) (drop (at .loop .k + 1) (a .scratch .now))))
+      onward-step (typeRowsOf (rowsFrom (a .rows .now) (a .names .now) (found .place-of .result) (a .end))) (typesRows (a .rows .now) (a .names .now) (a .end) (entryPlaces (drop (at .loop .k + 1) (a .entries .now))))
           (at .loop .inv .0) (rest found) (grown-of _ _ _ _ _ _ _ (put .put-type .ensures) (c .before .grown .given .1)),
       search needs,
       search needs,
@@ -123,7 +119,7 @@ returns-2 : tie.Need-returns-2 Inv-loop μ-loop
 returns-2 c =
     let at = c .before in
     let a = at .before .before .before .before .before .before .args in
-    onward-end (at .loop .inv .0) (ap (typesRows (a .rows .now) (a .names .now) (a .end)) (places-end (a .scratch .now) (at .loop .k) (a .count) (c .loop-test .left)) ∙ types-end (a .rows .now) (a .names .now) (a .end))
+    onward-end (at .loop .inv .0) (ap (typesRows (a .rows .now) (a .names .now) (a .end)) (entries-end (a .entries .now) (at .loop .k) (c .loop-test .left)) ∙ types-end (a .rows .now) (a .names .now) (a .end))
 
 pub put-types-spec : {M : Type 1} → statement M
 put-types-spec =

@@ -3,7 +3,7 @@ use mathlib.Core.Path.{ap}
 use native.Mathlib.Omega.{arith}
 use lib.ListN.{length}
 use borrow.Author.Needs.{needs}
-use Rattle.lines.proofs.Laws.Lines.{behind-shorter}
+use Rattle.program.proofs.Laws.Lines.{behind-shorter}
 use Rattle.print_cases.proofs.put_lines.Statement.{statement}
 use Rattle.print_cases.proofs.put_lines.Tie as tie
 

@@ -7,7 +7,7 @@ use lib.ListN.{length}
 use native.Mathlib.Omega.{arith}
 use borrow.Author.Tests.{not-true, not-false, ltb-true, leb-true}
 use Rattle.text.proofs.Laws.Tests.{four}
-use Rattle.xsd_numbers.specs.declared.Used.{Used}
+use Rattle.xsd_rows.specs.declared.numbers.Used.{Used}
 use Rattle.sheet_bench.specs.Bench.{hasRoom, AppendIs}
 use borrow.Author.Needs.{needs}
 use Rattle.sheet_bench.proofs.sheet_bench_append.Statement.{statement}

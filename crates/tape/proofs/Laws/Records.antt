@@ -11,7 +11,11 @@ use borrow.Author.Tests.{eq-eqb, ne-eqb}
 use Rattle.text.specs.Text.{Text}
 use Rattle.xsd_parser.specs.Event.{Event}
 use Rattle.xsd_parser.specs.Tape.{Pair, Recorded, pairsOf, pairCount, allInside, allAscii, tagOf, eventOf, formTest, tagRecord, record1}
-use Rattle.tape_pairs.proofs.Laws.Pairs.{drop-two}
+use Rattle.tape.specs.Pairs.{tagAt}
+use Rattle.tape.proofs.Laws.Pairs.{drop-two}
+use Rattle.tape.specs.declared.Record.{Record}
+use Rattle.tape.specs.declared.TagRecord.{TagRecord}
+use Rattle.tape.specs.Answers.{recordEvent, recorded}
 
 pub record-none : (text : Text) (marks : List ℕ) (at : ℕ) → length marks ≤ at → record1 text (drop at marks) ≡ Recorded.finished
 unfolding record1
@@ -52,3 +56,8 @@ module _ (text : Text) (kind : ℕ) (ps : List Pair) (rest : List ℕ) where
   pub tag-good : allInside (length text) 0 ps ≡ true → allAscii text ps ≡ true → tagRecord text kind ps rest ≡ Recorded.next (eventOf kind (tagOf text ps)) rest
   unfolding tagRecord
   tag-good i a = rw (i, a)
+
+-- a record that is no close stands for its tag's event
+pub record-event : (text : Text) (marks : List ℕ) (t : TagRecord) → (t .kind ≡ 3 → ⊥) → recorded text marks (Record.Event t) ≡ Recorded.next (eventOf (t .kind) (tagAt text marks (t .pairs) (t .count))) (drop (t .next) marks)
+unfolding recorded recordEvent
+record-event text marks t n = rw (ne-eqb (t .kind) 3 n)

@@ -4,8 +4,8 @@ use mathlib.Core.Path.{refl, sym, _∙_}
 use native.Mathlib.Omega.{arith}
 use borrow.Author.Tests.{not-true, not-false}
 use lib.ListN.{length, getD}
-use Rattle.tape.specs.Answers.{recorded, placed}
-use Rattle.record_form.proofs.Laws.Form.{form-count, form-room}
+use Rattle.tape.specs.Answers.{recordEvent, recorded, placed}
+use Rattle.tape.proofs.Laws.Form.{form-count, form-room}
 use Rattle.tape.proofs.Laws.Records.{record-none, record-one, record-bad, record-close, record-tag}
 use borrow.Author.Needs.{needs}
 use Rattle.tape.proofs.record_at.Statement.{statement}
@@ -54,27 +54,28 @@ returns-3 c =
     let form = sym (c .before .has-form .ensures) ∙ not-true _ (c .if3 .taken) in
     record { judged = sym (record-bad (a .text .now) (a .marks .now) (a .at) _ _ (omega arith) refl (c .before .before .wide .ensures) form); places = tt }
 
-add-t14 : tie.Need-add-t14
-add-t14 c = search needs
+add-next : tie.Need-add-next
+add-next c = search needs
 
 returns-4 : tie.Need-returns-4
-unfolding recorded placed
+unfolding recordEvent recorded placed
 returns-4 c =
     let a = c .before .before .before .before .before .before .before .before .before .before .args in
     let form = sym (c .before .before .has-form .ensures) ∙ not-false _ (c .before .if3 .left) in
     record {
       judged = sym (record-close (a .text .now) (a .marks .now) (a .at) _ _ (omega arith) refl (c .before .before .before .wide .ensures) form (c .if4 .taken));
-      places = record { behind = refl; within = omega arith };
+      places = record { later = omega arith; within = omega arith; tag = λ k. absurd (k refl) };
     }
 
 tag-at-requires : tie.Need-tag-at-requires
 tag-at-requires c κs =
-    let a = c .before .before .before .before .before .before .before .before .before .before .args in
+    let start = c .before .before .before .before .before .before .before .before .before .before in
+    let a = start .args in
     let kind = getD (a .marks .now) (a .at) 0 in
     let count = c .before .before .before .wide .result in
     let left = length (a .marks .now) - a .at - 2 in
     let form = sym (c .before .before .has-form .ensures) ∙ not-false _ (c .before .if3 .left) in
-    (form-count kind count left form, omega (arith, form-room kind count left form (c .if4 .left)))
+    ((c .if4 .left, form-count kind count left form, omega (arith, form-room kind count left form (c .if4 .left))), start .pre)
 
 returns-5 : tie.Need-returns-5
 returns-5 c =
@@ -98,7 +99,7 @@ record-at-spec =
     wide-requires
     has-form-requires
     returns-3
-    add-t14
+    add-next
     returns-4
     tag-at-requires
     returns-5)

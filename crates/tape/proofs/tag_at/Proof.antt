@@ -5,10 +5,10 @@ use native.Mathlib.Omega.{arith}
 use borrow.Author.Tests.{not-true, not-false}
 use lib.ListN.{drop}
 use Rattle.xsd_parser.specs.Tape.{pairsOf, pairCount}
-use Rattle.tape_pairs.specs.Pairs.{tagAt}
+use Rattle.tape.specs.Pairs.{tagAt}
 use Rattle.tape.specs.Answers.{recorded, placed}
-use Rattle.pair_tests.proofs.Laws.Tests.{inside-each}
-use Rattle.tape.proofs.Laws.Records.{tag-outside, tag-high, tag-good}
+use Rattle.tape.proofs.Laws.Tests.{inside-each}
+use Rattle.tape.proofs.Laws.Records.{tag-outside, tag-high, tag-good, record-event}
 use borrow.Author.Needs.{needs}
 use Rattle.tape.proofs.tag_at.Statement.{statement}
 use Rattle.tape.proofs.tag_at.Tie as tie
@@ -24,7 +24,7 @@ add-n c = search needs
 
 pairs-inside-requires : tie.Need-pairs-inside-requires
 unfolding pairCount
-pairs-inside-requires c κs = c .before .before .pre .1
+pairs-inside-requires c κs = c .before .before .pre .0 .2
 
 returns : tie.Need-returns
 unfolding recorded placed pairCount
@@ -35,7 +35,7 @@ returns c =
 
 pairs-ascii-requires : tie.Need-pairs-ascii-requires
 unfolding pairCount
-pairs-ascii-requires c κs = c .before .before .before .before .pre .1
+pairs-ascii-requires c κs = let pre = c .before .before .before .before .pre in (pre .0 .2, pre .1)
 
 returns-2 : tie.Need-returns-2
 unfolding recorded placed pairCount
@@ -55,18 +55,20 @@ returns-3 : tie.Need-returns-3
 unfolding recorded placed pairCount tagAt
 returns-3 c =
     let a = c .before .before .before .before .before .before .args in
-    let pre = c .before .before .before .before .before .before .pre in
+    let form = c .before .before .before .before .before .before .pre .0 in
     let ps = pairsOf (pairCount (a .count)) (drop (a .at + 2) (a .marks .now)) in
     let inside = sym (c .before .before .before .pairs-inside .ensures) ∙ not-false _ (c .before .before .if1 .left) in
     let ascii = sym (c .before .pairs-ascii .ensures) ∙ not-false _ (c .if2 .left) in
     record {
-      judged = sym (tag-good (a .text .now) (a .kind) ps _ inside ascii);
+      judged = record-event (a .text .now) (a .marks .now) _ (form .0) ∙ sym (tag-good (a .text .now) (a .kind) ps _ inside ascii);
       places = record {
-        few = pre .0;
         later = omega arith;
-        behind = refl;
-        within = pre .1;
-        inside = inside-each (a .text .now) (a .marks .now) (a .at + 2) (pairCount (a .count)) (pre .1) inside;
+        within = form .2;
+        tag = λ k. record {
+          few = form .1;
+          behind = refl;
+          inside = inside-each (a .text .now) (a .marks .now) (a .at + 2) (pairCount (a .count)) (form .2) inside;
+        };
       };
     }
 

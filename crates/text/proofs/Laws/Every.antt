@@ -1,12 +1,12 @@
 -- Laws of `every`, of texts put together and of ranges (specs/Text.antt). Assumes nothing.
-use mathlib.Core.Path.{_≡_, refl, sym, _∙_}
+use mathlib.Core.Path.{_≡_, refl, sym, ap, _∙_}
 use mathlib.Core.Logic.{_⊎_, inl, inr, ⊎-elim}
 use mathlib.Core.Bool.{Bool, true, false, _&&_, and-assoc}
 use mathlib.Core.List.{List, [], _∷_, _++_, map}
 use Prim.Native.Nat.{ℕ, zero, suc, _+_, _≤_, _<_}
 use native.Mathlib.Omega.{arith}
 use lib.Dec.{eqb, leb}
-use lib.ListN.{getD, drop}
+use lib.ListN.{length, getD, take, drop, take-append-drop}
 use borrow.Author.Tests.{le-leb, eqb-true, eqb-false}
 use Rattle.text.specs.Text.{Text, every, isText, isTextByte, between, join}
 use Rattle.text.proofs.Laws.Tests.{and-true-left, and-true-right, and-true, test-cases}
@@ -39,6 +39,15 @@ module _ {A : Type 0} (p : A → Bool) where
   every-drop zero xs e = e
   every-drop (suc i) [] e = e
   every-drop (suc i) (x ∷ xs) e = every-drop i xs (every-tail x xs e)
+
+  pub every-take : (n : ℕ) (xs : List A) → every p xs ≡ true → every p (take n xs) ≡ true
+  every-take n xs e = and-true-left (every p (take n xs)) _ (sym (every-append (take n xs) (drop n xs)) ∙ ap (every p) (take-append-drop n xs) ∙ e)
+
+  -- what every element of a list passes, the element at an index passes
+  pub every-at : (d : A) (xs : List A) (i : ℕ) → every p xs ≡ true → i < length xs → p (getD xs i d) ≡ true
+  every-at d [] i e h = absurd (omega arith)
+  every-at d (x ∷ xs) zero e h = every-head x xs e
+  every-at d (x ∷ xs) (suc i) e h = every-at d xs i (every-tail x xs e) (omega arith)
 
 pub every-append-true : {A : Type 0} (p : A → Bool) (xs ys : List A) → every p xs ≡ true → every p ys ≡ true → every p (xs ++ ys) ≡ true
 every-append-true p xs ys h k = every-append p xs ys ∙ and-true h k

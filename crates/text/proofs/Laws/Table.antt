@@ -1,13 +1,15 @@
 -- A rule of a table, proved at all of its places by one test that antt computes; and a part of a list. Assumes nothing.
-use mathlib.Core.Path.{_≡_, ap, _∙_}
+use mathlib.Core.Path.{_≡_, sym, ap, _∙_}
 use mathlib.Core.Bool.{Bool, true, _&&_}
 use mathlib.Core.Logic.{⊎-elim}
 use mathlib.Core.List.{List, [], _∷_}
-use Prim.Native.Nat.{ℕ, zero, suc, _-_, _≤_, _<_}
-use native.Mathlib.Nat.{sub-zero, suc-sub-suc, le-of-suc-le-suc, not-suc-le-zero, eq-or-lt-of-le, le-of-eq}
+use Prim.Native.Nat.{ℕ, zero, suc, _+_, _-_, _≤_, _<_}
+use native.Mathlib.Omega.{arith}
+use native.Mathlib.Nat.{sub-zero, suc-sub-suc, le-of-suc-le-suc, not-suc-le-zero, eq-or-lt-of-le, le-refl, le-of-eq}
 use lib.ListN.{length, take, drop, length-drop}
 use lib.Seq.{slice, take-nil, take-all}
 use Rattle.text.proofs.Laws.Tests.{and-true-left, and-true-right}
+use Rattle.text.proofs.Laws.Texts.{part-past}
 
 -- the test passes at each place below n
 abbrev pub passes : (ℕ → Bool) → ℕ → Bool
@@ -32,3 +34,14 @@ part-slice (suc f) (suc t) (x ∷ l) h = rw (suc-sub-suc t f) (part-slice f t l 
 -- the part of a list from place i on
 pub part-from : (s : List ℕ) (i : ℕ) → take (length s - i) (drop i s) ≡ drop i s
 part-from s i = take-all _ (drop i s) (le-of-eq (length-drop i s))
+
+-- as many elements behind a place as asked for and as there are: none past the end, all that is left, or as many as asked for
+module _ (l : List ℕ) (at size : ℕ) where
+  pub cut-past : length l ≤ at → take (length l - length l) (drop (length l) l) ≡ take size (drop at l)
+  cut-past h = part-past l (length l) (length l - length l) (le-refl (length l)) ∙ sym (part-past l at size h)
+
+  pub cut-rest : length l - at ≤ size → take (length l - at) (drop at l) ≡ take size (drop at l)
+  cut-rest h = part-from l at ∙ sym (take-all size (drop at l) (omega (arith, length-drop at l)))
+
+  pub cut-inside : take (at + size - at) (drop at l) ≡ take size (drop at l)
+  cut-inside = let e : at + size - at ≡ size = omega arith in rw e

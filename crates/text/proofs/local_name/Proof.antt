@@ -1,7 +1,6 @@
 -- `text::local_name` meets its contract. The loop's invariant: what is kept, with what is left from i on, gives the local name of the whole.
 -- The measure is how much is left. Assumes nothing.
 use Prim.Native.Nat.{_≤_, _-_}
-use Prim.Native.Char.{code}
 use mathlib.Core.Path.{_≡_, refl, sym, ap, _∙_}
 use mathlib.Core.Logic.{⊎-elim}
 use native.Mathlib.Numerals.{add-one}
@@ -9,14 +8,14 @@ use native.Mathlib.Omega.{arith}
 use native.Mathlib.Nat.{le-of-eq}
 use lib.ListN.{length, drop, length-drop}
 use lib.Seq.{take-all}
-use Rattle.text.specs.Text.{afterLast, localName}
+use Rattle.text.specs.Text.{afterLast, colon, localName}
 use Rattle.text.proofs.Laws.Texts.{afterLast-hit, afterLast-on, afterLast-end}
 use Rattle.text.proofs.local_name.Statement.{statement}
 use Rattle.text.proofs.local_name.Tie as tie
 
 abbrev Inv-loop : tie.InvT-loop
 Inv-loop name start₀ i₀ start i =
-    (i ≤ length name) × (start ≤ length name) × (afterLast (code ":") (drop start name) (drop i name) ≡ localName name)
+    (i ≤ length name) × (start ≤ length name) × (afterLast colon (drop start name) (drop i name) ≡ localName name)
 
 abbrev μ-loop : tie.MeasureT-loop
 μ-loop name start₀ i₀ start i = length name - i
@@ -43,8 +42,8 @@ loop-again c =
     let name = at .before .args .name .now in
     let i = at .loop .i in
     ⊎-elim
-    (λ w. rw (w .1) (omega arith, omega arith, rw add-one (sym (afterLast-hit 58 (drop (at .loop .start) name) name i (omega arith) (w .0 .taken)) ∙ at .loop .inv .2)))
-    (λ w. rw (w .1) (omega arith, omega arith, rw add-one (sym (afterLast-on 58 (drop (at .loop .start) name) name i (omega arith) (w .0 .left)) ∙ at .loop .inv .2)))
+    (λ w. rw (w .1) (omega arith, omega arith, rw add-one (sym (afterLast-hit colon (drop (at .loop .start) name) name i (omega arith) (w .0 .taken)) ∙ at .loop .inv .2)))
+    (λ w. rw (w .1) (omega arith, omega arith, rw add-one (sym (afterLast-on colon (drop (at .loop .start) name) name i (omega arith) (w .0 .left)) ∙ at .loop .inv .2)))
     (c .if1 .came)
 
 sub-result : tie.Need-sub-result Inv-loop μ-loop
@@ -63,7 +62,7 @@ returns c =
     let part = drop (at .loop .start) name in
     let all = take-all _ part (le-of-eq (length-drop (at .loop .start) name)) in
     record {
-      bytes = all ∙ sym (afterLast-end 58 part name (at .loop .i) (omega arith)) ∙ at .loop .inv .2;
+      bytes = all ∙ sym (afterLast-end colon part name (at .loop .i) (omega arith)) ∙ at .loop .inv .2;
       starts = (refl, rw all (omega (arith, length-drop (at .loop .start) name, at .loop .inv .1)));
     }
 

@@ -7,18 +7,18 @@ use Rattle.text.specs.Text.{Text}
 use Rattle.sheet.specs.Rows.{Row, row}
 use Rattle.xsd_types.specs.Rows.{headC, namespaceRow}
 use Rattle.xsd_parser.specs.Handlers.{ok}
-use Rattle.xsd_numbers.specs.declared.Used.{Used}
-use Rattle.xsd_numbers.specs.declared.RowNumbers.{RowNumbers}
-use Rattle.xsd_texts.specs.Texts.{usedTexts}
-use Rattle.xsd_row.specs.Packing.{Holds, rowOf}
-use Rattle.xsd_append.specs.Append.{Appended}
-use Rattle.xsd_head.specs.Head.{HeadReplaced}
-use Rattle.xsd_spot.specs.Spots.{TextReplaced}
+use Rattle.xsd_rows.specs.declared.numbers.Used.{Used}
+use Rattle.xsd_rows.specs.declared.numbers.RowNumbers.{RowNumbers}
+use Rattle.xsd_rows.specs.Texts.{usedTexts}
+use Rattle.xsd_rows.specs.Packing.{Holds, rowOf}
+use Rattle.xsd_rows.specs.Append.{Appended}
+use Rattle.xsd_replace.specs.Head.{HeadReplaced}
+use Rattle.xsd_replace.specs.Spots.{TextReplaced}
 use Rattle.xsd_actions.specs.Actions.{Action, namespaceAfter, rowsAfter, Fitting}
-use Rattle.xsd_needs.specs.Ready.{Ready, rowsAfterAll}
-use Rattle.xsd_needs.proofs.Laws.Ready.{ready-root, ready-head, ready-base}
-use Rattle.xsd_needs.proofs.Laws.After.{after-content, after-base, after-root}
-use Rattle.xsd_needs.proofs.Laws.Needs.{ok-back}
+use Rattle.xsd_act.specs.Ready.{Ready, rowsAfterAll}
+use Rattle.xsd_act.proofs.Laws.Ready.{ready-root, ready-head, ready-base}
+use Rattle.xsd_act.proofs.Laws.After.{after-content, after-base, after-root}
+use Rattle.xsd_act.proofs.Laws.Needs.{ok-back}
 use Rattle.xsd_act.specs.Acts.{Done}
 
 module _ {rows names : List ℕ} {used : Used} {head : ℕ} {rows′ names′ : List ℕ} {used′ : Used} where

@@ -10,19 +10,19 @@ use Rattle.sheet.specs.Rows.{Row, row, namesOf}
 use Rattle.sheet.specs.Lengths.{fits}
 use Rattle.xsd_types.specs.Rows.{headC, namespaceRow}
 use Rattle.xsd_parser.specs.Handlers.{Outcome, ok}
-use Rattle.xsd_numbers.specs.declared.Used.{Used}
-use Rattle.xsd_numbers.proofs.Laws.Room.{fits-room}
-use Rattle.xsd_texts.specs.Texts.{usedTexts, usedLength}
-use Rattle.xsd_texts.proofs.Laws.Texts.{used-bytes}
-use Rattle.xsd_head.specs.Head.{HeadRoom}
-use Rattle.xsd_spot.specs.Spots.{TextRoom}
+use Rattle.xsd_rows.specs.declared.numbers.Used.{Used}
+use Rattle.xsd_rows.proofs.Laws.Room.{fits-room}
+use Rattle.xsd_rows.specs.Texts.{usedTexts, usedLength}
+use Rattle.xsd_rows.proofs.Laws.Texts.{used-bytes}
+use Rattle.xsd_replace.specs.Head.{HeadRoom}
+use Rattle.xsd_replace.specs.Spots.{TextRoom}
 use Rattle.xsd_actions.specs.Actions.{Action, NamedHead, BasedHead, Fitting}
-use Rattle.xsd_needs.specs.Ready.{Ready, rowsAfterAll}
-use Rattle.xsd_needs.specs.Needs.{Counted, Needed}
-use Rattle.xsd_needs.proofs.Laws.Ready.{ready-root, ready-head, ready-base}
-use Rattle.xsd_needs.proofs.Laws.Needs.{ok-back}
+use Rattle.xsd_act.specs.Ready.{Ready, rowsAfterAll}
+use Rattle.xsd_act.specs.Needs.{Counted, Needed}
+use Rattle.xsd_act.proofs.Laws.Ready.{ready-root, ready-head, ready-base}
+use Rattle.xsd_act.proofs.Laws.Needs.{ok-back}
 use Rattle.xsd_act.specs.Acts.{ActRoom}
-use Rattle.xsd_needs.proofs.Laws.After.{after-content, after-base, after-root, counted-one, counted-spot}
+use Rattle.xsd_act.proofs.Laws.After.{after-content, after-base, after-root, counted-one, counted-spot}
 
 -- rows of which the sheet's two buffers have room
 abbrev pub Roomy : List ℕ → List ℕ → List Row → Type 0

@@ -8,15 +8,15 @@ use Rattle.text.specs.Text.{join}
 use Rattle.sheet.specs.Rows.{row}
 use Rattle.xsd_types.specs.Rows.{headC}
 use Rattle.xsd_parser.specs.Handlers.{ok}
-use Rattle.xsd_numbers.specs.declared.Used.{Used}
+use Rattle.xsd_rows.specs.declared.numbers.Used.{Used}
 use Rattle.xsd_actions.specs.declared.Decision.{Decision}
 use Rattle.xsd_actions.specs.Actions.{Action, namespaceAfter, rowsAfter, openSimpleRow, openComplexRow, Fitting}
 use Rattle.xsd_actions.specs.Answers.{decision}
-use Rattle.xsd_needs.specs.Ready.{rowsAfterAll}
-use Rattle.xsd_needs.proofs.Laws.Parts.{openSimple-bytes, openComplex-bytes}
-use Rattle.xsd_needs.proofs.Laws.Needs.{refuse-ok}
-use Rattle.xsd_put.specs.Contents.{contentPairs, contentNumbers}
-use Rattle.xsd_put.proofs.Laws.Contents.{contentPairs-bound, following-used}
+use Rattle.xsd_act.specs.Ready.{rowsAfterAll}
+use Rattle.xsd_act.proofs.Laws.Parts.{openSimple-bytes, openComplex-bytes}
+use Rattle.xsd_act.proofs.Laws.Needs.{refuse-ok}
+use Rattle.xsd_act.specs.Contents.{contentPairs, contentNumbers}
+use Rattle.xsd_act.proofs.Laws.Contents.{contentPairs-bound, following-used}
 use Rattle.xsd_act.specs.Acts.{Done}
 use Rattle.xsd_act.proofs.Laws.Room.{RoomFor, room-for, more-room, root-room, base-room, content-room}
 use Rattle.xsd_act.proofs.Laws.Done.{done-more, done-root, done-base, done-content, done-keep}

@@ -2,20 +2,21 @@
 use mathlib.Core.Path.{refl}
 use Rattle.xsd_parser.specs.Handlers.{ok}
 use Rattle.xsd_decide.specs.Schema.{emptyInSchema}
-use Rattle.text.specs.Text.{bytes}
+use Rattle.text.specs.Text.{bytes, contains}
 use Rattle.xsd_actions.specs.Answers.{decision}
-use Rattle.xsd_values.specs.Reads.{recordTag}
-use Rattle.xsd_values.proofs.Laws.Values.{tagIs-told}
-use Rattle.xsd_decide_rows.proofs.Laws.Chains.{if-true, if-false}
+use Rattle.xsd_decide.specs.Reads.{recordTag}
+use Rattle.xsd_decide.proofs.Laws.Values.{tagIs-told}
+use Rattle.xsd_decide.proofs.Laws.Chains.{if-true, if-false}
 use borrow.Author.Needs.{needs}
 use Rattle.xsd_decide.proofs.empty_in_schema.Statement.{statement}
 use Rattle.xsd_decide.proofs.empty_in_schema.Tie as tie
 
-slice-aggregate-same-text : tie.Need-slice-aggregate-same-text
-slice-aggregate-same-text c = search needs
+slice-aggregate-local-is : tie.Need-slice-aggregate-local-is
+slice-aggregate-local-is c = search needs
 
-same-text-requires : tie.Need-same-text-requires
-same-text-requires c κs = search needs
+local-is-requires : tie.Need-local-is-requires
+unfolding contains
+local-is-requires c κs = search needs
 
 top-element-requires : tie.Need-top-element-requires
 top-element-requires c κs = search needs
@@ -26,7 +27,7 @@ returns c =
     let first = c .before .before in
     let start = first .before .before .before .before .before in
     let t = recordTag (start .args .text .now) (start .args .marks .now) (start .args .t) in
-    if-true ok _ _ (tagIs-told t "element" (start .pre) (first .same-text .ensures) (c .before .if1 .taken)) (c .top-element .ensures)
+    if-true ok _ _ (tagIs-told t "element" (start .pre) (first .local-is .ensures) (c .before .if1 .taken)) (c .top-element .ensures)
 
 returns-2 : tie.Need-returns-2
 unfolding bytes decision emptyInSchema
@@ -34,9 +35,9 @@ returns-2 c =
     let first = c .before in
     let start = first .before .before .before .before .before in
     let t = recordTag (start .args .text .now) (start .args .marks .now) (start .args .t) in
-    if-false ok _ _ (tagIs-told t "element" (start .pre) (first .same-text .ensures) (c .if1 .left)) refl
+    if-false ok _ _ (tagIs-told t "element" (start .pre) (first .local-is .ensures) (c .if1 .left)) refl
 
 pub empty-in-schema-spec : {M : Type 1} → statement M
 empty-in-schema-spec =
     tie.close
-    (tie.spec slice-aggregate-same-text same-text-requires top-element-requires returns returns-2)
+    (tie.spec slice-aggregate-local-is local-is-requires top-element-requires returns returns-2)

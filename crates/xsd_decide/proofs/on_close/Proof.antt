@@ -7,7 +7,7 @@ use Rattle.text.proofs.Laws.Tests.{and-true}
 use Rattle.xsd_parser.specs.Handlers.{ok}
 use Rattle.xsd_actions.specs.Answers.{decision}
 use Rattle.xsd_actions.specs.Decided.{decidedClose}
-use Rattle.xsd_decide_rows.proofs.Laws.Chains.{if-true, if-false}
+use Rattle.xsd_decide.proofs.Laws.Chains.{if-true, if-false}
 use borrow.Author.Needs.{needs}
 use Rattle.xsd_decide.proofs.on_close.Statement.{statement}
 use Rattle.xsd_decide.proofs.on_close.Tie as tie

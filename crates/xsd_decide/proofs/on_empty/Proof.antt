@@ -1,14 +1,14 @@
 -- `xsd_decide::on_empty` meets its contract: the context picks the handler, as in the definition. Assumes nothing.
 use borrow.Author.Tests.{eq-eqb, ne-eqb}
 use Rattle.xsd_actions.specs.Decided.{decidedEmpty}
-use Rattle.xsd_decide_rows.proofs.Laws.Chains.{if-true, if-false, whole}
+use Rattle.xsd_decide.proofs.Laws.Chains.{if-true, if-false, whole}
 use Rattle.xsd_decide.specs.Schema.{emptyInSchema}
 use borrow.Author.Needs.{needs}
 use Rattle.xsd_decide.proofs.on_empty.Statement.{statement}
 use Rattle.xsd_decide.proofs.on_empty.Tie as tie
 
-tag-name-requires : tie.Need-tag-name-requires
-tag-name-requires c κs = search needs
+raw-name-requires : tie.Need-raw-name-requires
+raw-name-requires c κs = search needs
 
 root-found-requires : tie.Need-root-found-requires
 root-found-requires c κs = search needs
@@ -46,7 +46,7 @@ pub on-empty-spec : {M : Type 1} → statement M
 on-empty-spec =
     tie.close
     (tie.spec
-    tag-name-requires
+    raw-name-requires
     root-found-requires
     returns
     empty-in-schema-requires

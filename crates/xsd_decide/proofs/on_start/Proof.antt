@@ -1,13 +1,13 @@
 -- `xsd_decide::on_start` meets its contract: the context picks the handler, as in the definition. Assumes nothing.
 use borrow.Author.Tests.{eq-eqb, ne-eqb}
 use Rattle.xsd_actions.specs.Decided.{decidedStart}
-use Rattle.xsd_decide_rows.proofs.Laws.Chains.{if-true, if-false, whole}
+use Rattle.xsd_decide.proofs.Laws.Chains.{if-true, if-false, whole}
 use borrow.Author.Needs.{needs}
 use Rattle.xsd_decide.proofs.on_start.Statement.{statement}
 use Rattle.xsd_decide.proofs.on_start.Tie as tie
 
-tag-name-requires : tie.Need-tag-name-requires
-tag-name-requires c κs = search needs
+raw-name-requires : tie.Need-raw-name-requires
+raw-name-requires c κs = search needs
 
 root-found-requires : tie.Need-root-found-requires
 root-found-requires c κs = search needs
@@ -45,7 +45,7 @@ pub on-start-spec : {M : Type 1} → statement M
 on-start-spec =
     tie.close
     (tie.spec
-    tag-name-requires
+    raw-name-requires
     root-found-requires
     returns
     start-in-schema-requires

@@ -1,10 +1,10 @@
 -- `xsd_decide::open_type` meets its contract: an absent name is refused with 9, for either kind of type. Assumes nothing.
 use mathlib.Core.Path.{sym, ap, _∙_}
-use Rattle.text.specs.Text.{bytes}
+use Rattle.text.specs.Text.{bytes, contains}
 use Rattle.xsd_parser.specs.Handlers.{ok}
 use Rattle.xsd_actions.specs.Answers.{decision, textAtMark}
-use Rattle.xsd_values.specs.Reads.{recordTag}
-use Rattle.xsd_values.proofs.Laws.Values.{attrValue-at, attrValue-none}
+use Rattle.xsd_decide.specs.Reads.{recordTag}
+use Rattle.xsd_decide.proofs.Laws.Values.{attrValue-at, attrValue-none}
 use Rattle.xsd_decide.specs.Schema.{openedAs}
 use Rattle.xsd_decide.proofs.Laws.Names.{requireName-some, requireName-none}
 use borrow.Author.Needs.{needs}
@@ -15,6 +15,7 @@ slice-aggregate-attribute : tie.Need-slice-aggregate-attribute
 slice-aggregate-attribute c = search needs
 
 attribute-requires : tie.Need-attribute-requires
+unfolding contains
 attribute-requires c κs = search needs
 
 enum-known-i : tie.Need-enum-known-i

@@ -1,21 +1,22 @@
 -- `xsd_decide::start_in_schema` meets its contract: the words are compared in the order of the definition. Assumes nothing.
 use mathlib.Core.Path.{refl}
-use Rattle.text.specs.Text.{bytes}
+use Rattle.text.specs.Text.{bytes, contains}
 use Rattle.xsd_actions.specs.Answers.{decision}
 use Rattle.xsd_actions.specs.Decided.{startInSchema}
-use Rattle.xsd_values.specs.Reads.{recordTag}
-use Rattle.xsd_values.proofs.Laws.Values.{tagIs-told}
-use Rattle.xsd_decide_rows.proofs.Laws.Chains.{if-true, if-false, whole}
+use Rattle.xsd_decide.specs.Reads.{recordTag}
+use Rattle.xsd_decide.proofs.Laws.Values.{tagIs-told}
+use Rattle.xsd_decide.proofs.Laws.Chains.{if-true, if-false, whole}
 use Rattle.xsd_decide.specs.Schema.{openedAs}
 use borrow.Author.Needs.{needs}
 use Rattle.xsd_decide.proofs.start_in_schema.Statement.{statement}
 use Rattle.xsd_decide.proofs.start_in_schema.Tie as tie
 
-slice-aggregate-same-text : tie.Need-slice-aggregate-same-text
-slice-aggregate-same-text c = search needs
+slice-aggregate-local-is : tie.Need-slice-aggregate-local-is
+slice-aggregate-local-is c = search needs
 
-same-text-requires : tie.Need-same-text-requires
-same-text-requires c κs = search needs
+local-is-requires : tie.Need-local-is-requires
+unfolding contains
+local-is-requires c κs = search needs
 
 open-type-requires : tie.Need-open-type-requires
 open-type-requires c κs = search needs
@@ -26,13 +27,14 @@ returns c =
     let first = c .before .before in
     let start = first .before .before .before .before .before in
     let t = recordTag (start .args .text .now) (start .args .marks .now) (start .args .t) in
-    if-true whole _ _ (tagIs-told t "simpleType" (start .pre) (first .same-text .ensures) (c .before .if1 .taken)) (c .open-type .ensures)
+    if-true whole _ _ (tagIs-told t "simpleType" (start .pre) (first .local-is .ensures) (c .before .if1 .taken)) (c .open-type .ensures)
 
-slice-aggregate-same-text-2 : tie.Need-slice-aggregate-same-text-2
-slice-aggregate-same-text-2 c = search needs
+slice-aggregate-local-is-2 : tie.Need-slice-aggregate-local-is-2
+slice-aggregate-local-is-2 c = search needs
 
-same-text-requires-2 : tie.Need-same-text-requires-2
-same-text-requires-2 c κs = search needs
+local-is-requires-2 : tie.Need-local-is-requires-2
+unfolding contains
+local-is-requires-2 c κs = search needs
 
 open-type-requires-2 : tie.Need-open-type-requires-2
 open-type-requires-2 c κs = search needs
@@ -44,14 +46,15 @@ returns-2 c =
     let first = second .before .before .before in
     let start = first .before .before .before .before .before in
     let t = recordTag (start .args .text .now) (start .args .marks .now) (start .args .t) in
-    if-false whole _ _ (tagIs-told t "simpleType" (start .pre) (first .same-text .ensures) (second .before .before .if1 .left))
-    (if-true whole _ _ (tagIs-told t "complexType" (start .pre) (second .same-text2 .ensures) (c .before .if2 .taken)) (c .open-type2 .ensures))
+    if-false whole _ _ (tagIs-told t "simpleType" (start .pre) (first .local-is .ensures) (second .before .before .if1 .left))
+    (if-true whole _ _ (tagIs-told t "complexType" (start .pre) (second .local-is2 .ensures) (c .before .if2 .taken)) (c .open-type2 .ensures))
 
-slice-aggregate-same-text-3 : tie.Need-slice-aggregate-same-text-3
-slice-aggregate-same-text-3 c = search needs
+slice-aggregate-local-is-3 : tie.Need-slice-aggregate-local-is-3
+slice-aggregate-local-is-3 c = search needs
 
-same-text-requires-3 : tie.Need-same-text-requires-3
-same-text-requires-3 c κs = search needs
+local-is-requires-3 : tie.Need-local-is-requires-3
+unfolding contains
+local-is-requires-3 c κs = search needs
 
 top-element-requires : tie.Need-top-element-requires
 top-element-requires c κs = search needs
@@ -64,9 +67,9 @@ returns-3 c =
     let first = second .before .before .before in
     let start = first .before .before .before .before .before in
     let t = recordTag (start .args .text .now) (start .args .marks .now) (start .args .t) in
-    if-false whole _ _ (tagIs-told t "simpleType" (start .pre) (first .same-text .ensures) (second .before .before .if1 .left))
-    (if-false whole _ _ (tagIs-told t "complexType" (start .pre) (second .same-text2 .ensures) (third .before .before .if2 .left))
-    (if-true whole _ _ (tagIs-told t "element" (start .pre) (third .same-text3 .ensures) (c .before .if3 .taken)) (c .top-element .ensures)))
+    if-false whole _ _ (tagIs-told t "simpleType" (start .pre) (first .local-is .ensures) (second .before .before .if1 .left))
+    (if-false whole _ _ (tagIs-told t "complexType" (start .pre) (second .local-is2 .ensures) (third .before .before .if2 .left))
+    (if-true whole _ _ (tagIs-told t "element" (start .pre) (third .local-is3 .ensures) (c .before .if3 .taken)) (c .top-element .ensures)))
 
 returns-4 : tie.Need-returns-4
 unfolding bytes decision startInSchema
@@ -76,24 +79,24 @@ returns-4 c =
     let first = second .before .before .before in
     let start = first .before .before .before .before .before in
     let t = recordTag (start .args .text .now) (start .args .marks .now) (start .args .t) in
-    if-false whole _ _ (tagIs-told t "simpleType" (start .pre) (first .same-text .ensures) (second .before .before .if1 .left))
-    (if-false whole _ _ (tagIs-told t "complexType" (start .pre) (second .same-text2 .ensures) (third .before .before .if2 .left))
-    (if-false whole _ _ (tagIs-told t "element" (start .pre) (third .same-text3 .ensures) (c .if3 .left)) refl))
+    if-false whole _ _ (tagIs-told t "simpleType" (start .pre) (first .local-is .ensures) (second .before .before .if1 .left))
+    (if-false whole _ _ (tagIs-told t "complexType" (start .pre) (second .local-is2 .ensures) (third .before .before .if2 .left))
+    (if-false whole _ _ (tagIs-told t "element" (start .pre) (third .local-is3 .ensures) (c .if3 .left)) refl))
 
 pub start-in-schema-spec : {M : Type 1} → statement M
 start-in-schema-spec =
     tie.close
     (tie.spec
-    slice-aggregate-same-text
-    same-text-requires
+    slice-aggregate-local-is
+    local-is-requires
     open-type-requires
     returns
-    slice-aggregate-same-text-2
-    same-text-requires-2
+    slice-aggregate-local-is-2
+    local-is-requires-2
     open-type-requires-2
     returns-2
-    slice-aggregate-same-text-3
-    same-text-requires-3
+    slice-aggregate-local-is-3
+    local-is-requires-3
     top-element-requires
     returns-3
     returns-4)

@@ -8,27 +8,27 @@ use Rattle.xsd_types.specs.State.{State}
 use Rattle.xsd_types.specs.Rows.{extensionFlag, row0, row0Last, rowsUsed, namesUsed, nesting}
 use Rattle.xsd_types.proofs.Laws.Rows.{bit-again}
 use Rattle.xsd_types.proofs.Laws.Made.{flag-context}
-use Rattle.xsd_row.proofs.Laws.Middle.{rows-fit, names-fit}
+use Rattle.xsd_rows.proofs.Laws.Middle.{rows-fit, names-fit}
 use Rattle.xsd_actions.specs.declared.Mode.{Mode}
 use Rattle.xsd_actions.specs.Actions.{modeOf}
 use Rattle.xsd_progress.specs.declared.Progress.{Progress}
-use Rattle.xsd_progress.specs.Progress.{row0Ten, At}
+use Rattle.xsd_progress.specs.Progress.{progressRow0, At}
 
-pub row0-at : {s : State} {rows names : List ℕ} {p : Progress} → At s rows names p → row0Ten p ≡ row0 s
-unfolding row0Ten row0 rowsUsed namesUsed modeOf
+pub row0-at : {s : State} {rows names : List ℕ} {p : Progress} → At s rows names p → progressRow0 p ≡ row0 s
+unfolding progressRow0 row0 rowsUsed namesUsed modeOf
 row0-at {s} at =
     let flag = ap (λ (m : Mode). bit (m .extension)) (at .mode) ∙ bit-again (extensionFlag (s .reader .context)) (flag-context (s .reader .context)) in
     λ i. record {
-      tag = 0;
-      at0 = at .holds .rowsUsed i;
-      len0 = at .holds .namesUsed i;
-      at1 = at .mode i .context;
-      len1 = at .mode i .nesting;
-      at2 = bit (at .mode i .«root_seen»);
-      len2 = at .events i;
-      a = at .tags i;
-      b = flag i;
-      c = row0Last;
+      first = 0;
+      rowsUsed = at .holds .rowsUsed i;
+      namesUsed = at .holds .namesUsed i;
+      context = at .mode i .context;
+      nesting = at .mode i .nesting;
+      rootSeen = bit (at .mode i .«root_seen»);
+      events = at .events i;
+      openTags = at .tags i;
+      extension = flag i;
+      last = row0Last;
     }
 
 -- what is used lies inside the buffers

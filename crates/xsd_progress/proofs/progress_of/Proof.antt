@@ -1,26 +1,41 @@
 -- `xsd_progress::progress_of` meets its contract: row 0 gives the numbers, the walk from the end the head. Assumes nothing.
-use mathlib.Core.Path.{ap}
+use Prim.Native.Nat.{ℕ}
+use mathlib.Core.Path.{_≡_, ap, _∙_}
+use mathlib.Core.List.{List}
 use Rattle.sheet.specs.Rows.{ten}
-use Rattle.sheet.specs.Form.{row0Of}
-use Rattle.xsd_row0.specs.Row0.{row0Says, row0In}
-use Rattle.xsd_row0.specs.declared.Row0.{Row0}
-use Rattle.xsd_progress.proofs.Laws.Numbers.{progress-said}
+use Rattle.xsd_types.specs.Row0.{Row0, row0From}
+use Rattle.xsd_good.specs.Row0.{asRow0}
+use Rattle.xsd_good.specs.Heads.{headRow}
+use Rattle.xsd_progress.specs.Progress.{progressOf, progressIn}
 use Rattle.xsd_progress.proofs.Laws.Words.{words-each}
 use borrow.Author.Needs.{needs}
 use Rattle.xsd_progress.proofs.progress_of.Statement.{statement}
 use Rattle.xsd_progress.proofs.progress_of.Tie as tie
 
-read-row0-requires : tie.Need-read-row0-requires
-read-row0-requires c κs = search needs
+row0-at-requires : tie.Need-row0-at-requires
+row0-at-requires c κs = search needs
+
+cast-n : tie.Need-cast-n
+cast-n c = search needs
 
 open-head-requires : tie.Need-open-head-requires
-unfolding row0In row0Says row0Of ten
-open-head-requires c κs = rw (ap (λ (z : Row0). z .«rows_used») (c .read-row0 .ensures)) (c .before .before .pre .1)
+open-head-requires c κs = rw (ap (λ (z : Row0). z .rowsUsed) (c .before .row0-at .ensures)) (c .before .before .before .pre .1)
+
+cast-t8 : tie.Need-cast-t8
+cast-t8 c = search needs
+
+-- of row 0 read and the head found
+progress-read : (rows : List ℕ) (z : Row0) (head : ℕ) → z ≡ row0From (ten rows) → head ≡ headRow rows (z .rowsUsed) → progressOf z head ≡ progressIn rows
+unfolding progressIn
+progress-read rows z head e f = ap (progressOf z) f ∙ ap (λ (y : Row0). progressOf y (headRow rows (y .rowsUsed))) e
 
 returns : tie.Need-returns
+unfolding progressOf
 returns c =
-    let rows = c .before .before .before .args .rows .now in
-    (progress-said rows (c .before .read-row0 .result) (c .open-head .result) (c .before .read-row0 .ensures) (c .open-head .ensures), words-each rows (λ i. c .before .before .shared-slice-known .given i .fits))
+    let h = c .before .before .before in
+    let z = h .before .before in
+    let rows = z .before .before .args .rows .now in
+    (progress-read rows (asRow0 (z .row0-at .result)) (h .open-head .result) (z .row0-at .ensures) (h .open-head .ensures), words-each rows (λ i. z .before .shared-slice-known .given i .fits))
 
 pub progress-of-spec : {M : Type 1} → statement M
-progress-of-spec = tie.close (tie.spec read-row0-requires open-head-requires returns)
+progress-of-spec = tie.close (tie.spec row0-at-requires cast-n open-head-requires cast-t8 returns)

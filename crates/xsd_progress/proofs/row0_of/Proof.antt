@@ -1,12 +1,13 @@
--- `xsd_progress::row0_of` meets its contract: the array is the row's ten numbers in their order. Assumes nothing.
+-- `xsd_progress::row0_of` meets its contract: row 0 has the numbers and the two flags. Assumes nothing.
 use Prim.Native.Nat.{ℕ}
-use mathlib.Core.Path.{ap₂}
+use mathlib.Core.Path.{ap₂, _∙_}
 use mathlib.Core.List.{List, [], _∷_}
 use native.Mathlib.Omega.{arith}
 use Rattle.sheet.specs.Rows.{numbers}
+use Rattle.xsd_types.specs.Row0.{Row0, row0Ten}
 use Rattle.xsd_types.specs.Rows.{row0Last}
 use Rattle.xsd_progress.specs.declared.Progress.{Progress}
-use Rattle.xsd_progress.specs.Progress.{row0Ten, row0Numbers}
+use Rattle.xsd_progress.specs.Progress.{progressRow0, row0Numbers}
 use borrow.Author.Needs.{needs}
 use Rattle.xsd_progress.proofs.row0_of.Statement.{statement}
 use Rattle.xsd_progress.proofs.row0_of.Tie as tie
@@ -23,14 +24,33 @@ flag-requires c κs = search needs
 flag-requires-2 : tie.Need-flag-requires-2
 flag-requires-2 c κs = search needs
 
--- the ten numbers with the two flags
-abbrev with-flags : Progress → ℕ → ℕ → List ℕ
+row0-numbers-requires : tie.Need-row0-numbers-requires
+row0-numbers-requires c κs = search needs
+
+-- row 0 with the two flags
+abbrev with-flags : Progress → ℕ → ℕ → Row0
 with-flags p root extension =
-    0 ∷ p .used .rows ∷ p .used .names ∷ p .mode .context ∷ p .mode .nesting ∷ root ∷ p .events ∷ p .«open_tags» ∷ extension ∷ 0 ∷ []
+    record {
+      first = 0;
+      rowsUsed = p .used .rows;
+      namesUsed = p .used .names;
+      context = p .mode .context;
+      nesting = p .mode .nesting;
+      rootSeen = root;
+      events = p .events;
+      openTags = p .«open_tags»;
+      extension = extension;
+      last = 0;
+    }
 
 returns : tie.Need-returns
-unfolding row0Numbers row0Ten numbers row0Last
-returns c = ap₂ (with-flags (c .before .before .before .before .args .p)) (c .before .flag .ensures) (c .flag2 .ensures)
+unfolding row0Numbers progressRow0 row0Last
+returns c =
+    let f = c .before in
+    c .row0-numbers .ensures
+    ∙ ap₂ (λ (root extension : ℕ). numbers (row0Ten (with-flags (f .before .before .before .before .args .p) root extension) ∷ [])) (f .before .flag .ensures) (f .flag2 .ensures)
 
 pub row0-of-spec : {M : Type 1} → statement M
-row0-of-spec = tie.close (tie.spec cast-t2 cast-t3 flag-requires flag-requires-2 returns)
+row0-of-spec =
+    tie.close
+    (tie.spec cast-t2 cast-t3 flag-requires flag-requires-2 row0-numbers-requires returns)

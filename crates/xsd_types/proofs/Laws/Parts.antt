@@ -10,39 +10,40 @@ use borrow.Author.Tests.{eqb-true, leb-true, le-leb}
 use Rattle.text.specs.Text.{every, between, if_then_else_}
 use Rattle.text.proofs.Laws.Tests.{six, eleven, and-true-left, and-true-right, and-true, bool-cases}
 use Rattle.sheet.specs.Rows.{Ten, Sheet, allZero}
-use Rattle.sheet.specs.Form.{isFlag, covers, covered, row0Of, tensOf, usedParts, zerosBehind}
+use Rattle.sheet.specs.Form.{isFlag, covers, covered, rowsUsedOf, namesUsedOf, tensOf, usedParts, zerosBehind}
 use Rattle.sheet.specs.Lengths.{fits}
 use Rattle.sheet.proofs.Laws.Unpacks.{few}
+use Rattle.xsd_types.specs.Row0.{Row0, row0In}
 use Rattle.xsd_types.specs.Good.{usedPairs, rowForm, inOrder, row0Form, tenForm, rowsForm, namesForm, namesTest, limits, rootTest, openTagsTest, nestingZero, nestingTest, contextTest, extensionTest, headOf, good}
 use Rattle.xsd_types.proofs.Laws.Shapes.{form-parts}
 use Rattle.xsd_types.proofs.Laws.Rows.{flag-of}
 use Rattle.text.proofs.Laws.Every.{every-weaken}
 
 -- the two tests of nesting and open tags by context
-pub nesting-both : (z : Ten) → nestingTest z ≡ (if leb 2 (z .at1) then leb (z .len1 + 2) (z .a) else (eqb (z .len1) 0 && leb (z .at1) (z .a)))
+pub nesting-both : (z : Row0) → nestingTest z ≡ (if leb 2 (z .context) then leb (z .nesting + 2) (z .openTags) else (eqb (z .nesting) 0 && leb (z .context) (z .openTags)))
 unfolding nestingTest nestingZero openTagsTest
-nesting-both z = bool-cases (leb 2 (z .at1)) (λ e. rw e) (λ e. rw e)
+nesting-both z = bool-cases (leb 2 (z .context)) (λ e. rw e) (λ e. rw e)
 
 -- the parts of `good`
 pub record Parts (x : Sheet) : Type 0 where
   pub parts : usedParts x ≡ true
-  pub row0 : row0Form (row0Of x) ≡ true
+  pub row0 : row0Form (row0In x) ≡ true
   pub rows : rowsForm (tensOf x) ≡ true
-  pub names : namesForm (row0Of x .len0) (tensOf x) ≡ true
+  pub names : namesForm (namesUsedOf x) (tensOf x) ≡ true
   pub zeros : zerosBehind x ≡ true
   pub text : namesTest x ≡ true
-  pub limit : limits (row0Of x) ≡ true
-  pub root : rootTest (row0Of x) ≡ true
-  pub nest : nestingTest (row0Of x) ≡ true
-  pub context : contextTest (row0Of x .at1) (headOf (tensOf x)) ≡ true
-  pub extension : extensionTest (row0Of x) (headOf (tensOf x)) ≡ true
+  pub limit : limits (row0In x) ≡ true
+  pub root : rootTest (row0In x) ≡ true
+  pub nest : nestingTest (row0In x) ≡ true
+  pub context : contextTest (row0In x .context) (headOf (tensOf x)) ≡ true
+  pub extension : extensionTest (row0In x) (headOf (tensOf x)) ≡ true
 
 pub parts-of : (x : Sheet) → good x ≡ true → Parts x
 unfolding good
 parts-of x g =
-    let z = row0Of x in
+    let z = row0In x in
     let ts = tensOf x in
-    let e = eleven (usedParts x) (row0Form z) (rowsForm ts) (namesForm (z .len0) ts) (zerosBehind x) (namesTest x) (limits z) (rootTest z) (nestingTest z) (contextTest (z .at1) (headOf ts)) (extensionTest z (headOf ts)) g in
+    let e = eleven (usedParts x) (row0Form z) (rowsForm ts) (namesForm (z .namesUsed) ts) (zerosBehind x) (namesTest x) (limits z) (rootTest z) (nestingTest z) (contextTest (z .context) (headOf ts)) (extensionTest z (headOf ts)) g in
     record { parts = e .0; row0 = e .1; rows = e .2; names = e .3; zeros = e .4; text = e .5; limit = e .6; root = e .7; nest = e .8; context = e .9; extension = e .10 }
 
 -- row 1 and the rows behind it
@@ -87,48 +88,48 @@ few-rows ts e =
 
 -- the parts of a good sheet as numbers
 module _ (x : Sheet) (p : Parts x) where
-  pub rows-two : 2 ≤ row0Of x .at0
+  pub rows-two : 2 ≤ rowsUsedOf x
   unfolding usedParts
-  rows-two = leb-true 2 (row0Of x .at0) (and-true-left _ _ (p .parts))
+  rows-two = leb-true 2 (rowsUsedOf x) (and-true-left _ _ (p .parts))
 
-  pub used-fits : fits (row0Of x .at0) (row0Of x .len0) (length (x .rows)) (length (x .names)) ≡ true
+  pub used-fits : fits (rowsUsedOf x) (namesUsedOf x) (length (x .rows)) (length (x .names)) ≡ true
   unfolding usedParts
-  used-fits = and-true-right (leb 2 (row0Of x .at0)) _ (p .parts)
+  used-fits = and-true-right (leb 2 (rowsUsedOf x)) _ (p .parts)
 
-  pub rows-room : 10 * row0Of x .at0 ≤ length (x .rows)
+  pub rows-room : 10 * rowsUsedOf x ≤ length (x .rows)
   unfolding fits
-  rows-room = leb-true (10 * row0Of x .at0) (length (x .rows)) (and-true-left _ _ used-fits)
+  rows-room = leb-true (10 * rowsUsedOf x) (length (x .rows)) (and-true-left _ _ used-fits)
 
-  pub names-room : row0Of x .len0 ≤ length (x .names)
+  pub names-room : namesUsedOf x ≤ length (x .names)
   unfolding fits
-  names-room = leb-true (row0Of x .len0) (length (x .names)) (and-true-right (leb (10 * row0Of x .at0) (length (x .rows))) _ used-fits)
+  names-room = leb-true (namesUsedOf x) (length (x .names)) (and-true-right (leb (10 * rowsUsedOf x) (length (x .rows))) _ used-fits)
 
   pub pairs-cover : covers usedPairs 0 (tensOf x) ≡ true
   unfolding namesForm
   pairs-cover = and-true-left _ _ (p .names)
 
-  pub names-end : covered 0 (tensOf x) ≡ row0Of x .len0
+  pub names-end : covered 0 (tensOf x) ≡ namesUsedOf x
   unfolding namesForm
-  names-end = eqb-true (covered 0 (tensOf x)) (row0Of x .len0) (and-true-right (covers usedPairs 0 (tensOf x)) _ (p .names))
+  names-end = eqb-true (covered 0 (tensOf x)) (namesUsedOf x) (and-true-right (covers usedPairs 0 (tensOf x)) _ (p .names))
 
-  pub zero-rows : allZero (drop (10 * row0Of x .at0) (x .rows)) ≡ true
+  pub zero-rows : allZero (drop (10 * rowsUsedOf x) (x .rows)) ≡ true
   unfolding zerosBehind
   zero-rows = and-true-left _ _ (p .zeros)
 
-  pub zero-names : allZero (drop (row0Of x .len0) (x .names)) ≡ true
+  pub zero-names : allZero (drop (namesUsedOf x) (x .names)) ≡ true
   unfolding zerosBehind
-  zero-names = and-true-right (allZero (drop (10 * row0Of x .at0) (x .rows))) _ (p .zeros)
+  zero-names = and-true-right (allZero (drop (10 * rowsUsedOf x) (x .rows))) _ (p .zeros)
 
 -- row 0's own form
-pub record First (z : Ten) : Type 0 where
-  pub tagIs : z .tag ≡ 0
-  pub contextIs : z .at1 ≤ 3
-  pub rootIs : isFlag (z .at2) ≡ true
-  pub flagIs : isFlag (z .b) ≡ true
-  pub cIs : z .c ≡ 0
+pub record First (z : Row0) : Type 0 where
+  pub firstIs : z .first ≡ 0
+  pub contextIs : z .context ≤ 3
+  pub rootIs : isFlag (z .rootSeen) ≡ true
+  pub flagIs : isFlag (z .extension) ≡ true
+  pub lastIs : z .last ≡ 0
 
-pub first-of : (z : Ten) → row0Form z ≡ true → First z
+pub first-of : (z : Row0) → row0Form z ≡ true → First z
 unfolding row0Form
 first-of z e =
-    let w = six (eqb (z .tag) 0) (leb (z .at1) 3) (isFlag (z .at2)) (isFlag (z .b)) (eqb (z .c) 0) true (and-true e refl) in
-    record { tagIs = eqb-true (z .tag) 0 (w .0); contextIs = leb-true (z .at1) 3 (w .1); rootIs = w .2; flagIs = w .3; cIs = eqb-true (z .c) 0 (w .4) }
+    let w = six (eqb (z .first) 0) (leb (z .context) 3) (isFlag (z .rootSeen)) (isFlag (z .extension)) (eqb (z .last) 0) true (and-true e refl) in
+    record { firstIs = eqb-true (z .first) 0 (w .0); contextIs = leb-true (z .context) 3 (w .1); rootIs = w .2; flagIs = w .3; lastIs = eqb-true (z .last) 0 (w .4) }

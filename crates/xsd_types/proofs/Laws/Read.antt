@@ -9,12 +9,13 @@ use lib.ListN.{length, take, drop, length-map}
 use lib.Seq.{take-at}
 use Rattle.text.specs.Text.{Text, every, isText, between}
 use Rattle.sheet.specs.Rows.{Ten, Row, Sheet, row, namesOf, textAt, unpackRow, sheetOfRows}
-use Rattle.sheet.specs.Form.{covered, counted, row0Of, tensOf, words}
+use Rattle.sheet.specs.Form.{covered, counted, row0Of, rowsUsedOf, namesUsedOf, tensOf, words}
 use Rattle.sheet.proofs.Laws.Numbers.{every-tens, length-tens}
 use Rattle.sheet.proofs.Laws.Packs.{isText-namesOf}
 use Rattle.sheet.proofs.Laws.Unpacks.{few, counted-unpack}
 use Rattle.sheet.proofs.Laws.Sheets.{names-read, length-read, sheet-read}
 use Rattle.xsd_types.specs.Rows.{namespaceRow, namespaceA, itemsRows, row0}
+use Rattle.xsd_types.specs.Row0.{row0In}
 use Rattle.xsd_types.specs.Good.{usedPairs, isChild, inOrder, isHead, headAfter, lastHead, tenForm, namesTest, extensionTest, headOf}
 use Rattle.xsd_types.specs.Back.{rowsIn}
 use Rattle.xsd_types.proofs.Laws.Order.{tags}
@@ -49,30 +50,30 @@ module _ (x : Sheet) (p : Parts x) where
   pub few-pairs : every (few usedPairs) (tensOf x) ≡ true
   few-pairs = few-rows (tensOf x) (p .rows)
 
-  pub names-length : length (namesOf (rowsIn x)) ≡ row0Of x .len0
+  pub names-length : length (namesOf (rowsIn x)) ≡ namesUsedOf x
   unfolding rowsIn tensOf
-  names-length = length-read usedPairs x (row0Of x .at0 - 1) few-pairs (pairs-cover x p) (rw (names-end x p) (names-room x p)) ∙ names-end x p
+  names-length = length-read usedPairs x (rowsUsedOf x - 1) few-pairs (pairs-cover x p) (rw (names-end x p) (names-room x p)) ∙ names-end x p
 
   pub names-text : every textRow (rowsIn x) ≡ true
   unfolding namesTest rowsIn tensOf textRow
   names-text =
       let rest = drop (covered 0 (tensOf x)) (x .names) in
-      let taken : take (row0Of x .len0) (x .names) ≡ namesOf (rowsIn x) = ap (λ (l : List ℕ). take (row0Of x .len0) l) (sym (names-read usedPairs x (row0Of x .at0 - 1) few-pairs (pairs-cover x p))) ∙ take-at (namesOf (rowsIn x)) rest (row0Of x .len0) names-length in
+      let taken : take (namesUsedOf x) (x .names) ≡ namesOf (rowsIn x) = ap (λ (l : List ℕ). take (namesUsedOf x) l) (sym (names-read usedPairs x (rowsUsedOf x - 1) few-pairs (pairs-cover x p))) ∙ take-at (namesOf (rowsIn x)) rest (namesUsedOf x) names-length in
       sym (isText-namesOf (rowsIn x)) ∙ ap isText (sym taken) ∙ p .text
 
   pub sheet-again : sheetOfRows (row0Of x) (rowsIn x) (length (x .rows)) (length (x .names)) ≡ x
   unfolding rowsIn tensOf row0Of
   sheet-again =
-      let all : 10 * (1 + (row0Of x .at0 - 1)) ≡ 10 * row0Of x .at0 = omega (arith, rows-two x p) in
-      sheet-read usedPairs x (row0Of x .at0 - 1) few-pairs (pairs-cover x p) (rw all (rows-room x p)) (rw (names-end x p) (names-room x p)) (rw all (zero-rows x p)) (rw (names-end x p) (zero-names x p))
+      let all : 10 * (1 + (rowsUsedOf x - 1)) ≡ 10 * rowsUsedOf x = omega (arith, rows-two x p) in
+      sheet-read usedPairs x (rowsUsedOf x - 1) few-pairs (pairs-cover x p) (rw all (rows-room x p)) (rw (names-end x p) (names-room x p)) (rw all (zero-rows x p)) (rw (names-end x p) (zero-names x p))
 
-  pub rows-length : 1 + length (rowsIn x) ≡ row0Of x .at0
+  pub rows-length : 1 + length (rowsIn x) ≡ rowsUsedOf x
   unfolding rowsIn tensOf
-  rows-length = rw (length-map (tensOf x) (unpackRow usedPairs (x .names)), length-tens (row0Of x .at0 - 1) (drop 10 (x .rows))) (omega (arith, rows-two x p))
+  rows-length = rw (length-map (tensOf x) (unpackRow usedPairs (x .names)), length-tens (rowsUsedOf x - 1) (drop 10 (x .rows))) (omega (arith, rows-two x p))
 
   pub words-rows : words (x .rows) ≡ true → every wordRow (rowsIn x) ≡ true
   unfolding rowsIn tensOf wordRow unpackRow
-  words-rows w = every-map (λ (t : Ten). ltb (t .a) (2 ^ 32) && ltb (t .b) (2 ^ 32)) wordRow (unpackRow usedPairs (x .names)) (λ t e. e) (tensOf x) (every-tens (λ (n : ℕ). ltb n (2 ^ 32)) refl (row0Of x .at0 - 1) (drop 10 (x .rows)) (every-drop (λ (n : ℕ). ltb n (2 ^ 32)) 10 (x .rows) w))
+  words-rows w = every-map (λ (t : Ten). ltb (t .a) (2 ^ 32) && ltb (t .b) (2 ^ 32)) wordRow (unpackRow usedPairs (x .names)) (λ t e. e) (tensOf x) (every-tens (λ (n : ℕ). ltb n (2 ^ 32)) refl (rowsUsedOf x - 1) (drop 10 (x .rows)) (every-drop (λ (n : ℕ). ltb n (2 ^ 32)) 10 (x .rows) w))
 
   pub counted-read : every (counted usedPairs) (rowsIn x) ≡ true
   unfolding rowsIn
@@ -114,11 +115,11 @@ module _ (x : Sheet) (p : Parts x) where
   unfolding headOf rowsIn lastHead headAfter isHead between namespaceRow row
   body-head = ap (lastHead 0) (sym (tags-unpack (x .names) (tensOf x))) ∙ ap (λ (rs : List Row). lastHead 0 (tags rs)) rows-split
 
-  pub body-opened : words (x .rows) ≡ true → Opened (row0Of x .at1) (row0Of x .len1) (row0Of x .a) (row0Of x .b) (bodyIn x p)
+  pub body-opened : words (x .rows) ≡ true → Opened (row0In x .context) (row0In x .nesting) (row0In x .openTags) (row0In x .extension) (bodyIn x p)
   unfolding extensionTest isChild
   body-opened w =
-      let z = row0Of x in
+      let z = row0In x in
       let q = parse 1 (bodyIn x p) (body-full w) body-order in
       let f = first-of z (p .row0) in
       let same : bodyIn x p ≡ itemsRows (q .items) ++ stillRows (q .still) = q .same ∙ ap (λ (l : List Row). l ++ (itemsRows (q .items) ++ stillRows (q .still))) (no-loose 1 (λ n. refl) (q .loose) (q .looseOk)) in
-      opened (z .len1) (z .a) (z .b) (bodyIn x p) (q .items) (q .itemsOk) (q .still) (q .stillOk) same (f .flagIs) (z .at1) (f .contextIs) (sym (nesting-both z) ∙ p .nest) (rw body-head at (p .context)) (rw body-head at (p .extension))
+      opened (z .nesting) (z .openTags) (z .extension) (bodyIn x p) (q .items) (q .itemsOk) (q .still) (q .stillOk) same (f .flagIs) (z .context) (f .contextIs) (sym (nesting-both z) ∙ p .nest) (rw body-head at (p .context)) (rw body-head at (p .extension))

@@ -14,6 +14,7 @@ use Rattle.sheet.proofs.Laws.Packs.{covers-pack, covered-pack, isText-namesOf}
 use Rattle.sheet.proofs.Laws.Sheets.{first-ten, tens-behind, length-rows, length-names, zeros-rows, zeros-names, used-names, rows-read}
 use Rattle.xsd_types.specs.State.{State, rootOk, countersOk, proper}
 use Rattle.xsd_types.specs.Rows.{namespaceRow, namespaceA, row0Last, itemsRows, contextRows, rowsOf, rowsUsed, namesUsed, row0}
+use Rattle.xsd_types.specs.Row0.{row0Ten, row0In}
 use Rattle.xsd_types.specs.Sheet.{stateFits, sheetOf}
 use Rattle.xsd_types.specs.Good.{usedPairs, isHead, headAfter, lastHead, row0Form, rowsForm, namesForm, namesTest, limits, rootTest, nestingTest, contextTest, extensionTest, headOf, good}
 use Rattle.xsd_types.specs.Back.{rowsIn, stateOf}
@@ -24,22 +25,22 @@ use Rattle.xsd_types.proofs.Laws.Back.{state-back}
 use Rattle.xsd_types.proofs.Laws.Made.{tags-pack, form-pack, order-body, test-context, test-extension, test-nesting, test-root, small-context, flag-bit, flag-context}
 use Rattle.text.proofs.Laws.Tests.{and-true-left, and-true-right, and-true}
 use Rattle.text.proofs.Laws.Every.{every-weaken}
-use Rattle.sheet.specs.Form.{row0Of, tensOf, usedParts, zerosBehind}
+use Rattle.sheet.specs.Form.{row0Of, rowsUsedOf, namesUsedOf, tensOf, usedParts, zerosBehind}
 
 module _ (s : State) (r n : ℕ) where
-  pub row0-made : row0Of (sheetOf s r n) ≡ row0 s
+  pub row0-made : row0Of (sheetOf s r n) ≡ row0Ten (row0 s)
   unfolding row0Of sheetOf
-  row0-made = first-ten (row0 s) (rowsOf s) r n
+  row0-made = first-ten (row0Ten (row0 s)) (rowsOf s) r n
 
   pub tens-made : tensOf (sheetOf s r n) ≡ pack 0 (rowsOf s)
   unfolding tensOf row0 rowsUsed sheetOf
   tens-made =
-      let used : row0Of (sheetOf s r n) .at0 - 1 ≡ length (rowsOf s) = rw row0-made (omega arith) in
-      rw used (tens-behind (row0 s) (rowsOf s) r n)
+      let used : rowsUsedOf (sheetOf s r n) - 1 ≡ length (rowsOf s) = rw row0-made (omega arith) in
+      rw used (tens-behind (row0Ten (row0 s)) (rowsOf s) r n)
 
   pub rows-made : proper s ≡ true → rowsIn (sheetOf s r n) ≡ rowsOf s
   unfolding rowsIn sheetOf
-  rows-made ok = rw tens-made (rows-read (row0 s) (rowsOf s) r n usedPairs (counted-rows s ok))
+  rows-made ok = rw tens-made (rows-read (row0Ten (row0 s)) (rowsOf s) r n usedPairs (counted-rows s ok))
 
   pub stateOf-sheetOf : proper s ≡ true → stateFits r n s ≡ true → stateOf (sheetOf s r n) ≡ s
   unfolding stateOf
@@ -55,7 +56,7 @@ module _ (s : State) (r n : ℕ) where
 
   pub length-sheetOf : stateFits r n s ≡ true → (length (sheetOf s r n .rows) ≡ r) × (length (sheetOf s r n .names) ≡ n)
   unfolding sheetOf
-  length-sheetOf fit = (length-rows (row0 s) (rowsOf s) r n (fit-rows fit), length-names (row0 s) (rowsOf s) r n (fit-names fit))
+  length-sheetOf fit = (length-rows (row0Ten (row0 s)) (rowsOf s) r n (fit-rows fit), length-names (row0Ten (row0 s)) (rowsOf s) r n (fit-names fit))
 
 pub rowsUsed-two : (s : State) → 2 ≤ rowsUsed s
 unfolding rowsUsed rowsOf
@@ -69,7 +70,7 @@ module _ (s : State) (r n : ℕ) (ok : proper s ≡ true) (fit : stateFits r n s
       let l = length-sheetOf s r n fit in
       rw (row0-made s r n, l .0, l .1) (and-true (le-leb 2 (rowsUsed s) (rowsUsed-two s)) fit)
 
-  pub made-row0 : row0Form (row0Of (sheetOf s r n)) ≡ true
+  pub made-row0 : row0Form (row0In (sheetOf s r n)) ≡ true
   unfolding row0Form row0 row0Last
   made-row0 = rw (row0-made s r n) (and-true (and-true (and-true (small-context (s .reader .context)) (flag-bit (s .reader .rootSeen))) (flag-context (s .reader .context))) refl)
 
@@ -80,27 +81,27 @@ module _ (s : State) (r n : ℕ) (ok : proper s ≡ true) (fit : stateFits r n s
       let form = every-weaken soundRow formedRow sound-formed (bodyRows s) (sound-body s ok) in
       rw (tens-made s r n, form-pack k (bodyRows s), tags-pack k (bodyRows s)) (and-true form (order-body 1 s refl))
 
-  pub made-names : namesForm (row0Of (sheetOf s r n) .len0) (tensOf (sheetOf s r n)) ≡ true
+  pub made-names : namesForm (namesUsedOf (sheetOf s r n)) (tensOf (sheetOf s r n)) ≡ true
   unfolding namesForm row0 namesUsed
   made-names = rw (row0-made s r n, tens-made s r n) (and-true (covers-pack usedPairs 0 (rowsOf s) (counted-rows s ok)) (eq-eqb _ _ (covered-pack usedPairs 0 (rowsOf s) (counted-rows s ok) ∙ omega arith)))
 
   pub made-zeros : zerosBehind (sheetOf s r n) ≡ true
   unfolding zerosBehind sheetOf row0 rowsUsed namesUsed
-  made-zeros = rw (row0-made s r n) (and-true (zeros-rows (row0 s) (rowsOf s) r n) (zeros-names (row0 s) (rowsOf s) r n))
+  made-zeros = rw (row0-made s r n) (and-true (zeros-rows (row0Ten (row0 s)) (rowsOf s) r n) (zeros-names (row0Ten (row0 s)) (rowsOf s) r n))
 
   pub made-text : namesTest (sheetOf s r n) ≡ true
   unfolding namesTest sheetOf row0 namesUsed textRow
-  made-text = rw (row0-made s r n, used-names (row0 s) (rowsOf s) r n, isText-namesOf (rowsOf s)) (text-rows s ok)
+  made-text = rw (row0-made s r n, used-names (row0Ten (row0 s)) (rowsOf s) r n, isText-namesOf (rowsOf s)) (text-rows s ok)
 
-  pub made-limits : limits (row0Of (sheetOf s r n)) ≡ true
+  pub made-limits : limits (row0In (sheetOf s r n)) ≡ true
   unfolding limits row0 countersOk
   made-limits = rw (row0-made s r n) (proper-parts s ok .0)
 
-  pub made-root : rootTest (row0Of (sheetOf s r n)) ≡ true
+  pub made-root : rootTest (row0In (sheetOf s r n)) ≡ true
   unfolding rootOk
   made-root = rw (row0-made s r n) (test-root (s .reader .schema .targetNamespace) (s .reader .schema .items) (s .reader .rootSeen) (s .reader .context) (s .events) (s .openTags) (proper-parts s ok .1))
 
-  pub made-nesting : nestingTest (row0Of (sheetOf s r n)) ≡ true
+  pub made-nesting : nestingTest (row0In (sheetOf s r n)) ≡ true
   unfolding row0
   made-nesting = rw (row0-made s r n) (nesting-both _ ∙ test-nesting (s .reader .context) (s .openTags) (proper-parts s ok .2))
 
@@ -108,11 +109,11 @@ module _ (s : State) (r n : ℕ) (ok : proper s ≡ true) (fit : stateFits r n s
   unfolding headOf rowsOf lastHead headAfter isHead between namespaceRow row
   made-head = rw (tens-made s r n, tags-pack 0 (rowsOf s))
 
-  pub made-context : contextTest (row0Of (sheetOf s r n) .at1) (headOf (tensOf (sheetOf s r n))) ≡ true
+  pub made-context : contextTest (row0In (sheetOf s r n) .context) (headOf (tensOf (sheetOf s r n))) ≡ true
   unfolding row0
   made-context = rw (row0-made s r n, made-head) (test-context 0 (s .reader .schema .items) (s .reader .context) refl)
 
-  pub made-extension : extensionTest (row0Of (sheetOf s r n)) (headOf (tensOf (sheetOf s r n))) ≡ true
+  pub made-extension : extensionTest (row0In (sheetOf s r n)) (headOf (tensOf (sheetOf s r n))) ≡ true
   unfolding extensionTest row0
   made-extension = rw (row0-made s r n, made-head) (test-extension 0 (s .reader .schema .items) (s .reader .context))
 

@@ -10,10 +10,11 @@ use lib.ListN.{length, length-append}
 use borrow.Author.Tests.{eqb-true}
 use Rattle.text.specs.Text.{Text, every, isText, join}
 use Rattle.text.proofs.Laws.Tests.{three, or-left, or-right, or-cases, and-true-left, and-true}
-use Rattle.sheet.specs.Rows.{Ten, Row, Sheet, row, namesOf}
+use Rattle.sheet.specs.Rows.{Row, Sheet, row, namesOf}
 use Rattle.xsd_types.specs.Types.{Item}
 use Rattle.xsd_types.specs.State.{Context, State, schemaOk, isNoContext, isEmpty, rootOk, countersOk, proper}
 use Rattle.xsd_types.specs.Rows.{namespaceRow, row0Last, itemRows, itemsRows, contextRows, rowsOf, contextNumber, rowsUsed, namesUsed, row0}
+use Rattle.xsd_types.specs.Row0.{Row0, row0In}
 use Rattle.xsd_types.specs.Sheet.{stateFits, sheetOf}
 use Rattle.xsd_types.specs.Good.{limits, rootTest, good}
 use Rattle.xsd_types.specs.Back.{rowsIn, stateOf}
@@ -25,15 +26,15 @@ use Rattle.xsd_types.proofs.Laws.Parts.{Parts, parts-of, used-fits, fir
 use Rattle.xsd_types.proofs.Laws.Read.{names-length, names-text, sheet-again, rows-length, bodyIn, namespaceAt, rows-split, body-opened}
 use Rattle.xsd_types.proofs.Laws.SheetOf.{good-sheetOf, stateOf-sheetOf}
 use Rattle.text.proofs.Laws.Every.{every-head}
-use Rattle.sheet.specs.Form.{row0Of, words}
+use Rattle.sheet.specs.Form.{rowsUsedOf, namesUsedOf, words}
 
 -- a state of row 0's numbers
-unfoldable pub stateWith : Ten → Text → List Item → Context → State
+unfoldable pub stateWith : Row0 → Text → List Item → Context → State
 stateWith z ns is c =
     record {
-      reader = record { schema = record { targetNamespace = ns; items = is }; rootSeen = eqb (z .at2) 1; context = c };
-      events = z .len2;
-      openTags = z .a;
+      reader = record { schema = record { targetNamespace = ns; items = is }; rootSeen = eqb (z .rootSeen) 1; context = c };
+      events = z .events;
+      openTags = z .openTags;
     }
 
 pub group-length : (rs : List Row) → isGroup rs ≡ true → 1 ≤ length rs
@@ -62,26 +63,26 @@ no-context (Context.inComplexType t) e = absurd (omega arith)
 
 module _ (x : Sheet) (p : Parts x) (w : words (x .rows) ≡ true) where
   unfoldable pub held : State
-  held = let o = body-opened x p w in stateWith (row0Of x) (namespaceAt x p) (o .items) (o .context)
+  held = let o = body-opened x p w in stateWith (row0In x) (namespaceAt x p) (o .items) (o .context)
 
   pub held-rows : rowsOf held ≡ rowsIn x
   unfolding held stateWith rowsOf
   held-rows = sym (rows-split x p ∙ ap (λ (l : List Row). namespaceRow (namespaceAt x p) ∷ l) (body-opened x p w .same))
 
-  pub held-rowsUsed : rowsUsed held ≡ row0Of x .at0
+  pub held-rowsUsed : rowsUsed held ≡ rowsUsedOf x
   unfolding rowsUsed
   held-rowsUsed = ap (λ (l : List Row). 1 + length l) held-rows ∙ rows-length x p
 
-  pub held-namesUsed : namesUsed held ≡ row0Of x .len0
+  pub held-namesUsed : namesUsed held ≡ namesUsedOf x
   unfolding namesUsed
   held-namesUsed = ap (λ (l : List Row). length (namesOf l)) held-rows ∙ names-length x p
 
-  pub held-row0 : row0 held ≡ row0Of x
+  pub held-row0 : row0 held ≡ row0In x
   unfolding held stateWith row0 row0Last
   held-row0 =
       let o = body-opened x p w in
-      let f = first-of (row0Of x) (p .row0) in
-      λ i. record { tag = sym (f .tagIs) i; at0 = held-rowsUsed i; len0 = held-namesUsed i; at1 = o .numberIs i; len1 = o .depthIs i; at2 = bit-again (row0Of x .at2) (f .rootIs) i; len2 = row0Of x .len2; a = row0Of x .a; b = o .flagIs i; c = sym (f .cIs) i }
+      let f = first-of (row0In x) (p .row0) in
+      λ i. record { first = sym (f .firstIs) i; rowsUsed = held-rowsUsed i; namesUsed = held-namesUsed i; context = o .numberIs i; nesting = o .depthIs i; rootSeen = bit-again (row0In x .rootSeen) (f .rootIs) i; events = row0In x .events; openTags = row0In x .openTags; extension = o .flagIs i; last = sym (f .lastIs) i }
 
   pub held-sheet : sheetOf held (length (x .rows)) (length (x .names)) ≡ x
   unfolding sheetOf
@@ -96,19 +97,19 @@ module _ (x : Sheet) (p : Parts x) (w : words (x .rows) ≡ true) where
   held-namespace = and-true-left _ _ (every-head textRow (namespaceRow (namespaceAt x p)) (bodyIn x p) (rw (rows-split x p) at (names-text x p)))
 
   -- two rows and no names: no context, no items, no namespace
-  pub held-nothing : eqb (row0Of x .at1) 0 && eqb (row0Of x .at0) 2 && eqb (row0Of x .len0) 0 ≡ true → isNoContext (held .reader .context) && isEmpty (held .reader .schema .items) && isEmpty (held .reader .schema .targetNamespace) ≡ true
+  pub held-nothing : eqb (row0In x .context) 0 && eqb (rowsUsedOf x) 2 && eqb (namesUsedOf x) 0 ≡ true → isNoContext (held .reader .context) && isEmpty (held .reader .schema .items) && isEmpty (held .reader .schema .targetNamespace) ≡ true
   unfolding held stateWith rowsUsed namesUsed rowsOf namesOf namespaceRow row
   held-nothing e =
       let o = body-opened x p w in
-      let z = row0Of x in
-      let t = three (eqb (z .at1) 0) (eqb (z .at0) 2) (eqb (z .len0) 0) e in
-      let context = no-context (o .context) (o .numberIs ∙ eqb-true (z .at1) 0 (t .0)) in
-      let rows = eqb-true (z .at0) 2 (t .1) in
-      and-true (and-true context (no-items (o .items) (contextRows (o .context)) (omega (arith, held-rowsUsed)))) (no-name (namespaceAt x p) (namesOf (itemsRows (o .items) ++ contextRows (o .context))) (held-namesUsed ∙ eqb-true (z .len0) 0 (t .2)))
+      let z = row0In x in
+      let t = three (eqb (z .context) 0) (eqb (z .rowsUsed) 2) (eqb (z .namesUsed) 0) e in
+      let context = no-context (o .context) (o .numberIs ∙ eqb-true (z .context) 0 (t .0)) in
+      let rows = eqb-true (z .rowsUsed) 2 (t .1) in
+      and-true (and-true context (no-items (o .items) (contextRows (o .context)) (omega (arith, held-rowsUsed)))) (no-name (namespaceAt x p) (namesOf (itemsRows (o .items) ++ contextRows (o .context))) (held-namesUsed ∙ eqb-true (z .namesUsed) 0 (t .2)))
 
   pub held-root : rootOk (held .reader) ≡ true
   unfolding rootOk rootTest held stateWith
-  held-root = ⊎-elim (λ e. or-left _ e) (λ e. or-right (eqb (row0Of x .at2) 1) (held-nothing e)) (or-cases (eqb (row0Of x .at2) 1) (eqb (row0Of x .at1) 0 && eqb (row0Of x .at0) 2 && eqb (row0Of x .len0) 0) (p .root))
+  held-root = ⊎-elim (λ e. or-left _ e) (λ e. or-right (eqb (row0In x .rootSeen) 1) (held-nothing e)) (or-cases (eqb (row0In x .rootSeen) 1) (eqb (row0In x .context) 0 && eqb (rowsUsedOf x) 2 && eqb (namesUsedOf x) 0) (p .root))
 
   pub held-proper : proper held ≡ true
   unfolding proper countersOk limits schemaOk held stateWith

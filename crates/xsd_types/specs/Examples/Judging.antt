@@ -11,9 +11,10 @@ use lib.Dec.{eqb}
 use Rattle.text.specs.Text.{every}
 use Rattle.text.specs.Unfold.{computes as texts}
 use Rattle.sheet.specs.Rows.{Ten, Sheet}
-use Rattle.sheet.specs.Form.{covers, covered, row0Of, tensOf, usedParts, zerosBehind}
+use Rattle.sheet.specs.Form.{covers, covered, tensOf, usedParts, zerosBehind}
 use Rattle.sheet.specs.Unfold.{computes as sheets}
 use Rattle.xsd_types.specs.Unfold.{computes as schemas}
+use Rattle.xsd_types.specs.Row0.{row0In}
 use Rattle.xsd_types.specs.Good.{usedPairs, inOrder, row0Form, tenForm, namesTest, limits, rootTest, nestingTest, contextTest, extensionTest, headOf, good}
 use Rattle.xsd_types.specs.Examples.Sheets.{written}
 
@@ -34,7 +35,7 @@ behind (n ∷ ts) = ts
 
 unfoldable pub broken : Sheet → List Part
 broken x =
-    let z = row0Of x in
+    let z = row0In x in
     let ts = tensOf x in
     unless (usedParts x) lent
     (unless (row0Form z) row0
@@ -42,13 +43,13 @@ broken x =
     (unless (every tenForm (behind ts)) numbers
     (unless (inOrder 1 (map (λ (t : Ten). t .tag) (behind ts))) order
     (unless (covers usedPairs 0 ts) pairs
-    (unless (eqb (covered 0 ts) (z .len0)) namesUsed
+    (unless (eqb (covered 0 ts) (z .namesUsed)) namesUsed
     (unless (zerosBehind x) zeros
     (unless (namesTest x) ascii
     (unless (limits z) counts
     (unless (rootTest z) root
     (unless (nestingTest z) nesting
-    (unless (contextTest (z .at1) (headOf ts)) context
+    (unless (contextTest (z .context) (headOf ts)) context
     (unless (extensionTest z (headOf ts)) extension [])))))))))))))
 
 pub record Verdict : Type 0 where

@@ -69,26 +69,6 @@ fn after(reader: Reader, event: &Event) -> Result<Reader, ParseError> {
     })
 }
 
-/// The schema of events that quick-xml has read before, by the handlers alone.
-pub(crate) fn schema_of(events: &[XmlEvent<'_>]) -> Result<Schema, ParseError> {
-    let mut schema = Schema {
-        target_namespace: String::new(),
-        elements: Vec::new(),
-        simple_types: Vec::new(),
-        complex_types: Vec::new(),
-    };
-    let (mut stack, mut found) = (Vec::new(), false);
-    for event in events {
-        match event {
-            XmlEvent::Start(e) => on_start(e, &mut stack, &mut schema, &mut found)?,
-            XmlEvent::Empty(e) => on_empty(e, &mut stack, &mut schema, &mut found)?,
-            XmlEvent::End(_) => on_end(&mut stack, &mut schema),
-            _ => {}
-        }
-    }
-    Ok(schema)
-}
-
 /// Calls a handler with the tag as quick-xml reads it.
 fn with_tag<A>(tag: &Tag, call: impl FnOnce(&BytesStart<'_>) -> A) -> A {
     let text = tag_xml(tag, "/>");

@@ -1,3 +1,0 @@
--- Laws of lists.
---     Shift         a part that moves within a list
-pub mod Shift

@@ -1,2 +1,0 @@
--- The definitions that the contracts of the crate `ir_words` cite.
-pub mod Lines

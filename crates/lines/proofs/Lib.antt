@@ -1,2 +1,0 @@
--- Laws and proofs of the crate `lines`.
-pub mod Laws

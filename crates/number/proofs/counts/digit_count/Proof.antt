@@ -1,0 +1,24 @@
+-- `number::counts::digit_count` meets its contract: the value of parse_u32 is the count. Assumes nothing.
+use mathlib.Core.Path.{sym, ap, _∙_}
+use borrow.Author.Needs.{needs}
+use Rattle.number.specs.Answers.{ofU32}
+use Rattle.number.proofs.counts.digit_count.Statement.{statement}
+use Rattle.number.proofs.counts.digit_count.Tie as tie
+
+parse-u32-requires : tie.Need-parse-u32-requires
+parse-u32-requires c κs = search needs
+
+enum-known-v : tie.Need-enum-known-v
+enum-known-v c = search needs
+
+enum-told : tie.Need-enum-told
+enum-told c = search needs
+
+returns : tie.Need-returns
+returns c = sym (ap ofU32 (c .before .v .given .1)) ∙ c .before .before .before .parse-u32 .ensures
+
+returns-2 : tie.Need-returns-2
+returns-2 c = sym (ap ofU32 (c .enum-told .given .1)) ∙ c .before .before .parse-u32 .ensures
+
+pub digit-count-spec : {M : Type 1} → statement M
+digit-count-spec = tie.close (tie.spec parse-u32-requires enum-known-v enum-told returns returns-2)

@@ -1,2 +1,0 @@
--- Laws of the definitions in specs/: Change of the record after an event.
-pub mod Change

@@ -1,0 +1,2 @@
+-- Laws and proofs of the crate `program`.
+pub mod Laws

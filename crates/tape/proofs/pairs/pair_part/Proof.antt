@@ -1,0 +1,55 @@
+-- `tape::pairs::pair_part` meets its contract: past the end of the marks a pair has the size 0. Assumes nothing.
+use mathlib.Core.Path.{sym, _∙_}
+use Rattle.tape.specs.Pairs.{pairAt}
+use Rattle.tape.proofs.Laws.Pairs.{pair-past, pair-text}
+use borrow.Author.Needs.{needs}
+use Rattle.tape.proofs.pairs.pair_part.Statement.{statement}
+use Rattle.tape.proofs.pairs.pair_part.Tie as tie
+
+part-of-requires : tie.Need-part-of-requires
+part-of-requires c κs = search needs
+
+returns : tie.Need-returns
+returns c =
+    let a = c .before .before .before .before .args in
+    c .part-of .ensures ∙ sym (pair-past (a .text .now) (a .marks .now) (a .at) (c .before .if1 .taken))
+
+mark-at-requires : tie.Need-mark-at-requires
+mark-at-requires c κs = search needs
+
+wide-requires : tie.Need-wide-requires
+wide-requires c κs = search needs
+
+add-mark-at : tie.Need-add-mark-at
+add-mark-at c = search needs
+
+mark-at-requires-2 : tie.Need-mark-at-requires-2
+mark-at-requires-2 c κs = search needs
+
+wide-requires-2 : tie.Need-wide-requires-2
+wide-requires-2 c κs = search needs
+
+part-of-requires-2 : tie.Need-part-of-requires-2
+part-of-requires-2 c κs = search needs
+
+returns-2 : tie.Need-returns-2
+unfolding pairAt
+returns-2 c =
+    let a = c .before .before .before .before .before .before .before .before .args in
+    let offset = c .before .before .before .wide .ensures ∙ c .before .before .before .before .mark-at .ensures in
+    let size = c .before .wide2 .ensures ∙ c .before .before .mark-at2 .ensures in
+    c .part-of2 .ensures ∙ pair-text (a .text .now) (pairAt (a .marks .now) (a .at)) _ _ offset size
+
+pub pair-part-spec : {M : Type 1} → statement M
+pair-part-spec =
+    tie.close
+    (tie.spec
+    part-of-requires
+    returns
+    mark-at-requires
+    wide-requires
+    add-mark-at
+    mark-at-requires-2
+    wide-requires-2
+    part-of-requires-2
+    returns-2)

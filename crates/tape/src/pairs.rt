@@ -1,0 +1,46 @@
+// The pairs of the tape (paper 01, "Tape"): the numbers of the marks, and the part of the text under a pair.
+ghost use mathlib.Core.Path.{_≡_};
+ghost use lib.ListN.{take, drop, getD};
+ghost use Rattle.xsd_parser.specs.Tape.{pairText};
+ghost use Rattle.tape.specs.Pairs.{pairAt};
+
+// A number of the marks as a place or a count.
+pub fn wide(x: u32) -> usize
+    ensures { λ r. ⌜ r ≡ x ⌝ }
+{
+    x as usize
+}
+
+// The first bytes behind an offset, as many as asked for and as there are.
+pub fn part_of(text: &[u8], offset: usize, size: usize) -> &[u8]
+    ensures { λ r. ⌜ now r ≡ take size (drop offset (now (text .entry))) ⌝ }
+{
+    let n = text.len();
+    if n <= offset {
+        return &text[n..];
+    }
+    if n - offset <= size {
+        return &text[offset..];
+    }
+    let end = offset + size;
+    &text[offset..end]
+}
+
+// The number at a place of the marks, 0 past the end.
+pub fn mark_at(marks: &[u32], at: usize) -> u32
+    ensures { λ r. ⌜ r ≡ getD (now (marks .entry)) at 0 ⌝ }
+{
+    if at < marks.len() { marks[at] } else { 0 }
+}
+
+// The part of the text under the pair whose offset stands at a place of the marks.
+pub fn pair_part<'a>(text: &'a [u8], marks: &[u32], at: usize) -> &'a [u8]
+    ensures { λ r. ⌜ now r ≡ pairText (now (text .entry)) (pairAt (now (marks .entry)) at) ⌝ }
+{
+    if marks.len() <= at {
+        return part_of(text, 0, 0);
+    }
+    let offset = wide(mark_at(marks, at));
+    let size = wide(mark_at(marks, at + 1));
+    part_of(text, offset, size)
+}

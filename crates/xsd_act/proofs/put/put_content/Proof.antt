@@ -1,0 +1,41 @@
+-- `xsd_act::put::put_content` meets its contract: the head is replaced by one of a pair or two. Assumes nothing.
+use Rattle.xsd_actions.specs.Answers.{textAtMark}
+use Rattle.xsd_act.proofs.Laws.Contents.{contentPairs-bound}
+use borrow.Author.Needs.{needs}
+use Rattle.xsd_act.proofs.put.put_content.Statement.{statement}
+use Rattle.xsd_act.proofs.put.put_content.Tie as tie
+
+pair-part-requires : tie.Need-pair-part-requires
+pair-part-requires c κs = search needs
+
+content-pairs-requires : tie.Need-content-pairs-requires
+content-pairs-requires c κs = search needs
+
+replace-head-requires : tie.Need-replace-head-requires
+unfolding textAtMark
+replace-head-requires c κs =
+    let start = c .before .before .before .before .before .before .before .before in
+    let a = start .args in
+    let pairs = c .before .before .content-pairs .ensures in
+    (rw (pairs, c .before .before .before .pair-part .ensures) (start .pre .0), (rw pairs (contentPairs-bound (a .n .follows)), start .pre .1))
+
+same-length : tie.Need-same-length
+same-length c = search needs
+
+same-length-2 : tie.Need-same-length-2
+same-length-2 c = search needs
+
+returns : tie.Need-returns
+unfolding textAtMark
+returns c = rw (c .before .before .before .before .before .before .before .content-pairs .ensures, c .before .before .before .before .before .before .before .before .pair-part .ensures) at (c .before .before .before .before .replace-head .ensures)
+
+pub put-content-spec : {M : Type 1} → statement M
+put-content-spec =
+    tie.close
+    (tie.spec
+    pair-part-requires
+    content-pairs-requires
+    replace-head-requires
+    same-length
+    same-length-2
+    returns)

@@ -1,2 +1,0 @@
--- The definitions of the crate `xsd_carry`.
-pub mod Events

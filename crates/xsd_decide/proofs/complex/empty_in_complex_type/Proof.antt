@@ -1,0 +1,101 @@
+-- `xsd_decide::complex::empty_in_complex_type` meets its contract: the words are compared in the order of the definition. Assumes nothing.
+use mathlib.Core.Path.{refl}
+use Rattle.xsd_actions.specs.Decided.{emptyInComplexType}
+use Rattle.text.specs.Text.{bytes, contains}
+use Rattle.xsd_actions.specs.Answers.{decision}
+use Rattle.xsd_decide.specs.Reads.{recordTag}
+use Rattle.xsd_decide.proofs.Laws.Values.{tagIs-told}
+use Rattle.xsd_decide.proofs.Laws.Chains.{if-true, if-false, whole}
+use borrow.Author.Needs.{needs}
+use Rattle.xsd_decide.proofs.complex.empty_in_complex_type.Statement.{statement}
+use Rattle.xsd_decide.proofs.complex.empty_in_complex_type.Tie as tie
+
+slice-aggregate-local-is : tie.Need-slice-aggregate-local-is
+slice-aggregate-local-is c = search needs
+
+local-is-requires : tie.Need-local-is-requires
+unfolding contains
+local-is-requires c κs = search needs
+
+element-inside-requires : tie.Need-element-inside-requires
+element-inside-requires c κs = search needs
+
+returns : tie.Need-returns
+unfolding bytes emptyInComplexType
+returns c =
+    let first = c .before .before in
+    let start = first .before .before .before .before .before in
+    let t = recordTag (start .args .text .now) (start .args .marks .now) (start .args .t) in
+    if-true whole _ _ (tagIs-told t "element" (start .pre) (first .local-is .ensures) (c .before .if1 .taken)) (c .element-inside .ensures)
+
+slice-aggregate-local-is-2 : tie.Need-slice-aggregate-local-is-2
+slice-aggregate-local-is-2 c = search needs
+
+local-is-requires-2 : tie.Need-local-is-requires-2
+unfolding contains
+local-is-requires-2 c κs = search needs
+
+any-content-requires : tie.Need-any-content-requires
+any-content-requires c κs = search needs
+
+returns-2 : tie.Need-returns-2
+unfolding bytes emptyInComplexType
+returns-2 c =
+    let second = c .before .before in
+    let first = second .before .before .before in
+    let start = first .before .before .before .before .before in
+    let t = recordTag (start .args .text .now) (start .args .marks .now) (start .args .t) in
+    if-false whole _ _ (tagIs-told t "element" (start .pre) (first .local-is .ensures) (second .before .before .if1 .left))
+    (if-true whole _ _ (tagIs-told t "any" (start .pre) (second .local-is2 .ensures) (c .before .if2 .taken)) (c .any-content .ensures))
+
+slice-aggregate-local-is-3 : tie.Need-slice-aggregate-local-is-3
+slice-aggregate-local-is-3 c = search needs
+
+local-is-requires-3 : tie.Need-local-is-requires-3
+unfolding contains
+local-is-requires-3 c κs = search needs
+
+attribute-inside-requires : tie.Need-attribute-inside-requires
+attribute-inside-requires c κs = search needs
+
+returns-3 : tie.Need-returns-3
+unfolding bytes emptyInComplexType
+returns-3 c =
+    let third = c .before .before in
+    let second = third .before .before .before in
+    let first = second .before .before .before in
+    let start = first .before .before .before .before .before in
+    let t = recordTag (start .args .text .now) (start .args .marks .now) (start .args .t) in
+    if-false whole _ _ (tagIs-told t "element" (start .pre) (first .local-is .ensures) (second .before .before .if1 .left))
+    (if-false whole _ _ (tagIs-told t "any" (start .pre) (second .local-is2 .ensures) (third .before .before .if2 .left))
+    (if-true whole _ _ (tagIs-told t "attribute" (start .pre) (third .local-is3 .ensures) (c .before .if3 .taken)) (c .attribute-inside .ensures)))
+
+returns-4 : tie.Need-returns-4
+unfolding bytes decision emptyInComplexType
+returns-4 c =
+    let third = c .before in
+    let second = third .before .before .before in
+    let first = second .before .before .before in
+    let start = first .before .before .before .before .before in
+    let t = recordTag (start .args .text .now) (start .args .marks .now) (start .args .t) in
+    if-false whole _ _ (tagIs-told t "element" (start .pre) (first .local-is .ensures) (second .before .before .if1 .left))
+    (if-false whole _ _ (tagIs-told t "any" (start .pre) (second .local-is2 .ensures) (third .before .before .if2 .left))
+    (if-false whole _ _ (tagIs-told t "attribute" (start .pre) (third .local-is3 .ensures) (c .if3 .left)) refl))
+
+pub empty-in-complex-type-spec : {M : Type 1} → statement M
+empty-in-complex-type-spec =
+    tie.close
+    (tie.spec
+    slice-aggregate-local-is
+    local-is-requires
+    element-inside-requires
+    returns
+    slice-aggregate-local-is-2
+    local-is-requires-2
+    any-content-requires
+    returns-2
+    slice-aggregate-local-is-3
+    local-is-requires-3
+    attribute-inside-requires
+    returns-3
+    returns-4)

@@ -1,0 +1,73 @@
+-- `xsd_decide::complex::start_at_two` meets its contract: the words are compared in the order of the definition. Assumes nothing.
+use mathlib.Core.Path.{refl}
+use Rattle.text.specs.Text.{bytes, contains}
+use Rattle.xsd_actions.specs.Answers.{decision}
+use Rattle.xsd_actions.specs.Decided.{startAtTwo}
+use Rattle.xsd_decide.specs.Reads.{recordTag}
+use Rattle.xsd_decide.proofs.Laws.Values.{tagIs-told}
+use Rattle.xsd_decide.proofs.Laws.Chains.{if-true, if-false, whole}
+use borrow.Author.Needs.{needs}
+use Rattle.xsd_decide.proofs.complex.start_at_two.Statement.{statement}
+use Rattle.xsd_decide.proofs.complex.start_at_two.Tie as tie
+
+slice-aggregate-local-is : tie.Need-slice-aggregate-local-is
+slice-aggregate-local-is c = search needs
+
+local-is-requires : tie.Need-local-is-requires
+unfolding contains
+local-is-requires c κs = search needs
+
+extension-start-requires : tie.Need-extension-start-requires
+extension-start-requires c κs = search needs
+
+returns : tie.Need-returns
+unfolding bytes startAtTwo
+returns c =
+    let first = c .before .before in
+    let start = first .before .before .before .before .before in
+    let t = recordTag (start .args .text .now) (start .args .marks .now) (start .args .t) in
+    if-true whole _ _ (tagIs-told t "extension" (start .pre) (first .local-is .ensures) (c .before .if1 .taken)) (c .extension-start .ensures)
+
+slice-aggregate-local-is-2 : tie.Need-slice-aggregate-local-is-2
+slice-aggregate-local-is-2 c = search needs
+
+local-is-requires-2 : tie.Need-local-is-requires-2
+unfolding contains
+local-is-requires-2 c κs = search needs
+
+element-inside-requires : tie.Need-element-inside-requires
+element-inside-requires c κs = search needs
+
+returns-2 : tie.Need-returns-2
+unfolding bytes startAtTwo
+returns-2 c =
+    let second = c .before .before in
+    let first = second .before .before .before in
+    let start = first .before .before .before .before .before in
+    let t = recordTag (start .args .text .now) (start .args .marks .now) (start .args .t) in
+    if-false whole _ _ (tagIs-told t "extension" (start .pre) (first .local-is .ensures) (second .before .before .if1 .left))
+    (if-true whole _ _ (tagIs-told t "element" (start .pre) (second .local-is2 .ensures) (c .before .if2 .taken)) (c .element-inside .ensures))
+
+returns-3 : tie.Need-returns-3
+unfolding bytes decision startAtTwo
+returns-3 c =
+    let second = c .before in
+    let first = second .before .before .before in
+    let start = first .before .before .before .before .before in
+    let t = recordTag (start .args .text .now) (start .args .marks .now) (start .args .t) in
+    if-false whole _ _ (tagIs-told t "extension" (start .pre) (first .local-is .ensures) (second .before .before .if1 .left))
+    (if-false whole _ _ (tagIs-told t "element" (start .pre) (second .local-is2 .ensures) (c .if2 .left)) refl)
+
+pub start-at-two-spec : {M : Type 1} → statement M
+start-at-two-spec =
+    tie.close
+    (tie.spec
+    slice-aggregate-local-is
+    local-is-requires
+    extension-start-requires
+    returns
+    slice-aggregate-local-is-2
+    local-is-requires-2
+    element-inside-requires
+    returns-2
+    returns-3)

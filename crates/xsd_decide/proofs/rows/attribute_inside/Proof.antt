@@ -1,0 +1,83 @@
+-- `xsd_decide::rows::attribute_inside` meets its contract: the flag is tested first, then name and type, then use. Assumes nothing.
+use mathlib.Core.Path.{refl, sym, ap, _∙_}
+use borrow.Author.Tests.{not-true, not-false}
+use Rattle.sheet.specs.Rows.{bit}
+use Rattle.xsd_parser.specs.Event.{attrValue}
+use Rattle.xsd_parser.specs.Handlers.{ok, isRequired}
+use Rattle.xsd_actions.specs.Answers.{decision}
+use Rattle.xsd_actions.specs.Decided.{named}
+use Rattle.xsd_decide.specs.Reads.{recordTag, typedValues}
+use Rattle.xsd_decide.specs.Rows.{typedRow}
+use Rattle.xsd_decide.proofs.Laws.Typed.{forBoth, typed-told}
+use Rattle.xsd_decide.proofs.Laws.Attribute.{attribute-off, attribute-on}
+use borrow.Author.Needs.{needs}
+use Rattle.xsd_decide.proofs.rows.attribute_inside.Statement.{statement}
+use Rattle.xsd_decide.proofs.rows.attribute_inside.Tie as tie
+
+returns : tie.Need-returns
+unfolding decision
+returns c =
+    let a = c .before .before .before .args in
+    ap ok (sym (attribute-off (recordTag (a .text .now) (a .marks .now) (a .t)) (not-true (a .flag) (c .if1 .taken))))
+
+name-and-type-requires : tie.Need-name-and-type-requires
+name-and-type-requires c κs = search needs
+
+enum-known-p : tie.Need-enum-known-p
+enum-known-p c = search needs
+
+enum-told : tie.Need-enum-told
+enum-told c = search needs
+
+returns-2 : tie.Need-returns-2
+unfolding decision named typedValues forBoth
+returns-2 c =
+    let called = c .before .before in
+    let a = called .before .before .before .before .args in
+    let t = recordTag (a .text .now) (a .marks .now) (a .t) in
+    let on = attribute-on t (not-false (a .flag) (called .before .if1 .left)) refl in
+    ap ok (sym (on ∙ typed-told (a .text .now) (a .marks .now) (attrValue t "name") (attrValue t "type") (called .name-and-type .ensures) (c .enum-told .given .1) (typedRow 20 (bit (isRequired (attrValue t "use"))) 0)))
+
+is-required-requires : tie.Need-is-required-requires
+is-required-requires c κs = search needs
+
+typed-row-requires : tie.Need-typed-row-requires
+typed-row-requires c κs = search needs
+
+returns-3 : tie.Need-returns-3
+unfolding named typedValues forBoth bit
+returns-3 c =
+    let called = c .before .before .before .before .before .before in
+    let a = called .before .before .before .before .args in
+    let t = recordTag (a .text .now) (a .marks .now) (a .t) in
+    let on = attribute-on t (not-false (a .flag) (called .before .if1 .left)) (sym (c .before .before .is-required .ensures) ∙ c .before .if2 .taken) in
+    c .typed-row .ensures (a .text .now) (a .marks .now)
+    ∙ ap ok (sym (on ∙ typed-told (a .text .now) (a .marks .now) (attrValue t "name") (attrValue t "type") (called .name-and-type .ensures) (c .before .before .before .before .p .given .1) (typedRow 20 1 0)))
+
+typed-row-requires-2 : tie.Need-typed-row-requires-2
+typed-row-requires-2 c κs = search needs
+
+returns-4 : tie.Need-returns-4
+unfolding named typedValues forBoth bit
+returns-4 c =
+    let called = c .before .before .before .before .before .before in
+    let a = called .before .before .before .before .args in
+    let t = recordTag (a .text .now) (a .marks .now) (a .t) in
+    let on = attribute-on t (not-false (a .flag) (called .before .if1 .left)) (sym (c .before .before .is-required .ensures) ∙ c .before .if2 .left) in
+    c .typed-row2 .ensures (a .text .now) (a .marks .now)
+    ∙ ap ok (sym (on ∙ typed-told (a .text .now) (a .marks .now) (attrValue t "name") (attrValue t "type") (called .name-and-type .ensures) (c .before .before .before .before .p .given .1) (typedRow 20 0 0)))
+
+pub attribute-inside-spec : {M : Type 1} → statement M
+attribute-inside-spec =
+    tie.close
+    (tie.spec
+    returns
+    name-and-type-requires
+    enum-known-p
+    enum-told
+    returns-2
+    is-required-requires
+    typed-row-requires
+    returns-3
+    typed-row-requires-2
+    returns-4)

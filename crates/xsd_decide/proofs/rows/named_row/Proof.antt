@@ -1,0 +1,46 @@
+-- `xsd_decide::rows::named_row` meets its contract: a row is added where name and type are found, else nothing is done. Assumes nothing.
+use mathlib.Core.Path.{sym, ap, _∙_}
+use Rattle.xsd_parser.specs.Event.{attrValue}
+use Rattle.xsd_parser.specs.Handlers.{ok}
+use Rattle.xsd_actions.specs.Answers.{decision}
+use Rattle.xsd_actions.specs.Decided.{named}
+use Rattle.xsd_decide.specs.Reads.{recordTag, typedValues}
+use Rattle.xsd_decide.specs.Rows.{typedRow}
+use Rattle.xsd_decide.proofs.Laws.Typed.{forBoth, typed-told}
+use borrow.Author.Needs.{needs}
+use Rattle.xsd_decide.proofs.rows.named_row.Statement.{statement}
+use Rattle.xsd_decide.proofs.rows.named_row.Tie as tie
+
+name-and-type-requires : tie.Need-name-and-type-requires
+name-and-type-requires c κs = search needs
+
+enum-known-p : tie.Need-enum-known-p
+enum-known-p c = search needs
+
+typed-row-requires : tie.Need-typed-row-requires
+typed-row-requires c κs = search needs
+
+enum-told : tie.Need-enum-told
+enum-told c = search needs
+
+returns : tie.Need-returns
+unfolding named typedValues forBoth
+returns c =
+    let called = c .before .before .before .before in
+    let a = called .before .before .before .args in
+    let t = recordTag (a .text .now) (a .marks .now) (a .t) in
+    c .typed-row .ensures (a .text .now) (a .marks .now)
+    ∙ ap ok (sym (typed-told (a .text .now) (a .marks .now) (attrValue t "name") (attrValue t "type") (called .name-and-type .ensures) (c .before .before .p .given .1) (typedRow (a .tag) 0 0)))
+
+returns-2 : tie.Need-returns-2
+unfolding decision named typedValues forBoth
+returns-2 c =
+    let called = c .before .before in
+    let a = called .before .before .before .args in
+    let t = recordTag (a .text .now) (a .marks .now) (a .t) in
+    ap ok (sym (typed-told (a .text .now) (a .marks .now) (attrValue t "name") (attrValue t "type") (called .name-and-type .ensures) (c .enum-told .given .1) (typedRow (a .tag) 0 0)))
+
+pub named-row-spec : {M : Type 1} → statement M
+named-row-spec =
+    tie.close
+    (tie.spec name-and-type-requires enum-known-p typed-row-requires enum-told returns returns-2)

@@ -1,0 +1,42 @@
+-- `xsd_decide::rows::occurs_added` meets its contract: where name or type is absent no number is read. Assumes nothing.
+use mathlib.Core.Path.{sym, _∙_}
+use Rattle.xsd_parser.specs.Event.{attrValue}
+use Rattle.xsd_actions.specs.Answers.{decision}
+use Rattle.xsd_decide.specs.Reads.{recordTag, typedValues}
+use Rattle.xsd_decide.proofs.Laws.Typed.{forBoth, occurs-told}
+use borrow.Author.Needs.{needs}
+use Rattle.xsd_decide.proofs.rows.occurs_added.Statement.{statement}
+use Rattle.xsd_decide.proofs.rows.occurs_added.Tie as tie
+
+name-and-type-requires : tie.Need-name-and-type-requires
+name-and-type-requires c κs = search needs
+
+enum-known-p : tie.Need-enum-known-p
+enum-known-p c = search needs
+
+min-added-requires : tie.Need-min-added-requires
+min-added-requires c κs = search needs
+
+enum-told : tie.Need-enum-told
+enum-told c = search needs
+
+returns : tie.Need-returns
+unfolding typedValues forBoth
+returns c =
+    let called = c .before .before .before .before in
+    let a = called .before .before .before .args in
+    let t = recordTag (a .text .now) (a .marks .now) (a .t) in
+    c .min-added .ensures ∙ sym (occurs-told (a .text .now) (a .marks .now) (attrValue t "name") (attrValue t "type") (called .name-and-type .ensures) (c .before .before .p .given .1) t)
+
+returns-2 : tie.Need-returns-2
+unfolding decision typedValues forBoth
+returns-2 c =
+    let called = c .before .before in
+    let a = called .before .before .before .args in
+    let t = recordTag (a .text .now) (a .marks .now) (a .t) in
+    sym (occurs-told (a .text .now) (a .marks .now) (attrValue t "name") (attrValue t "type") (called .name-and-type .ensures) (c .enum-told .given .1) t)
+
+pub occurs-added-spec : {M : Type 1} → statement M
+occurs-added-spec =
+    tie.close
+    (tie.spec name-and-type-requires enum-known-p min-added-requires enum-told returns returns-2)

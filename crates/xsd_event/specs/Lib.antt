@@ -1,3 +1,0 @@
--- The definitions of the crate `xsd_event`.
-pub mod Settle
-pub mod Steps

@@ -1,0 +1,83 @@
+-- `xsd_good::clear::clear` meets its contract: with lengths as the paper has them, row 0 and row 1's tag stored among zeros are the cleared sheet;
+-- else nothing is stored. Assumes nothing.
+use Prim.Native.Nat.{ℕ, _≤_}
+use mathlib.Core.Bool.{true}
+use mathlib.Core.Path.{_≡_, sym, ap, ap₂, _∙_}
+use mathlib.Core.List.{List, [], _∷_}
+use native.Mathlib.Omega.{arith}
+use lib.ListN.{length, length-set}
+use lib.Seq.{paste}
+use borrow.Author.Tests.{not-true, not-false}
+use borrow.Author.Needs.{needs}
+use Rattle.sheet.specs.Rows.{numbers}
+use Rattle.sheet.specs.Lengths.{sheetLengths}
+use Rattle.buffer.proofs.Laws.Buffer.{zeros-whole}
+use Rattle.xsd_types.specs.Row0.{Row0, row0Ten}
+use Rattle.xsd_good.proofs.Laws.Clear.{lengths-rows, clear-refused, clear-done}
+use Rattle.xsd_good.proofs.clear.clear.Statement.{statement}
+use Rattle.xsd_good.proofs.clear.clear.Tie as tie
+
+sheet-lengths-requires : tie.Need-sheet-lengths-requires
+sheet-lengths-requires c κs = search needs
+
+returns : tie.Need-returns
+returns c =
+    let a = c .before .before .before .before .args in
+    clear-refused (a .rows .now) (a .names .now) (sym (c .before .sheet-lengths .ensures) ∙ not-true _ (c .if1 .taken))
+
+zero-rows-requires : tie.Need-zero-rows-requires
+zero-rows-requires c κs = search needs
+
+zero-names-requires : tie.Need-zero-names-requires
+zero-names-requires c κs = search needs
+
+-- behind the test the lengths are as the paper has them
+lengths-pass : (p : tie.Else1) → sheetLengths (length (p .before .before .before .before .args .rows .now)) (length (p .before .before .before .before .args .names .now)) ≡ true
+lengths-pass p = sym (p .before .sheet-lengths .ensures) ∙ not-false _ (p .if1 .left)
+
+long-enough : (p : tie.Else1) → 20 ≤ length (p .before .before .before .before .args .rows .now)
+long-enough p = lengths-rows _ (length (p .before .before .before .before .args .names .now)) (lengths-pass p)
+
+cleared-row0-requires : tie.Need-cleared-row0-requires
+cleared-row0-requires c κs = search needs
+
+row0-numbers-requires : tie.Need-row0-numbers-requires
+row0-numbers-requires c κs = search needs
+
+put-row-requires : tie.Need-put-row-requires
+put-row-requires c κs = omega (arith, long-enough (c .before .before .before .before .before .before .before .before .before .before .before))
+
+slice-write-rows : tie.Need-slice-write-rows
+slice-write-rows c = omega (arith, long-enough (c .before .before .before .before .before .before .before .before .before .before .before .before .before .before), c .before .before .put-row .kept .0)
+
+same-length : tie.Need-same-length
+same-length c = simp length-set (c .before .before .put-row .kept .0 ∙ c .before .before .before .before .before .before .before .before .before .before .before .before .zero-rows .kept .0)
+
+same-length-2 : tie.Need-same-length-2
+same-length-2 c = search needs
+
+returns-2 : tie.Need-returns-2
+returns-2 c =
+    let put = c .before .before in
+    let names = put .before .before .before .before .before .before in
+    let zero = names .before .before .before .before in
+    let a = zero .before .before .before .before .before .before .args in
+    let row = put .before .row0-numbers .ensures ∙ ap (λ (z : Row0). numbers (row0Ten z ∷ [])) (put .before .before .cleared-row0 .ensures) in
+    let rows = put .put-row .ensures ∙ ap₂ (λ (d s : List ℕ). paste d 0 s 10) (zero .zero-rows .ensures ∙ zeros-whole (a .rows .now)) row in
+    rw (rows, names .zero-names .ensures ∙ zeros-whole (a .names .now)) (clear-done (a .rows .now) (a .names .now) (lengths-pass (zero .before .before)))
+
+pub clear-spec : {M : Type 1} → statement M
+clear-spec =
+    tie.close
+    (tie.spec
+    sheet-lengths-requires
+    returns
+    zero-rows-requires
+    zero-names-requires
+    cleared-row0-requires
+    row0-numbers-requires
+    put-row-requires
+    slice-write-rows
+    same-length
+    same-length-2
+    returns-2)

@@ -1,0 +1,12 @@
+-- `xsd_good::forms::row::is_flag` meets its contract: the code is the definition, test by test. Assumes nothing.
+use mathlib.Core.Path.{refl}
+use Rattle.sheet.specs.Form.{isFlag}
+use Rattle.xsd_good.proofs.forms.row.is_flag.Statement.{statement}
+use Rattle.xsd_good.proofs.forms.row.is_flag.Tie as tie
+
+returns : tie.Need-returns
+unfolding isFlag
+returns c = refl
+
+pub is-flag-spec : {M : Type 1} → statement M
+is-flag-spec = tie.close (tie.spec returns)

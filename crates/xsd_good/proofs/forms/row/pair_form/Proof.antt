@@ -1,0 +1,19 @@
+-- `xsd_good::forms::row::pair_form` meets its contract: each branch is the one that the definition takes. Assumes nothing.
+use borrow.Author.Needs.{needs}
+use Rattle.sheet.specs.Form.{pairForm}
+use Rattle.xsd_good.proofs.forms.row.pair_form.Statement.{statement}
+use Rattle.xsd_good.proofs.forms.row.pair_form.Tie as tie
+
+wide-requires : tie.Need-wide-requires
+wide-requires c κs = search needs
+
+returns : tie.Need-returns
+unfolding pairForm
+returns c = rw (c .before .if1 .taken, c .wide .ensures)
+
+returns-2 : tie.Need-returns-2
+unfolding pairForm
+returns-2 c = rw (c .if1 .left)
+
+pub pair-form-spec : {M : Type 1} → statement M
+pair-form-spec = tie.close (tie.spec wide-requires returns returns-2)

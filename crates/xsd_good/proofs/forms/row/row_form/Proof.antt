@@ -1,0 +1,27 @@
+-- `xsd_good::forms::row::row_form` meets its contract: the code is the definition, test by test. Assumes nothing.
+use mathlib.Core.Bool.{Bool, _&&_, _||_}
+use mathlib.Core.Path.{ap₂}
+use lib.Dec.{eqb}
+use borrow.Author.Needs.{needs}
+use Rattle.xsd_types.specs.Good.{rowForm}
+use Rattle.xsd_good.specs.Forms.{aForm}
+use Rattle.xsd_good.proofs.forms.row.row_form.Statement.{statement}
+use Rattle.xsd_good.proofs.forms.row.row_form.Tie as tie
+
+in-range-requires : tie.Need-in-range-requires
+in-range-requires c κs = search needs
+
+in-range-requires-2 : tie.Need-in-range-requires-2
+in-range-requires-2 c κs = search needs
+
+a-form-requires : tie.Need-a-form-requires
+a-form-requires c κs = search needs
+
+returns : tie.Need-returns
+unfolding rowForm aForm
+returns c =
+    let a = c .before .before .before .args in
+    ap₂ _&&_ (ap₂ (λ (x y : Bool). x && eqb (a .c) 0 && (eqb (a .b) 0 || y || eqb (a .tag) 17)) (c .before .before .in-range .ensures) (c .before .in-range2 .ensures)) (c .a-form .ensures)
+
+pub row-form-spec : {M : Type 1} → statement M
+row-form-spec = tie.close (tie.spec in-range-requires in-range-requires-2 a-form-requires returns)

@@ -1,0 +1,105 @@
+-- `xsd_good::is_good` meets its contract: the tests of the code are the parts of `good`, in its order, and where the used parts
+-- do not lie inside the buffers, `good` fails too. Assumes nothing.
+use Prim.Native.Nat.{_*_, _≤_}
+use mathlib.Core.Bool.{true}
+use mathlib.Core.Path.{_≡_, sym, _∙_}
+use lib.ListN.{length}
+use borrow.Author.Tests.{not-true, not-false}
+use borrow.Author.Needs.{needs}
+use Rattle.xsd_good.specs.Row0.{asRow0, partsFit}
+use Rattle.xsd_good.proofs.Laws.Good.{parts-in, not-inside, too-short, good-tests}
+use Rattle.xsd_good.proofs.is_good.Statement.{statement}
+use Rattle.xsd_good.proofs.is_good.Tie as tie
+
+returns : tie.Need-returns
+returns c =
+    let a = c .before .before .before .args in
+    sym (too-short (a .rows .now) (a .names .now) (c .if1 .taken))
+
+row0-at-requires : tie.Need-row0-at-requires
+row0-at-requires c κs = search needs
+
+used-parts-requires : tie.Need-used-parts-requires
+used-parts-requires c κs = search needs
+
+returns-2 : tie.Need-returns-2
+returns-2 c =
+    let a = c .before .before .before .before .before .before .args in
+    let f = sym (c .before .used-parts .ensures) ∙ not-true _ (c .if2 .taken) in
+    sym (not-inside (a .rows .now) (a .names .now) (rw (c .before .before .row0-at .ensures) at f))
+
+-- behind the second test the used parts lie inside the buffers
+fits : (p : tie.Else2) → partsFit (asRow0 (p .before .before .row0-at .result)) (length (p .before .before .before .before .before .before .args .rows .now)) (length (p .before .before .before .before .before .before .args .names .now)) ≡ true
+fits p = sym (p .before .used-parts .ensures) ∙ not-false _ (p .if2 .left)
+
+inside : (p : tie.Else2) → (2 ≤ p .before .before .row0-at .result .«rows_used») × (10 * p .before .before .row0-at .result .«rows_used» ≤ length (p .before .before .before .before .before .before .args .rows .now)) × (p .before .before .row0-at .result .«names_used» ≤ length (p .before .before .before .before .before .before .args .names .now))
+inside p =
+    let a = p .before .before .before .before .before .before .args in
+    parts-in (asRow0 (p .before .before .row0-at .result)) (length (a .rows .now)) (length (a .names .now)) (fits p)
+
+cast-n : tie.Need-cast-n
+cast-n c = search needs
+
+scan-sheet-requires : tie.Need-scan-sheet-requires
+scan-sheet-requires c κs =
+    let h = inside (c .before) in
+    (h .0, h .1)
+
+row0-form-requires : tie.Need-row0-form-requires
+row0-form-requires c κs = search needs
+
+wide-requires : tie.Need-wide-requires
+wide-requires c κs = search needs
+
+zeros-behind-requires : tie.Need-zeros-behind-requires
+zeros-behind-requires c κs =
+    let h = inside (c .before .before .before .before .before .before) in
+    (h .1, h .2)
+
+names-test-requires : tie.Need-names-test-requires
+names-test-requires c κs = inside (c .before .before .before .before .before .before .before) .2
+
+limits-requires : tie.Need-limits-requires
+limits-requires c κs = search needs
+
+root-test-requires : tie.Need-root-test-requires
+root-test-requires c κs = search needs
+
+nesting-test-requires : tie.Need-nesting-test-requires
+nesting-test-requires c κs = search needs
+
+context-test-requires : tie.Need-context-test-requires
+context-test-requires c κs = search needs
+
+extension-test-requires : tie.Need-extension-test-requires
+extension-test-requires c κs = search needs
+
+returns-3 : tie.Need-returns-3
+returns-3 c =
+    let r = c .before .before .before .before .before in
+    let q = r .before .before .before .before .before in
+    let p = q .before .before .before in
+    let a = p .before .before .before .before .before .before .args in
+    let z = asRow0 (p .before .before .row0-at .result) in
+    good-tests (a .rows .now) (a .names .now) z (q .before .scan-sheet .result) (q .row0-form .ensures) (r .before .before .before .wide .ensures) (r .before .zeros-behind .ensures) (r .names-test .ensures) (c .before .before .before .before .limits .ensures) (c .before .before .before .root-test .ensures) (c .before .before .nesting-test .ensures) (c .before .context-test .ensures) (c .extension-test .ensures) (p .before .before .row0-at .ensures) (fits p) (q .before .scan-sheet .ensures)
+
+pub is-good-spec : {M : Type 1} → statement M
+is-good-spec =
+    tie.close
+    (tie.spec
+    returns
+    row0-at-requires
+    used-parts-requires
+    returns-2
+    cast-n
+    scan-sheet-requires
+    row0-form-requires
+    wide-requires
+    zeros-behind-requires
+    names-test-requires
+    limits-requires
+    root-test-requires
+    nesting-test-requires
+    context-test-requires
+    extension-test-requires
+    returns-3)

@@ -1,0 +1,23 @@
+-- `xsd_good::row0::tests::used_parts` meets its contract: the code is the definition, test by test. Assumes nothing.
+use mathlib.Core.Path.{refl}
+use borrow.Author.Needs.{needs}
+use Rattle.sheet.specs.Lengths.{fits}
+use Rattle.xsd_good.specs.Row0.{partsFit}
+use Rattle.xsd_good.proofs.row0.tests.used_parts.Statement.{statement}
+use Rattle.xsd_good.proofs.row0.tests.used_parts.Tie as tie
+
+cast-n : tie.Need-cast-n
+cast-n c = search needs
+
+cast-used : tie.Need-cast-used
+cast-used c = search needs
+
+mul-result : tie.Need-mul-result
+mul-result c = search needs
+
+returns : tie.Need-returns
+unfolding partsFit fits
+returns c = refl
+
+pub used-parts-spec : {M : Type 1} → statement M
+used-parts-spec = tie.close (tie.spec cast-n cast-used mul-result returns)

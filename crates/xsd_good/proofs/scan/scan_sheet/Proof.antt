@@ -1,0 +1,52 @@
+-- `xsd_good::scan::scan_sheet` meets its contract: the first row behind row 0 and the pass over the others are the pass over all. Assumes nothing.
+use native.Mathlib.Omega.{arith}
+use lib.ListN.{length-take, length-drop}
+use borrow.Author.Needs.{needs}
+use Rattle.xsd_good.specs.Forms.{asTen}
+use Rattle.xsd_good.proofs.Laws.Scan.{first-end, scan-starts}
+use Rattle.xsd_good.proofs.scan.scan_sheet.Statement.{statement}
+use Rattle.xsd_good.proofs.scan.scan_sheet.Tie as tie
+
+ten-at-requires : tie.Need-ten-at-requires
+ten-at-requires c κs = search needs
+
+first-row-requires : tie.Need-first-row-requires
+first-row-requires c κs = search needs
+
+sub-scan-rows : tie.Need-sub-scan-rows
+sub-scan-rows c = search needs
+
+part-scan-rows-start : tie.Need-part-scan-rows-start
+part-scan-rows-start c = search needs
+
+part-scan-rows-end : tie.Need-part-scan-rows-end
+part-scan-rows-end c = search needs
+
+sub-scan-rows-2 : tie.Need-sub-scan-rows-2
+sub-scan-rows-2 c = search needs
+
+scan-rows-requires : tie.Need-scan-rows-requires
+scan-rows-requires c κs =
+    let a = c .before .before .before .before .args in
+    let t = asTen (c .before .before .ten-at .result) in
+    (simp (length-take, length-drop) (omega arith), rw (c .before .first-row .ensures) (omega (arith, first-end (a .names-used) t)))
+
+returns : tie.Need-returns
+returns c =
+    let a = c .before .before .before .before .before .args in
+    let t = asTen (c .before .before .before .ten-at .result) in
+    rw (c .scan-rows .ensures, c .before .before .first-row .ensures)
+    (scan-starts (a .names-used) (a .rows-used) (a .rows .now) t (omega arith) (c .before .before .before .ten-at .ensures))
+
+pub scan-sheet-spec : {M : Type 1} → statement M
+scan-sheet-spec =
+    tie.close
+    (tie.spec
+    ten-at-requires
+    first-row-requires
+    sub-scan-rows
+    part-scan-rows-start
+    part-scan-rows-end
+    sub-scan-rows-2
+    scan-rows-requires
+    returns)

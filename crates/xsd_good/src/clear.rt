@@ -1,0 +1,70 @@
+// Clearing a schema sheet.
+use crate::row0;
+use crate::row0::Row0;
+use sheet::limits;
+use sheet::returned;
+use xsd_rows::row;
+use xsd_types::contexts;
+use xsd_types::tags;
+ghost use mathlib.Core.Path.{_≡_};
+ghost use Rattle.sheet.specs.Lengths.{sheetLengths};
+ghost use Rattle.sheet.specs.Calls.{sheet, answered};
+ghost use Rattle.xsd_types.specs.State.{firstState};
+ghost use Rattle.xsd_types.specs.Rows.{row0};
+ghost use Rattle.xsd_types.specs.Clear.{ClearIs};
+ghost use Rattle.xsd_good.specs.Row0.{asRow0};
+
+pub fn sheet_lengths(rows: usize, names: usize) -> bool
+    ensures { λ r. ⌜ r ≡ sheetLengths rows names ⌝ }
+{
+    (rows % limits::ROW == 0)
+        & (limits::LEAST_ROWS <= rows)
+        & (rows <= limits::ROWS)
+        & (names <= limits::NAMES)
+}
+
+// A call's number and place, of paper 01's "Returned numbers".
+pub struct Answer {
+    pub number: u32,
+    pub place: usize,
+}
+
+// Row 0 of a cleared sheet: two rows are used, and nothing was read.
+fn cleared_row0() -> Row0
+    ensures { λ r. ⌜ asRow0 r ≡ row0 firstState ⌝ }
+{
+    Row0 {
+        first: 0,
+        rows_used: 2,
+        names_used: 0,
+        context: contexts::NONE,
+        nesting: 0,
+        root_seen: 0,
+        events: 0,
+        open_tags: 0,
+        extension: 0,
+        last: 0,
+    }
+}
+
+// Clears a sheet: two rows, tag 1 in row 1, all else zero. Under 1 nothing is changed.
+pub fn clear(rows: &mut [u32], names: &mut [u8]) -> Answer
+    ensures { λ r. ⌜ ClearIs (sheet (now (rows .entry)) (now (names .entry))) (answered (r .number) (r .place)) (sheet (now (rows .exit)) (now (names .exit))) ⌝ }
+{
+    if !sheet_lengths(rows.len(), names.len()) {
+        return Answer {
+            number: returned::BAD_LENGTH,
+            place: 0,
+        };
+    }
+    let n = rows.len();
+    let m = names.len();
+    buffer::zero_rows(rows, 0, n);
+    buffer::zero_names(names, 0, m);
+    row::put_row(rows, 0, row0::row0_numbers(cleared_row0()));
+    rows[limits::ROW] = tags::NAMESPACE;
+    Answer {
+        number: returned::ACCEPTED,
+        place: 0,
+    }
+}

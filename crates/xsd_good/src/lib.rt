@@ -1,0 +1,38 @@
+// The test of a good schema sheet. `forms`: the tests of one row; `row0`: row 0 and its tests; `scan`: one pass over the rows; `clear`: clearing.
+mod buffers;
+pub mod clear;
+pub mod forms;
+pub mod row0;
+pub mod scan;
+
+use crate::forms::row;
+use crate::row0::tests;
+use sheet::limits;
+ghost use mathlib.Core.Path.{_≡_};
+ghost use Rattle.sheet.specs.Calls.{sheet};
+ghost use Rattle.xsd_types.specs.Good.{good};
+
+// Whether the sheet is good.
+pub fn is_good(rows: &[u32], names: &[u8]) -> bool
+    ensures { λ r. ⌜ r ≡ good (sheet (now (rows .entry)) (now (names .entry))) ⌝ }
+{
+    if rows.len() < limits::LEAST_ROWS {
+        return false;
+    }
+    let z = row0::row0_at(rows);
+    if !tests::used_parts(z, rows.len(), names.len()) {
+        return false;
+    }
+    let n = z.rows_used as usize;
+    let s = scan::scan_sheet(rows, n, z.names_used);
+    tests::row0_form(z)
+        & s.ok
+        & (s.end == row::wide(z.names_used))
+        & buffers::zeros_behind(rows, names, z)
+        & buffers::names_test(names, z)
+        & tests::limits(z)
+        & tests::root_test(z)
+        & tests::nesting_test(z)
+        & tests::context_test(z.context, s.head)
+        & tests::extension_test(z, s.head)
+}

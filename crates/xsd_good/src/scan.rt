@@ -1,0 +1,106 @@
+// One pass over the rows of a schema sheet: each row's form and place in the order, the end of its pairs, and the last head.
+// The row where the last head stands.
+use crate::forms::row;
+use crate::forms::row::Ten;
+use sheet::limits;
+use xsd_types::tags;
+ghost use mathlib.Core.Path.{_≡_};
+ghost use Prim.Native.Nat.{_-_, _*_, _≤_, _^_};
+ghost use lib.ListN.{length, drop};
+ghost use Rattle.sheet.specs.Rows.{tens};
+ghost use Rattle.xsd_good.specs.Forms.{asTen};
+ghost use Rattle.xsd_good.specs.Scan.{failed as nothing, firstRow, nextRow, scanned, scannedSheet};
+ghost use Rattle.xsd_good.specs.Heads.{headRow};
+
+// ok: every row passed. Then end is where the pairs end, and head the tag of the last head, 0 if there is none.
+pub struct Scan {
+    pub ok: bool,
+    pub end: u64,
+    pub head: u32,
+}
+
+// What is left where a row fails: no offset, so that the sums stay small.
+fn failed() -> Scan
+    ensures { λ r. ⌜ r ≡ nothing ⌝ }
+{
+    Scan {
+        ok: false,
+        end: 0,
+        head: 0,
+    }
+}
+
+// The row of the target namespace, whose pair may end at the limit at most.
+fn first_row(limit: u32, t: Ten) -> Scan
+    ensures { λ r. ⌜ r ≡ firstRow limit (asTen t) ⌝ }
+{
+    let end = row::end_of(0, t);
+    let form = (t.tag == tags::NAMESPACE) & (t.a == 0) & (t.b == 0) & (t.c == 0);
+    if form & row::row_covers(0, t) & (end <= row::wide(limit)) {
+        Scan {
+            ok: true,
+            end,
+            head: 0,
+        }
+    } else {
+        failed()
+    }
+}
+
+// A row behind it.
+fn next_row(limit: u32, s: Scan, t: Ten) -> Scan
+    requires { ⌜ s .end ≤ 2 ^ 32 ⌝ }
+    ensures { λ r. ⌜ r ≡ nextRow limit s (asTen t) ⌝ }
+{
+    let end = row::end_of(s.end, t);
+    let form = s.ok & row::row_form(t.tag, t.a, t.b, t.c) & row::may_follow(s.head, t.tag);
+    if form & row::row_covers(s.end, t) & (end <= row::wide(limit)) {
+        Scan {
+            ok: true,
+            end,
+            head: row::head_after(s.head, t.tag),
+        }
+    } else {
+        failed()
+    }
+}
+
+// The first n rows of rows, behind those that gave from.
+fn scan_rows(rows: &[u32], n: usize, limit: u32, from: Scan) -> Scan
+    requires { ⌜ (10 * n ≤ length (now rows)) × (from .end ≤ 2 ^ 32) ⌝ }
+    ensures { λ r. ⌜ r ≡ scanned limit from (tens n (now (rows .entry))) ⌝ }
+{
+    let mut s = from;
+    let mut left = n;
+    let mut at = 0;
+    while 0 < left {
+        s = next_row(limit, s, row::ten_at(rows, at));
+        at += limits::ROW;
+        left -= 1;
+    }
+    s
+}
+
+// The rows of a sheet behind row 0, by the rows and names used that row 0 gives.
+pub fn scan_sheet(rows: &[u32], rows_used: usize, names_used: u32) -> Scan
+    requires { ⌜ (2 ≤ «rows_used») × (10 * «rows_used» ≤ length (now rows)) ⌝ }
+    ensures { λ r. ⌜ r ≡ scannedSheet «names_used» (tens («rows_used» - 1) (drop 10 (now (rows .entry)))) ⌝ }
+{
+    let first = first_row(names_used, row::ten_at(rows, limits::ROW));
+    scan_rows(&rows[20..], rows_used - 2, names_used, first)
+}
+
+// The last row before row n that is a head, 0 if there is none: in contexts 2 and 3 of a good sheet, the head of the open type.
+pub fn open_head(rows: &[u32], n: usize) -> usize
+    requires { ⌜ 10 * n ≤ length (now rows) ⌝ }
+    ensures { λ r. ⌜ r ≡ headRow (now (rows .entry)) n ⌝ }
+{
+    let mut i = n;
+    while 0 < i {
+        i -= 1;
+        if row::is_head(rows[limits::ROW * i]) {
+            return i;
+        }
+    }
+    0
+}

@@ -1,3 +1,0 @@
--- Laws of what is read of a sheet.
---     Room          the room that `fits` tests
-pub mod Room

@@ -1,2 +1,0 @@
--- The definitions of the crate `xsd_numbers`.
-pub mod Numbers

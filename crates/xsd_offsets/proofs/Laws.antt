@@ -1,3 +1,0 @@
--- Laws of the definitions in specs/.
---     Offsets       the rows whose offsets are to be set
-pub mod Offsets

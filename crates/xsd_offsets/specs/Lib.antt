@@ -1,2 +1,0 @@
--- The definitions of the crate `xsd_offsets`.
-pub mod Offsets

@@ -1,0 +1,28 @@
+-- `xsd_progress::mode::tag_mode` meets its contract: its parts are those of the mode after the decision. Assumes nothing.
+use mathlib.Core.Path.{_∙_}
+use borrow.Author.Needs.{needs}
+use Rattle.xsd_progress.proofs.Laws.Modes.{mode-parts, decided-mode}
+use Rattle.xsd_progress.proofs.mode.tag_mode.Statement.{statement}
+use Rattle.xsd_progress.proofs.mode.tag_mode.Tie as tie
+
+context-after-requires : tie.Need-context-after-requires
+context-after-requires c κs = search needs
+
+nesting-after-requires : tie.Need-nesting-after-requires
+nesting-after-requires c κs = search needs
+
+root-after-requires : tie.Need-root-after-requires
+root-after-requires c κs = search needs
+
+flag-after-requires : tie.Need-flag-after-requires
+flag-after-requires c κs = search needs
+
+returns : tie.Need-returns
+returns c =
+    let at = c .before .before .before in
+    let a = at .before .before .args in
+    let parts = mode-parts (a .start) (a .d) (a .m) (at .before .context-after .ensures) (at .nesting-after .ensures) (c .before .before .root-after .ensures) (c .flag-after .ensures) in
+    λ text marks x e. parts ∙ decided-mode (a .start) (a .m) text marks (a .d) x e
+
+pub tag-mode-spec : {M : Type 1} → statement M
+tag-mode-spec = tie.close (tie.spec context-after-requires nesting-after-requires root-after-requires flag-after-requires returns)

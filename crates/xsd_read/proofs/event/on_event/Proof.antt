@@ -1,0 +1,111 @@
+-- `xsd_read::event::on_event` meets its contract: the refusals stand in the order of the definition's, and an event that meets none of them is due. Assumes nothing.
+use Prim.Native.Nat.{ℕ}
+use mathlib.Core.Path.{_≡_, ap, subst}
+use mathlib.Core.List.{List, [], _∷_}
+use native.Mathlib.Omega.{arith}
+use types.Run.{OneOf, miss}
+use denote.Enum.Declared.{tagOf}
+use borrow.Author.Needs.{needs}
+use Rattle.sheet.specs.declared.refusal.Refusal.{Refusal}
+use Rattle.tape.specs.Answers.{recordEvent}
+use Rattle.xsd_actions.specs.declared.Decision.{Decision}
+use Rattle.xsd_actions.proofs.Decision.{the-type}
+use Rattle.xsd_progress.specs.Answers.{tags}
+use Rattle.xsd_progress.specs.declared.open_tags.Arrival.{Arrival}
+use Rattle.xsd_read.proofs.Laws.Decisions.{record-as, counted-as, accepted}
+use Rattle.xsd_read.proofs.Laws.Steps.{Arrives, taken-eight, taken-tags, taken-decided, due-room, taken-done}
+use Rattle.xsd_read.proofs.event.on_event.Statement.{statement}
+use Rattle.xsd_read.proofs.event.on_event.Tie as tie
+
+-- the event with what was decided for it
+abbrev arrival : tie.After-decide-event → Arrival
+arrival c = record { kind = c .before .before .before .before .before .before .before .before .before .before .before .before .before .args .t .kind; decision = c .decide-event .result; «open_tags» = c .before .before .before .before .tags2 .given .0 .0 }
+
+arrives : (c : tie.After-decide-event) → let a = c .before .before .before .before .before .before .before .before .before .before .before .before .before .args in Arrives (a .rows .now) (a .text .now) (a .marks .now) (a .p) (recordEvent (a .text .now) (a .marks .now) (a .t)) (arrival c)
+unfolding tags
+arrives c =
+    let a = c .before .before .before .before .before .before .before .before .before .before .before .before .before .args in
+    record {
+      more = omega (arith, c .before .before .before .before .before .before .before .if1 .left);
+      tagged = counted-as (a .text .now) (a .marks .now) (a .t) (a .p .«open_tags») _ (c .before .before .before .before .before .before .tags-after .ensures) (c .before .before .before .before .tags2 .given .1);
+      tag = _;
+      eventIs = record-as (a .text .now) (a .marks .now) (a .t);
+      told = record { head = _; headIs = c .before .head-tag .ensures; decidedIs = c .decide-event .ensures };
+    }
+
+-- the keys of the last arm are those of no refusal
+abbrev others : List ℕ
+others = 1 ∷ 2 ∷ 3 ∷ 4 ∷ 5 ∷ 6 ∷ 7 ∷ 8 ∷ 9 ∷ []
+
+not-refused : (d : Decision) → OneOf others (tagOf the-type d) → (r : Refusal) → d ≡ Decision.Refuse r → ⊥
+not-refused d h r e = miss others 0 tt (subst (OneOf others) (ap (tagOf the-type) e) h)
+
+returns : tie.Need-returns
+returns c = taken-eight (c .if1 .taken)
+
+tags-after-requires : tie.Need-tags-after-requires
+tags-after-requires c κs = search needs
+
+enum-known-tags : tie.Need-enum-known-tags
+enum-known-tags c = search needs
+
+enum-known-tags-2 : tie.Need-enum-known-tags-2
+enum-known-tags-2 c = search needs
+
+head-tag-requires : tie.Need-head-tag-requires
+head-tag-requires c κs = search needs
+
+decide-event-requires : tie.Need-decide-event-requires
+decide-event-requires c κs = search needs
+
+enum-known-decision : tie.Need-enum-known-decision
+enum-known-decision c = search needs
+
+carry-out-requires : tie.Need-carry-out-requires
+carry-out-requires c κs =
+    let at = c .before .before .before in
+    let start = at .before .before .before .before .before .before .before .before .before .before .before .before .before in
+    due-room (start .pre) (arrives at) (accepted (start .args .text .now) (start .args .marks .now) _ (not-refused _ (c .before .before .match2 .keys2)))
+
+returns-2 : tie.Need-returns-2
+unfolding tags
+returns-2 c =
+    let a = c .before .before .before .before .before .before .before .before .before .before .args in
+    taken-tags _ (omega (arith, c .before .before .before .before .if1 .left)) (counted-as (a .text .now) (a .marks .now) (a .t) (a .p .«open_tags») _ (c .before .before .before .tags-after .ensures) (c .before .tags .given .1))
+
+same-length : tie.Need-same-length
+same-length c = search needs
+
+returns-3 : tie.Need-returns-3
+returns-3 c = taken-decided _ (arrives (c .before .before .before)) (c .before .decision .given .1)
+
+same-length-2 : tie.Need-same-length-2
+same-length-2 c = search needs
+
+same-length-3 : tie.Need-same-length-3
+same-length-3 c = search needs
+
+returns-4 : tie.Need-returns-4
+returns-4 c =
+    let at = c .before .before .before .before .before .before .before .before in
+    let a = at .before .before .before .before .before .before .before .before .before .before .before .before .before .args in
+    taken-done (arrives at) (accepted (a .text .now) (a .marks .now) _ (not-refused _ (c .before .before .before .before .before .before .before .match2 .keys2))) (c .before .before .before .before .carry-out .ensures)
+
+pub on-event-spec : {M : Type 1} → statement M
+on-event-spec =
+    tie.close
+    (tie.spec
+    returns
+    tags-after-requires
+    enum-known-tags
+    enum-known-tags-2
+    head-tag-requires
+    decide-event-requires
+    enum-known-decision
+    carry-out-requires
+    returns-2
+    same-length
+    returns-3
+    same-length-2
+    same-length-3
+    returns-4)

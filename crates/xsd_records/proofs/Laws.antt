@@ -1,3 +1,0 @@
--- Laws of the definitions in specs/.
---     Loop          records read one after the other
-pub mod Loop

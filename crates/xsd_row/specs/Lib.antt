@@ -1,2 +1,0 @@
--- The definitions of the crate `xsd_row`, which those above it share.
-pub mod Packing

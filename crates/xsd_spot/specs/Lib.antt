@@ -1,2 +1,0 @@
--- The definitions of the crate `xsd_spot`.
-pub mod Spots
