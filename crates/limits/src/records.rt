@@ -5,10 +5,14 @@ use number::U32;
 use sheet::refusal;
 use tape::Record;
 use tape::TagRecord;
-use tape::attributes;
 use tape::attributes::Found;
 use tape::pairs;
+use tape::view::attribute;
 use xsd_parser::kinds;
+ghost use mathlib.Core.Path.{_≡_};
+ghost use mathlib.Core.Bool.{false};
+ghost use Rattle.text.specs.Text.{contains, colon};
+ghost use Rattle.tape.specs.Answers.{RecordAt, EventPlaced};
 
 // Of a close, where the next record starts; of a tag, its kind, its number of attributes and where its pairs start before that.
 fn put_event(t: TagRecord) {
@@ -39,17 +43,32 @@ fn put_record(r: Record) {
 }
 
 // Plain where the whole text is, so that the cases meet both ways of judging for 5.
-fn read_at(text: &[u8], marks: &[u32], at: usize) -> Record {
+fn read_at(text: &[u8], marks: &[u32], at: usize) -> Record
+    ensures { λ r. ⌜ RecordAt (now (text .entry)) (now (marks .entry)) at r ⌝ }
+{
     tape::record_at(text, marks, at, text::is_text(text))
 }
 
-// Where the value stands that the word is looked up to in the first tag. No local name has a colon.
+// Where the value stands that a word without a colon is looked up to in a record that was read. A close has no attributes.
+fn tag_value(text: &[u8], marks: &[u32], t: TagRecord, word: &[u8]) -> Found
+    requires { ⌜ contains colon (now word) ≡ false ⌝ }
+    requires { ⌜ EventPlaced (now text) (now marks) 0 t ⌝ }
+{
+    if t.kind == kinds::CLOSE {
+        return Found::Nothing;
+    }
+    attribute(text, marks, t.pairs, t.count, word)
+}
+
+// The same in the first record, where it is a tag that is not refused. No local name has a colon.
 fn looked_up(text: &[u8], marks: &[u32], word: &[u8]) -> Found {
     if text::has_byte(word, b':') {
         return Found::Nothing;
     }
-    let count = pairs::wide(pairs::mark_at(marks, 1));
-    attributes::find_attribute(text, marks, 2, count, word)
+    match read_at(text, marks, 0) {
+        Record::Event(t) => tag_value(text, marks, t, word),
+        _ => Found::Nothing,
+    }
 }
 
 fn put_value(text: &[u8], marks: &[u32], word: &[u8]) {

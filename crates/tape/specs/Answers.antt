@@ -17,7 +17,7 @@ use Rattle.sheet.specs.Returned.{refusalNumber}
 use Rattle.xsd_parser.specs.Event.{Event}
 use Rattle.xsd_parser.specs.Kinds.{closeKind}
 use Rattle.xsd_parser.specs.Tape.{Recorded, record1, tagRecord, pairsOf, pairCount, eventOf}
-use Rattle.tape.specs.Pairs.{pairsInside, tagAt}
+use Rattle.tape.specs.Pairs.{TagInside, tagAt}
 use Rattle.tape.specs.declared.Record.{Record}
 use Rattle.tape.specs.declared.TagRecord.{TagRecord}
 
@@ -36,7 +36,7 @@ recorded text marks (Record.Event t) = Recorded.next (recordEvent text marks t) 
 pub record TagPlaced (text : Text) (marks : List ℕ) (t : TagRecord) : Type 0 where
   pub few : t .count ≤ attributesLimit
   pub behind : t .next ≡ t .pairs + 2 * pairCount (t .count)
-  pub inside : pairsInside text marks (t .pairs) (pairCount (t .count))
+  pub inside : TagInside text marks (t .pairs) (t .count)
 
 pub record EventPlaced (text : Text) (marks : List ℕ) (at : ℕ) (t : TagRecord) : Type 0 where
   pub later : at < t .next

@@ -1,5 +1,5 @@
 // The tape (paper 01, "Tape"): a record at a place of the marks, judged for 3 (`form`), 4 and 5 (`tests`). `pairs`: the parts of the text
-// under its pairs; `attributes`: a tag compared with a word, and its lookups; `view`: the event view.
+// under its pairs; `attributes`: the lookup in a tag that was judged; `view`: the event view.
 pub mod attributes;
 pub mod form;
 pub mod pairs;

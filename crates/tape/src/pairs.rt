@@ -2,7 +2,7 @@
 ghost use mathlib.Core.Path.{_≡_};
 ghost use lib.ListN.{take, drop, getD};
 ghost use Rattle.xsd_parser.specs.Tape.{pairText};
-ghost use Rattle.tape.specs.Pairs.{pairAt};
+ghost use Rattle.tape.specs.Pairs.{pairAt, PairInside};
 
 // A number of the marks as a place or a count.
 pub fn wide(x: u32) -> usize
@@ -43,4 +43,15 @@ pub fn pair_part<'a>(text: &'a [u8], marks: &[u32], at: usize) -> &'a [u8]
     let offset = wide(mark_at(marks, at));
     let size = wide(mark_at(marks, at + 1));
     part_of(text, offset, size)
+}
+
+// The same where the pair was judged: nothing is tested.
+pub fn inside_part<'a>(text: &'a [u8], marks: &[u32], at: usize) -> &'a [u8]
+    requires { ⌜ PairInside (now text) (now marks) at ⌝ }
+    ensures { λ r. ⌜ now r ≡ pairText (now (text .entry)) (pairAt (now (marks .entry)) at) ⌝ }
+{
+    let offset = wide(marks[at]);
+    let size = wide(marks[at + 1]);
+    let end = offset + size;
+    &text[offset..end]
 }

@@ -3,6 +3,7 @@ ghost use mathlib.Core.Path.{_≡_};
 ghost use Prim.Native.Nat.{suc};
 ghost use Rattle.xsd_parser.specs.Event.{attrValue};
 ghost use Rattle.xsd_parser.specs.Handlers.{ok};
+ghost use Rattle.tape.specs.Pairs.{TagInside};
 ghost use Rattle.xsd_actions.specs.Answers.{decision};
 ghost use Rattle.xsd_actions.specs.Decided.{contentStart, extended, startAtTwo, startInComplexType, anyContent, emptyInComplexType};
 ghost use Rattle.xsd_decide.specs.Reads.{recordTag};
@@ -43,6 +44,7 @@ fn content_start(text: &[u8], marks: &[u32], t: TagRecord, name: &[u8]) -> Decis
 
 // An extension sets the base of a simple content.
 fn extension_start(text: &[u8], marks: &[u32], t: TagRecord, head: u32) -> Decision
+    requires { ⌜ TagInside (now text) (now marks) (t .pairs) (t .count) ⌝ }
     ensures { λ r. ⌜ decision (now (text .entry)) (now (marks .entry)) r ≡ ok (extended (recordTag (now (text .entry)) (now (marks .entry)) t) head) ⌝ }
 {
     if head == tags::SIMPLE_CONTENT {
@@ -54,6 +56,7 @@ fn extension_start(text: &[u8], marks: &[u32], t: TagRecord, head: u32) -> Decis
 // A start at depth 2: an extension or an element.
 fn start_at_two(text: &[u8], marks: &[u32], t: TagRecord, name: &[u8], head: u32) -> Decision
     requires { ⌜ now name ≡ recordTag (now text) (now marks) t .name ⌝ }
+    requires { ⌜ TagInside (now text) (now marks) (t .pairs) (t .count) ⌝ }
     ensures { λ r. ⌜ decision (now (text .entry)) (now (marks .entry)) r ≡ startAtTwo (recordTag (now (text .entry)) (now (marks .entry)) t) head ⌝ }
 {
     if local_is(name, b"extension") {
@@ -75,6 +78,7 @@ pub fn start_in_complex_type(
     head: u32,
 ) -> Decision
     requires { ⌜ now name ≡ recordTag (now text) (now marks) t .name ⌝ }
+    requires { ⌜ TagInside (now text) (now marks) (t .pairs) (t .count) ⌝ }
     ensures { λ r. ⌜ decision (now (text .entry)) (now (marks .entry)) r ≡ startInComplexType (recordTag (now (text .entry)) (now (marks .entry)) t) (suc nesting) head ⌝ }
 {
     if nesting == 0 {
@@ -88,6 +92,7 @@ pub fn start_in_complex_type(
 
 // An `any` is the content, with its namespace if it has one.
 fn any_content(text: &[u8], marks: &[u32], t: TagRecord) -> Decision
+    requires { ⌜ TagInside (now text) (now marks) (t .pairs) (t .count) ⌝ }
     ensures { λ r. ⌜ decision (now (text .entry)) (now (marks .entry)) r ≡ ok (anyContent (attrValue (recordTag (now (text .entry)) (now (marks .entry)) t) "namespace")) ⌝ }
 {
     match attribute(text, marks, t.pairs, t.count, b"namespace") {
@@ -111,6 +116,7 @@ pub fn empty_in_complex_type(
     head: u32,
 ) -> Decision
     requires { ⌜ now name ≡ recordTag (now text) (now marks) t .name ⌝ }
+    requires { ⌜ TagInside (now text) (now marks) (t .pairs) (t .count) ⌝ }
     ensures { λ r. ⌜ decision (now (text .entry)) (now (marks .entry)) r ≡ emptyInComplexType (recordTag (now (text .entry)) (now (marks .entry)) t) flag head ⌝ }
 {
     if local_is(name, b"element") {

@@ -10,7 +10,7 @@ ghost use mathlib.Core.List.{List};
 ghost use Prim.Native.Nat.{ℕ};
 ghost use Rattle.text.specs.Text.{Text};
 ghost use Rattle.xsd_parser.specs.Handlers.{ok, requireName};
-ghost use Rattle.tape.specs.Pairs.{tagAt};
+ghost use Rattle.tape.specs.Pairs.{TagInside, tagAt};
 ghost use Rattle.xsd_actions.specs.Answers.{decision};
 ghost use Rattle.xsd_actions.specs.Decided.{rootFound, startInSchema, decidedStart, decidedEmpty, decidedClose};
 ghost use Rattle.xsd_decide.specs.Reads.{recordTag};
@@ -36,6 +36,7 @@ use xsd_types::tags;
 // A schema tag sets the namespace anew.
 fn root_found(text: &[u8], marks: &[u32], t: TagRecord, name: &[u8]) -> Decision
     requires { ⌜ now name ≡ recordTag (now text) (now marks) t .name ⌝ }
+    requires { ⌜ TagInside (now text) (now marks) (t .pairs) (t .count) ⌝ }
     ensures { λ r. ⌜ decision (now (text .entry)) (now (marks .entry)) r ≡ ok (rootFound (recordTag (now (text .entry)) (now (marks .entry)) t)) ⌝ }
 {
     if local_is(name, b"schema") {
@@ -46,6 +47,7 @@ fn root_found(text: &[u8], marks: &[u32], t: TagRecord, name: &[u8]) -> Decision
 
 // A type needs a name.
 fn open_type(text: &[u8], marks: &[u32], t: TagRecord, simple: bool) -> Decision
+    requires { ⌜ TagInside (now text) (now marks) (t .pairs) (t .count) ⌝ }
     ensures { λ r. ⌜ decision (now (text .entry)) (now (marks .entry)) r ≡ requireName (recordTag (now (text .entry)) (now (marks .entry)) t) (openedAs simple) ⌝ }
 {
     let Found::At(i) = attribute(text, marks, t.pairs, t.count, b"name") else {
@@ -60,6 +62,7 @@ fn open_type(text: &[u8], marks: &[u32], t: TagRecord, simple: bool) -> Decision
 // A start at the top level opens a type or is an element.
 fn start_in_schema(text: &[u8], marks: &[u32], t: TagRecord, name: &[u8]) -> Decision
     requires { ⌜ now name ≡ recordTag (now text) (now marks) t .name ⌝ }
+    requires { ⌜ TagInside (now text) (now marks) (t .pairs) (t .count) ⌝ }
     ensures { λ r. ⌜ decision (now (text .entry)) (now (marks .entry)) r ≡ startInSchema (recordTag (now (text .entry)) (now (marks .entry)) t) ⌝ }
 {
     if local_is(name, b"simpleType") {
@@ -77,6 +80,7 @@ fn start_in_schema(text: &[u8], marks: &[u32], t: TagRecord, name: &[u8]) -> Dec
 // An empty tag at the top level: only an element counts.
 fn empty_in_schema(text: &[u8], marks: &[u32], t: TagRecord, name: &[u8]) -> Decision
     requires { ⌜ now name ≡ recordTag (now text) (now marks) t .name ⌝ }
+    requires { ⌜ TagInside (now text) (now marks) (t .pairs) (t .count) ⌝ }
     ensures { λ r. ⌜ decision (now (text .entry)) (now (marks .entry)) r ≡ ok (emptyInSchema (recordTag (now (text .entry)) (now (marks .entry)) t)) ⌝ }
 {
     if local_is(name, b"element") {
@@ -87,6 +91,7 @@ fn empty_in_schema(text: &[u8], marks: &[u32], t: TagRecord, name: &[u8]) -> Dec
 
 // What a start tag decides.
 pub fn on_start(text: &[u8], marks: &[u32], t: TagRecord, m: Mode, head: u32) -> Decision
+    requires { ⌜ TagInside (now text) (now marks) (t .pairs) (t .count) ⌝ }
     ensures { λ r. ⌜ decision (now (text .entry)) (now (marks .entry)) r ≡ decidedStart (tagAt (now (text .entry)) (now (marks .entry)) (t .pairs) (t .count)) m head ⌝ }
 {
     let name = raw_name(text, marks, t);
@@ -104,6 +109,7 @@ pub fn on_start(text: &[u8], marks: &[u32], t: TagRecord, m: Mode, head: u32) ->
 
 // What an empty tag decides.
 pub fn on_empty(text: &[u8], marks: &[u32], t: TagRecord, m: Mode, head: u32) -> Decision
+    requires { ⌜ TagInside (now text) (now marks) (t .pairs) (t .count) ⌝ }
     ensures { λ r. ⌜ decision (now (text .entry)) (now (marks .entry)) r ≡ decidedEmpty (tagAt (now (text .entry)) (now (marks .entry)) (t .pairs) (t .count)) m head ⌝ }
 {
     let name = raw_name(text, marks, t);

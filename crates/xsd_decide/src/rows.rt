@@ -6,6 +6,7 @@ ghost use Prim.Native.Nat.{ℕ};
 ghost use Rattle.text.specs.Text.{Text};
 ghost use Rattle.xsd_parser.specs.Event.{attrValue};
 ghost use Rattle.xsd_parser.specs.Handlers.{ok, parseMaxOccurs};
+ghost use Rattle.tape.specs.Pairs.{TagInside};
 ghost use Rattle.xsd_actions.specs.Actions.{Action};
 ghost use Rattle.xsd_actions.specs.Answers.{textAtMark, decision};
 ghost use Rattle.xsd_actions.specs.Decided.{topElement, named, baseSet, occursAdded, elementInside, attributeInside};
@@ -29,6 +30,7 @@ use xsd_types::tags;
 
 // The open type's base is the tag's.
 pub fn base_set(text: &[u8], marks: &[u32], t: TagRecord) -> Decision
+    requires { ⌜ TagInside (now text) (now marks) (t .pairs) (t .count) ⌝ }
     ensures { λ r. ⌜ decision (now (text .entry)) (now (marks .entry)) r ≡ ok (baseSet (recordTag (now (text .entry)) (now (marks .entry)) t)) ⌝ }
 {
     Decision::Base(value_place(text, marks, t, b"base"))
@@ -62,6 +64,7 @@ fn typed_row(p: Places, tag: u32, a: u32, b: u32) -> Decision
 
 // A row without numbers for a tag that has name and type.
 fn named_row(text: &[u8], marks: &[u32], t: TagRecord, tag: u32) -> Decision
+    requires { ⌜ TagInside (now text) (now marks) (t .pairs) (t .count) ⌝ }
     ensures { λ r. ⌜ decision (now (text .entry)) (now (marks .entry)) r ≡ ok (named (recordTag (now (text .entry)) (now (marks .entry)) t) (typedRow tag 0 0)) ⌝ }
 {
     match name_and_type(text, marks, t) {
@@ -72,6 +75,7 @@ fn named_row(text: &[u8], marks: &[u32], t: TagRecord, tag: u32) -> Decision
 
 // An element at the top is kept if it has name and type.
 pub fn top_element(text: &[u8], marks: &[u32], t: TagRecord) -> Decision
+    requires { ⌜ TagInside (now text) (now marks) (t .pairs) (t .count) ⌝ }
     ensures { λ r. ⌜ decision (now (text .entry)) (now (marks .entry)) r ≡ ok (topElement (recordTag (now (text .entry)) (now (marks .entry)) t)) ⌝ }
 {
     named_row(text, marks, t, tags::ELEMENT)
@@ -79,6 +83,7 @@ pub fn top_element(text: &[u8], marks: &[u32], t: TagRecord) -> Decision
 
 // The row of an element whose name, type and lower bound are known.
 fn max_added(text: &[u8], marks: &[u32], t: TagRecord, p: Places, min: u32) -> Decision
+    requires { ⌜ TagInside (now text) (now marks) (t .pairs) (t .count) ⌝ }
     ensures { λ r. ⌜ decision (now (text .entry)) (now (marks .entry)) r ≡ maxAdded (textAtMark (now (text .entry)) (now (marks .entry)) (p .name)) (textAtMark (now (text .entry)) (now (marks .entry)) (p .typ)) min (parseMaxOccurs (attrValue (recordTag (now (text .entry)) (now (marks .entry)) t) "maxOccurs")) ⌝ }
 {
     match max_occurs(text, marks, t) {
@@ -90,6 +95,7 @@ fn max_added(text: &[u8], marks: &[u32], t: TagRecord, p: Places, min: u32) -> D
 
 // The row of an element whose name and type are known: the lower bound is read before the upper.
 fn min_added(text: &[u8], marks: &[u32], t: TagRecord, p: Places) -> Decision
+    requires { ⌜ TagInside (now text) (now marks) (t .pairs) (t .count) ⌝ }
     ensures { λ r. ⌜ decision (now (text .entry)) (now (marks .entry)) r ≡ occursAdded (recordTag (now (text .entry)) (now (marks .entry)) t) (some (textAtMark (now (text .entry)) (now (marks .entry)) (p .name))) (some (textAtMark (now (text .entry)) (now (marks .entry)) (p .typ))) ⌝ }
 {
     match min_occurs(text, marks, t) {
@@ -100,6 +106,7 @@ fn min_added(text: &[u8], marks: &[u32], t: TagRecord, p: Places) -> Decision
 
 // An element of a sequence: its occurs are read only if it has name and type.
 fn occurs_added(text: &[u8], marks: &[u32], t: TagRecord) -> Decision
+    requires { ⌜ TagInside (now text) (now marks) (t .pairs) (t .count) ⌝ }
     ensures { λ r. ⌜ decision (now (text .entry)) (now (marks .entry)) r ≡ occursAdded (recordTag (now (text .entry)) (now (marks .entry)) t) (attrValue (recordTag (now (text .entry)) (now (marks .entry)) t) "name") (attrValue (recordTag (now (text .entry)) (now (marks .entry)) t) "type") ⌝ }
 {
     match name_and_type(text, marks, t) {
@@ -110,6 +117,7 @@ fn occurs_added(text: &[u8], marks: &[u32], t: TagRecord) -> Decision
 
 // An element inside a complex type whose head has the tag `head`.
 pub fn element_inside(text: &[u8], marks: &[u32], t: TagRecord, head: u32) -> Decision
+    requires { ⌜ TagInside (now text) (now marks) (t .pairs) (t .count) ⌝ }
     ensures { λ r. ⌜ decision (now (text .entry)) (now (marks .entry)) r ≡ elementInside (recordTag (now (text .entry)) (now (marks .entry)) t) head ⌝ }
 {
     if head == tags::SEQUENCE {
@@ -123,6 +131,7 @@ pub fn element_inside(text: &[u8], marks: &[u32], t: TagRecord, head: u32) -> De
 
 // An attribute counts once the extension flag is set.
 pub fn attribute_inside(text: &[u8], marks: &[u32], t: TagRecord, flag: bool) -> Decision
+    requires { ⌜ TagInside (now text) (now marks) (t .pairs) (t .count) ⌝ }
     ensures { λ r. ⌜ decision (now (text .entry)) (now (marks .entry)) r ≡ ok (attributeInside (recordTag (now (text .entry)) (now (marks .entry)) t) flag) ⌝ }
 {
     if !flag {

@@ -5,6 +5,7 @@ ghost use Prim.Native.Nat.{ℕ, suc};
 ghost use Rattle.text.specs.Text.{Text};
 ghost use Rattle.number.specs.Number.{number};
 ghost use Rattle.xsd_parser.specs.Handlers.{ok, onParsed, facetValue};
+ghost use Rattle.tape.specs.Pairs.{TagInside};
 ghost use Rattle.xsd_actions.specs.Answers.{textAtMark, decision};
 ghost use Rattle.xsd_actions.specs.Decided.{startInSimpleType, emptyInSimpleType};
 ghost use Rattle.xsd_decide.specs.Reads.{recordTag};
@@ -34,6 +35,7 @@ pub fn start_in_simple_type(
     nesting: u32,
 ) -> Decision
     requires { ⌜ now name ≡ recordTag (now text) (now marks) t .name ⌝ }
+    requires { ⌜ TagInside (now text) (now marks) (t .pairs) (t .count) ⌝ }
     ensures { λ r. ⌜ decision (now (text .entry)) (now (marks .entry)) r ≡ ok (startInSimpleType (recordTag (now (text .entry)) (now (marks .entry)) t) (suc nesting)) ⌝ }
 {
     if nesting != 0 {
@@ -118,6 +120,7 @@ fn length_facet(text: &[u8], marks: &[u32], t: TagRecord, name: &[u8], at: usize
 // An empty tag inside a simple type, at any depth. An absent value is the empty text.
 pub fn empty_in_simple_type(text: &[u8], marks: &[u32], t: TagRecord, name: &[u8]) -> Decision
     requires { ⌜ now name ≡ recordTag (now text) (now marks) t .name ⌝ }
+    requires { ⌜ TagInside (now text) (now marks) (t .pairs) (t .count) ⌝ }
     ensures { λ r. ⌜ decision (now (text .entry)) (now (marks .entry)) r ≡ emptyInSimpleType (recordTag (now (text .entry)) (now (marks .entry)) t) ⌝ }
 {
     if local_is(name, b"restriction") {

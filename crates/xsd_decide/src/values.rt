@@ -7,6 +7,7 @@ ghost use Rattle.number.specs.Answers.{ofU32};
 ghost use Rattle.xsd_parser.specs.Event.{attrValue, orEmpty};
 ghost use Rattle.xsd_parser.specs.Handlers.{parseMinOccurs, parseMaxOccurs, isRequired};
 ghost use Rattle.tape.specs.Lookup.{lookupText};
+ghost use Rattle.tape.specs.Pairs.{TagInside};
 ghost use Rattle.xsd_actions.specs.Answers.{textAtMark};
 ghost use Rattle.xsd_decide.specs.Reads.{recordTag, both, typedValues, maxAnswer};
 use number::U32;
@@ -45,6 +46,7 @@ pub fn raw_name<'a>(text: &'a [u8], marks: &[u32], t: TagRecord) -> &'a [u8]
 // Where the pair of an attribute's value stands: the end of the marks, where the empty text is, if there is none.
 pub fn value_place(text: &[u8], marks: &[u32], t: TagRecord, word: &[u8]) -> usize
     requires { ⌜ contains colon (now word) ≡ false ⌝ }
+    requires { ⌜ TagInside (now text) (now marks) (t .pairs) (t .count) ⌝ }
     ensures { λ r. ⌜ textAtMark (now (text .entry)) (now (marks .entry)) r ≡ orEmpty (lookupText (recordTag (now (text .entry)) (now (marks .entry)) t .attributes) (now (word .entry))) ⌝ }
 {
     match attribute(text, marks, t.pairs, t.count, word) {
@@ -55,6 +57,7 @@ pub fn value_place(text: &[u8], marks: &[u32], t: TagRecord, word: &[u8]) -> usi
 
 // Where name and type stand, if the tag has both.
 pub fn name_and_type(text: &[u8], marks: &[u32], t: TagRecord) -> Typed
+    requires { ⌜ TagInside (now text) (now marks) (t .pairs) (t .count) ⌝ }
     ensures { λ r. ⌜ typedValues (now (text .entry)) (now (marks .entry)) r ≡ both (attrValue (recordTag (now (text .entry)) (now (marks .entry)) t) "name") (attrValue (recordTag (now (text .entry)) (now (marks .entry)) t) "type") ⌝ }
 {
     let Found::At(name) = attribute(text, marks, t.pairs, t.count, b"name") else {
@@ -68,6 +71,7 @@ pub fn name_and_type(text: &[u8], marks: &[u32], t: TagRecord) -> Typed
 
 // Whether the attribute `use` is exactly `required`.
 pub fn is_required(text: &[u8], marks: &[u32], t: TagRecord) -> bool
+    requires { ⌜ TagInside (now text) (now marks) (t .pairs) (t .count) ⌝ }
     ensures { λ r. ⌜ r ≡ isRequired (attrValue (recordTag (now (text .entry)) (now (marks .entry)) t) "use") ⌝ }
 {
     match attribute(text, marks, t.pairs, t.count, b"use") {
@@ -78,6 +82,7 @@ pub fn is_required(text: &[u8], marks: &[u32], t: TagRecord) -> bool
 
 // The lower bound of an element, 1 where it is absent.
 pub fn min_occurs(text: &[u8], marks: &[u32], t: TagRecord) -> U32
+    requires { ⌜ TagInside (now text) (now marks) (t .pairs) (t .count) ⌝ }
     ensures { λ r. ⌜ ofU32 r ≡ parseMinOccurs (attrValue (recordTag (now (text .entry)) (now (marks .entry)) t) "minOccurs") ⌝ }
 {
     match attribute(text, marks, t.pairs, t.count, b"minOccurs") {
@@ -101,6 +106,7 @@ fn max_of(s: &[u8]) -> Max
 
 // The upper bound of an element, 1 where it is absent.
 pub fn max_occurs(text: &[u8], marks: &[u32], t: TagRecord) -> Max
+    requires { ⌜ TagInside (now text) (now marks) (t .pairs) (t .count) ⌝ }
     ensures { λ r. ⌜ maxAnswer r ≡ parseMaxOccurs (attrValue (recordTag (now (text .entry)) (now (marks .entry)) t) "maxOccurs") ⌝ }
 {
     match attribute(text, marks, t.pairs, t.count, b"maxOccurs") {

@@ -13,6 +13,8 @@ use xsd_progress::mode::Tags;
 use xsd_progress::mode::tags_after;
 use xsd_progress::open_tags::Arrival;
 ghost use mathlib.Core.Path.{_≡_};
+ghost use Rattle.xsd_parser.specs.Kinds.{closeKind};
+ghost use Rattle.tape.specs.Pairs.{TagInside};
 ghost use Rattle.tape.specs.Answers.{recordEvent};
 ghost use Rattle.xsd_actions.specs.Decided.{decided};
 ghost use Rattle.xsd_actions.specs.Answers.{decision};
@@ -20,6 +22,7 @@ ghost use Rattle.xsd_read.specs.Events.{EventRoom, EventTaken};
 
 // What is to be done for a record's event.
 fn decide_event(text: &[u8], marks: &[u32], t: TagRecord, m: Mode, head: u32) -> Decision
+    requires { ⌜ ((t .kind ≡ closeKind → ⊥) → TagInside (now text) (now marks) (t .pairs) (t .count)) ⌝ }
     ensures { λ r. ⌜ decision (now (text .entry)) (now (marks .entry)) r ≡ decided (recordEvent (now (text .entry)) (now (marks .entry)) t) m head ⌝ }
 {
     if t.kind == kinds::START {
@@ -41,6 +44,7 @@ pub fn on_event(
     p: Progress,
 ) -> Step
     requires { ⌜ EventRoom (now rows) (now names) (now text) p (recordEvent (now text) (now marks) t) ⌝ }
+    requires { ⌜ ((t .kind ≡ closeKind → ⊥) → TagInside (now text) (now marks) (t .pairs) (t .count)) ⌝ }
     ensures { λ r. ⌜ EventTaken (now (rows .entry)) (now (names .entry)) p (recordEvent (now (text .entry)) (now (marks .entry)) t) r (now (rows .exit)) (now (names .exit)) ⌝ }
 {
     if limits::EVENTS <= p.events {

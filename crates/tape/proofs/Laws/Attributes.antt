@@ -9,7 +9,7 @@ use Prim.Native.Nat.{ℕ, zero, suc, _+_, _-_, _*_, _≤_, _<_}
 use native.Mathlib.Nat.{add-zero, not-suc-le-zero}
 use native.Mathlib.Numerals.{one-add}
 use native.Mathlib.Omega.{arith}
-use lib.ListN.{length, getD, drop, length-drop}
+use lib.ListN.{length, getD, drop}
 use lib.Seq.{getD-drop, drop-drop}
 use Rattle.text.specs.Text.{Text, if_then_else_, bytes, same, is, localName}
 use Rattle.xsd_parser.specs.Event.{Attr, Tag, tagIs, attrValue, lookup}
@@ -46,20 +46,6 @@ tag-attributes text marks pairs count =
     ∙ attributes-rest text (drop pairs marks) (2 * count)
     ∙ ap (λ (l : List ℕ). attrsOf text (pairsOf (2 * count) l)) (drop-drop 2 pairs marks)
 
--- fewer than four numbers hold no attribute
-attrs-few : (text : Text) (n : ℕ) (l : List ℕ) → length l < 4 → attrsOf text (pairsOf n l) ≡ []
-unfolding attrsOf pairsOf
-attrs-few text zero l h = refl
-attrs-few text (suc n) [] h = refl
-attrs-few text (suc n) (a ∷ []) h = refl
-attrs-few text (suc zero) (a ∷ b ∷ l) h = refl
-attrs-few text (suc (suc n)) (a ∷ b ∷ []) h = refl
-attrs-few text (suc (suc n)) (a ∷ b ∷ c ∷ []) h = refl
-attrs-few text (suc (suc n)) (a ∷ b ∷ c ∷ d ∷ l) h = let no : ⊥ = omega arith in absurd no
-
-pub attrs-short : (text : Text) (n : ℕ) (marks : List ℕ) (at : ℕ) → length marks < at + 4 → attrsOf text (pairsOf n (drop at marks)) ≡ []
-attrs-short text n marks at h = attrs-few text n (drop at marks) (omega (arith, length-drop at marks))
-
 abbrev attrAt : Text → List ℕ → ℕ → Attr
 attrAt text marks at = record { key = pairText text (pairAt marks at); value = pairText text (pairAt marks (at + 2)) }
 
@@ -79,10 +65,6 @@ module _ (text : Text) (marks : List ℕ) (at n : ℕ) (word : Text) (h : at + 4
   pub lookup-on : same (localName (pairText text (pairAt marks at))) word ≡ false → lookupText (attrsOf text (pairsOf (2 * n) (drop at marks))) word ≡ lookupText (attrsOf text (pairsOf (2 * (n - 1)) (drop (at + 4) marks))) word
   unfolding lookupText
   lookup-on e = rw (attrs-step text marks at n h p, e)
-
-pub lookup-short : (text : Text) (marks : List ℕ) (at n : ℕ) (word : Text) → length marks < at + 4 → lookupText (attrsOf text (pairsOf n (drop at marks))) word ≡ none
-unfolding lookupText
-lookup-short text marks at n word h = rw (attrs-short text n marks at h)
 
 pub lookup-end : (text : Text) (l : List ℕ) (n : ℕ) (word : Text) → n ≤ 0 → lookupText (attrsOf text (pairsOf (2 * n) l)) word ≡ none
 unfolding lookupText attrsOf pairsOf

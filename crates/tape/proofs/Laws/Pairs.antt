@@ -2,13 +2,13 @@
 -- No contract cites them. Assumes nothing.
 use mathlib.Core.Path.{_≡_, refl, ap, _∙_}
 use mathlib.Core.List.{List, [], _∷_}
-use Prim.Native.Nat.{ℕ, zero, suc, _+_, _-_, _≤_, _<_}
+use Prim.Native.Nat.{ℕ, zero, suc, _+_, _-_, _*_, _≤_, _<_}
 use native.Mathlib.Omega.{arith}
 use lib.ListN.{length, getD, take, drop, List·getD-eq-default}
 use lib.Seq.{drop-cons}
 use Rattle.text.specs.Text.{Text}
-use Rattle.xsd_parser.specs.Tape.{Pair, pairsOf, pairText}
-use Rattle.tape.specs.Pairs.{pairAt}
+use Rattle.xsd_parser.specs.Tape.{Pair, pairsOf, pairText, pairCount}
+use Rattle.tape.specs.Pairs.{pairAt, pairsInside, PairInside, TagInside}
 
 -- two numbers of the marks from a place on
 pub drop-two : (marks : List ℕ) (at : ℕ) → at + 2 ≤ length marks → drop at marks ≡ getD marks at 0 ∷ getD marks (at + 1) 0 ∷ drop (at + 2) marks
@@ -42,3 +42,13 @@ pub pair-past : (text : Text) (marks : List ℕ) (at : ℕ) → length marks ≤
 unfolding pairText pairAt
 pair-past text marks at h =
     ap (λ (n : ℕ). take n (drop (getD marks at 0) text)) (List·getD-eq-default marks 0 {n = at + 1} (omega arith))
+
+-- the key of an attribute of a tag that was judged: so many attributes are left from it on
+pub key-inside : (text : Text) (marks : List ℕ) (pairs count at left : ℕ) → TagInside text marks pairs count → at + 4 * left ≡ pairs + 2 * pairCount count → left ≤ count → 0 < left → PairInside text marks at
+unfolding pairsInside pairCount
+key-inside text marks pairs count at left inside e few some =
+    let place : at ≡ pairs + 2 * (1 + 2 * (count - left)) = omega arith in
+    record {
+      marksInside = omega (arith, inside .marksInside);
+      textInside = rw place (inside .textInside (1 + 2 * (count - left)) (omega arith));
+    }

@@ -1,6 +1,6 @@
--- The tests of the pairs of a record: the first pair decides, or the rest does. Laws of xsd_parser's Tape and of tape_pairs's Pairs.
+-- The tests of the pairs of a record: the first pair decides, or the rest does. Laws of xsd_parser's Tape and of specs/Pairs.antt.
 -- No contract cites them. Assumes nothing.
-use mathlib.Core.Path.{_≡_, refl, sym, ap, _∙_}
+use mathlib.Core.Path.{_≡_, refl}
 use mathlib.Core.Bool.{true, false, _&&_}
 use mathlib.Core.List.{List, [], _∷_}
 use Prim.Native.Nat.{ℕ, zero, suc, _+_, _-_, _*_, _≤_, _<_}

@@ -67,7 +67,10 @@ returns-3 c =
         tag = λ k. record {
           few = form .1;
           behind = refl;
-          inside = inside-each (a .text .now) (a .marks .now) (a .at + 2) (pairCount (a .count)) (form .2) inside;
+          inside = record {
+            marksInside = form .2;
+            textInside = inside-each (a .text .now) (a .marks .now) (a .at + 2) (pairCount (a .count)) (form .2) inside;
+          };
         };
       };
     }

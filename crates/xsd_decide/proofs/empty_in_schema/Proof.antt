@@ -27,7 +27,7 @@ returns c =
     let first = c .before .before in
     let start = first .before .before .before .before .before in
     let t = recordTag (start .args .text .now) (start .args .marks .now) (start .args .t) in
-    if-true ok _ _ (tagIs-told t "element" (start .pre) (first .local-is .ensures) (c .before .if1 .taken)) (c .top-element .ensures)
+    if-true ok _ _ (tagIs-told t "element" (start .pre .0) (first .local-is .ensures) (c .before .if1 .taken)) (c .top-element .ensures)
 
 returns-2 : tie.Need-returns-2
 unfolding bytes decision emptyInSchema
@@ -35,7 +35,7 @@ returns-2 c =
     let first = c .before in
     let start = first .before .before .before .before .before in
     let t = recordTag (start .args .text .now) (start .args .marks .now) (start .args .t) in
-    if-false ok _ _ (tagIs-told t "element" (start .pre) (first .local-is .ensures) (c .if1 .left)) refl
+    if-false ok _ _ (tagIs-told t "element" (start .pre .0) (first .local-is .ensures) (c .if1 .left)) refl
 
 pub empty-in-schema-spec : {M : Type 1} → statement M
 empty-in-schema-spec =

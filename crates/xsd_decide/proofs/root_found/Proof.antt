@@ -32,7 +32,7 @@ returns c =
     let compared = c .before .before .before in
     let start = compared .before .before .before .before .before in
     let t = recordTag (start .args .text .now) (start .args .marks .now) (start .args .t) in
-    let is = tagIs-told t "schema" (start .pre) (compared .local-is .ensures) (c .before .before .if1 .taken) in
+    let is = tagIs-told t "schema" (start .pre .0) (compared .local-is .ensures) (c .before .before .if1 .taken) in
     if-true ok _ _ is (ap (λ v. ok (Action.root v)) (place-told t "targetNamespace" (c .value-place .ensures)))
 
 returns-2 : tie.Need-returns-2
@@ -41,7 +41,7 @@ returns-2 c =
     let compared = c .before in
     let start = compared .before .before .before .before .before in
     let t = recordTag (start .args .text .now) (start .args .marks .now) (start .args .t) in
-    if-false ok _ _ (tagIs-told t "schema" (start .pre) (compared .local-is .ensures) (c .if1 .left)) refl
+    if-false ok _ _ (tagIs-told t "schema" (start .pre .0) (compared .local-is .ensures) (c .if1 .left)) refl
 
 pub root-found-spec : {M : Type 1} → statement M
 root-found-spec =

@@ -27,7 +27,7 @@ returns c =
     let first = c .before .before in
     let start = first .before .before .before .before .before in
     let t = recordTag (start .args .text .now) (start .args .marks .now) (start .args .t) in
-    if-true whole _ _ (tagIs-told t "simpleType" (start .pre) (first .local-is .ensures) (c .before .if1 .taken)) (c .open-type .ensures)
+    if-true whole _ _ (tagIs-told t "simpleType" (start .pre .0) (first .local-is .ensures) (c .before .if1 .taken)) (c .open-type .ensures)
 
 slice-aggregate-local-is-2 : tie.Need-slice-aggregate-local-is-2
 slice-aggregate-local-is-2 c = search needs
@@ -46,8 +46,8 @@ returns-2 c =
     let first = second .before .before .before in
     let start = first .before .before .before .before .before in
     let t = recordTag (start .args .text .now) (start .args .marks .now) (start .args .t) in
-    if-false whole _ _ (tagIs-told t "simpleType" (start .pre) (first .local-is .ensures) (second .before .before .if1 .left))
-    (if-true whole _ _ (tagIs-told t "complexType" (start .pre) (second .local-is2 .ensures) (c .before .if2 .taken)) (c .open-type2 .ensures))
+    if-false whole _ _ (tagIs-told t "simpleType" (start .pre .0) (first .local-is .ensures) (second .before .before .if1 .left))
+    (if-true whole _ _ (tagIs-told t "complexType" (start .pre .0) (second .local-is2 .ensures) (c .before .if2 .taken)) (c .open-type2 .ensures))
 
 slice-aggregate-local-is-3 : tie.Need-slice-aggregate-local-is-3
 slice-aggregate-local-is-3 c = search needs
@@ -67,9 +67,9 @@ returns-3 c =
     let first = second .before .before .before in
     let start = first .before .before .before .before .before in
     let t = recordTag (start .args .text .now) (start .args .marks .now) (start .args .t) in
-    if-false whole _ _ (tagIs-told t "simpleType" (start .pre) (first .local-is .ensures) (second .before .before .if1 .left))
-    (if-false whole _ _ (tagIs-told t "complexType" (start .pre) (second .local-is2 .ensures) (third .before .before .if2 .left))
-    (if-true whole _ _ (tagIs-told t "element" (start .pre) (third .local-is3 .ensures) (c .before .if3 .taken)) (c .top-element .ensures)))
+    if-false whole _ _ (tagIs-told t "simpleType" (start .pre .0) (first .local-is .ensures) (second .before .before .if1 .left))
+    (if-false whole _ _ (tagIs-told t "complexType" (start .pre .0) (second .local-is2 .ensures) (third .before .before .if2 .left))
+    (if-true whole _ _ (tagIs-told t "element" (start .pre .0) (third .local-is3 .ensures) (c .before .if3 .taken)) (c .top-element .ensures)))
 
 returns-4 : tie.Need-returns-4
 unfolding bytes decision startInSchema
@@ -79,9 +79,9 @@ returns-4 c =
     let first = second .before .before .before in
     let start = first .before .before .before .before .before in
     let t = recordTag (start .args .text .now) (start .args .marks .now) (start .args .t) in
-    if-false whole _ _ (tagIs-told t "simpleType" (start .pre) (first .local-is .ensures) (second .before .before .if1 .left))
-    (if-false whole _ _ (tagIs-told t "complexType" (start .pre) (second .local-is2 .ensures) (third .before .before .if2 .left))
-    (if-false whole _ _ (tagIs-told t "element" (start .pre) (third .local-is3 .ensures) (c .if3 .left)) refl))
+    if-false whole _ _ (tagIs-told t "simpleType" (start .pre .0) (first .local-is .ensures) (second .before .before .if1 .left))
+    (if-false whole _ _ (tagIs-told t "complexType" (start .pre .0) (second .local-is2 .ensures) (third .before .before .if2 .left))
+    (if-false whole _ _ (tagIs-told t "element" (start .pre .0) (third .local-is3 .ensures) (c .if3 .left)) refl))
 
 pub start-in-schema-spec : {M : Type 1} → statement M
 start-in-schema-spec =

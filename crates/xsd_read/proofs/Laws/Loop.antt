@@ -2,7 +2,7 @@
 --     Here          a state whose rows the sheet holds now, from which the rest of the marks leads to the whole reading
 --     Reads         the loop's invariant: for every state that the sheet held at first there is such a state now
 --     Stops         the reading of a state ends at the record here, and the sheet is left
---     Followed      the record here is an event's, and where the next one starts
+--     Followed      the record here is an event's, where the next one starts, and that a tag's pairs are inside
 use Prim.Native.Nat.{ℕ, suc, _+_, _≤_, _<_}
 use mathlib.Core.Path.{_≡_, refl, sym, ap, subst, _∙_}
 use mathlib.Core.Bool.{true}
@@ -15,6 +15,7 @@ use Rattle.sheet.specs.Returned.{refusalNumber}
 use Rattle.sheet.specs.Lengths.{Lengths}
 use Rattle.xsd_types.specs.State.{State}
 use Rattle.xsd_parser.specs.EventText.{eventOk}
+use Rattle.xsd_parser.specs.Kinds.{closeKind}
 use Rattle.xsd_parser.specs.Tape.{next, record1}
 use Rattle.xsd_parser.specs.Step.{step}
 use Rattle.xsd_parser.specs.Read.{Reading, readState}
@@ -22,6 +23,7 @@ use Rattle.xsd_parser.proofs.Laws.EventTexts.{next-text}
 use Rattle.xsd_parser.proofs.Laws.Reads.{stopped}
 use Rattle.tape.specs.declared.Record.{Record}
 use Rattle.tape.specs.declared.TagRecord.{TagRecord}
+use Rattle.tape.specs.Pairs.{TagInside}
 use Rattle.tape.specs.Answers.{recordEvent, recorded, placed, RecordAt}
 use Rattle.xsd_progress.specs.declared.Progress.{Progress}
 use Rattle.xsd_progress.specs.Progress.{At, lentTo, Standing}
@@ -117,12 +119,13 @@ pub record Followed (text : Text) (marks : List ℕ) (at : ℕ) (t : TagRecord) 
   pub is : record1 text (drop at marks) ≡ next (recordEvent text marks t) (drop (t .next) marks)
   pub later : at < t .next
   pub within : t .next ≤ length marks
+  pub inside : (t .kind ≡ closeKind → ⊥) → TagInside text marks (t .pairs) (t .count)
 
 pub followed : {text : Text} {marks : List ℕ} {at : ℕ} {r : Record} (t : TagRecord) → RecordAt text marks at r → r ≡ Record.Event t → Followed text marks at t
 unfolding recorded placed
 followed {text} {marks} {at} t x q =
     let place = subst (placed text marks at) q (x .places) in
-    record { is = sym (x .judged) ∙ ap (recorded text marks) q; later = place .later; within = place .within }
+    record { is = sym (x .judged) ∙ ap (recorded text marks) q; later = place .later; within = place .within; inside = λ k. place .tag k .inside }
 
 pub followed-text : {text : Text} {marks : List ℕ} {at : ℕ} {t : TagRecord} → Followed text marks at t → eventOk (recordEvent text marks t) ≡ true
 followed-text {text} {marks} {at} {t} f = next-text text (drop at marks) (recordEvent text marks t) (drop (t .next) marks) (f .is)

@@ -1,5 +1,6 @@
--- `limits::records::looked_up` meets its contract: the word that is looked up was seen to have no colon. Assumes nothing.
-use mathlib.Core.Path.{sym, _∙_}
+-- `limits::records::looked_up` meets its contract: the word that is looked up was seen to have no colon, and the record was read. Assumes nothing.
+use mathlib.Core.Path.{sym, subst, _∙_}
+use Rattle.tape.specs.Answers.{placed}
 use borrow.Author.Needs.{needs}
 use Rattle.limits.proofs.records.looked_up.Statement.{statement}
 use Rattle.limits.proofs.records.looked_up.Tie as tie
@@ -10,25 +11,26 @@ has-byte-requires c κs = search needs
 returns : tie.Need-returns
 returns c = search needs
 
-mark-at-requires : tie.Need-mark-at-requires
-mark-at-requires c κs = search needs
+read-at-requires : tie.Need-read-at-requires
+read-at-requires c κs = search needs
 
-wide-requires : tie.Need-wide-requires
-wide-requires c κs = search needs
+enum-known-t : tie.Need-enum-known-t
+enum-known-t c = search needs
 
-find-attribute-requires : tie.Need-find-attribute-requires
-find-attribute-requires c κs = sym (c .before .before .before .has-byte .ensures) ∙ c .before .before .if1 .left
+tag-value-requires : tie.Need-tag-value-requires
+unfolding placed
+tag-value-requires c κs =
+    let read = c .before .before .before in
+    let seen = read .before in
+    let a = seen .before .before .before .before .before .args in
+    (sym (seen .before .has-byte .ensures) ∙ seen .if1 .left, subst (placed (a .text .now) (a .marks .now) 0) (c .before .t .given .1) (read .read-at .ensures .places))
 
 returns-2 : tie.Need-returns-2
 returns-2 c = search needs
 
+returns-3 : tie.Need-returns-3
+returns-3 c = search needs
+
 pub looked-up-spec : {M : Type 1} → statement M
 looked-up-spec =
-    tie.close
-    (tie.spec
-    has-byte-requires
-    returns
-    mark-at-requires
-    wide-requires
-    find-attribute-requires
-    returns-2)
+    tie.close (tie.spec has-byte-requires returns read-at-requires enum-known-t tag-value-requires returns-2 returns-3)

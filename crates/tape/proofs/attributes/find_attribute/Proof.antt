@@ -1,65 +1,58 @@
--- `tape::attributes::find_attribute` meets its contract. The loop's invariant: the lookup in the attributes that are left answers for all of them.
+-- `tape::attributes::find_attribute` meets its contract. The loop's invariant: the attributes that are left end where the tag's pairs do, and the lookup in them answers for all.
 -- The measure is how many are left. Assumes nothing.
 use Prim.Native.Nat.{_+_, _*_, _≤_}
 use mathlib.Core.Path.{_≡_, sym, ap, _∙_}
 use mathlib.Core.List.{List}
 use native.Mathlib.Omega.{arith}
-use lib.ListN.{length, drop}
+use lib.ListN.{drop}
 use Rattle.xsd_parser.specs.Event.{Attr}
-use Rattle.xsd_parser.specs.Tape.{pairsOf, attrsOf}
+use Rattle.xsd_parser.specs.Tape.{pairsOf, pairCount, attrsOf}
 use Rattle.tape.specs.Pairs.{tagAt}
-use Rattle.tape.specs.Lookup.{lookupText, foundValue}
-use Rattle.tape.proofs.Laws.Attributes.{tag-attributes, lookup-hit, lookup-on, lookup-short, lookup-end}
-use borrow.Author.Needs.{needs}
+use Rattle.tape.specs.Lookup.{lookupText, foundValue, foundInside}
+use Rattle.tape.proofs.Laws.Pairs.{key-inside}
+use Rattle.tape.proofs.Laws.Attributes.{tag-attributes, lookup-hit, lookup-on, lookup-end}
 use Rattle.tape.proofs.attributes.find_attribute.Statement.{statement}
 use Rattle.tape.proofs.attributes.find_attribute.Tie as tie
 
 abbrev Inv-loop : tie.InvT-loop
 Inv-loop text marks pairs count word at₀ left₀ at left =
-    (at ≤ length marks + 1) × (lookupText (attrsOf text (pairsOf (2 * left) (drop at marks))) word ≡ lookupText (tagAt text marks pairs count .attributes) word)
+    (at + 4 * left ≡ pairs + 2 * pairCount count)
+    × (left ≤ count)
+    × (lookupText (attrsOf text (pairsOf (2 * left) (drop at marks))) word ≡ lookupText (tagAt text marks pairs count .attributes) word)
 
 abbrev μ-loop : tie.MeasureT-loop
 μ-loop text marks pairs count word at₀ left₀ at left = left
 
-returns : tie.Need-returns Inv-loop μ-loop
-unfolding foundValue
-returns c =
-    let a = c .before .before .before .before .args in
-    let all = ap (λ (xs : List Attr). lookupText xs (a .word .now)) (tag-attributes (a .text .now) (a .marks .now) (a .pairs) (a .count)) in
-    sym (all ∙ lookup-short (a .text .now) (a .marks .now) (a .pairs + 2) (2 * a .count) (a .word .now) (omega arith))
-
 add-at : tie.Need-add-at Inv-loop μ-loop
+unfolding pairCount
 add-at c = omega arith
 
 loop-holds : tie.Need-loop-holds Inv-loop μ-loop
+unfolding pairCount
 loop-holds c =
-    let a = c .before .before .before .before .args in
-    (omega arith, sym (ap (λ (xs : List Attr). lookupText xs (a .word .now)) (tag-attributes (a .text .now) (a .marks .now) (a .pairs) (a .count))))
-
-add-if2 : tie.Need-add-if2 Inv-loop μ-loop
-add-if2 c = omega arith
-
-returns-2 : tie.Need-returns-2 Inv-loop μ-loop
-unfolding foundValue
-returns-2 c =
-    let head = c .before .before in
-    let a = head .before .before .before .before .before .args in
-    let l = head .loop in
-    sym (lookup-short (a .text .now) (a .marks .now) (l .at) (2 * l .left) (a .word .now) (omega arith)) ∙ l .inv .1
+    let a = c .before .before .before .args in
+    (omega arith, omega arith, sym (ap (λ (xs : List Attr). lookupText xs (a .word .now)) (tag-attributes (a .text .now) (a .marks .now) (a .pairs) (a .count))))
 
 pair-is-requires : tie.Need-pair-is-requires Inv-loop μ-loop
-pair-is-requires c κs = search needs
+pair-is-requires c κs =
+    let start = c .before .before .before .before .before in
+    let a = start .args in
+    let l = c .before .loop in
+    (start .pre .clean, key-inside (a .text .now) (a .marks .now) (a .pairs) (a .count) (l .at) (l .left) (start .pre .inside) (l .inv .0) (l .inv .1) (c .loop-test .taken))
 
-add-t14 : tie.Need-add-t14 Inv-loop μ-loop
-add-t14 c = omega arith
+add-t10 : tie.Need-add-t10 Inv-loop μ-loop
+add-t10 c = omega arith
 
-returns-3 : tie.Need-returns-3 Inv-loop μ-loop
-unfolding foundValue
-returns-3 c =
-    let head = c .before .before .before .before in
-    let a = head .before .before .before .before .before .args in
+returns : tie.Need-returns Inv-loop μ-loop
+unfolding foundValue foundInside
+returns c =
+    let head = c .before .before .before in
+    let a = head .before .before .before .before .args in
     let l = head .loop in
-    sym (lookup-hit (a .text .now) (a .marks .now) (l .at) (l .left) (a .word .now) (omega arith) (omega arith) (sym (c .before .pair-is .ensures) ∙ c .if3 .taken)) ∙ l .inv .1
+    record {
+      value = sym (lookup-hit (a .text .now) (a .marks .now) (l .at) (l .left) (a .word .now) (omega arith) (omega arith) (sym (c .before .pair-is .ensures) ∙ c .if1 .taken)) ∙ l .inv .2;
+      inside = omega arith;
+    }
 
 add-at-2 : tie.Need-add-at-2 Inv-loop μ-loop
 add-at-2 c = omega arith
@@ -72,19 +65,22 @@ loop-less c = omega arith
 
 loop-again : tie.Need-loop-again Inv-loop μ-loop
 loop-again c =
-    let head = c .before .before .before .before in
-    let a = head .before .before .before .before .before .args in
+    let head = c .before .before .before in
+    let a = head .before .before .before .before .args in
     let l = head .loop in
-    let on = lookup-on (a .text .now) (a .marks .now) (l .at) (l .left) (a .word .now) (omega arith) (omega arith) (sym (c .before .pair-is .ensures) ∙ c .if3 .left) in
-    (omega arith, sym on ∙ l .inv .1)
+    let on = lookup-on (a .text .now) (a .marks .now) (l .at) (l .left) (a .word .now) (omega arith) (omega arith) (sym (c .before .pair-is .ensures) ∙ c .if1 .left) in
+    (omega arith, omega arith, sym on ∙ l .inv .2)
 
-returns-4 : tie.Need-returns-4 Inv-loop μ-loop
-unfolding foundValue
-returns-4 c =
+returns-2 : tie.Need-returns-2 Inv-loop μ-loop
+unfolding foundValue foundInside
+returns-2 c =
     let head = c .before in
-    let a = head .before .before .before .before .before .args in
+    let a = head .before .before .before .before .args in
     let l = head .loop in
-    sym (lookup-end (a .text .now) (drop (l .at) (a .marks .now)) (l .left) (a .word .now) (omega arith)) ∙ l .inv .1
+    record {
+      value = sym (lookup-end (a .text .now) (drop (l .at) (a .marks .now)) (l .left) (a .word .now) (omega arith)) ∙ l .inv .2;
+      inside = tt;
+    }
 
 pub find-attribute-spec : {M : Type 1} → statement M
 find-attribute-spec =
@@ -92,16 +88,13 @@ find-attribute-spec =
     (tie.spec
     Inv-loop
     μ-loop
-    returns
     add-at
     loop-holds
-    add-if2
-    returns-2
     pair-is-requires
-    add-t14
-    returns-3
+    add-t10
+    returns
     add-at-2
     sub-left
     loop-less
     loop-again
-    returns-4)
+    returns-2)

@@ -5,14 +5,14 @@ use borrow.Author.Needs.{needs}
 use Rattle.tape.proofs.attributes.pair_is.Statement.{statement}
 use Rattle.tape.proofs.attributes.pair_is.Tie as tie
 
-pair-part-requires : tie.Need-pair-part-requires
-pair-part-requires c κs = search needs
+inside-part-requires : tie.Need-inside-part-requires
+inside-part-requires c κs = search needs
 
 local-is-requires : tie.Need-local-is-requires
 local-is-requires c κs = search needs
 
 returns : tie.Need-returns
-returns c = c .local-is .ensures ∙ ap (λ (l : Text). same (localName l) (c .before .before .before .before .before .args .word .now)) (c .before .pair-part .ensures)
+returns c = c .local-is .ensures ∙ ap (λ (l : Text). same (localName l) (c .before .before .before .before .before .args .word .now)) (c .before .inside-part .ensures)
 
 pub pair-is-spec : {M : Type 1} → statement M
-pair-is-spec = tie.close (tie.spec pair-part-requires local-is-requires returns)
+pair-is-spec = tie.close (tie.spec inside-part-requires local-is-requires returns)

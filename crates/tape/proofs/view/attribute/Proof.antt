@@ -1,10 +1,10 @@
 -- `tape::view::attribute` meets its contract: the event's marks say of the event what all marks say, and a place in them leads to the same pair. Assumes nothing.
 use mathlib.Core.Path.{ap}
-use native.Mathlib.Omega.{arith}
 use mathlib.Core.List.{List}
 use Prim.Native.Nat.{ℕ}
+use native.Mathlib.Omega.{arith}
 use lib.ListN.{length}
-use Rattle.tape.proofs.Laws.Cut.{event-marks-fit, found-cut, nothing-cut}
+use Rattle.tape.proofs.Laws.Cut.{event-length, inside-cut, found-inside, found-cut, nothing-cut}
 use borrow.Author.Needs.{needs}
 use Rattle.tape.proofs.view.attribute.Statement.{statement}
 use Rattle.tape.proofs.view.attribute.Tie as tie
@@ -13,26 +13,32 @@ event-marks-requires : tie.Need-event-marks-requires
 event-marks-requires c κs = search needs
 
 in-view-requires : tie.Need-in-view-requires
-in-view-requires c κs = search needs
+in-view-requires c κs =
+    let start = c .before .before .before .before in
+    let a = start .args in
+    record { clean = start .pre .0; inside = rw (c .event-marks .ensures) (inside-cut (a .text .now) (a .marks .now) (a .pairs) (a .count) (start .pre .1)) }
 
 enum-known-i : tie.Need-enum-known-i
 enum-known-i c = search needs
 
-whole-place-requires : tie.Need-whole-place-requires
-whole-place-requires c κs =
-    let marked = c .before .before .before .before in
-    let a = marked .before .before .before .before .args in
-    omega (arith, event-marks-fit (a .marks .now) (a .pairs) (a .count), ap (λ (l : List ℕ). length l) (marked .event-marks .ensures))
+add-t10 : tie.Need-add-t10
+add-t10 c =
+    let called = c .before .before .before in
+    let marked = called .before in
+    let start = marked .before .before .before .before in
+    let a = start .args in
+    let place = found-inside (a .text .now) (a .marks .now) (marked .event-marks .result .now) (a .pairs) (a .count) (a .word .now) (called .in-view .result) (marked .event-marks .ensures) (called .in-view .ensures) _ (c .before .i .given .1) in
+    omega (arith, place, event-length (a .text .now) (a .marks .now) (a .pairs) (a .count) (start .pre .1), ap (λ (l : List ℕ). length l) (marked .event-marks .ensures))
 
 enum-told : tie.Need-enum-told
 enum-told c = search needs
 
 returns : tie.Need-returns
 returns c =
-    let called = c .before .before .before .before in
+    let called = c .before .before .before in
     let marked = called .before in
     let a = marked .before .before .before .before .args in
-    found-cut (a .text .now) (a .marks .now) (marked .event-marks .result .now) (a .pairs) (a .count) (a .word .now) (called .in-view .result) (marked .event-marks .ensures) (called .in-view .ensures) _ _ (c .before .before .i .given .1) (c .whole-place .ensures)
+    found-cut (a .text .now) (a .marks .now) (marked .event-marks .result .now) (a .pairs) (a .count) (a .word .now) (called .in-view .result) (marked .event-marks .ensures) (called .in-view .ensures) _ (c .before .i .given .1)
 
 returns-2 : tie.Need-returns-2
 returns-2 c =
@@ -48,7 +54,7 @@ attribute-spec =
     event-marks-requires
     in-view-requires
     enum-known-i
-    whole-place-requires
+    add-t10
     enum-told
     returns
     returns-2)

@@ -2,7 +2,6 @@
 -- The view and the word are Copy: what they own is had twice, one copy is kept whole for the exit and the other goes to the callee, beside the lifetimes' tokens, which come back.
 -- Assumes nothing.
 use mathlib.Core.Path.{_≡_, refl}
-use mathlib.Core.Bool.{false}
 use Prim.Native.Nat.{ℕ, _<_, _^_}
 use mathlib.Core.List.{List, [], _∷_}
 use lib.Dec.{T as Holds, lit<}
@@ -43,9 +42,7 @@ use denote.Triple.Table.{entered, cited}
 use denote.Triple.Walked.{says, needs, Stays, stay-none, stay-none-slice, walkOf, goes-none, goes-none-slice, Walks, ends-at, walked, walk-meets}
 use denote.Exit.{yes}
 use denote.Triple.Clauses.{ensured, lasts}
-use Rattle.text.specs.Text.{contains, colon}
-use Rattle.tape.specs.Pairs.{tagAt}
-use Rattle.tape.specs.Lookup.{lookupText, foundValue}
+use Rattle.tape.specs.Lookup.{Asked, Answered}
 use Rattle.tape.specs.declared.attributes.Found.{Found}
 use Rattle.tape.proofs.attributes.Found as S
 use Rattle.tape.proofs.attributes.Found.Laws as S′
@@ -94,10 +91,10 @@ module _ {M : Type 1} (𝓤 : URA M) (H : Heap 𝓤) (A : Atoms 𝓤) (W : Given
   at = (mach ∷ [], (vint w64 n ∷ [], (v ∷ [], tt)))
 
   abbrev Says : Found → Type 0
-  Says r = foundValue (now (d .text)) (now (d .marks)) r ≡ lookupText (tagAt (now (d .text)) (now (d .marks)) 0 n .attributes) (now w)
+  Says r = Answered (now (d .text)) (now (d .marks)) 0 n (now w) r
 
-  abbrev Clean : Type 0
-  Clean = contains colon (now w) ≡ false
+  abbrev Judged : Type 0
+  Judged = Asked (now (d .text)) (now (d .marks)) 0 n (now w)
 
   abbrev Post : Val → SProp 𝓤
   Post = walkOf 𝓤 H A lookup.ended stayed (lookup.clauses 𝓤 H A mem run) .post ((κs, (q, (q′, (q″, tt))), tt, (d, (n, (w, tt))), at), tt)
@@ -119,12 +116,12 @@ module _ {M : Type 1} (𝓤 : URA M) (H : Heap 𝓤) (A : Atoms 𝓤) (W : Given
   abbrev to : Find 𝓤 H A mem run .Ghost
   to = ((κs, (q, (q′, (q″, tt))), tt, (d .text, (d .marks, (0, (n, (w, tt))))), passed), tt)
 
-  asked : Clean → ent 𝓤 (onEntry 𝓤 H A find.signature κs (q, (q′, (q″, tt))) (d .text, (d .marks, (0, (n, (w, tt))))) passed) (Find 𝓤 H A mem run .pre to)
-  asked clean = qed W ((‵ (flft κ q) ⊛ ‵ (flft κ′ q′) ⊛ ‵ (flft κ″ q″) ⊛ ‵ ftrue) ∷ ‵ (owns (ShrSlice (named 0) κ u8 ∷ ShrSlice (named 1) κ′ u32 ∷ usize ∷ usize ∷ ShrSlice (named 2) κ″ u8 ∷ []) (d .text, (d .marks, (0, (n, (w, tt))))) passed) ∷ []) ∵ says ! clean $ frame ! $ done !
+  asked : Judged → ent 𝓤 (onEntry 𝓤 H A find.signature κs (q, (q′, (q″, tt))) (d .text, (d .marks, (0, (n, (w, tt))))) passed) (Find 𝓤 H A mem run .pre to)
+  asked judged = qed W ((‵ (flft κ q) ⊛ ‵ (flft κ′ q′) ⊛ ‵ (flft κ″ q″) ⊛ ‵ ftrue) ∷ ‵ (owns (ShrSlice (named 0) κ u8 ∷ ShrSlice (named 1) κ′ u32 ∷ usize ∷ usize ∷ ShrSlice (named 2) κ″ u8 ∷ []) (d .text, (d .marks, (0, (n, (w, tt))))) passed) ∷ []) ∵ says ! judged $ frame ! $ done !
 
   -- what the parameters own gives what the callee asks, and is kept
-  apart : n < 2 ^ 64 → Clean → ent 𝓤 (onEntry 𝓤 H A lookup.signature κs (q, (q′, (q″, tt))) (d, (n, (w, tt))) at) (sep 𝓤 (Find 𝓤 H A mem run .pre to) (sem 𝓤 H A Kept))
-  apart fits clean =
+  apart : n < 2 ^ 64 → Judged → ent 𝓤 (onEntry 𝓤 H A lookup.signature κs (q, (q′, (q″, tt))) (d, (n, (w, tt))) at) (sep 𝓤 (Find 𝓤 H A mem run .pre to) (sem 𝓤 H A Kept))
+  apart fits judged =
       qed W ((‵ (flft κ q) ⊛ ‵ (flft κ′ q′) ⊛ ‵ (flft κ″ q″) ⊛ ‵ ftrue) ∷ ‵ Kept ∷ []) ∵
       move ! (1 ∷ []) $ fsplit ! $ move ! (1 ∷ []) $ fsplit ! $ drop ! $ fsplit ! $ move ! (1 ∷ []) $ drop ! $
       -- [the word's; the view's; the tokens]
@@ -134,7 +131,7 @@ module _ {M : Type 1} (𝓤 : URA M) (H : Heap 𝓤) (A : Atoms 𝓤) (W : Given
       fsplit ! $ move ! (1 ∷ []) $ fsplit ! $ move ! (1 ∷ []) $ drop ! $
       -- [what marks owns; what text owns; the view's; the word's; the word's; the tokens]: what the callee asks, from its last parameter on
       nothing ! $ move ! (4 ∷ 0 ∷ []) $ fjoin ! $ owned ! usize (Is usize) (uint-makes 𝓤 H A W w64) n _ (refl, fits) $ fjoin ! $ owned ! usize (Is usize) (uint-makes 𝓤 H A W w64) 0 _ (refl, lit< tt) $ fjoin ! $
-      move ! (1 ∷ 0 ∷ []) $ fjoin ! $ move ! (1 ∷ 0 ∷ []) $ fjoin ! $ move ! (3 ∷ 0 ∷ []) $ use2 W (raw (Find 𝓤 H A mem run .pre to)) (asked clean) $
+      move ! (1 ∷ 0 ∷ []) $ fjoin ! $ move ! (1 ∷ 0 ∷ []) $ fjoin ! $ move ! (3 ∷ 0 ∷ []) $ use2 W (raw (Find 𝓤 H A mem run .pre to)) (asked judged) $
       -- [what the callee asks; the view's; the word's]
       nothing ! $ move ! (3 ∷ 0 ∷ []) $ fjoin ! $ owned ! usize (Is usize) (uint-makes 𝓤 H A W w64) n _ (refl, fits) $ fjoin ! $ move ! (2 ∷ 0 ∷ []) $ fjoin ! $ move ! (1 ∷ []) $ frame ! $ done !)
 
@@ -149,16 +146,16 @@ module _ {M : Type 1} (𝓤 : URA M) (H : Heap 𝓤) (A : Atoms 𝓤) (W : Given
       move ! (1 ∷ []) $ frame ! $ move ! (1 ∷ []) $ frame ! $ done !
 
   module _ (C : Calls 𝓤 H) (Λ : Loops 𝓤 H) (fm : FmC 𝓤 H (W .laws) C) (known : Triple 𝓤 (C #attributes·find-attribute) (Find 𝓤 H A mem run)) where
-    walk : Holds (hasTy (T′.mir (named 0) (named 1)) mach) × WT mach → n < 2 ^ 64 → Is (ShrSlice (named 2) κ″ u8) w (v ∷ []) → Clean
+    walk : Holds (hasTy (T′.mir (named 0) (named 1)) mach) × WT mach → n < 2 ^ 64 → Is (ShrSlice (named 2) κ″ u8) w (v ∷ []) → Judged
         → ent 𝓤 (onEntry 𝓤 H A lookup.signature κs (q, (q′, (q″, tt))) (d, (n, (w, tt))) at) (WpFn 𝓤 H C Λ code.function (mach ∷ vint w64 n ∷ v ∷ []) Post)
-    walk wt fits p clean =
+    walk wt fits p judged =
         qed W (raw (onEntry 𝓤 H A lookup.signature κs (q, (q′, (q″, tt))) (d, (n, (w, tt))) at) ∷ []) ∵ enter ! C Λ code.function (mach ∷ vint w64 n ∷ v ∷ []) _ $
         alloc1 ! (λ l₀. alloc1 ! (λ l₁. alloc1 ! (λ l₂. alloc1 ! (λ l₃. alloc1 ! (λ l₄. alloc1 ! (λ l₅. alloc0 ! $ params1 ! $
         pass1 ! (init ! 8 refl wt) $ pass1 ! (init ! 6 refl (tt, record { fits = fits })) $ pass1 ! (init ! 4 refl (shr-slice-lawful 𝓤 H A W (named 2) κ″ u8 .typed w (v ∷ []) p .0)) $ pass0 ! $
         assigns ! (of-opd ! (load ! (from ! (fld ! refl (stop !))) (look-in ! 8 (sub ! 0 refl (whole !))))) (from ! (stop !)) (init ! 2 refl (tt, wt .1 .0)) $
         assigns ! (of-opd ! (load ! (from ! (fld ! refl (stop !))) (look-in ! 8 (sub ! 1 refl (whole !))))) (from ! (stop !)) (init ! 0 refl (tt, wt .1 .1 .0)) $
         -- [_5; …; _4; …; _3; …; _2; …; _1; …; room for _0; …; what the parameters own]
-        move ! (12 ∷ []) $ use1 W (raw (Find 𝓤 H A mem run .pre to) ⊛ ‵ Kept) (apart fits clean) $ split ! $
+        move ! (12 ∷ []) $ use1 W (raw (Find 𝓤 H A mem run .pre to) ⊛ ‵ Kept) (apart fits judged) $ split ! $
         calls-at ! fm (Find 𝓤 H A mem run) known to (and-then ! (load ! (from ! (stop !)) (look ! 4 refl)) (and-then ! (load ! (from ! (stop !)) (look ! 2 refl)) (and-then ! (lit ! tt) (and-then ! (load ! (from ! (stop !)) (look ! 8 refl)) (and-then ! (load ! (from ! (stop !)) (look ! 6 refl)) (no-more !)))))) (λ u.
         use1 W (later (some (λ (r : Found). ((‵ (flft κ q) ⊛ ‵ (flft κ′ q′) ⊛ ‵ (flft κ″ q″) ⊛ ‵ ftrue) ⊛ ‵ (S.the-row .own r (u ∷ []))) ⊛ raw (ensured 𝓤 H A find.ended (find.clauses 𝓤 H A mem run) κs (d .text, (d .marks, (0, (n, (w, tt))))) tt r)))) (id⊢ 𝓤 _) $ await ! tt $ pick ! (λ r.
         split ! $ move ! (1 ∷ []) $ use1 W (raw (fact 𝓤 (Says r))) (said r) $ heard ! (Says r) (λ e. split ! $ move ! (1 ∷ []) $
@@ -172,7 +169,7 @@ module _ {M : Type 1} (𝓤 : URA M) (H : Heap 𝓤) (A : Atoms 𝓤) (W : Given
   lookup-walks : (C : Calls 𝓤 H) (Λ : Loops 𝓤 H) → FmC 𝓤 H (W .laws) C → Triple 𝓤 (C #attributes·find-attribute) (Find 𝓤 H A mem run)
       → Walks 𝓤 H A lookup.ended stayed (WpFn 𝓤 H C Λ code.function) (lookup.clauses 𝓤 H A mem run)
   lookup-walks C Λ fm known = walked 𝓤 H A lookup.ended stayed (lookup.clauses 𝓤 H A mem run) (WpFn 𝓤 H C Λ code.function) (λ κs. (LL.vals (D κs) (L κs), (uint-vals w64, (slice-vals, tt)))) (λ κs. (LL.tells (D κs) (L κs), (uint-tells w64, (shr-slice-tells (named 2) (κs .1 .1 .0) u8, tt))))
-      (λ κs qs bounds a g are. needs 𝓤 (contains colon (now (a .1 .1 .0)) ≡ false) _ (walk 𝓤 H A W mem run (κs .0) (κs .1 .0) (κs .1 .1 .0) (qs .0) (qs .1 .0) (qs .1 .1 .0) (a .0) (a .1 .0) (a .1 .1 .0) C Λ fm known (LL.lawful (D κs) (L κs) 𝓤 H A W .typed (a .0) _ (are .0) .0) (are .1 .0 .1) (are .1 .1 .0)))
+      (λ κs qs bounds a g are. needs 𝓤 (Asked (now (a .0 .text)) (now (a .0 .marks)) 0 (a .1 .0) (now (a .1 .1 .0))) _ (walk 𝓤 H A W mem run (κs .0) (κs .1 .0) (κs .1 .1 .0) (qs .0) (qs .1 .0) (qs .1 .1 .0) (a .0) (a .1 .0) (a .1 .1 .0) C Λ fm known (LL.lawful (D κs) (L κs) 𝓤 H A W .typed (a .0) _ (are .0) .0) (are .1 .0 .1) (are .1 .1 .0)))
 
 lookup-meets : {M : Type 1} (𝓤 : URA M) (H : Heap 𝓤) (A : Atoms 𝓤) (W : Given 𝓤 H A) (mem : Memory → SProp 𝓤) (run : Routine → Fun 𝓤) (𝓣 : Tables 𝓤 H)
     → Triple 𝓤 (𝓣 .C #attributes·find-attribute) (Find 𝓤 H A mem run)

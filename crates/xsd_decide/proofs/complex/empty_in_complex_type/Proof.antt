@@ -26,7 +26,7 @@ returns c =
     let first = c .before .before in
     let start = first .before .before .before .before .before in
     let t = recordTag (start .args .text .now) (start .args .marks .now) (start .args .t) in
-    if-true whole _ _ (tagIs-told t "element" (start .pre) (first .local-is .ensures) (c .before .if1 .taken)) (c .element-inside .ensures)
+    if-true whole _ _ (tagIs-told t "element" (start .pre .0) (first .local-is .ensures) (c .before .if1 .taken)) (c .element-inside .ensures)
 
 slice-aggregate-local-is-2 : tie.Need-slice-aggregate-local-is-2
 slice-aggregate-local-is-2 c = search needs
@@ -45,8 +45,8 @@ returns-2 c =
     let first = second .before .before .before in
     let start = first .before .before .before .before .before in
     let t = recordTag (start .args .text .now) (start .args .marks .now) (start .args .t) in
-    if-false whole _ _ (tagIs-told t "element" (start .pre) (first .local-is .ensures) (second .before .before .if1 .left))
-    (if-true whole _ _ (tagIs-told t "any" (start .pre) (second .local-is2 .ensures) (c .before .if2 .taken)) (c .any-content .ensures))
+    if-false whole _ _ (tagIs-told t "element" (start .pre .0) (first .local-is .ensures) (second .before .before .if1 .left))
+    (if-true whole _ _ (tagIs-told t "any" (start .pre .0) (second .local-is2 .ensures) (c .before .if2 .taken)) (c .any-content .ensures))
 
 slice-aggregate-local-is-3 : tie.Need-slice-aggregate-local-is-3
 slice-aggregate-local-is-3 c = search needs
@@ -66,9 +66,9 @@ returns-3 c =
     let first = second .before .before .before in
     let start = first .before .before .before .before .before in
     let t = recordTag (start .args .text .now) (start .args .marks .now) (start .args .t) in
-    if-false whole _ _ (tagIs-told t "element" (start .pre) (first .local-is .ensures) (second .before .before .if1 .left))
-    (if-false whole _ _ (tagIs-told t "any" (start .pre) (second .local-is2 .ensures) (third .before .before .if2 .left))
-    (if-true whole _ _ (tagIs-told t "attribute" (start .pre) (third .local-is3 .ensures) (c .before .if3 .taken)) (c .attribute-inside .ensures)))
+    if-false whole _ _ (tagIs-told t "element" (start .pre .0) (first .local-is .ensures) (second .before .before .if1 .left))
+    (if-false whole _ _ (tagIs-told t "any" (start .pre .0) (second .local-is2 .ensures) (third .before .before .if2 .left))
+    (if-true whole _ _ (tagIs-told t "attribute" (start .pre .0) (third .local-is3 .ensures) (c .before .if3 .taken)) (c .attribute-inside .ensures)))
 
 returns-4 : tie.Need-returns-4
 unfolding bytes decision emptyInComplexType
@@ -78,9 +78,9 @@ returns-4 c =
     let first = second .before .before .before in
     let start = first .before .before .before .before .before in
     let t = recordTag (start .args .text .now) (start .args .marks .now) (start .args .t) in
-    if-false whole _ _ (tagIs-told t "element" (start .pre) (first .local-is .ensures) (second .before .before .if1 .left))
-    (if-false whole _ _ (tagIs-told t "any" (start .pre) (second .local-is2 .ensures) (third .before .before .if2 .left))
-    (if-false whole _ _ (tagIs-told t "attribute" (start .pre) (third .local-is3 .ensures) (c .if3 .left)) refl))
+    if-false whole _ _ (tagIs-told t "element" (start .pre .0) (first .local-is .ensures) (second .before .before .if1 .left))
+    (if-false whole _ _ (tagIs-told t "any" (start .pre .0) (second .local-is2 .ensures) (third .before .before .if2 .left))
+    (if-false whole _ _ (tagIs-told t "attribute" (start .pre .0) (third .local-is3 .ensures) (c .if3 .left)) refl))
 
 pub empty-in-complex-type-spec : {M : Type 1} → statement M
 empty-in-complex-type-spec =

@@ -26,7 +26,7 @@ returns c =
     let first = c .before .before in
     let start = first .before .before .before .before .before in
     let t = recordTag (start .args .text .now) (start .args .marks .now) (start .args .t) in
-    if-true whole _ _ (tagIs-told t "extension" (start .pre) (first .local-is .ensures) (c .before .if1 .taken)) (c .extension-start .ensures)
+    if-true whole _ _ (tagIs-told t "extension" (start .pre .0) (first .local-is .ensures) (c .before .if1 .taken)) (c .extension-start .ensures)
 
 slice-aggregate-local-is-2 : tie.Need-slice-aggregate-local-is-2
 slice-aggregate-local-is-2 c = search needs
@@ -45,8 +45,8 @@ returns-2 c =
     let first = second .before .before .before in
     let start = first .before .before .before .before .before in
     let t = recordTag (start .args .text .now) (start .args .marks .now) (start .args .t) in
-    if-false whole _ _ (tagIs-told t "extension" (start .pre) (first .local-is .ensures) (second .before .before .if1 .left))
-    (if-true whole _ _ (tagIs-told t "element" (start .pre) (second .local-is2 .ensures) (c .before .if2 .taken)) (c .element-inside .ensures))
+    if-false whole _ _ (tagIs-told t "extension" (start .pre .0) (first .local-is .ensures) (second .before .before .if1 .left))
+    (if-true whole _ _ (tagIs-told t "element" (start .pre .0) (second .local-is2 .ensures) (c .before .if2 .taken)) (c .element-inside .ensures))
 
 returns-3 : tie.Need-returns-3
 unfolding bytes decision startAtTwo
@@ -55,8 +55,8 @@ returns-3 c =
     let first = second .before .before .before in
     let start = first .before .before .before .before .before in
     let t = recordTag (start .args .text .now) (start .args .marks .now) (start .args .t) in
-    if-false whole _ _ (tagIs-told t "extension" (start .pre) (first .local-is .ensures) (second .before .before .if1 .left))
-    (if-false whole _ _ (tagIs-told t "element" (start .pre) (second .local-is2 .ensures) (c .if2 .left)) refl)
+    if-false whole _ _ (tagIs-told t "extension" (start .pre .0) (first .local-is .ensures) (second .before .before .if1 .left))
+    (if-false whole _ _ (tagIs-told t "element" (start .pre .0) (second .local-is2 .ensures) (c .if2 .left)) refl)
 
 pub start-at-two-spec : {M : Type 1} → statement M
 start-at-two-spec =

@@ -28,7 +28,7 @@ returns c =
     let first = c .before .before in
     let start = first .before .before .before .before .before in
     let t = recordTag (start .args .text .now) (start .args .marks .now) (start .args .t) in
-    if-true whole _ _ (tagIs-told t "restriction" (start .pre) (first .local-is .ensures) (c .before .if1 .taken)) (c .base-set .ensures)
+    if-true whole _ _ (tagIs-told t "restriction" (start .pre .0) (first .local-is .ensures) (c .before .if1 .taken)) (c .base-set .ensures)
 
 slice-aggregate-value-place : tie.Need-slice-aggregate-value-place
 slice-aggregate-value-place c = search needs
@@ -56,8 +56,8 @@ returns-2 c =
     let start = first .before .before .before .before .before in
     let t = recordTag (start .args .text .now) (start .args .marks .now) (start .args .t) in
     let value = place-told t "value" (placed .value-place .ensures) in
-    if-false whole _ _ (tagIs-told t "restriction" (start .pre) (first .local-is .ensures) (placed .before .before .if1 .left))
-    (if-true whole _ _ (tagIs-told t "enumeration" (start .pre) (second .local-is2 .ensures) (c .before .if2 .taken)) (c .text-row .ensures (start .args .text .now) (start .args .marks .now) ∙ ap (λ v. ok (textAdded 4 v)) value))
+    if-false whole _ _ (tagIs-told t "restriction" (start .pre .0) (first .local-is .ensures) (placed .before .before .if1 .left))
+    (if-true whole _ _ (tagIs-told t "enumeration" (start .pre .0) (second .local-is2 .ensures) (c .before .if2 .taken)) (c .text-row .ensures (start .args .text .now) (start .args .marks .now) ∙ ap (λ v. ok (textAdded 4 v)) value))
 
 slice-aggregate-local-is-3 : tie.Need-slice-aggregate-local-is-3
 slice-aggregate-local-is-3 c = search needs
@@ -79,9 +79,9 @@ returns-3 c =
     let start = first .before .before .before .before .before in
     let t = recordTag (start .args .text .now) (start .args .marks .now) (start .args .t) in
     let value = place-told t "value" (placed .value-place .ensures) in
-    if-false whole _ _ (tagIs-told t "restriction" (start .pre) (first .local-is .ensures) (placed .before .before .if1 .left))
-    (if-false whole _ _ (tagIs-told t "enumeration" (start .pre) (second .local-is2 .ensures) (third .before .before .if2 .left))
-    (if-true whole _ _ (tagIs-told t "pattern" (start .pre) (third .local-is3 .ensures) (c .before .if3 .taken)) (c .text-row2 .ensures (start .args .text .now) (start .args .marks .now) ∙ ap (λ v. ok (textAdded 5 v)) value)))
+    if-false whole _ _ (tagIs-told t "restriction" (start .pre .0) (first .local-is .ensures) (placed .before .before .if1 .left))
+    (if-false whole _ _ (tagIs-told t "enumeration" (start .pre .0) (second .local-is2 .ensures) (third .before .before .if2 .left))
+    (if-true whole _ _ (tagIs-told t "pattern" (start .pre .0) (third .local-is3 .ensures) (c .before .if3 .taken)) (c .text-row2 .ensures (start .args .text .now) (start .args .marks .now) ∙ ap (λ v. ok (textAdded 5 v)) value)))
 
 length-facet-requires : tie.Need-length-facet-requires
 unfolding bytes facetValue
@@ -89,7 +89,7 @@ length-facet-requires c κs =
     let placed = c .before .before .before .before .before .before in
     let start = placed .before .before .before .before .before .before .before .before in
     let t = recordTag (start .args .text .now) (start .args .marks .now) (start .args .t) in
-    (start .pre, place-told t "value" (placed .value-place .ensures))
+    (start .pre .0, place-told t "value" (placed .value-place .ensures))
 
 returns-4 : tie.Need-returns-4
 unfolding bytes emptyInSimpleType facetAdded facetRow textAdded lengthAdded digitsAdded lengthFacet laterFacet
@@ -100,9 +100,9 @@ returns-4 c =
     let first = placed .before .before .before in
     let start = first .before .before .before .before .before in
     let t = recordTag (start .args .text .now) (start .args .marks .now) (start .args .t) in
-    if-false whole _ _ (tagIs-told t "restriction" (start .pre) (first .local-is .ensures) (placed .before .before .if1 .left))
-    (if-false whole _ _ (tagIs-told t "enumeration" (start .pre) (second .local-is2 .ensures) (third .before .before .if2 .left))
-    (if-false whole _ _ (tagIs-told t "pattern" (start .pre) (third .local-is3 .ensures) (c .before .if3 .left)) (c .length-facet .ensures)))
+    if-false whole _ _ (tagIs-told t "restriction" (start .pre .0) (first .local-is .ensures) (placed .before .before .if1 .left))
+    (if-false whole _ _ (tagIs-told t "enumeration" (start .pre .0) (second .local-is2 .ensures) (third .before .before .if2 .left))
+    (if-false whole _ _ (tagIs-told t "pattern" (start .pre .0) (third .local-is3 .ensures) (c .before .if3 .left)) (c .length-facet .ensures)))
 
 pub empty-in-simple-type-spec : {M : Type 1} → statement M
 empty-in-simple-type-spec =

@@ -42,7 +42,7 @@ returns-2 c =
     let start = compared .before .before .before .before .before .before in
     let t = recordTag (start .args .text .now) (start .args .marks .now) (start .args .t) in
     let depth = eq-eqb (suc (start .args .nesting)) 1 (ap suc (compared .before .before .if1 .left)) in
-    if-true ok _ _ (and-true depth (tagIs-told t "restriction" (start .pre) (compared .local-is .ensures) (c .before .if2 .taken))) (c .base-set .ensures)
+    if-true ok _ _ (and-true depth (tagIs-told t "restriction" (start .pre .0) (compared .local-is .ensures) (c .before .if2 .taken))) (c .base-set .ensures)
 
 returns-3 : tie.Need-returns-3
 unfolding bytes decision startInSimpleType
@@ -51,7 +51,7 @@ returns-3 c =
     let start = compared .before .before .before .before .before .before in
     let t = recordTag (start .args .text .now) (start .args .marks .now) (start .args .t) in
     let depth = eq-eqb (suc (start .args .nesting)) 1 (ap suc (compared .before .before .if1 .left)) in
-    let other = tagIs-told t "restriction" (start .pre) (compared .local-is .ensures) (c .if2 .left) in
+    let other = tagIs-told t "restriction" (start .pre .0) (compared .local-is .ensures) (c .if2 .left) in
     let neither : eqb (suc (start .args .nesting)) 1 && tagIs t "restriction" ≡ false = rw (depth, other) in
     if-false ok _ _ neither refl
 

@@ -1,5 +1,6 @@
 -- `xsd_read::event::decide_event` meets its contract: in each branch the kind is known, and so is the event. Assumes nothing.
 use mathlib.Core.Path.{sym, ap, _∙_}
+use native.Mathlib.Omega.{arith}
 use borrow.Author.Needs.{needs}
 use Rattle.xsd_parser.specs.Event.{Event}
 use Rattle.xsd_actions.specs.Decided.{decided}
@@ -9,7 +10,7 @@ use Rattle.xsd_read.proofs.event.decide_event.Statement.{statement}
 use Rattle.xsd_read.proofs.event.decide_event.Tie as tie
 
 on-start-requires : tie.Need-on-start-requires
-on-start-requires c κs = search needs
+on-start-requires c κs = c .before .before .before .before .pre (λ e. omega (arith, e, c .if1 .taken))
 
 returns : tie.Need-returns
 unfolding decided
@@ -29,7 +30,7 @@ returns-2 c =
     c .on-close .ensures (a .text .now) (a .marks .now) ∙ sym (ap (λ (e : Event). decided e (a .m) (a .head)) is)
 
 on-empty-requires : tie.Need-on-empty-requires
-on-empty-requires c κs = search needs
+on-empty-requires c κs = c .before .before .before .before .before .before .pre (c .if2 .left)
 
 returns-3 : tie.Need-returns-3
 unfolding decided

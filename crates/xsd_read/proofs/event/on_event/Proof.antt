@@ -65,7 +65,7 @@ carry-out-requires : tie.Need-carry-out-requires
 carry-out-requires c κs =
     let at = c .before .before .before in
     let start = at .before .before .before .before .before .before .before .before .before .before .before .before .before in
-    due-room (start .pre) (arrives at) (accepted (start .args .text .now) (start .args .marks .now) _ (not-refused _ (c .before .before .match2 .keys2)))
+    due-room (start .pre .0) (arrives at) (accepted (start .args .text .now) (start .args .marks .now) _ (not-refused _ (c .before .before .match2 .keys2)))
 
 returns-2 : tie.Need-returns-2
 unfolding tags

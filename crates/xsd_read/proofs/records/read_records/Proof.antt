@@ -58,7 +58,9 @@ enum-known-t : tie.Need-enum-known-t Inv-loop μ-loop
 enum-known-t c = search needs
 
 on-event-requires : tie.Need-on-event-requires Inv-loop μ-loop
-on-event-requires c κs = event-room (c .before .before .before .before .before .before .before .before .before .before .before .before .pre) (c .before .before .before .before .before .before .loop .inv) (followed _ (c .before .before .before .before .before .record-at .ensures) (c .before .before .before .t .given .1))
+on-event-requires c κs =
+    let f = followed _ (c .before .before .before .before .before .record-at .ensures) (c .before .before .before .t .given .1) in
+    (event-room (c .before .before .before .before .before .before .before .before .before .before .before .before .pre) (c .before .before .before .before .before .before .loop .inv) f, f .inside)
 
 enum-known-refusal-2 : tie.Need-enum-known-refusal-2 Inv-loop μ-loop
 enum-known-refusal-2 c = search needs
