@@ -1,8 +1,8 @@
 -- The graph of each kind of type, by computation, in exactly the room that it needs.
 use mathlib.Core.Path.{_≡_, refl}
-use mathlib.Core.List.{List, [], _∷_}
+use mathlib.Core.List.{[], _∷_}
 use Rattle.xsd_types.specs.Examples.Sheets.{line, noNamespace, sheet}
-use Rattle.xsd_parser.specs.Examples.Tapes.{Tag, start, empty, close, named, typed, based, valued, schema, simpleType, complexType}
+use Rattle.xsd_parser.specs.Examples.Tapes.{start, empty, close, typed, based, valued, schema, simpleType, complexType}
 use Rattle.examples.specs.Calls.{lowered, compiles, compiled, called}
 
 -- ---- simple types

@@ -12,7 +12,7 @@ use Rattle.sheet.specs.Rows.{Sheet}
 use Rattle.sheet.specs.Lengths.{sheetLengths, lengthsOf, goodLengths}
 use Rattle.sheet.proofs.Laws.Numbers.{length-filled}
 use Rattle.xsd_types.specs.Examples.Sheets.{line, noNamespace, sheet, junk, blank, answer}
-use Rattle.xsd_parser.specs.Examples.Tapes.{Tag, start, empty, close, typed, based, valued, schema, simpleType, complexType}
+use Rattle.xsd_parser.specs.Examples.Tapes.{start, empty, close, typed, based, valued, schema, simpleType, complexType}
 use Rattle.examples.specs.Calls.{lowers, lowered, unchanged, zeroed, compiles, compiled, called}
 use Rattle.ir_lower.specs.Call.{lowering, unchanged as refused}
 

@@ -1,8 +1,8 @@
 -- Names that come twice, by computation.
 use mathlib.Core.Path.{_≡_, refl}
-use mathlib.Core.List.{List, [], _∷_}
+use mathlib.Core.List.{[], _∷_}
 use Rattle.xsd_types.specs.Examples.Sheets.{line, noNamespace, sheet}
-use Rattle.xsd_parser.specs.Examples.Tapes.{Tag, start, empty, close, typed, based, schema, simpleType, complexType}
+use Rattle.xsd_parser.specs.Examples.Tapes.{start, empty, close, typed, based, schema, simpleType, complexType}
 use Rattle.examples.specs.Calls.{lowered, zeroed, compiles, compiled, called}
 
 -- ---- "Each normalised name holds its last definition at the place where it first came."

@@ -5,7 +5,6 @@ use mathlib.Core.Bool.{true}
 use mathlib.Core.List.{List, [], _∷_}
 use lib.ListN.{replicate}
 use Rattle.text.specs.Text.{Text, bytes}
-use Rattle.sheet.specs.Rows.{Sheet}
 use Rattle.xsd_types.specs.Examples.Sheets.{line, noNamespace, sheet, junk, answer}
 use Rattle.xsd_types.specs.Clear.{Cleared, clear}
 use Rattle.xsd_parser.specs.Read.{ReadAnswer, read}

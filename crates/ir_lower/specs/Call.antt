@@ -11,7 +11,7 @@
 use Prim.Native.Nat.{ℕ}
 use mathlib.Core.Path.{_≡_}
 use mathlib.Core.List.{List}
-use mathlib.Core.Bool.{Bool, true, false, _&&_}
+use mathlib.Core.Bool.{_&&_}
 use mathlib.Core.Option.{Option, some, none}
 use lib.Dec.{leb}
 use lib.ListN.{length, replicate}

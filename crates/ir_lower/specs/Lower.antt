@@ -1,9 +1,9 @@
 -- Lowering: 001 (lower.rs), `lower` and its helpers, clause by clause.
-use Prim.Native.Nat.{ℕ, zero, suc, _+_}
+use Prim.Native.Nat.{ℕ, _+_}
 use mathlib.Core.List.{List, [], _∷_, map}
 use mathlib.Core.Bool.{Bool, true, false, not, _&&_}
 use mathlib.Core.Option.{Option, some, none}
-use lib.Dec.{eqb, leb, ltb}
+use lib.Dec.{eqb, ltb}
 use lib.ListN.{length}
 use Rattle.text.specs.Text.{Text, if_then_else_, every}
 use Rattle.builtin.specs.Builtin.{RustType, mapBuiltin}

@@ -11,7 +11,7 @@ use Rattle.builtin.specs.Unfold.{computes as builtinNames}
 use Rattle.names.specs.Unfold.{computes as conversions}
 use Rattle.sheet.specs.Rows.{Sheet, Row}
 use Rattle.sheet.specs.Unfold.{computes as sheets}
-use Rattle.xsd_types.specs.Types.{Facet, MaxOccurs, ComplexContent, Item, Schema}
+use Rattle.xsd_types.specs.Types.{Facet, MaxOccurs, ComplexContent, Item}
 use Rattle.xsd_types.specs.State.{Context, State}
 use Rattle.xsd_types.specs.Sheet.{sheetOf}
 use Rattle.xsd_types.specs.Unfold.{computes as schemas}

@@ -11,7 +11,6 @@
 use Prim.Native.Nat.{ℕ, _+_}
 use mathlib.Core.List.{List, [], _∷_, _++_}
 use mathlib.Core.Bool.{Bool, true, false, not, _&&_}
-use mathlib.Core.Option.{Option, none}
 use lib.Dec.{eqb}
 use Rattle.text.specs.Text.{Text, if_then_else_, between}
 use Rattle.builtin.specs.Builtin.{mapBuiltin, reference}

@@ -11,7 +11,7 @@ use mathlib.Core.Path.{_≡_}
 use mathlib.Core.List.{List, [], _∷_}
 use mathlib.Core.Bool.{Bool, true, false, _&&_, _||_}
 use lib.Dec.{eqb, leb, ltb}
-use lib.ListN.{length, getD, take, drop}
+use lib.ListN.{length, getD, drop}
 use Rattle.text.specs.Text.{Text, if_then_else_, split, startsAt}
 use Rattle.sheet.specs.Rows.{Ten, ten, textAt}
 

@@ -7,8 +7,7 @@
 use Prim.Native.Nat.{ℕ, _^_}
 use mathlib.Core.Bool.{Bool, true, _&&_}
 use mathlib.Core.Option.{some, none}
-use lib.Dec.{eqb, leb, ltb}
-use lib.ListN.{length}
+use lib.Dec.{ltb}
 use Rattle.text.specs.Text.{every, isText, between}
 use Rattle.sheet.specs.Rows.{Row}
 use Rattle.sheet.specs.Form.{counted}

@@ -10,11 +10,10 @@
 --     row0              row 0 of a graph
 use Prim.Native.Nat.{ℕ, _+_, _%_, _/_, _^_}
 use mathlib.Core.List.{List, [], _∷_, _++_, map}
-use mathlib.Core.Bool.{Bool, true, false}
-use mathlib.Core.Option.{Option, some, none}
+use mathlib.Core.Option.{some, none}
 use lib.ListN.{length}
 use Rattle.text.specs.Text.{Text}
-use Rattle.builtin.specs.Builtin.{RustType, rustTypeNumber}
+use Rattle.builtin.specs.Builtin.{rustTypeNumber}
 use Rattle.sheet.specs.Rows.{Row, namesOf, row, bit}
 use Rattle.ir_types.specs.Tags.{namespaceTag, rootTag, structTag, enumTag, newtypeTag, codeEnumTag, valueWithAttributesTag, opaqueTag, fieldTag, variantTag, patternTag, minLengthTag, maxLengthTag, minInclusiveTag, maxInclusiveTag, totalDigitsTag, fractionDigitsTag, codeTag, attributeTag}
 use Rattle.ir_types.specs.Row0.{GraphRow0, graphRow0Of}

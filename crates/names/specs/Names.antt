@@ -7,7 +7,7 @@
 --     codeToPascalCase  an enumeration's value as a variant's name
 use Prim.Native.Nat.{ℕ}
 use Prim.Native.Char.{code}
-use mathlib.Core.List.{List, [], _∷_, map}
+use mathlib.Core.List.{[], _∷_, map}
 use mathlib.Core.Bool.{Bool, _&&_, _||_}
 use Rattle.text.specs.Text.{Text, if_then_else_, isUpper, isLower, upper, lower, contains, split, join, first}
 

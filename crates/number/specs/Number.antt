@@ -8,8 +8,8 @@
 --     number w s    what the text s gives at the width w: 32 for u32, 64 for u64
 use Prim.Native.Nat.{ℕ, _+_, _-_, _*_, _^_}
 use Prim.Native.Char.{code}
-use mathlib.Core.List.{List, [], _∷_}
-use mathlib.Core.Bool.{Bool, false, _&&_}
+use mathlib.Core.List.{[], _∷_}
+use mathlib.Core.Bool.{Bool, false}
 use lib.Dec.{eqb, ltb}
 use Rattle.text.specs.Text.{Text, if_then_else_, every, isDigit}
 

@@ -3,9 +3,9 @@
 use Prim.Native.Nat.{ℕ, _+_}
 use mathlib.Core.Path.{_≡_}
 use mathlib.Core.Logic.{_↔_}
-use mathlib.Core.Bool.{Bool, true}
+use mathlib.Core.Bool.{true}
 use mathlib.Core.List.{List, _∷_, _++_}
-use mathlib.Core.Option.{some, none}
+use mathlib.Core.Option.{some}
 use lib.ListN.{length}
 use Rattle.text.specs.Text.{Text, every, join}
 use Rattle.sheet.specs.Rows.{Sheet}

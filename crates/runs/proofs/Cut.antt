@@ -15,7 +15,7 @@ use Rattle.xsd_types.specs.Sheet.{sheetOf, stateFits}
 use Rattle.xsd_types.specs.Good.{good}
 use Rattle.xsd_types.specs.Back.{stateOf}
 use Rattle.xsd_types.proofs.Laws.StateOf.{sheetOf-stateOf, proper-stateOf, fits-stateOf}
-use Rattle.xsd_parser.specs.Read.{ReadAnswer, readState, read, sheetOfReading}
+use Rattle.xsd_parser.specs.Read.{readState, read, sheetOfReading}
 use Rattle.xsd_parser.specs.Whole.{wholeRecords}
 use Rattle.xsd_parser.specs.Pieces.{onward}
 use Rattle.xsd_parser.proofs.Laws.Pieces.{cut-once}

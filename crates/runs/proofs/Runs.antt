@@ -2,8 +2,7 @@
 -- with a pair that serves, and each call keeps one. Assumes nothing.
 use mathlib.Core.Path.{_≡_, refl, sym, ap, _∙_}
 use mathlib.Core.Bool.{Bool, true, false}
-use mathlib.Core.List.{List, [], _∷_}
-use lib.ListN.{length}
+use mathlib.Core.List.{List, []}
 use Rattle.sheet.specs.Lengths.{Answer, lengthsOf, goodLengths}
 use Rattle.text.specs.Text.{if_then_else_}
 use Rattle.sheet.specs.Rows.{Sheet}

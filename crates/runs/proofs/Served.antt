@@ -2,22 +2,21 @@
 -- definition answers from what is held, and leaves such a pair. Assumes nothing.
 use Prim.Native.Nat.{ℕ}
 use mathlib.Core.Path.{_≡_, refl, sym, ap, _∙_}
-use mathlib.Core.Bool.{Bool, true, false, _&&_}
+use mathlib.Core.Bool.{Bool, true, false}
 use mathlib.Core.List.{List}
 use lib.ListN.{length}
 use Rattle.text.specs.Text.{Text, if_then_else_, between}
 use Rattle.sheet.specs.Rows.{Sheet, Ten}
-use Rattle.sheet.specs.Lengths.{tapeLengths, Answer, Lengths, lengthsOf, goodLengths}
+use Rattle.sheet.specs.Lengths.{tapeLengths, Lengths, lengthsOf, goodLengths}
 use Rattle.xsd_types.specs.State.{State, proper}
 use Rattle.xsd_types.specs.Row0.{row0From}
 use Rattle.xsd_types.specs.Rows.{row0}
 use Rattle.xsd_types.specs.Sheet.{sheetOf, stateFits}
 use Rattle.xsd_types.specs.Good.{good}
-use Rattle.xsd_types.specs.Back.{stateOf}
 use Rattle.xsd_types.proofs.Laws.SheetOf.{row0-made, good-sheetOf, stateOf-sheetOf, length-sheetOf}
 use Rattle.xsd_parser.specs.Read.{ReadAnswer, readState, read, refusedAt, sheetOfReading}
 use Rattle.xsd_parser.proofs.Laws.Reads.{readState-proper, readState-fits}
-use Rattle.ir_lower.specs.Call.{Lowered, unchanged, lowerState, lowering}
+use Rattle.ir_lower.specs.Call.{unchanged, lowerState, lowering}
 use Rattle.runs.specs.Runs.{numberInRun, Held, sheetHeld, Stepped, refusedWith, heldAfter, readHeld, lowerHeld}
 use Rattle.runs.specs.Trace.{eventsDone}
 

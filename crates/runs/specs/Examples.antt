@@ -5,7 +5,7 @@
 --     left          a lowering's answer that leaves this graph and zero scratch
 use Prim.Native.Nat.{ℕ}
 use mathlib.Core.Path.{_≡_, refl}
-use mathlib.Core.Bool.{true, false}
+use mathlib.Core.Bool.{true}
 use mathlib.Core.List.{List, [], _∷_}
 use mathlib.Core.Option.{some, none}
 use lib.ListN.{replicate}
@@ -20,7 +20,7 @@ use Rattle.xsd_parser.specs.Event.{Event}
 use Rattle.xsd_parser.specs.Tape.{event}
 use Rattle.ir_types.specs.Unfold.{computes as graphs}
 use Rattle.ir_lower.specs.Unfold.{computes as lowerings}
-use Rattle.runs.specs.Runs.{Call, Answered, Ran, run}
+use Rattle.runs.specs.Runs.{Call, Answered, run}
 use Rattle.runs.specs.Joined.{joined}
 use Rattle.runs.specs.Unfold.{computes as running}
 

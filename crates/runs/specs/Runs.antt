@@ -10,7 +10,6 @@
 --     run           the answers of all calls and the last sheet. It packs no sheet in between
 use Prim.Native.Nat.{ℕ, _+_}
 use mathlib.Core.List.{List, [], _∷_}
-use mathlib.Core.Bool.{Bool}
 use mathlib.Core.Option.{Option, some, none}
 use lib.ListN.{length}
 use Rattle.text.specs.Text.{Text, if_then_else_, between}

@@ -9,7 +9,7 @@ use mathlib.Core.Path.{_≡_, refl}
 use mathlib.Core.Bool.{Bool, true, false, _&&_}
 use mathlib.Core.List.{List, [], _∷_}
 use lib.Dec.{eqb}
-use Rattle.text.specs.Text.{Text, bytes, same, every}
+use Rattle.text.specs.Text.{bytes, same, every}
 use Rattle.text.specs.Unfold.{computes as texts}
 use Rattle.number.specs.Number.{Parsed, parsed, refused, number}
 use Rattle.number.specs.Unfold.{computes as numbers}

@@ -7,7 +7,7 @@ use mathlib.Core.List.{List, [], _∷_}
 use Rattle.text.specs.Text.{bytes}
 use Rattle.xsd_types.specs.Examples.Sheets.{line, sheet, blank}
 use Rattle.xsd_parser.specs.Read.{read}
-use Tapes.{Tag, textOf, marksOf, reads, gives, taped}
+use Tapes.{Tag, textOf, marksOf, gives, taped}
 pub mod Tapes
 mod Lengths
 mod Records

@@ -3,7 +3,6 @@
 --     9             `MissingAttribute`
 --     10            `InvalidAttributeValue`
 use Prim.Native.Nat.{ℕ, zero, suc, _+_}
-use Prim.Native.String.{String}
 use mathlib.Core.List.{List, [], _∷_, _++_}
 use mathlib.Core.Bool.{Bool, true, false, _&&_}
 use mathlib.Core.Option.{Option, some, none}
@@ -11,8 +10,8 @@ use lib.Dec.{eqb}
 use Rattle.text.specs.Text.{Text, if_then_else_, is}
 use Rattle.number.specs.Number.{Parsed, parsed, refused, number}
 use Rattle.sheet.specs.Returned.{missingAttribute}
-use Rattle.xsd_types.specs.Types.{Element, Facet, SimpleType, MaxOccurs, SequenceElement, ChoiceVariant, Attribute, ComplexContent, ComplexType, Item, Schema}
-use Rattle.xsd_types.specs.State.{SimpleTypeBuilder, ComplexContentBuilder, ComplexTypeBuilder, Context, Reader, State, finish}
+use Rattle.xsd_types.specs.Types.{Facet, MaxOccurs, SequenceElement, ChoiceVariant, Attribute, Item}
+use Rattle.xsd_types.specs.State.{SimpleTypeBuilder, ComplexContentBuilder, ComplexTypeBuilder, Context, Reader, finish}
 use Rattle.xsd_parser.specs.Event.{Tag, tagIs, attrValue, orEmpty}
 
 pub data Outcome (A : Type 0) : Type 0 where

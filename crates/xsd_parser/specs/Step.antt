@@ -4,9 +4,8 @@
 --     counted       the state with one event more done
 --     roomFor       the state where it has room; 11 "the state after the event needs more rows or names than lent"
 --     step          the state after the event, or the refusal
-use Prim.Native.Nat.{ℕ, zero, suc, _+_}
-use mathlib.Core.Bool.{Bool, true, false}
-use lib.Dec.{leb, ltb}
+use Prim.Native.Nat.{ℕ, zero, suc}
+use lib.Dec.{ltb}
 use Rattle.text.specs.Text.{if_then_else_}
 use Rattle.sheet.specs.Limits.{eventsLimit, openTagsLimit}
 use Rattle.sheet.specs.Returned.{noTagOpen, tooManyOpen, tooManyEvents, noRoom}

@@ -11,8 +11,8 @@
 --     records       all records of the marks, up to and with the first refused one
 use Prim.Native.Nat.{ℕ, zero, suc, _+_, _*_}
 use mathlib.Core.List.{List, [], _∷_}
-use mathlib.Core.Bool.{Bool, true, false, not, _&&_, _||_}
-use lib.Dec.{eqb, leb, ltb}
+use mathlib.Core.Bool.{Bool, true, _&&_}
+use lib.Dec.{eqb, leb}
 use lib.ListN.{length, take, drop}
 use Rattle.text.specs.Text.{Text, if_then_else_, every, isText, between}
 use Rattle.sheet.specs.Limits.{attributesLimit}

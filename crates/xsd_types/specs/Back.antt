@@ -9,16 +9,16 @@
 --     contextOf     the context, with the open type of the last group
 --     namespaceIn, behindNamespace    the text of row 1, and the rows behind it
 --     stateOf       the state; stateOfRows: of row 0 and the rows behind it
-use Prim.Native.Nat.{ℕ, _+_, _*_, _^_}
+use Prim.Native.Nat.{_+_, _*_, _^_}
 use mathlib.Core.List.{List, [], _∷_, map}
 use mathlib.Core.Bool.{Bool, true, false}
-use mathlib.Core.Option.{Option, some, none}
+use mathlib.Core.Option.{some, none}
 use lib.Dec.{eqb, leb}
 use lib.ListN.{getD}
 use Rattle.text.specs.Text.{Text, if_then_else_}
 use Rattle.sheet.specs.Rows.{Row, Sheet, unpackRow}
-use Rattle.xsd_types.specs.Types.{Element, Facet, SimpleType, MaxOccurs, SequenceElement, ChoiceVariant, Attribute, ComplexContent, ComplexType, Item, Schema}
-use Rattle.xsd_types.specs.State.{SimpleTypeBuilder, ComplexContentBuilder, ComplexTypeBuilder, Context, Reader, State, finish}
+use Rattle.xsd_types.specs.Types.{Facet, MaxOccurs, SequenceElement, ChoiceVariant, Attribute, Item}
+use Rattle.xsd_types.specs.State.{ComplexContentBuilder, Context, State, finish}
 use Rattle.xsd_types.specs.Good.{usedPairs, isHead}
 use Rattle.sheet.specs.Form.{tensOf}
 use Rattle.xsd_types.specs.Tags.{elementTag, simpleTypeTag, enumerationTag, patternTag, minLengthTag, maxLengthTag, minInclusiveTag, maxInclusiveTag, totalDigitsTag, sequenceTag, choiceTag, simpleContentTag, anyTag, boundElementTag}

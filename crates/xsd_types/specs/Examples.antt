@@ -2,10 +2,8 @@
 -- sentences of a good sheet one by one, GoodSheets the good sheets at the borders, BadRows, BadOrder and BadContext each sentence broken once.
 use mathlib.Core.Path.{_≡_, refl}
 use mathlib.Core.Bool.{true, false}
-use mathlib.Core.List.{List, [], _∷_}
-use mathlib.Core.Option.{some, none}
-use Prim.Native.Nat.{ℕ}
-use lib.Dec.{eqb}
+use mathlib.Core.List.{[], _∷_}
+use mathlib.Core.Option.{some}
 use lib.ListN.{replicate}
 use Rattle.text.specs.Text.{bytes}
 use Rattle.text.specs.Unfold.{computes as texts}
@@ -13,7 +11,7 @@ use Rattle.sheet.specs.Unfold.{computes as sheets}
 use Rattle.xsd_types.specs.Unfold.{computes as schemas}
 use Rattle.sheet.specs.Rows.{Sheet}
 use Rattle.xsd_types.specs.Types.{Facet, ComplexContent, Item, MaxOccurs}
-use Rattle.xsd_types.specs.State.{State, firstState, Context, ComplexContentBuilder, proper}
+use Rattle.xsd_types.specs.State.{State, Context, ComplexContentBuilder}
 use Rattle.xsd_types.specs.Sheet.{sheetOf}
 use Rattle.xsd_types.specs.Good.{good}
 use Rattle.xsd_types.specs.Back.{stateOf}

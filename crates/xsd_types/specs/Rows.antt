@@ -10,15 +10,14 @@
 --     row0          row 0 of a state
 use Prim.Native.Nat.{ℕ, _+_, _%_, _/_, _^_}
 use mathlib.Core.List.{List, [], _∷_, _++_, map}
-use mathlib.Core.Bool.{Bool, true, false}
-use mathlib.Core.Option.{Option, some, none}
+use mathlib.Core.Option.{some, none}
 use lib.ListN.{length}
 use Rattle.text.specs.Text.{Text}
 use Rattle.sheet.specs.Rows.{Row, namesOf, row, bit}
 use Rattle.xsd_types.specs.Tags.{namespaceTag, elementTag, simpleTypeTag, enumerationTag, patternTag, minLengthTag, maxLengthTag, minInclusiveTag, maxInclusiveTag, totalDigitsTag, fractionDigitsTag, sequenceTag, choiceTag, simpleContentTag, anyTag, noContentTag, boundElementTag, unboundedElementTag, choiceVariantTag, attributeTag}
-use Rattle.xsd_types.specs.Types.{Element, Facet, SimpleType, MaxOccurs, SequenceElement, ChoiceVariant, Attribute, ComplexContent, ComplexType, Item, Schema}
+use Rattle.xsd_types.specs.Types.{Facet, MaxOccurs, SequenceElement, ChoiceVariant, Attribute, Item}
 use Rattle.xsd_types.specs.Row0.{Row0}
-use Rattle.xsd_types.specs.State.{SimpleTypeBuilder, ComplexContentBuilder, ComplexTypeBuilder, Context, Reader, State, started}
+use Rattle.xsd_types.specs.State.{ComplexContentBuilder, Context, State, started}
 
 -- c of a head is unused
 unfoldable pub headC : ℕ

@@ -6,11 +6,11 @@
 --     proper        what "A sheet is good if" asks of a state, sentence by sentence
 use Prim.Native.Nat.{ℕ, _+_, _^_}
 use mathlib.Core.List.{List, [], _∷_}
-use mathlib.Core.Bool.{Bool, true, false, not, _&&_, _||_}
+use mathlib.Core.Bool.{Bool, true, false, _&&_, _||_}
 use mathlib.Core.Option.{Option, some, none}
 use lib.Dec.{leb, ltb}
 use Rattle.text.specs.Text.{Text, every, isText}
-use Rattle.xsd_types.specs.Types.{Element, Facet, SimpleType, MaxOccurs, SequenceElement, ChoiceVariant, Attribute, ComplexContent, ComplexType, Item, Schema}
+use Rattle.xsd_types.specs.Types.{Element, Facet, MaxOccurs, SequenceElement, ChoiceVariant, Attribute, ComplexContent, Item, Schema}
 
 pub record SimpleTypeBuilder : Type 0 where
   pub name : Text

@@ -10,28 +10,10 @@ use borrow.Author.Needs.{needs}
 use Rattle.ir_append.proofs.append_spelled.Statement.{statement}
 use Rattle.ir_append.proofs.append_spelled.Tie as tie
 
-mul-if1 : tie.Need-mul-if1
-mul-if1 c = search needs
-
-add-if1 : tie.Need-add-if1
-add-if1 c = search needs
-
 returns : tie.Need-returns
 returns c =
     let a = c .before .before .before .before .before .args in
     short-rows (recipeRow (a .recipe) (a .first .now) (a .second .now)) (c .if1 .taken)
-
-put-texts-requires : tie.Need-put-texts-requires
-put-texts-requires c κs = search needs
-
-enum-known-n : tie.Need-enum-known-n
-enum-known-n c = search needs
-
-enum-told : tie.Need-enum-told
-enum-told c = search needs
-
-same-length : tie.Need-same-length
-same-length c = search needs
 
 returns-2 : tie.Need-returns-2
 returns-2 c =
@@ -43,12 +25,6 @@ spelled-row-requires : tie.Need-spelled-row-requires
 spelled-row-requires c κs =
     let s = rw (c .before .n .given .1) at (c .before .before .before .before .before .put-texts .ensures) in
     omega (arith, s .stored .inside, c .before .before .before .before .before .before .before .before .before .before .before .before .pre .0 .fewNames)
-
-put-row-requires : tie.Need-put-row-requires
-put-row-requires c κs = search needs
-
-add-t13 : tie.Need-add-t13
-add-t13 c = search needs
 
 add-t14 : tie.Need-add-t14
 add-t14 c =
@@ -68,12 +44,6 @@ add-t23 c =
     let s = rw (at .n .given .1) at (at .before .before .before .before .put-texts .ensures) in
     omega (arith, s .stored .inside, c .before .before .before .before .before .before .before .before .before .before .before .before .before .before .before .before .before .pre .0 .fewNames)
 
-same-length-2 : tie.Need-same-length-2
-same-length-2 c = search needs
-
-same-length-3 : tie.Need-same-length-3
-same-length-3 c = search needs
-
 returns-3 : tie.Need-returns-3
 returns-3 c =
     let at = c .before .before .before .before .before .before in
@@ -88,20 +58,20 @@ pub append-spelled-spec : {M : Type 1} → statement M
 append-spelled-spec =
     tie.close
     (tie.spec
-    mul-if1
-    add-if1
+    (λ c. search needs)
+    (λ c. search needs)
     returns
-    put-texts-requires
-    enum-known-n
-    enum-told
-    same-length
+    (λ c κs. search needs)
+    (λ c. search needs)
+    (λ c. search needs)
+    (λ c. search needs)
     returns-2
     spelled-row-requires
-    put-row-requires
-    add-t13
+    (λ c κs. search needs)
+    (λ c. search needs)
     add-t14
     add-t15
     add-t23
-    same-length-2
-    same-length-3
+    (λ c. search needs)
+    (λ c. search needs)
     returns-3)

@@ -12,15 +12,6 @@ use Rattle.ir_append.specs.Spelled.{isNothing}
 use Rattle.ir_append.proofs.offset.Statement.{statement}
 use Rattle.ir_append.proofs.offset.Tie as tie
 
-enum-told : tie.Need-enum-told
-enum-told c = search needs
-
-cast-result : tie.Need-cast-result
-cast-result c = search needs
-
-returns : tie.Need-returns
-returns c = search needs
-
 -- the keys of the texts that there are
 abbrev others : List ℕ
 others = 1 ∷ 2 ∷ 3 ∷ 4 ∷ 5 ∷ 6 ∷ []
@@ -38,4 +29,4 @@ returns-2 : tie.Need-returns-2
 returns-2 c = rw (not-nothing (c .before .args .how) (c .match .keys2))
 
 pub offset-spec : {M : Type 1} → statement M
-offset-spec = tie.close (tie.spec enum-told cast-result returns returns-2)
+offset-spec = tie.close (tie.spec (λ c. search needs) (λ c. search needs) (λ c. search needs) returns-2)

@@ -4,21 +4,6 @@ use Rattle.ir_append.proofs.Laws.Stored.{stores-part}
 use Rattle.ir_append.proofs.put_normalized.Statement.{statement}
 use Rattle.ir_append.proofs.put_normalized.Tie as tie
 
-sub-normalize-type-name : tie.Need-sub-normalize-type-name
-sub-normalize-type-name c = search needs
-
-part-normalize-type-name-start : tie.Need-part-normalize-type-name-start
-part-normalize-type-name-start c = search needs
-
-part-normalize-type-name-end : tie.Need-part-normalize-type-name-end
-part-normalize-type-name-end c = search needs
-
-normalize-type-name-requires : tie.Need-normalize-type-name-requires
-normalize-type-name-requires c κs = search needs
-
-same-length : tie.Need-same-length
-same-length c = search needs
-
 returns : tie.Need-returns
 returns c =
     let start = c .before .before .before .before .before .before in
@@ -29,9 +14,9 @@ pub put-normalized-spec : {M : Type 1} → statement M
 put-normalized-spec =
     tie.close
     (tie.spec
-    sub-normalize-type-name
-    part-normalize-type-name-start
-    part-normalize-type-name-end
-    normalize-type-name-requires
-    same-length
+    (λ c. search needs)
+    (λ c. search needs)
+    (λ c. search needs)
+    (λ c κs. search needs)
+    (λ c. search needs)
     returns)

@@ -4,21 +4,6 @@ use Rattle.ir_append.proofs.Laws.Stored.{stores-part}
 use Rattle.ir_append.proofs.put_pascal.Statement.{statement}
 use Rattle.ir_append.proofs.put_pascal.Tie as tie
 
-sub-code-to-pascal-case : tie.Need-sub-code-to-pascal-case
-sub-code-to-pascal-case c = search needs
-
-part-code-to-pascal-case-start : tie.Need-part-code-to-pascal-case-start
-part-code-to-pascal-case-start c = search needs
-
-part-code-to-pascal-case-end : tie.Need-part-code-to-pascal-case-end
-part-code-to-pascal-case-end c = search needs
-
-code-to-pascal-case-requires : tie.Need-code-to-pascal-case-requires
-code-to-pascal-case-requires c κs = search needs
-
-same-length : tie.Need-same-length
-same-length c = search needs
-
 returns : tie.Need-returns
 returns c =
     let start = c .before .before .before .before .before .before in
@@ -29,9 +14,9 @@ pub put-pascal-spec : {M : Type 1} → statement M
 put-pascal-spec =
     tie.close
     (tie.spec
-    sub-code-to-pascal-case
-    part-code-to-pascal-case-start
-    part-code-to-pascal-case-end
-    code-to-pascal-case-requires
-    same-length
+    (λ c. search needs)
+    (λ c. search needs)
+    (λ c. search needs)
+    (λ c κs. search needs)
+    (λ c. search needs)
     returns)

@@ -4,21 +4,6 @@ use Rattle.ir_append.proofs.Laws.Stored.{stores-part}
 use Rattle.ir_append.proofs.put_snake.Statement.{statement}
 use Rattle.ir_append.proofs.put_snake.Tie as tie
 
-sub-xml-to-snake-case : tie.Need-sub-xml-to-snake-case
-sub-xml-to-snake-case c = search needs
-
-part-xml-to-snake-case-start : tie.Need-part-xml-to-snake-case-start
-part-xml-to-snake-case-start c = search needs
-
-part-xml-to-snake-case-end : tie.Need-part-xml-to-snake-case-end
-part-xml-to-snake-case-end c = search needs
-
-xml-to-snake-case-requires : tie.Need-xml-to-snake-case-requires
-xml-to-snake-case-requires c κs = search needs
-
-same-length : tie.Need-same-length
-same-length c = search needs
-
 returns : tie.Need-returns
 returns c =
     let start = c .before .before .before .before .before .before in
@@ -29,9 +14,9 @@ pub put-snake-spec : {M : Type 1} → statement M
 put-snake-spec =
     tie.close
     (tie.spec
-    sub-xml-to-snake-case
-    part-xml-to-snake-case-start
-    part-xml-to-snake-case-end
-    xml-to-snake-case-requires
-    same-length
+    (λ c. search needs)
+    (λ c. search needs)
+    (λ c. search needs)
+    (λ c κs. search needs)
+    (λ c. search needs)
     returns)

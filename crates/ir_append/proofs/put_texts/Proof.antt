@@ -6,18 +6,6 @@ use borrow.Author.Needs.{needs}
 use Rattle.ir_append.proofs.put_texts.Statement.{statement}
 use Rattle.ir_append.proofs.put_texts.Tie as tie
 
-put-spelled-requires : tie.Need-put-spelled-requires
-put-spelled-requires c κs = search needs
-
-enum-known-n : tie.Need-enum-known-n
-enum-known-n c = search needs
-
-enum-told : tie.Need-enum-told
-enum-told c = search needs
-
-same-length : tie.Need-same-length
-same-length c = search needs
-
 returns : tie.Need-returns
 returns c =
     let a = c .before .before .before .before .before .before .before .before .before .args in
@@ -33,15 +21,6 @@ put-spelled-requires-2 c κs =
     let at = c .before .before in
     let s = rw (at .n .given .1) at (at .before .before .before .before .put-spelled .ensures) in
     omega (arith, s .inside, at .before .before .before .before .put-spelled .kept .0)
-
-enum-known-m : tie.Need-enum-known-m
-enum-known-m c = search needs
-
-enum-told-2 : tie.Need-enum-told-2
-enum-told-2 c = search needs
-
-same-length-2 : tie.Need-same-length-2
-same-length-2 c = search needs
 
 returns-2 : tie.Need-returns-2
 returns-2 c =
@@ -63,15 +42,6 @@ put-spelled-requires-3 c κs =
     let k = rw (at .m .given .1) at (at .before .before .before .before .put-spelled2 .ensures) in
     omega (arith, k .inside, at .before .before .before .before .put-spelled2 .kept .0)
 
-enum-known-k : tie.Need-enum-known-k
-enum-known-k c = search needs
-
-enum-told-3 : tie.Need-enum-told-3
-enum-told-3 c = search needs
-
-same-length-3 : tie.Need-same-length-3
-same-length-3 c = search needs
-
 returns-3 : tie.Need-returns-3
 returns-3 c =
     let m = c .before .before .before .before .before .before .before in
@@ -80,9 +50,6 @@ returns-3 c =
     let s = rw (n .n .given .1) at (n .before .before .before .before .put-spelled .ensures) in
     let k = rw (m .m .given .1) at (m .before .before .before .before .put-spelled2 .ensures) in
     short-third (a .names .now) (a .at) (a .recipe) (a .first .now) (a .second .now) s k (rw (c .enum-told3 .given .1) at (c .before .before .before .before .put-spelled3 .ensures))
-
-same-length-4 : tie.Need-same-length-4
-same-length-4 c = search needs
 
 returns-4 : tie.Need-returns-4
 returns-4 c =
@@ -96,22 +63,22 @@ pub put-texts-spec : {M : Type 1} → statement M
 put-texts-spec =
     tie.close
     (tie.spec
-    put-spelled-requires
-    enum-known-n
-    enum-told
-    same-length
+    (λ c κs. search needs)
+    (λ c. search needs)
+    (λ c. search needs)
+    (λ c. search needs)
     returns
     add-behind
     put-spelled-requires-2
-    enum-known-m
-    enum-told-2
-    same-length-2
+    (λ c. search needs)
+    (λ c. search needs)
+    (λ c. search needs)
     returns-2
     add-last
     put-spelled-requires-3
-    enum-known-k
-    enum-told-3
-    same-length-3
+    (λ c. search needs)
+    (λ c. search needs)
+    (λ c. search needs)
     returns-3
-    same-length-4
+    (λ c. search needs)
     returns-4)

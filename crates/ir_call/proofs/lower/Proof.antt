@@ -6,23 +6,11 @@ use Rattle.ir_call.proofs.Laws.Calls.{lower-one, lower-two, lower-throu
 use Rattle.ir_call.proofs.lower.Statement.{statement}
 use Rattle.ir_call.proofs.lower.Tie as tie
 
-lower-lengths-requires : tie.Need-lower-lengths-requires
-lower-lengths-requires c κs = search needs
-
-answer-requires : tie.Need-answer-requires
-answer-requires c κs = search needs
-
 returns : tie.Need-returns
 returns c =
     let lengths = c .before .before in
     let a = lengths .before .before .before .before .before .before .args in
     lower-one (a .rows .now) (a .names .now) (a .graph-rows .now) (a .graph-names .now) (a .scratch .now) (c .answer .ensures) (sym (lengths .lower-lengths .ensures) ∙ not-true _ (c .before .if1 .taken))
-
-is-good-requires : tie.Need-is-good-requires
-is-good-requires c κs = search needs
-
-answer-requires-2 : tie.Need-answer-requires-2
-answer-requires-2 c κs = search needs
 
 returns-2 : tie.Need-returns-2
 returns-2 c =
@@ -39,15 +27,6 @@ lower-good-requires c κs =
     let sizes = sized-both (a .rows .now) (a .names .now) (a .graph-rows .now) (a .graph-names .now) (a .scratch .now) (sym (lengths .lower-lengths .ensures) ∙ not-false _ (good .before .if1 .left)) in
     (sym (good .is-good .ensures) ∙ not-false _ (c .before .before .before .if2 .left), sizes .0, sizes .1)
 
-same-length : tie.Need-same-length
-same-length c = search needs
-
-same-length-2 : tie.Need-same-length-2
-same-length-2 c = search needs
-
-same-length-3 : tie.Need-same-length-3
-same-length-3 c = search needs
-
 returns-3 : tie.Need-returns-3
 returns-3 c =
     let low = c .before .before .before .before .before .before in
@@ -60,14 +39,14 @@ pub lower-spec : {M : Type 1} → statement M
 lower-spec =
     tie.close
     (tie.spec
-    lower-lengths-requires
-    answer-requires
+    (λ c κs. search needs)
+    (λ c κs. search needs)
     returns
-    is-good-requires
-    answer-requires-2
+    (λ c κs. search needs)
+    (λ c κs. search needs)
     returns-2
     lower-good-requires
-    same-length
-    same-length-2
-    same-length-3
+    (λ c. search needs)
+    (λ c. search needs)
+    (λ c. search needs)
     returns-3)

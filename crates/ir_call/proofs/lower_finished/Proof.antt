@@ -7,24 +7,6 @@ use Rattle.ir_call.proofs.Laws.Calls.{cleared-zeros, finished-rootless,
 use Rattle.ir_call.proofs.lower_finished.Statement.{statement}
 use Rattle.ir_call.proofs.lower_finished.Tie as tie
 
-zero-graph-requires : tie.Need-zero-graph-requires
-zero-graph-requires c κs = search needs
-
-zero-scratch-requires : tie.Need-zero-scratch-requires
-zero-scratch-requires c κs = search needs
-
-answer-requires : tie.Need-answer-requires
-answer-requires c κs = search needs
-
-same-length : tie.Need-same-length
-same-length c = search needs
-
-same-length-2 : tie.Need-same-length-2
-same-length-2 c = search needs
-
-same-length-3 : tie.Need-same-length-3
-same-length-3 c = search needs
-
 returns : tie.Need-returns
 returns c =
     let scr = c .before .before .before .before in
@@ -34,21 +16,6 @@ returns c =
     let z = graph .zero-graph .ensures in
     let s = scr .zero-scratch .ensures in
     λ st l. finished-rootless l (a .graph-rows .now) (a .graph-names .now) (a .scratch .now) (not-true _ (c .before .if1 .taken)) (c .answer .ensures) (z .0) (z .1) s
-
-first-unknown-requires : tie.Need-first-unknown-requires
-first-unknown-requires c κs = search needs
-
-answer-requires-2 : tie.Need-answer-requires-2
-answer-requires-2 c κs = search needs
-
-same-length-4 : tie.Need-same-length-4
-same-length-4 c = search needs
-
-same-length-5 : tie.Need-same-length-5
-same-length-5 c = search needs
-
-same-length-6 : tie.Need-same-length-6
-same-length-6 c = search needs
 
 returns-2 : tie.Need-returns-2
 returns-2 c =
@@ -73,15 +40,6 @@ lower-known-requires c κs =
     let f = start .pre .0 in
     (record { atLeast = f .atLeast; inside = f .inside; few = f .few; enough = rw (s, length-zeros (a .scratch .now)) (f .enough) }, rw (z .0, z .1) (cleared-zeros (start .pre .1)))
 
-same-length-7 : tie.Need-same-length-7
-same-length-7 c = search needs
-
-same-length-8 : tie.Need-same-length-8
-same-length-8 c = search needs
-
-same-length-9 : tie.Need-same-length-9
-same-length-9 c = search needs
-
 returns-3 : tie.Need-returns-3
 returns-3 c =
     let known = c .before .before .before .before .before .before in
@@ -99,21 +57,21 @@ pub lower-finished-spec : {M : Type 1} → statement M
 lower-finished-spec =
     tie.close
     (tie.spec
-    zero-graph-requires
-    zero-scratch-requires
-    answer-requires
-    same-length
-    same-length-2
-    same-length-3
+    (λ c κs. search needs)
+    (λ c κs. search needs)
+    (λ c κs. search needs)
+    (λ c. search needs)
+    (λ c. search needs)
+    (λ c. search needs)
     returns
-    first-unknown-requires
-    answer-requires-2
-    same-length-4
-    same-length-5
-    same-length-6
+    (λ c κs. search needs)
+    (λ c κs. search needs)
+    (λ c. search needs)
+    (λ c. search needs)
+    (λ c. search needs)
     returns-2
     lower-known-requires
-    same-length-7
-    same-length-8
-    same-length-9
+    (λ c. search needs)
+    (λ c. search needs)
+    (λ c. search needs)
     returns-3)

@@ -23,16 +23,10 @@ stands c =
     let a = start .args in
     subst (At (stateOf (sheet (a .rows .now) (a .names .now))) (a .rows .now) (a .names .now)) (sym (c .progress-of .ensures .0)) (at-row0 (a .rows .now) (a .names .now) (start .pre .0) (c .progress-of .ensures .1))
 
-finished-end-requires : tie.Need-finished-end-requires
-finished-end-requires c κs = search needs
-
 count-types-requires : tie.Need-count-types-requires
 count-types-requires c κs =
     let room = finishedEnd-room (stands (c .before)) in
     rw (c .finished-end .ensures) (room .0, room .1)
-
-answer-requires : tie.Need-answer-requires
-answer-requires c κs = search needs
 
 returns : tie.Need-returns
 returns c =
@@ -50,15 +44,6 @@ lower-finished-requires c κs =
     let room = finishedEnd-room (stands (end .before)) in
     (record { atLeast = rw (end .finished-end .ensures) (room .0); inside = rw (end .finished-end .ensures) (room .1); few = start .pre .1 .fewRows; enough = rw (← count .count-types .ensures (a .names .now)) (c .before .before .before .if1 .left) }, start .pre .2)
 
-same-length : tie.Need-same-length
-same-length c = search needs
-
-same-length-2 : tie.Need-same-length-2
-same-length-2 c = search needs
-
-same-length-3 : tie.Need-same-length-3
-same-length-3 c = search needs
-
 returns-2 : tie.Need-returns-2
 returns-2 c =
     let finished = c .before .before .before .before .before .before in
@@ -75,12 +60,12 @@ lower-good-spec =
     tie.close
     (tie.spec
     progress-of-requires
-    finished-end-requires
+    (λ c κs. search needs)
     count-types-requires
-    answer-requires
+    (λ c κs. search needs)
     returns
     lower-finished-requires
-    same-length
-    same-length-2
-    same-length-3
+    (λ c. search needs)
+    (λ c. search needs)
+    (λ c. search needs)
     returns-2)

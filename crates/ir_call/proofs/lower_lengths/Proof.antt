@@ -3,14 +3,8 @@ use borrow.Author.Needs.{needs}
 use Rattle.ir_call.proofs.lower_lengths.Statement.{statement}
 use Rattle.ir_call.proofs.lower_lengths.Tie as tie
 
-sheet-lengths-requires : tie.Need-sheet-lengths-requires
-sheet-lengths-requires c κs = search needs
-
-sheet-lengths-requires-2 : tie.Need-sheet-lengths-requires-2
-sheet-lengths-requires-2 c κs = search needs
-
 returns : tie.Need-returns
 returns c = rw (c .before .sheet-lengths .ensures, c .sheet-lengths2 .ensures)
 
 pub lower-lengths-spec : {M : Type 1} → statement M
-lower-lengths-spec = tie.close (tie.spec sheet-lengths-requires sheet-lengths-requires-2 returns)
+lower-lengths-spec = tie.close (tie.spec (λ c κs. search needs) (λ c κs. search needs) returns)

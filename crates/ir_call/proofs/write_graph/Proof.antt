@@ -10,9 +10,6 @@ use Rattle.ir_call.proofs.Laws.Graph.{first-room, graph-short, graph-st
 use Rattle.ir_call.proofs.write_graph.Statement.{statement}
 use Rattle.ir_call.proofs.write_graph.Tie as tie
 
-index-types-requires : tie.Need-index-types-requires
-index-types-requires c κs = search needs
-
 slice-reshare-prefix-kept : tie.Need-slice-reshare-prefix-kept
 slice-reshare-prefix-kept c = omega (arith, c .before .before .index-types .ensures .inside)
 
@@ -27,21 +24,6 @@ put-graph-requires c κs =
     let i = index .index-types .ensures in
     ((first-room (start .pre .1), search needs, search needs), rw (i .places) (kept-below (a .rows .now) (a .names .now) (a .end)))
 
-enum-known-grown : tie.Need-enum-known-grown
-enum-known-grown c = search needs
-
-enum-told : tie.Need-enum-told
-enum-told c = search needs
-
-same-length : tie.Need-same-length
-same-length c = search needs
-
-same-length-2 : tie.Need-same-length-2
-same-length-2 c = search needs
-
-same-length-3 : tie.Need-same-length-3
-same-length-3 c = search needs
-
 returns : tie.Need-returns
 returns c =
     let put = c .before .before .before .before .before .before in
@@ -50,9 +32,6 @@ returns c =
     let a = start .args in
     let i = index .index-types .ensures in
     λ g o. graph-short g (start .pre .1) (ap (graphRows (a .rows .now) (a .names .now) (a .end)) (i .places) ∙ o .rowsAre) (short-of _ _ _ _ _ _ _ (put .put-graph .ensures) (c .enum-told .given .1))
-
-count-roots-requires : tie.Need-count-roots-requires
-count-roots-requires c κs = search needs
 
 row0-of-requires : tie.Need-row0-of-requires
 row0-of-requires c κs =
@@ -75,15 +54,6 @@ put-row0-requires c κs =
     let start = put .before .before .before .before .before .before .before .before .before .before .before .before .before in
     omega (arith, start .pre .1 .sized .someRows, put .put-graph .kept .0)
 
-same-length-4 : tie.Need-same-length-4
-same-length-4 c = search needs
-
-same-length-5 : tie.Need-same-length-5
-same-length-5 c = search needs
-
-same-length-6 : tie.Need-same-length-6
-same-length-6 c = search needs
-
 returns-2 : tie.Need-returns-2
 returns-2 c =
     let set = c .before .before in
@@ -100,20 +70,20 @@ pub write-graph-spec : {M : Type 1} → statement M
 write-graph-spec =
     tie.close
     (tie.spec
-    index-types-requires
+    (λ c κs. search needs)
     slice-reshare-prefix-kept
     slice-aggregate-kept
     put-graph-requires
-    enum-known-grown
-    enum-told
-    same-length
-    same-length-2
-    same-length-3
+    (λ c. search needs)
+    (λ c. search needs)
+    (λ c. search needs)
+    (λ c. search needs)
+    (λ c. search needs)
     returns
-    count-roots-requires
+    (λ c κs. search needs)
     row0-of-requires
     put-row0-requires
-    same-length-4
-    same-length-5
-    same-length-6
+    (λ c. search needs)
+    (λ c. search needs)
+    (λ c. search needs)
     returns-2)

@@ -6,18 +6,6 @@ use Rattle.buffer.proofs.Laws.Buffer.{zeros-whole}
 use Rattle.ir_call.proofs.zero_graph.Statement.{statement}
 use Rattle.ir_call.proofs.zero_graph.Tie as tie
 
-zero-rows-requires : tie.Need-zero-rows-requires
-zero-rows-requires c κs = search needs
-
-zero-names-requires : tie.Need-zero-names-requires
-zero-names-requires c κs = search needs
-
-same-length : tie.Need-same-length
-same-length c = search needs
-
-same-length-2 : tie.Need-same-length-2
-same-length-2 c = search needs
-
 returns : tie.Need-returns
 unfolding zeros
 returns c =
@@ -27,4 +15,4 @@ returns c =
 
 pub zero-graph-spec : {M : Type 1} → statement M
 zero-graph-spec =
-    tie.close (tie.spec zero-rows-requires zero-names-requires same-length same-length-2 returns)
+    tie.close (tie.spec (λ c κs. search needs) (λ c κs. search needs) (λ c. search needs) (λ c. search needs) returns)

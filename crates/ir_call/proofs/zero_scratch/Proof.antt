@@ -6,12 +6,6 @@ use Rattle.buffer.proofs.Laws.Buffer.{zeros-whole}
 use Rattle.ir_call.proofs.zero_scratch.Statement.{statement}
 use Rattle.ir_call.proofs.zero_scratch.Tie as tie
 
-zero-rows-requires : tie.Need-zero-rows-requires
-zero-rows-requires c κs = search needs
-
-same-length : tie.Need-same-length
-same-length c = search needs
-
 returns : tie.Need-returns
 unfolding zeros
 returns c =
@@ -19,4 +13,4 @@ returns c =
     rows .zero-rows .ensures ∙ zeros-whole (rows .before .before .before .args .scratch .now)
 
 pub zero-scratch-spec : {M : Type 1} → statement M
-zero-scratch-spec = tie.close (tie.spec zero-rows-requires same-length returns)
+zero-scratch-spec = tie.close (tie.spec (λ c κs. search needs) (λ c. search needs) returns)

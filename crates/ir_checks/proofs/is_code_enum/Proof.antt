@@ -11,25 +11,10 @@ returns c =
     let args = c .before .before .args in
     λ names. sym (enum-none (args .rows .now) names (args .from) (args .end) (c .if1 .taken))
 
-mul-if2 : tie.Need-mul-if2
-mul-if2 c = search needs
-
-mul-if2-2 : tie.Need-mul-if2-2
-mul-if2-2 c = search needs
-
-shared-slice-read-if2 : tie.Need-shared-slice-read-if2
-shared-slice-read-if2 c = search needs
-
 returns-2 : tie.Need-returns-2
 returns-2 c =
     let args = c .before .before .before .before .args in
     λ names. sym (enum-not-at (args .rows .now) names (args .from) (args .end) (omega arith) (c .if2 .taken))
-
-add-only-codes : tie.Need-add-only-codes
-add-only-codes c = search needs
-
-only-codes-requires : tie.Need-only-codes-requires
-only-codes-requires c κs = search needs
 
 returns-3 : tie.Need-returns-3
 returns-3 c =
@@ -41,10 +26,10 @@ is-code-enum-spec =
     tie.close
     (tie.spec
     returns
-    mul-if2
-    mul-if2-2
-    shared-slice-read-if2
+    (λ c. search needs)
+    (λ c. search needs)
+    (λ c. search needs)
     returns-2
-    add-only-codes
-    only-codes-requires
+    (λ c. search needs)
+    (λ c κs. search needs)
     returns-3)

@@ -7,12 +7,9 @@ use Rattle.ir_rows.specs.Types.{isSimple, isComplex, isType}
 use Rattle.ir_checks.proofs.is_type.Statement.{statement}
 use Rattle.ir_checks.proofs.is_type.Tie as tie
 
-in-range-requires : tie.Need-in-range-requires
-in-range-requires c κs = search needs
-
 returns : tie.Need-returns
 unfolding isType isSimple isComplex
 returns c = ap (λ (b : Bool). eqb (c .before .args .tag) 3 || b) (c .in-range .ensures)
 
 pub is-type-spec : {M : Type 1} → statement M
-is-type-spec = tie.close (tie.spec in-range-requires returns)
+is-type-spec = tie.close (tie.spec (λ c κs. search needs) returns)

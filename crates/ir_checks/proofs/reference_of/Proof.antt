@@ -5,14 +5,8 @@ use Rattle.builtin.specs.Builtin.{reference}
 use Rattle.ir_checks.proofs.reference_of.Statement.{statement}
 use Rattle.ir_checks.proofs.reference_of.Tie as tie
 
-map-builtin-requires : tie.Need-map-builtin-requires
-map-builtin-requires c κs = search needs
-
-reference-number-requires : tie.Need-reference-number-requires
-reference-number-requires c κs = search needs
-
 returns : tie.Need-returns
 returns c = c .reference-number .ensures ∙ ap reference (c .before .map-builtin .ensures)
 
 pub reference-of-spec : {M : Type 1} → statement M
-reference-of-spec = tie.close (tie.spec map-builtin-requires reference-number-requires returns)
+reference-of-spec = tie.close (tie.spec (λ c κs. search needs) (λ c κs. search needs) returns)

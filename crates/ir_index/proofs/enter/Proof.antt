@@ -45,22 +45,10 @@ putting c =
       spot = c .before .spot-of .ensures;
     }
 
-name-at-requires : tie.Need-name-at-requires
-name-at-requires c κs = search needs
-
-print-of-requires : tie.Need-print-of-requires
-print-of-requires c κs = search needs
-
 spot-of-requires : tie.Need-spot-of-requires
 spot-of-requires c κs =
     let start = atEntry (c .before .before) in
     (start .pre .0, (start .pre .1 .0, print-is (c .before .before)))
-
-wide-requires : tie.Need-wide-requires
-wide-requires c κs = search needs
-
-cast-scratch : tie.Need-cast-scratch
-cast-scratch c = search needs
 
 mul-scratch : tie.Need-mul-scratch
 mul-scratch c = omega (arith, put-print (putting c))
@@ -77,23 +65,8 @@ slice-write-scratch c = omega (arith, put-within (putting c), putting c .room)
 slice-write-flags : tie.Need-slice-write-flags
 slice-write-flags c = omega (arith, put-print (putting c), putting c .known .flagged .all)
 
-add-result : tie.Need-add-result
-add-result c = search needs
-
-same-length : tie.Need-same-length
-same-length c = search needs
-
-same-length-2 : tie.Need-same-length-2
-same-length-2 c = search needs
-
 returns : tie.Need-returns
 returns c = rw (c .before .wide .ensures) (put-new (putting (c .before)) (c .if1 .taken))
-
-same-length-3 : tie.Need-same-length-3
-same-length-3 c = search needs
-
-same-length-4 : tie.Need-same-length-4
-same-length-4 c = search needs
 
 returns-2 : tie.Need-returns-2
 returns-2 c = rw (c .before .wide .ensures) (put-over (putting (c .before)) (c .if1 .left))
@@ -102,20 +75,20 @@ pub enter-spec : {M : Type 1} → statement M
 enter-spec =
     tie.close
     (tie.spec
-    name-at-requires
-    print-of-requires
+    (λ c κs. search needs)
+    (λ c κs. search needs)
     spot-of-requires
-    wide-requires
-    cast-scratch
+    (λ c κs. search needs)
+    (λ c. search needs)
     mul-scratch
     add-scratch
     mul-scratch-2
     slice-write-scratch
     slice-write-flags
-    add-result
-    same-length
-    same-length-2
+    (λ c. search needs)
+    (λ c. search needs)
+    (λ c. search needs)
     returns
-    same-length-3
-    same-length-4
+    (λ c. search needs)
+    (λ c. search needs)
     returns-2)

@@ -16,18 +16,6 @@ returns c =
     let p = c .before .before .before .pre in
     sym (prints-differ _ _ (λ e. c .if1 .taken (p .0 .print ∙ e ∙ sym (p .1 .1))))
 
-wide-requires : tie.Need-wide-requires
-wide-requires c κs = search needs
-
-name-at-requires : tie.Need-name-at-requires
-name-at-requires c κs = search needs
-
-name-at-requires-2 : tie.Need-name-at-requires-2
-name-at-requires-2 c κs = search needs
-
-same-normalized-requires : tie.Need-same-normalized-requires
-same-normalized-requires c κs = search needs
-
 returns-2 : tie.Need-returns-2
 returns-2 c =
     let start = c .before .before .before .before .before .before .before in
@@ -45,8 +33,8 @@ entry-same-spec =
     tie.close
     (tie.spec
     returns
-    wide-requires
-    name-at-requires
-    name-at-requires-2
-    same-normalized-requires
+    (λ c κs. search needs)
+    (λ c κs. search needs)
+    (λ c κs. search needs)
+    (λ c κs. search needs)
     returns-2)

@@ -6,17 +6,11 @@ use borrow.Author.Needs.{needs}
 use Rattle.ir_index.proofs.index_types.Statement.{statement}
 use Rattle.ir_index.proofs.index_types.Tie as tie
 
-slice-aggregate-enter-kind : tie.Need-slice-aggregate-enter-kind
-slice-aggregate-enter-kind c = search needs
-
 enter-kind-requires : tie.Need-enter-kind-requires
 enter-kind-requires c κs =
     let start = c .before .before .before .before .before in
     let a = start .args in
     (known-none (a .rows .now) (a .names .now) (a .scratch .now) 65536 (omega arith), (start .pre .1, start .pre .2, omega (arith, start .pre .3, types-length (a .rows .now) (a .names .now) (a .end))))
-
-slice-aggregate-enter-kind-2 : tie.Need-slice-aggregate-enter-kind-2
-slice-aggregate-enter-kind-2 c = search needs
 
 enter-kind-requires-2 : tie.Need-enter-kind-requires-2
 enter-kind-requires-2 c κs =
@@ -25,9 +19,6 @@ enter-kind-requires-2 c κs =
     let a = start .args in
     let g = first .enter-kind .ensures in
     (g .known, (start .pre .1, start .pre .2, omega (arith, start .pre .3, types-length (a .rows .now) (a .names .now) (a .end), g .room, first .enter-kind .kept .1 .1 .1 .1 .0)))
-
-same-length : tie.Need-same-length
-same-length c = search needs
 
 returns : tie.Need-returns
 returns c =
@@ -40,9 +31,9 @@ pub index-types-spec : {M : Type 1} → statement M
 index-types-spec =
     tie.close
     (tie.spec
-    slice-aggregate-enter-kind
+    (λ c. search needs)
     enter-kind-requires
-    slice-aggregate-enter-kind-2
+    (λ c. search needs)
     enter-kind-requires-2
-    same-length
+    (λ c. search needs)
     returns)

@@ -5,15 +5,9 @@ use borrow.Author.Needs.{needs}
 use Rattle.ir_index.proofs.mix.Statement.{statement}
 use Rattle.ir_index.proofs.mix.Tie as tie
 
-mul-result : tie.Need-mul-result
-mul-result c = search needs
-
-add-result : tie.Need-add-result
-add-result c = search needs
-
 returns : tie.Need-returns
 unfolding mixed
 returns c = refl
 
 pub mix-spec : {M : Type 1} → statement M
-mix-spec = tie.close (tie.spec mul-result add-result returns)
+mix-spec = tie.close (tie.spec (λ c. search needs) (λ c. search needs) returns)

@@ -12,9 +12,6 @@ use borrow.Author.Needs.{needs}
 use Rattle.ir_index.proofs.spot_of.Statement.{statement}
 use Rattle.ir_index.proofs.spot_of.Tie as tie
 
-wide-requires : tie.Need-wide-requires
-wide-requires c κs = search needs
-
 shared-slice-read-if1 : tie.Need-shared-slice-read-if1
 shared-slice-read-if1 c =
     let start = c .before .before .before .before .before .before in
@@ -33,30 +30,21 @@ slice-aggregate-has-print c =
     let start = c .before .before .before .before .before .before .before .before in
     sym (length-take-le (start .args .n) (start .args .scratch .now) (start .pre .0 .entries .inside))
 
-has-print-requires : tie.Need-has-print-requires
-has-print-requires c κs = search needs
-
 returns-2 : tie.Need-returns-2
 returns-2 c =
     let start = c .before .before .before .before .before .before .before .before .before .before in
     let a = start .args in
     sym (print-none (a .rows .now) (a .names .now) (a .place) (a .scratch .now) (a .n) (start .pre .0 .entries) (rw (start .pre .1 .1) at (sym (c .before .has-print .ensures) ∙ not-true (c .before .has-print .result) (c .if2 .taken))))
 
-find-same-requires : tie.Need-find-same-requires
-find-same-requires c κs = search needs
-
-returns-3 : tie.Need-returns-3
-returns-3 c = search needs
-
 pub spot-of-spec : {M : Type 1} → statement M
 spot-of-spec =
     tie.close
     (tie.spec
-    wide-requires
+    (λ c κs. search needs)
     shared-slice-read-if1
     returns
     slice-aggregate-has-print
-    has-print-requires
+    (λ c κs. search needs)
     returns-2
-    find-same-requires
-    returns-3)
+    (λ c κs. search needs)
+    (λ c. search needs))

@@ -8,30 +8,15 @@ use borrow.Author.Needs.{needs}
 use Rattle.ir_label.proofs.find_label.Statement.{statement}
 use Rattle.ir_label.proofs.find_label.Tie as tie
 
-nowhere-requires : tie.Need-nowhere-requires
-nowhere-requires c κs = search needs
-
 returns : tie.Need-returns
 returns c =
     let a = c .before .before .before .before .before .args in
     c .nowhere .ensures ∙ ap spotOf (sym (rows-odd (a .rows .now) (a .names .now) (a .words .now) (a .k) (c .before .if1 .taken)))
 
-nowhere-requires-2 : tie.Need-nowhere-requires-2
-nowhere-requires-2 c κs = search needs
-
 returns-2 : tie.Need-returns-2
 returns-2 c =
     let a = c .before .before .before .before .before .before .args in
     c .nowhere2 .ensures ∙ ap spotOf (sym (rows-short (a .rows .now) (a .names .now) (a .words .now) (a .k) (c .before .before .if1 .left) (c .before .if2 .taken)))
-
-mul-ten-at : tie.Need-mul-ten-at
-mul-ten-at c = search needs
-
-ten-at-requires : tie.Need-ten-at-requires
-ten-at-requires c κs = search needs
-
-row-spot-requires : tie.Need-row-spot-requires
-row-spot-requires c κs = search needs
 
 returns-3 : tie.Need-returns-3
 unfolding rowTen
@@ -44,11 +29,11 @@ pub find-label-spec : {M : Type 1} → statement M
 find-label-spec =
     tie.close
     (tie.spec
-    nowhere-requires
+    (λ c κs. search needs)
     returns
-    nowhere-requires-2
+    (λ c κs. search needs)
     returns-2
-    mul-ten-at
-    ten-at-requires
-    row-spot-requires
+    (λ c. search needs)
+    (λ c κs. search needs)
+    (λ c κs. search needs)
     returns-3)

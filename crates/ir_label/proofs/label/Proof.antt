@@ -8,9 +8,6 @@ use borrow.Author.Needs.{needs}
 use Rattle.ir_label.proofs.label.Statement.{statement}
 use Rattle.ir_label.proofs.label.Tie as tie
 
-find-label-requires : tie.Need-find-label-requires
-find-label-requires c κs = search needs
-
 add-end : tie.Need-add-end
 add-end c =
     let a = c .before .before .before .before .before .args in
@@ -18,23 +15,11 @@ add-end c =
     bool-cases (f .result .«in_words») (λ t. omega (arith, spot-inside (a .rows .now) (a .names .now) (a .words .now) (a .k) (f .result) true (f .ensures) t))
     (λ t. omega (arith, spot-inside (a .rows .now) (a .names .now) (a .words .now) (a .k) (f .result) false (f .ensures) t))
 
-sub-result : tie.Need-sub-result
-sub-result c = search needs
-
-part-result-start : tie.Need-part-result-start
-part-result-start c = search needs
-
 part-result-end : tie.Need-part-result-end
 part-result-end c =
     let a = c .before .before .before .before .before .before .args in
     let f = c .before .before .find-label in
     omega (arith, spot-inside (a .rows .now) (a .names .now) (a .words .now) (a .k) (f .result) true (f .ensures) (c .if1 .taken))
-
-sub-result-2 : tie.Need-sub-result-2
-sub-result-2 c = search needs
-
-part-result-start-2 : tie.Need-part-result-start-2
-part-result-start-2 c = search needs
 
 part-result-end-2 : tie.Need-part-result-end-2
 part-result-end-2 c =
@@ -66,13 +51,13 @@ pub label-spec : {M : Type 1} → statement M
 label-spec =
     tie.close
     (tie.spec
-    find-label-requires
+    (λ c κs. search needs)
     add-end
-    sub-result
-    part-result-start
+    (λ c. search needs)
+    (λ c. search needs)
     part-result-end
-    sub-result-2
-    part-result-start-2
+    (λ c. search needs)
+    (λ c. search needs)
     part-result-end-2
     returns
     returns-2)

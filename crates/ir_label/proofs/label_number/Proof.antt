@@ -6,12 +6,9 @@ use borrow.Author.Needs.{needs}
 use Rattle.ir_label.proofs.label_number.Statement.{statement}
 use Rattle.ir_label.proofs.label_number.Tie as tie
 
-find-label-requires : tie.Need-find-label-requires
-find-label-requires c κs = search needs
-
 returns : tie.Need-returns
 unfolding spotOf
 returns c = ap (λ (s : Spot). s .number) (c .find-label .ensures)
 
 pub label-number-spec : {M : Type 1} → statement M
-label-number-spec = tie.close (tie.spec find-label-requires returns)
+label-number-spec = tie.close (tie.spec (λ c κs. search needs) returns)

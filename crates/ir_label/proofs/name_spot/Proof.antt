@@ -6,12 +6,6 @@ use borrow.Author.Needs.{needs}
 use Rattle.ir_label.proofs.name_spot.Statement.{statement}
 use Rattle.ir_label.proofs.name_spot.Tie as tie
 
-add-if1 : tie.Need-add-if1
-add-if1 c = search needs
-
-nowhere-requires : tie.Need-nowhere-requires
-nowhere-requires c κs = search needs
-
 returns : tie.Need-returns
 returns c =
     let a = c .before .before .args in
@@ -23,4 +17,4 @@ returns-2 c =
     c .nowhere .ensures ∙ ap spotOf (sym (name-outside (a .names .now) (a .at) (a .len) (c .before .if1 .left)))
 
 pub name-spot-spec : {M : Type 1} → statement M
-name-spot-spec = tie.close (tie.spec add-if1 nowhere-requires returns returns-2)
+name-spot-spec = tie.close (tie.spec (λ c. search needs) (λ c κs. search needs) returns returns-2)

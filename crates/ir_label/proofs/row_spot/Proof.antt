@@ -10,12 +10,6 @@ use borrow.Author.Needs.{needs}
 use Rattle.ir_label.proofs.row_spot.Statement.{statement}
 use Rattle.ir_label.proofs.row_spot.Tie as tie
 
-has-reference-requires : tie.Need-has-reference-requires
-has-reference-requires c κs = search needs
-
-nowhere-requires : tie.Need-nowhere-requires
-nowhere-requires c κs = search needs
-
 returns : tie.Need-returns
 returns c =
     let a = c .before .before .before .before .before .args in
@@ -33,12 +27,6 @@ returns-2 c =
     let a = c .before .before .before .before .before .before .before .args in
     let some = sym (c .before .before .before .before .has-reference .ensures) ∙ not-false _ (c .before .before .before .if1 .left) in
     c .word-spot .ensures ∙ ap spotOf (sym (row-word (a .names .now) (a .words .now) (asTen (a .t)) some (c .before .if2 .taken)))
-
-name-spot-requires : tie.Need-name-spot-requires
-name-spot-requires c κs = search needs
-
-name-spot-requires-2 : tie.Need-name-spot-requires-2
-name-spot-requires-2 c κs = search needs
 
 returns-3 : tie.Need-returns-3
 returns-3 c =
@@ -58,12 +46,12 @@ pub row-spot-spec : {M : Type 1} → statement M
 row-spot-spec =
     tie.close
     (tie.spec
-    has-reference-requires
-    nowhere-requires
+    (λ c κs. search needs)
+    (λ c κs. search needs)
     returns
     word-spot-requires
     returns-2
-    name-spot-requires
-    name-spot-requires-2
+    (λ c κs. search needs)
+    (λ c κs. search needs)
     returns-3
     returns-4)

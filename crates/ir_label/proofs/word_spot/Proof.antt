@@ -10,20 +10,11 @@ use borrow.Author.Needs.{needs}
 use Rattle.ir_label.proofs.word_spot.Statement.{statement}
 use Rattle.ir_label.proofs.word_spot.Tie as tie
 
-five-words-requires : tie.Need-five-words-requires
-five-words-requires c κs = search needs
-
-nowhere-requires : tie.Need-nowhere-requires
-nowhere-requires c κs = search needs
-
 returns : tie.Need-returns
 returns c =
     let a = c .before .before .before .before .args in
     let bad = sym (c .before .before .five-words .ensures) ∙ not-true _ (c .before .if1 .taken) in
     c .nowhere .ensures ∙ ap spotOf (sym (word-bad (a .words .now) (a .a) bad))
-
-sub-word-start : tie.Need-sub-word-start
-sub-word-start c = search needs
 
 word-start-requires : tie.Need-word-start-requires
 word-start-requires c κs =
@@ -38,9 +29,6 @@ line-end-requires c κs =
     let good = sym (c .before .before .five-words .ensures) ∙ not-false _ (c .before .if1 .left) in
     omega (arith, c .word-start .ensures, word-part words (s .args .a - 1) (omega (arith, s .pre, six-words words good)) .inside)
 
-sub-t8 : tie.Need-sub-t8
-sub-t8 c = search needs
-
 returns-2 : tie.Need-returns-2
 returns-2 c =
     let s = c .before .before .before .before .before in
@@ -51,11 +39,11 @@ pub word-spot-spec : {M : Type 1} → statement M
 word-spot-spec =
     tie.close
     (tie.spec
-    five-words-requires
-    nowhere-requires
+    (λ c κs. search needs)
+    (λ c κs. search needs)
     returns
-    sub-word-start
+    (λ c. search needs)
     word-start-requires
     line-end-requires
-    sub-t8
+    (λ c. search needs)
     returns-2)

@@ -8,8 +8,6 @@ use mathlib.Core.List.{List}
 use native.Mathlib.Omega.{arith}
 use lib.ListN.{length}
 use Rattle.sheet.specs.Lengths.{lengthsOf, goodLengths}
-use Rattle.text.specs.Text.{Text, isText}
-use Rattle.names.specs.Names.{normalizeTypeName, xmlToSnakeCase, codeToPascalCase}
 use Rattle.sheet.specs.Rows.{Sheet}
 use Rattle.xsd_types.specs.State.{State, schemaOk, contextOk, rootOk, countersOk, proper}
 use Rattle.xsd_types.specs.Good.{good}

@@ -9,7 +9,7 @@ use mathlib.Core.Logic.{⊎-elim}
 use lib.Dec.{eqb, ltb}
 use Rattle.text.specs.Text.{Text, if_then_else_, every, isText}
 use Rattle.builtin.specs.Builtin.{RustType, mapBuiltin}
-use Rattle.names.specs.Names.{normalizeTypeName, xmlToSnakeCase, codeToPascalCase}
+use Rattle.names.specs.Names.{normalizeTypeName}
 use Rattle.xsd_types.specs.Types.{Element, Facet, SimpleType, MaxOccurs, SequenceElement, ChoiceVariant, Attribute, ComplexContent, ComplexType, Item, Schema, elements, simpleTypes, complexTypes}
 use Rattle.xsd_types.specs.State.{elementOk, facetOk, maxOccursOk, sequenceElementOk, choiceVariantOk, attributeOk, namespaceOk, contentOk, started, itemOk, schemaOk}
 use Rattle.ir_types.specs.Types.{TypeDef, TypeGraph}

@@ -4,12 +4,6 @@ use borrow.Author.Needs.{needs}
 use Rattle.ir_row.proofs.bounded_field.Statement.{statement}
 use Rattle.ir_row.proofs.bounded_field.Tie as tie
 
-bounded-numbers-requires : tie.Need-bounded-numbers-requires
-bounded-numbers-requires c κs = search needs
-
-child-requires : tie.Need-child-requires
-child-requires c κs = search needs
-
 returns : tie.Need-returns
 returns c =
     let args = c .before .before .args in
@@ -17,4 +11,4 @@ returns c =
     λ codes. rw (c .child .ensures) (lowers-17 codes (args .min) (args .max) (args .reference) (k .b) (k .c))
 
 pub bounded-field-spec : {M : Type 1} → statement M
-bounded-field-spec = tie.close (tie.spec bounded-numbers-requires child-requires returns)
+bounded-field-spec = tie.close (tie.spec (λ c κs. search needs) (λ c κs. search needs) returns)

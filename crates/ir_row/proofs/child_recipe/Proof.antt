@@ -6,18 +6,6 @@ use borrow.Author.Needs.{needs}
 use Rattle.ir_row.proofs.child_recipe.Statement.{statement}
 use Rattle.ir_row.proofs.child_recipe.Tie as tie
 
-bounded-field-requires : tie.Need-bounded-field-requires
-bounded-field-requires c κs = search needs
-
-child-requires : tie.Need-child-requires
-child-requires c κs = search needs
-
-child-requires-2 : tie.Need-child-requires-2
-child-requires-2 c κs = search needs
-
-child-requires-3 : tie.Need-child-requires-3
-child-requires-3 c κs = search needs
-
 returns : tie.Need-returns
 returns c = λ codes. lowers-as (c .before .match .keys1) refl (c .bounded-field .ensures codes)
 
@@ -37,10 +25,10 @@ pub child-recipe-spec : {M : Type 1} → statement M
 child-recipe-spec =
     tie.close
     (tie.spec
-    bounded-field-requires
-    child-requires
-    child-requires-2
-    child-requires-3
+    (λ c κs. search needs)
+    (λ c κs. search needs)
+    (λ c κs. search needs)
+    (λ c κs. search needs)
     returns
     returns-2
     returns-3

@@ -9,24 +9,6 @@ use borrow.Author.Needs.{needs}
 use Rattle.ir_row.proofs.complex_recipe.Statement.{statement}
 use Rattle.ir_row.proofs.complex_recipe.Tie as tie
 
-with-texts-requires : tie.Need-with-texts-requires
-with-texts-requires c κs = search needs
-
-with-texts-requires-2 : tie.Need-with-texts-requires-2
-with-texts-requires-2 c κs = search needs
-
-reference-text-requires : tie.Need-reference-text-requires
-reference-text-requires c κs = search needs
-
-with-texts-requires-3 : tie.Need-with-texts-requires-3
-with-texts-requires-3 c κs = search needs
-
-namespace-text-requires : tie.Need-namespace-text-requires
-namespace-text-requires c κs = search needs
-
-with-texts-requires-4 : tie.Need-with-texts-requires-4
-with-texts-requires-4 c κs = search needs
-
 returns : tie.Need-returns
 returns c = λ codes b. lowers-as (c .before .match .keys1) (c .with-texts .ensures) (lowers-12 codes (c .before .before .args .a) b (c .before .before .args .reference))
 
@@ -50,12 +32,12 @@ pub complex-recipe-spec : {M : Type 1} → statement M
 complex-recipe-spec =
     tie.close
     (tie.spec
-    with-texts-requires
-    with-texts-requires-2
-    reference-text-requires
-    with-texts-requires-3
-    namespace-text-requires
-    with-texts-requires-4
+    (λ c κs. search needs)
+    (λ c κs. search needs)
+    (λ c κs. search needs)
+    (λ c κs. search needs)
+    (λ c κs. search needs)
+    (λ c κs. search needs)
     returns
     returns-2
     returns-3

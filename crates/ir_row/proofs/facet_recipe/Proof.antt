@@ -8,18 +8,6 @@ use borrow.Author.Needs.{needs}
 use Rattle.ir_row.proofs.facet_recipe.Statement.{statement}
 use Rattle.ir_row.proofs.facet_recipe.Tie as tie
 
-with-texts-requires : tie.Need-with-texts-requires
-with-texts-requires c κs = search needs
-
-with-texts-requires-2 : tie.Need-with-texts-requires-2
-with-texts-requires-2 c κs = search needs
-
-with-texts-requires-3 : tie.Need-with-texts-requires-3
-with-texts-requires-3 c κs = search needs
-
-with-texts-requires-4 : tie.Need-with-texts-requires-4
-with-texts-requires-4 c κs = search needs
-
 returns : tie.Need-returns
 returns c = λ codes a b n. lowers-as (c .before .match .keys1) (c .with-texts .ensures) (lowers-5 codes a b n)
 
@@ -41,10 +29,10 @@ pub facet-recipe-spec : {M : Type 1} → statement M
 facet-recipe-spec =
     tie.close
     (tie.spec
-    with-texts-requires
-    with-texts-requires-2
-    with-texts-requires-3
-    with-texts-requires-4
+    (λ c κs. search needs)
+    (λ c κs. search needs)
+    (λ c κs. search needs)
+    (λ c κs. search needs)
     returns
     returns-2
     returns-3

@@ -7,15 +7,6 @@ use borrow.Author.Needs.{needs}
 use Rattle.ir_row.proofs.first_recipe.Statement.{statement}
 use Rattle.ir_row.proofs.first_recipe.Tie as tie
 
-with-texts-requires : tie.Need-with-texts-requires
-with-texts-requires c κs = search needs
-
-simple-recipe-requires : tie.Need-simple-recipe-requires
-simple-recipe-requires c κs = search needs
-
-with-texts-requires-2 : tie.Need-with-texts-requires-2
-with-texts-requires-2 c κs = search needs
-
 returns : tie.Need-returns
 returns c = λ a b. lowers-as (c .before .match .keys1) (c .with-texts .ensures) (lowers-2 (c .before .before .args .codes) a b (c .before .before .args .reference))
 
@@ -32,9 +23,9 @@ pub first-recipe-spec : {M : Type 1} → statement M
 first-recipe-spec =
     tie.close
     (tie.spec
-    with-texts-requires
-    simple-recipe-requires
-    with-texts-requires-2
+    (λ c κs. search needs)
+    (λ c κs. search needs)
+    (λ c κs. search needs)
     returns
     returns-2
     returns-3)

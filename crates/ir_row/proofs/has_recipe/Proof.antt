@@ -4,19 +4,10 @@ use borrow.Author.Needs.{needs}
 use Rattle.ir_row.proofs.has_recipe.Statement.{statement}
 use Rattle.ir_row.proofs.has_recipe.Tie as tie
 
-in-range-requires : tie.Need-in-range-requires
-in-range-requires c κs = search needs
-
-in-range-requires-2 : tie.Need-in-range-requires-2
-in-range-requires-2 c κs = search needs
-
-in-range-requires-3 : tie.Need-in-range-requires-3
-in-range-requires-3 c κs = search needs
-
 returns : tie.Need-returns
 unfolding hasRecipe
 returns c = rw (c .before .before .in-range .ensures, c .before .in-range2 .ensures, c .in-range3 .ensures)
 
 pub has-recipe-spec : {M : Type 1} → statement M
 has-recipe-spec =
-    tie.close (tie.spec in-range-requires in-range-requires-2 in-range-requires-3 returns)
+    tie.close (tie.spec (λ c κs. search needs) (λ c κs. search needs) (λ c κs. search needs) returns)

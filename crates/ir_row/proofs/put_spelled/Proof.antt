@@ -11,9 +11,6 @@ use borrow.Author.Needs.{needs}
 use Rattle.ir_row.proofs.put_spelled.Statement.{statement}
 use Rattle.ir_row.proofs.put_spelled.Tie as tie
 
-has-recipe-requires : tie.Need-has-recipe-requires
-has-recipe-requires c κs = search needs
-
 returns : tie.Need-returns
 unfolding tenRows
 returns c =
@@ -21,39 +18,6 @@ returns c =
     let args = start .args in
     let none = lowered-none (args .codes) (args .t .tag) (args .t .a) (args .t .b) (textAt (args .names .now) (args .t .at0) (args .t .len0)) (textAt (args .names .now) (args .t .at1) (args .t .len1)) (start .pre .1) (sym (c .before .has-recipe .ensures) ∙ not-true (c .before .has-recipe .result) (c .if1 .taken)) in
     rw none (grows-none (start .pre .0))
-
-wide-requires : tie.Need-wide-requires
-wide-requires c κs = search needs
-
-wide-requires-2 : tie.Need-wide-requires-2
-wide-requires-2 c κs = search needs
-
-part-of-requires : tie.Need-part-of-requires
-part-of-requires c κs = search needs
-
-wide-requires-3 : tie.Need-wide-requires-3
-wide-requires-3 c κs = search needs
-
-wide-requires-4 : tie.Need-wide-requires-4
-wide-requires-4 c κs = search needs
-
-part-of-requires-2 : tie.Need-part-of-requires-2
-part-of-requires-2 c κs = search needs
-
-row-reference-requires : tie.Need-row-reference-requires
-row-reference-requires c κs = search needs
-
-recipe-of-requires : tie.Need-recipe-of-requires
-recipe-of-requires c κs = search needs
-
-append-spelled-requires : tie.Need-append-spelled-requires
-append-spelled-requires c κs = search needs
-
-same-length : tie.Need-same-length
-same-length c = search needs
-
-same-length-2 : tie.Need-same-length-2
-same-length-2 c = search needs
 
 returns-2 : tie.Need-returns-2
 unfolding tenRows
@@ -73,17 +37,17 @@ pub put-spelled-spec : {M : Type 1} → statement M
 put-spelled-spec =
     tie.close
     (tie.spec
-    has-recipe-requires
+    (λ c κs. search needs)
     returns
-    wide-requires
-    wide-requires-2
-    part-of-requires
-    wide-requires-3
-    wide-requires-4
-    part-of-requires-2
-    row-reference-requires
-    recipe-of-requires
-    append-spelled-requires
-    same-length
-    same-length-2
+    (λ c κs. search needs)
+    (λ c κs. search needs)
+    (λ c κs. search needs)
+    (λ c κs. search needs)
+    (λ c κs. search needs)
+    (λ c κs. search needs)
+    (λ c κs. search needs)
+    (λ c κs. search needs)
+    (λ c κs. search needs)
+    (λ c. search needs)
+    (λ c. search needs)
     returns-2)

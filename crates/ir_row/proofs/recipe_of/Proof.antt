@@ -3,25 +3,13 @@ use borrow.Author.Needs.{needs}
 use Rattle.ir_row.proofs.recipe_of.Statement.{statement}
 use Rattle.ir_row.proofs.recipe_of.Tie as tie
 
-first-recipe-requires : tie.Need-first-recipe-requires
-first-recipe-requires c κs = search needs
-
 returns : tie.Need-returns
 returns c = c .first-recipe .ensures (c .before .before .args .a) (c .before .before .args .b)
-
-facet-recipe-requires : tie.Need-facet-recipe-requires
-facet-recipe-requires c κs = search needs
 
 returns-2 : tie.Need-returns-2
 returns-2 c =
     let args = c .before .before .before .args in
     c .facet-recipe .ensures (args .codes) (args .a) (args .b) (args .reference)
-
-complex-recipe-requires : tie.Need-complex-recipe-requires
-complex-recipe-requires c κs = search needs
-
-child-recipe-requires : tie.Need-child-recipe-requires
-child-recipe-requires c κs = search needs
 
 returns-3 : tie.Need-returns-3
 returns-3 c =
@@ -37,11 +25,11 @@ pub recipe-of-spec : {M : Type 1} → statement M
 recipe-of-spec =
     tie.close
     (tie.spec
-    first-recipe-requires
+    (λ c κs. search needs)
     returns
-    facet-recipe-requires
+    (λ c κs. search needs)
     returns-2
-    complex-recipe-requires
-    child-recipe-requires
+    (λ c κs. search needs)
+    (λ c κs. search needs)
     returns-3
     returns-4)

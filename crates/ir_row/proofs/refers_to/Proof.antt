@@ -4,12 +4,9 @@ use borrow.Author.Needs.{needs}
 use Rattle.ir_row.proofs.refers_to.Statement.{statement}
 use Rattle.ir_row.proofs.refers_to.Tie as tie
 
-in-range-requires : tie.Need-in-range-requires
-in-range-requires c κs = search needs
-
 returns : tie.Need-returns
 unfolding refers
 returns c = rw (c .in-range .ensures)
 
 pub refers-to-spec : {M : Type 1} → statement M
-refers-to-spec = tie.close (tie.spec in-range-requires returns)
+refers-to-spec = tie.close (tie.spec (λ c κs. search needs) returns)

@@ -4,12 +4,6 @@ use borrow.Author.Needs.{needs}
 use Rattle.ir_row.proofs.simple_recipe.Statement.{statement}
 use Rattle.ir_row.proofs.simple_recipe.Tie as tie
 
-with-texts-requires : tie.Need-with-texts-requires
-with-texts-requires c κs = search needs
-
-with-texts-requires-2 : tie.Need-with-texts-requires-2
-with-texts-requires-2 c κs = search needs
-
 returns : tie.Need-returns
 returns c = λ a b. rw (c .before .if1 .taken, c .with-texts .ensures) (lowers-code-enum a b (c .before .before .args .reference))
 
@@ -18,4 +12,4 @@ returns-2 c = λ a b. rw (c .before .if1 .left, c .with-texts2 .ensures) (lowers
 
 pub simple-recipe-spec : {M : Type 1} → statement M
 simple-recipe-spec =
-    tie.close (tie.spec with-texts-requires with-texts-requires-2 returns returns-2)
+    tie.close (tie.spec (λ c κs. search needs) (λ c κs. search needs) returns returns-2)

@@ -1,7 +1,7 @@
 -- The places that are kept: each is one of the finished types' places, so it lies behind row 1 and before the end, its row is a type's head, and there
 -- are no more of them than finished types. Inserting a place adds that place alone. Assumes nothing.
 --     inside low high    the test of a place from low on and before high
-use Prim.Native.Nat.{ℕ, zero, suc, _+_, _≤_, _<_}
+use Prim.Native.Nat.{ℕ, _+_, _≤_, _<_}
 use mathlib.Core.Path.{_≡_, refl, ap, _∙_}
 use mathlib.Core.Logic.{⊎-elim}
 use mathlib.Core.Bool.{Bool, true, _&&_}

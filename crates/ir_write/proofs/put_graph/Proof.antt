@@ -12,21 +12,6 @@ use Rattle.ir_write.proofs.Laws.Rest.{graph-on}
 use Rattle.ir_write.proofs.put_graph.Statement.{statement}
 use Rattle.ir_write.proofs.put_graph.Tie as tie
 
-put-lowered-requires : tie.Need-put-lowered-requires
-put-lowered-requires c κs = search needs
-
-enum-known-namespace : tie.Need-enum-known-namespace
-enum-known-namespace c = search needs
-
-enum-told : tie.Need-enum-told
-enum-told c = search needs
-
-same-length : tie.Need-same-length
-same-length c = search needs
-
-same-length-2 : tie.Need-same-length-2
-same-length-2 c = search needs
-
 returns : tie.Need-returns
 returns c =
     let put = c .before .before .before .before .before .before in
@@ -42,18 +27,6 @@ put-roots-requires c κs =
     let put = c .before .before .before .before .before .before .before .before .before in
     let start = put .before .before .before .before .before .before .before .before in
     (room-after (start .pre .0 .0) (grown-of _ _ _ _ _ _ _ (put .put-lowered .ensures) (c .before .before .before .namespace .given .1)), search needs)
-
-enum-known-roots : tie.Need-enum-known-roots
-enum-known-roots c = search needs
-
-enum-told-2 : tie.Need-enum-told-2
-enum-told-2 c = search needs
-
-same-length-3 : tie.Need-same-length-3
-same-length-3 c = search needs
-
-same-length-4 : tie.Need-same-length-4
-same-length-4 c = search needs
 
 returns-2 : tie.Need-returns-2
 returns-2 c =
@@ -75,12 +48,6 @@ put-types-requires c κs =
     let room = room-after (start .pre .0 .0) (grown-of _ _ _ _ _ _ _ (put .put-lowered .ensures) (roots .before .before .before .before .namespace .given .1)) in
     ((room-after room (grown-of _ _ _ _ _ _ _ (roots .put-roots .ensures) (c .before .before .before .roots .given .1)), search needs), start .pre .1)
 
-same-length-5 : tie.Need-same-length-5
-same-length-5 c = search needs
-
-same-length-6 : tie.Need-same-length-6
-same-length-6 c = search needs
-
 returns-3 : tie.Need-returns-3
 returns-3 c =
     let types = c .before .before .before .before in
@@ -100,19 +67,19 @@ pub put-graph-spec : {M : Type 1} → statement M
 put-graph-spec =
     tie.close
     (tie.spec
-    put-lowered-requires
-    enum-known-namespace
-    enum-told
-    same-length
-    same-length-2
+    (λ c κs. search needs)
+    (λ c. search needs)
+    (λ c. search needs)
+    (λ c. search needs)
+    (λ c. search needs)
     returns
     put-roots-requires
-    enum-known-roots
-    enum-told-2
-    same-length-3
-    same-length-4
+    (λ c. search needs)
+    (λ c. search needs)
+    (λ c. search needs)
+    (λ c. search needs)
     returns-2
     put-types-requires
-    same-length-5
-    same-length-6
+    (λ c. search needs)
+    (λ c. search needs)
     returns-3)

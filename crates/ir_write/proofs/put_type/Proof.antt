@@ -9,27 +9,6 @@ use Rattle.ir_write.proofs.Laws.Rest.{type-on}
 use Rattle.ir_write.proofs.put_type.Statement.{statement}
 use Rattle.ir_write.proofs.put_type.Tie as tie
 
-add-is-code-enum : tie.Need-add-is-code-enum
-add-is-code-enum c = search needs
-
-is-code-enum-requires : tie.Need-is-code-enum-requires
-is-code-enum-requires c κs = search needs
-
-put-lowered-requires : tie.Need-put-lowered-requires
-put-lowered-requires c κs = search needs
-
-enum-known-head : tie.Need-enum-known-head
-enum-known-head c = search needs
-
-enum-told : tie.Need-enum-told
-enum-told c = search needs
-
-same-length : tie.Need-same-length
-same-length c = search needs
-
-same-length-2 : tie.Need-same-length-2
-same-length-2 c = search needs
-
 returns : tie.Need-returns
 returns c =
     let put = c .before .before .before .before .before .before in
@@ -49,12 +28,6 @@ put-children-requires c κs =
     let start = put .before .before .before .before .before .before .before .before in
     (room-after (start .pre .0) (grown-of _ _ _ _ _ _ _ (put .put-lowered .ensures) (c .before .before .before .head .given .1)), search needs)
 
-same-length-3 : tie.Need-same-length-3
-same-length-3 c = search needs
-
-same-length-4 : tie.Need-same-length-4
-same-length-4 c = search needs
-
 returns-2 : tie.Need-returns-2
 returns-2 c =
     let put = c .before .before .before .before .before .before .before .before .before .before .before .before .before .before in
@@ -71,16 +44,16 @@ pub put-type-spec : {M : Type 1} → statement M
 put-type-spec =
     tie.close
     (tie.spec
-    add-is-code-enum
-    is-code-enum-requires
-    put-lowered-requires
-    enum-known-head
-    enum-told
-    same-length
-    same-length-2
+    (λ c. search needs)
+    (λ c κs. search needs)
+    (λ c κs. search needs)
+    (λ c. search needs)
+    (λ c. search needs)
+    (λ c. search needs)
+    (λ c. search needs)
     returns
     add-children
     put-children-requires
-    same-length-3
-    same-length-4
+    (λ c. search needs)
+    (λ c. search needs)
     returns-2)

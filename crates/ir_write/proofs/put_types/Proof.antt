@@ -1,6 +1,6 @@
 -- `ir_write::put_types` meets its contract. The invariant: all types are added where those of the entries from the one at hand on are (`Onward`), whose places lie before the end. Assumes nothing.
 use Prim.Native.Nat.{_%_, ℕ, _+_, _-_}
-use mathlib.Core.Path.{_≡_, refl, sym, ap, _∙_}
+use mathlib.Core.Path.{_≡_, refl, ap, _∙_}
 use mathlib.Core.List.{_∷_, _++_}
 use mathlib.Core.Bool.{true}
 use lib.ListN.{length, drop, getD}

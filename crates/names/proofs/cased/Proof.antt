@@ -5,16 +5,10 @@ use Rattle.names.proofs.Laws.Scans.{cased-up, cased-low, cased-same}
 use Rattle.names.proofs.cased.Statement.{statement}
 use Rattle.names.proofs.cased.Tie as tie
 
-to-upper-requires : tie.Need-to-upper-requires
-to-upper-requires c κs = search needs
-
 returns : tie.Need-returns
 returns c =
     let a = c .before .before .args in
     c .to-upper .ensures ∙ sym (cased-up (a .up) (a .lowers) (a .b) (c .before .if1 .taken))
-
-to-lower-requires : tie.Need-to-lower-requires
-to-lower-requires c κs = search needs
 
 returns-2 : tie.Need-returns-2
 returns-2 c =
@@ -27,4 +21,4 @@ returns-3 c =
     sym (cased-same (a .up) (a .lowers) (a .b) (c .before .if1 .left) (c .if2 .left))
 
 pub cased-spec : {M : Type 1} → statement M
-cased-spec = tie.close (tie.spec to-upper-requires returns to-lower-requires returns-2 returns-3)
+cased-spec = tie.close (tie.spec (λ c κs. search needs) returns (λ c κs. search needs) returns-2 returns-3)

@@ -5,16 +5,10 @@ use Rattle.names.proofs.Laws.Names.{segments-pascal}
 use Rattle.names.proofs.code_to_pascal_case.Statement.{statement}
 use Rattle.names.proofs.code_to_pascal_case.Tie as tie
 
-put-segments-requires : tie.Need-put-segments-requires
-put-segments-requires c κs = search needs
-
-same-length : tie.Need-same-length
-same-length c = search needs
-
 returns : tie.Need-returns
 returns c =
     let value = c .before .before .before .before .before .before .args .value .now in
     put-as (c .before .before .put-segments .ensures) (segments-pascal value)
 
 pub code-to-pascal-case-spec : {M : Type 1} → statement M
-code-to-pascal-case-spec = tie.close (tie.spec put-segments-requires same-length returns)
+code-to-pascal-case-spec = tie.close (tie.spec (λ c κs. search needs) (λ c. search needs) returns)

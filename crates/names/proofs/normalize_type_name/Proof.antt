@@ -10,18 +10,6 @@ use Rattle.names.proofs.Laws.Names.{segments-normalize, normalize-plain
 use Rattle.names.proofs.normalize_type_name.Statement.{statement}
 use Rattle.names.proofs.normalize_type_name.Tie as tie
 
-has-byte-requires : tie.Need-has-byte-requires
-has-byte-requires c κs = search needs
-
-put-segments-requires : tie.Need-put-segments-requires
-put-segments-requires c κs = search needs
-
-put-same-requires : tie.Need-put-same-requires
-put-same-requires c κs = search needs
-
-same-length : tie.Need-same-length
-same-length c = search needs
-
 returns : tie.Need-returns
 returns c =
     let put = c .before .before in
@@ -30,9 +18,6 @@ returns c =
     let name = has .before .before .before .args .name .now in
     let first = sym (has .has-byte .ensures) ∙ test .if1 .taken in
     put-as (put .put-segments .ensures) (ap (λ (up : Bool). segments (code "_") false up name) (sym first) ∙ segments-normalize name)
-
-same-length-2 : tie.Need-same-length-2
-same-length-2 c = search needs
 
 returns-2 : tie.Need-returns-2
 returns-2 c =
@@ -46,10 +31,10 @@ pub normalize-type-name-spec : {M : Type 1} → statement M
 normalize-type-name-spec =
     tie.close
     (tie.spec
-    has-byte-requires
-    put-segments-requires
-    put-same-requires
-    same-length
+    (λ c κs. search needs)
+    (λ c κs. search needs)
+    (λ c κs. search needs)
+    (λ c. search needs)
     returns
-    same-length-2
+    (λ c. search needs)
     returns-2)

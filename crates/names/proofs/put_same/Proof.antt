@@ -9,12 +9,6 @@ use Rattle.names.specs.Answers.{written, placed}
 use Rattle.names.proofs.put_same.Statement.{statement}
 use Rattle.names.proofs.put_same.Tie as tie
 
-copy-first-requires : tie.Need-copy-first-requires
-copy-first-requires c κs = search needs
-
-same-length : tie.Need-same-length
-same-length c = search needs
-
 returns : tie.Need-returns
 unfolding written placed
 returns c =
@@ -27,12 +21,6 @@ returns c =
       counted = rw (lt-leb n m (test .if1 .taken));
       holds = copy .copy-first .ensures ∙ rw (drop-of-length-le (a .out .now) {i = m} (omega arith), drop-of-length-le (a .out .now) {i = n} (omega (arith, test .if1 .taken)));
     }
-
-copy-first-requires-2 : tie.Need-copy-first-requires-2
-copy-first-requires-2 c κs = search needs
-
-same-length-2 : tie.Need-same-length-2
-same-length-2 c = search needs
 
 returns-2 : tie.Need-returns-2
 unfolding written placed
@@ -51,9 +39,9 @@ pub put-same-spec : {M : Type 1} → statement M
 put-same-spec =
     tie.close
     (tie.spec
-    copy-first-requires
-    same-length
+    (λ c κs. search needs)
+    (λ c. search needs)
     returns
-    copy-first-requires-2
-    same-length-2
+    (λ c κs. search needs)
+    (λ c. search needs)
     returns-2)

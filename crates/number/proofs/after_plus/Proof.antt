@@ -9,18 +9,6 @@ use Rattle.number.proofs.Laws.Numbers.{afterPlus-plus, afterPlus-other}
 use Rattle.number.proofs.after_plus.Statement.{statement}
 use Rattle.number.proofs.after_plus.Tie as tie
 
-shared-slice-read-if2 : tie.Need-shared-slice-read-if2
-shared-slice-read-if2 c = search needs
-
-sub-result : tie.Need-sub-result
-sub-result c = search needs
-
-part-result-start : tie.Need-part-result-start
-part-result-start c = search needs
-
-part-result-end : tie.Need-part-result-end
-part-result-end c = search needs
-
 returns : tie.Need-returns
 returns c =
     let s = c .before .before .before .before .args .s .now in
@@ -39,10 +27,10 @@ pub after-plus-spec : {M : Type 1} → statement M
 after-plus-spec =
     tie.close
     (tie.spec
-    shared-slice-read-if2
-    sub-result
-    part-result-start
-    part-result-end
+    (λ c. search needs)
+    (λ c. search needs)
+    (λ c. search needs)
+    (λ c. search needs)
     returns
     returns-2
     returns-3)

@@ -9,23 +9,11 @@ use Rattle.number.proofs.Laws.Numbers.{numeral-bound}
 use Rattle.number.proofs.parse_u32.Statement.{statement}
 use Rattle.number.proofs.parse_u32.Tie as tie
 
-after-plus-requires : tie.Need-after-plus-requires
-after-plus-requires c κs = search needs
-
-parse-digits-requires : tie.Need-parse-digits-requires
-parse-digits-requires c κs = search needs
-
-enum-known-v : tie.Need-enum-known-v
-enum-known-v c = search needs
-
 cast-t6 : tie.Need-cast-t6
 cast-t6 c =
     let called = c .before .before .before in
     let d = called .before .after-plus .result .now in
     omega (arith, numeral-bound (2 ^ 32) d _ (sym (called .parse-digits .ensures) ∙ ap ofU64 (c .before .v .given .1)))
-
-enum-told : tie.Need-enum-told
-enum-told c = search needs
 
 returns : tie.Need-returns
 unfolding number
@@ -47,10 +35,10 @@ pub parse-u32-spec : {M : Type 1} → statement M
 parse-u32-spec =
     tie.close
     (tie.spec
-    after-plus-requires
-    parse-digits-requires
-    enum-known-v
+    (λ c κs. search needs)
+    (λ c κs. search needs)
+    (λ c. search needs)
     cast-t6
-    enum-told
+    (λ c. search needs)
     returns
     returns-2)

@@ -6,15 +6,9 @@ use Rattle.number.specs.Number.{numeral, number}
 use Rattle.number.proofs.parse_u64.Statement.{statement}
 use Rattle.number.proofs.parse_u64.Tie as tie
 
-after-plus-requires : tie.Need-after-plus-requires
-after-plus-requires c κs = search needs
-
-parse-digits-requires : tie.Need-parse-digits-requires
-parse-digits-requires c κs = search needs
-
 returns : tie.Need-returns
 unfolding number
 returns c = c .parse-digits .ensures ∙ ap (numeral (2 ^ 64)) (c .before .after-plus .ensures)
 
 pub parse-u64-spec : {M : Type 1} → statement M
-parse-u64-spec = tie.close (tie.spec after-plus-requires parse-digits-requires returns)
+parse-u64-spec = tie.close (tie.spec (λ c κs. search needs) (λ c κs. search needs) returns)

@@ -1,37 +1,12 @@
 -- `printing::input_of` meets its contract: each return is the arm of the definition that the tests lead to. Assumes nothing.
 use mathlib.Core.Path.{sym, _∙_}
-use borrow.Author.Tests.{not-true, not-false}
 use Rattle.printing.proofs.Laws.Input.{input-long, input-tape, input-short}
 use borrow.Author.Needs.{needs}
 use Rattle.printing.proofs.input_of.Statement.{statement}
 use Rattle.printing.proofs.input_of.Tie as tie
 
-too-long-requires : tie.Need-too-long-requires
-too-long-requires c κs = search needs
-
 returns : tie.Need-returns
 returns c = input-long (c .before .before .before .args .input .now) (sym (c .before .too-long .ensures) ∙ c .if1 .taken)
-
-number-at-requires : tie.Need-number-at-requires
-number-at-requires c κs = search needs
-
-wide-requires : tie.Need-wide-requires
-wide-requires c κs = search needs
-
-number-at-requires-2 : tie.Need-number-at-requires-2
-number-at-requires-2 c κs = search needs
-
-wide-requires-2 : tie.Need-wide-requires-2
-wide-requires-2 c κs = search needs
-
-add-if2 : tie.Need-add-if2
-add-if2 c = search needs
-
-mul-if2 : tie.Need-mul-if2
-mul-if2 c = search needs
-
-add-if2-2 : tie.Need-add-if2-2
-add-if2-2 c = search needs
 
 returns-2 : tie.Need-returns-2
 returns-2 c =
@@ -47,14 +22,14 @@ pub input-of-spec : {M : Type 1} → statement M
 input-of-spec =
     tie.close
     (tie.spec
-    too-long-requires
+    (λ c κs. search needs)
     returns
-    number-at-requires
-    wide-requires
-    number-at-requires-2
-    wide-requires-2
-    add-if2
-    mul-if2
-    add-if2-2
+    (λ c κs. search needs)
+    (λ c κs. search needs)
+    (λ c κs. search needs)
+    (λ c κs. search needs)
+    (λ c. search needs)
+    (λ c. search needs)
+    (λ c. search needs)
     returns-2
     returns-3)

@@ -6,15 +6,6 @@ use borrow.Author.Needs.{needs}
 use Rattle.printing.proofs.put_first.Statement.{statement}
 use Rattle.printing.proofs.put_first.Tie as tie
 
-returns : tie.Need-returns
-returns c = search needs
-
-returns-2 : tie.Need-returns-2
-returns-2 c = search needs
-
-slice-relend-prefix-put-marks : tie.Need-slice-relend-prefix-put-marks
-slice-relend-prefix-put-marks c = search needs
-
 slice-aggregate-put-marks : tie.Need-slice-aggregate-put-marks
 slice-aggregate-put-marks c =
     let a = c .before .before .before .before .before .before .args in
@@ -25,12 +16,6 @@ put-marks-requires c κs =
     let a = c .before .before .before .before .before .before .args in
     omega (arith, length-take-le (a .count) (a .marks .now) (omega arith))
 
-same-length : tie.Need-same-length
-same-length c = search needs
-
-returns-3 : tie.Need-returns-3
-returns-3 c = search needs
-
 pub put-first-spec : {M : Type 1} → statement M
 put-first-spec =
-    tie.close (tie.spec returns returns-2 slice-relend-prefix-put-marks slice-aggregate-put-marks put-marks-requires same-length returns-3)
+    tie.close (tie.spec (λ c. search needs) (λ c. search needs) (λ c. search needs) slice-aggregate-put-marks put-marks-requires (λ c. search needs) (λ c. search needs))

@@ -4,15 +4,9 @@ use borrow.Author.Needs.{needs}
 use Rattle.printing.proofs.too_long.Statement.{statement}
 use Rattle.printing.proofs.too_long.Tie as tie
 
-number-at-requires : tie.Need-number-at-requires
-number-at-requires c κs = search needs
-
-number-at-requires-2 : tie.Need-number-at-requires-2
-number-at-requires-2 c κs = search needs
-
 returns : tie.Need-returns
 unfolding tooLong
 returns c = rw (c .before .number-at .ensures, c .number-at2 .ensures)
 
 pub too-long-spec : {M : Type 1} → statement M
-too-long-spec = tie.close (tie.spec number-at-requires number-at-requires-2 returns)
+too-long-spec = tie.close (tie.spec (λ c κs. search needs) (λ c κs. search needs) returns)

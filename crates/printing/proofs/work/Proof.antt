@@ -27,30 +27,6 @@ work-is x graph text marks scratch {x₁} {x₂} {first} {read} {lowered} cleare
     subst (λ (y : Sheet). _≡_ {A = Ran} (record { answers = readAnswered y read ∷ Answered.loweredAs lowered ∷ []; last = x₂ }) (run y (workCalls text marks graph scratch)))
     (ap (λ (k : Cleared). k .sheet) cleared) (runs w (Trace.readNext is (Trace.lowerNext is′ Trace.done)))
 
-clear-requires : tie.Need-clear-requires
-clear-requires c κs = search needs
-
-read-requires : tie.Need-read-requires
-read-requires c κs = search needs
-
-lower-requires : tie.Need-lower-requires
-lower-requires c κs = search needs
-
-same-length : tie.Need-same-length
-same-length c = search needs
-
-same-length-2 : tie.Need-same-length-2
-same-length-2 c = search needs
-
-same-length-3 : tie.Need-same-length-3
-same-length-3 c = search needs
-
-same-length-4 : tie.Need-same-length-4
-same-length-4 c = search needs
-
-same-length-5 : tie.Need-same-length-5
-same-length-5 c = search needs
-
 returns : tie.Need-returns
 returns c =
     let cleared = c .before .before .before .before .before .before .before .before .before .before .before .before .before .before .before .before .before .before .before .before .before .before .before .clear .ensures in
@@ -60,4 +36,4 @@ returns c =
     work-is (sheet (a .rows .now) (a .names .now)) (sheet (a .graph-rows .now) (a .graph-names .now)) (a .text .now) (a .marks .now) (a .scratch .now) cleared read lowered (words-each _ (λ i. c .before .before .before .before .before .before .before .before .before .before .before .before .before .before .before .before .before .before .before .before .before .slice-known6 .given i .fits))
 
 pub work-spec : {M : Type 1} → statement M
-work-spec = tie.close (tie.spec clear-requires read-requires lower-requires same-length same-length-2 same-length-3 same-length-4 same-length-5 returns)
+work-spec = tie.close (tie.spec (λ c κs. search needs) (λ c κs. search needs) (λ c κs. search needs) (λ c. search needs) (λ c. search needs) (λ c. search needs) (λ c. search needs) (λ c. search needs) returns)

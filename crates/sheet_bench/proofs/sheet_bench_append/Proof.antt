@@ -31,26 +31,14 @@ has-room used rows names text h =
       bytes = omega (arith, leb-true (used .names) names (p .0), leb-true text (names - used .names) (p .3));
     }
 
-has-room-requires : tie.Need-has-room-requires
-has-room-requires c κs = search needs
-
 returns : tie.Need-returns
 returns c = AppendIs.full (sym (c .before .has-room .ensures) ∙ not-true _ (c .if1 .taken)) refl refl refl
-
-slice-aggregate-append : tie.Need-slice-aggregate-append
-slice-aggregate-append c = search needs
 
 append-requires : tie.Need-append-requires
 append-requires c κs =
     let a = c .before .before .before .before .before .before .before .before .before .before .args in
     let r = has-room (record { rows = a .rows-used .now; names = a .names-used .now }) (length (a .rows .now)) (length (a .names .now)) (length (a .text .now)) (sym (c .before .before .before .before .has-room .ensures) ∙ not-false _ (c .before .before .before .if1 .left)) in
     (r .row, ((r .bytes, r .lent), omega arith))
-
-same-length : tie.Need-same-length
-same-length c = search needs
-
-same-length-2 : tie.Need-same-length-2
-same-length-2 c = search needs
 
 returns-2 : tie.Need-returns-2
 returns-2 c =
@@ -61,10 +49,10 @@ pub sheet-bench-append-spec : {M : Type 1} → statement M
 sheet-bench-append-spec =
     tie.close
     (tie.spec
-    has-room-requires
+    (λ c κs. search needs)
     returns
-    slice-aggregate-append
+    (λ c. search needs)
     append-requires
-    same-length
-    same-length-2
+    (λ c. search needs)
+    (λ c. search needs)
     returns-2)

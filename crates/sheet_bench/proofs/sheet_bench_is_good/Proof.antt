@@ -5,9 +5,6 @@ use borrow.Author.Needs.{needs}
 use Rattle.sheet_bench.proofs.sheet_bench_is_good.Statement.{statement}
 use Rattle.sheet_bench.proofs.sheet_bench_is_good.Tie as tie
 
-is-good-requires : tie.Need-is-good-requires
-is-good-requires c κs = search needs
-
 returns : tie.Need-returns
 unfolding bit
 returns c = sym (ap bit (sym (c .before .is-good .ensures) ∙ c .if1 .taken))
@@ -17,4 +14,4 @@ unfolding bit
 returns-2 c = sym (ap bit (sym (c .before .is-good .ensures) ∙ c .if1 .left))
 
 pub sheet-bench-is-good-spec : {M : Type 1} → statement M
-sheet-bench-is-good-spec = tie.close (tie.spec is-good-requires returns returns-2)
+sheet-bench-is-good-spec = tie.close (tie.spec (λ c κs. search needs) returns returns-2)

@@ -17,35 +17,11 @@ returns c =
     let a = c .before .before .before .args in
     record { judged = sym (record-none (a .text .now) (a .marks .now) (a .at) (c .if1 .taken)); places = tt }
 
-sub-left : tie.Need-sub-left
-sub-left c = search needs
-
 returns-2 : tie.Need-returns-2
 unfolding recorded placed
 returns-2 c =
     let a = c .before .before .before .before .args in
     record { judged = sym (record-one (a .text .now) (a .marks .now) (a .at) (omega arith) (omega arith)); places = tt }
-
-mul-kind : tie.Need-mul-kind
-mul-kind c = search needs
-
-shared-slice-read-kind : tie.Need-shared-slice-read-kind
-shared-slice-read-kind c = search needs
-
-add-wide : tie.Need-add-wide
-add-wide c = search needs
-
-mul-wide : tie.Need-mul-wide
-mul-wide c = search needs
-
-shared-slice-read-wide : tie.Need-shared-slice-read-wide
-shared-slice-read-wide c = search needs
-
-wide-requires : tie.Need-wide-requires
-wide-requires c κs = search needs
-
-has-form-requires : tie.Need-has-form-requires
-has-form-requires c κs = search needs
 
 returns-3 : tie.Need-returns-3
 unfolding recorded placed
@@ -53,9 +29,6 @@ returns-3 c =
     let a = c .before .before .before .before .before .before .before .before .before .args in
     let form = sym (c .before .has-form .ensures) ∙ not-true _ (c .if3 .taken) in
     record { judged = sym (record-bad (a .text .now) (a .marks .now) (a .at) _ _ (omega arith) refl (c .before .before .wide .ensures) form); places = tt }
-
-add-next : tie.Need-add-next
-add-next c = search needs
 
 returns-4 : tie.Need-returns-4
 unfolding recordEvent recorded placed
@@ -89,17 +62,17 @@ record-at-spec =
     tie.close
     (tie.spec
     returns
-    sub-left
+    (λ c. search needs)
     returns-2
-    mul-kind
-    shared-slice-read-kind
-    add-wide
-    mul-wide
-    shared-slice-read-wide
-    wide-requires
-    has-form-requires
+    (λ c. search needs)
+    (λ c. search needs)
+    (λ c. search needs)
+    (λ c. search needs)
+    (λ c. search needs)
+    (λ c κs. search needs)
+    (λ c κs. search needs)
     returns-3
-    add-next
+    (λ c. search needs)
     returns-4
     tag-at-requires
     returns-5)

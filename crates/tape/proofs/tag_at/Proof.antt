@@ -13,15 +13,6 @@ use borrow.Author.Needs.{needs}
 use Rattle.tape.proofs.tag_at.Statement.{statement}
 use Rattle.tape.proofs.tag_at.Tie as tie
 
-add-pairs : tie.Need-add-pairs
-add-pairs c = search needs
-
-mul-n : tie.Need-mul-n
-mul-n c = search needs
-
-add-n : tie.Need-add-n
-add-n c = search needs
-
 pairs-inside-requires : tie.Need-pairs-inside-requires
 unfolding pairCount
 pairs-inside-requires c κs = c .before .before .pre .0 .2
@@ -44,12 +35,6 @@ returns-2 c =
     let ps = pairsOf (pairCount (a .count)) (drop (a .at + 2) (a .marks .now)) in
     let inside = sym (c .before .before .before .pairs-inside .ensures) ∙ not-false _ (c .before .before .if1 .left) in
     record { judged = sym (tag-high (a .text .now) (a .kind) ps _ inside (sym (c .before .pairs-ascii .ensures) ∙ not-true _ (c .if2 .taken))); places = tt }
-
-mul-next : tie.Need-mul-next
-mul-next c = search needs
-
-add-next : tie.Need-add-next
-add-next c = search needs
 
 returns-3 : tie.Need-returns-3
 unfolding recorded placed pairCount tagAt
@@ -79,13 +64,13 @@ pub tag-at-spec : {M : Type 1} → statement M
 tag-at-spec =
     tie.close
     (tie.spec
-    add-pairs
-    mul-n
-    add-n
+    (λ c. search needs)
+    (λ c. search needs)
+    (λ c. search needs)
     pairs-inside-requires
     returns
     pairs-ascii-requires
     returns-2
-    mul-next
-    add-next
+    (λ c. search needs)
+    (λ c. search needs)
     returns-3)

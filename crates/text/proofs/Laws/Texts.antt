@@ -1,15 +1,13 @@
 -- Laws of specs/Text.antt. No contract cites them. Assumes nothing.
-use mathlib.Core.Path.{_≡_, refl, sym, ap, _∙_}
+use mathlib.Core.Path.{_≡_, refl, ap}
 use mathlib.Core.Bool.{Bool, true, false, _&&_, _||_, false≢true, and-assoc, and-true, or-assoc, or-false}
-use mathlib.Core.List.{List, [], _∷_, _++_}
+use mathlib.Core.List.{[], _∷_}
 use Prim.Native.Nat.{ℕ, zero, suc, _+_, _-_, _≤_, _<_}
-use Prim.Native.Char.{code}
 use native.Mathlib.Omega.{arith}
-use native.Mathlib.Nat.{not-suc-le-zero, le-of-suc-le-suc}
 use lib.Dec.{eqb, leb, ltb}
 use lib.ListN.{length, getD, take, drop, drop-of-length-le}
 use lib.Seq.{drop-cons, drop-nil, take-nil}
-use borrow.Author.Tests.{leb-true, lt-leb, le-leb, eqb-true, eq-eqb, ne-eqb, ltb-true, lt-ltb, le-ltb}
+use borrow.Author.Tests.{leb-true, lt-leb, le-leb, eqb-true, eq-eqb, ne-eqb, ltb-true, lt-ltb}
 use Rattle.text.proofs.Laws.Tests.{and-true-left, and-true-right, not-true-false, if-cases}
 use Rattle.text.specs.Text.{Text, if_then_else_, between, isUpper, isLower, upper, lower, isTextByte, contains, first, same, afterLast, every, isText}
 

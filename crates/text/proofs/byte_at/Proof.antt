@@ -6,9 +6,6 @@ use Rattle.text.proofs.Laws.Texts.{first-drop}
 use Rattle.text.proofs.byte_at.Statement.{statement}
 use Rattle.text.proofs.byte_at.Tie as tie
 
-shared-slice-read-result : tie.Need-shared-slice-read-result
-shared-slice-read-result c = search needs
-
 returns : tie.Need-returns
 returns c = sym (first-drop (c .before .before .args .s .now) (c .before .before .args .i))
 
@@ -18,4 +15,4 @@ returns-2 c =
     sym (first-drop s (c .before .args .i) ∙ List·getD-eq-default s 0 (c .if1 .left))
 
 pub byte-at-spec : {M : Type 1} → statement M
-byte-at-spec = tie.close (tie.spec shared-slice-read-result returns returns-2)
+byte-at-spec = tie.close (tie.spec (λ c. search needs) returns returns-2)

@@ -6,7 +6,6 @@ use mathlib.Core.Bool.{_||_}
 use native.Mathlib.Numerals.{add-one}
 use native.Mathlib.Omega.{arith}
 use lib.ListN.{length, drop}
-use borrow.Author.Needs.{needs}
 use Rattle.text.specs.Text.{contains}
 use Rattle.text.proofs.Laws.Texts.{contains-on, contains-end}
 use Rattle.text.proofs.has_byte.Statement.{statement}

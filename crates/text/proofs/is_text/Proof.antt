@@ -6,7 +6,6 @@ use mathlib.Core.Bool.{_&&_}
 use native.Mathlib.Numerals.{add-one}
 use native.Mathlib.Omega.{arith}
 use lib.ListN.{length, drop}
-use borrow.Author.Needs.{needs}
 use Rattle.text.specs.Text.{isText}
 use Rattle.text.proofs.Laws.Texts.{text-on, text-end}
 use Rattle.text.proofs.is_text.Statement.{statement}

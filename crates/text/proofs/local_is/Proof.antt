@@ -21,18 +21,6 @@ compared part word e h = ap (λ (l : Text). same l word) (sym (part-from part (l
 returns : tie.Need-returns
 returns c = let a = c .before .before .before .args in sym (local-short (a .part .now) (a .word .now) (c .if1 .taken))
 
-sub-same-text : tie.Need-sub-same-text
-sub-same-text c = search needs
-
-part-same-text-start : tie.Need-part-same-text-start
-part-same-text-start c = search needs
-
-part-same-text-end : tie.Need-part-same-text-end
-part-same-text-end c = search needs
-
-same-text-requires : tie.Need-same-text-requires
-same-text-requires c κs = search needs
-
 returns-2 : tie.Need-returns-2
 returns-2 c =
     let a = c .before .before .before .before .before .before .args in
@@ -44,12 +32,6 @@ returns-3 c =
     let a = start .args in
     let e = same-eq _ _ (compared (a .part .now) (a .word .now) (c .before .before .same-text .ensures) (not-false _ (c .before .if2 .left))) in
     sym (local-whole (a .part .now) (a .word .now) (start .pre) (ap (λ (i : ℕ). drop i (a .part .now)) (sym (c .if3 .taken)) ∙ e))
-
-sub-result : tie.Need-sub-result
-sub-result c = search needs
-
-shared-slice-read-result : tie.Need-shared-slice-read-result
-shared-slice-read-result c = search needs
 
 returns-4 : tie.Need-returns-4
 returns-4 c =
@@ -64,12 +46,12 @@ local-is-spec =
     tie.close
     (tie.spec
     returns
-    sub-same-text
-    part-same-text-start
-    part-same-text-end
-    same-text-requires
+    (λ c. search needs)
+    (λ c. search needs)
+    (λ c. search needs)
+    (λ c κs. search needs)
     returns-2
     returns-3
-    sub-result
-    shared-slice-read-result
+    (λ c. search needs)
+    (λ c. search needs)
     returns-4)

@@ -1,7 +1,7 @@
 -- `text::local_name` meets its contract. The loop's invariant: what is kept, with what is left from i on, gives the local name of the whole.
 -- The measure is how much is left. Assumes nothing.
 use Prim.Native.Nat.{_≤_, _-_}
-use mathlib.Core.Path.{_≡_, refl, sym, ap, _∙_}
+use mathlib.Core.Path.{_≡_, refl, sym, _∙_}
 use mathlib.Core.Logic.{⊎-elim}
 use native.Mathlib.Numerals.{add-one}
 use native.Mathlib.Omega.{arith}

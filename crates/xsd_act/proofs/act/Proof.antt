@@ -34,24 +34,12 @@ done-as : (c : tie.Start) (x : Decision) (rows′ names′ : List ℕ) (r : Used
 done-as c x rows′ names′ r e h =
     subst (λ (y : Decision). Done (c .args .rows .now) (c .args .names .now) (c .args .used) (c .args .head) (decision (c .args .text .now) (c .args .marks .now) y) rows′ names′ r) (sym e) h
 
-enum-told : tie.Need-enum-told
-enum-told c = search needs
-
-enum-told-2 : tie.Need-enum-told-2
-enum-told-2 c = search needs
-
-enum-known-d : tie.Need-enum-known-d
-enum-known-d c = search needs
-
 put-text-requires : tie.Need-put-text-requires
 unfolding decision
 put-text-requires c κs =
     let start = c .before .before .before .before .before .before .before .before .before in
     let w = room-as start _ _ (c .before .before .before .d .given .1) refl in
     (root-room (w .ready) _ (w .roomy), start .pre .1)
-
-enum-known-d-2 : tie.Need-enum-known-d-2
-enum-known-d-2 c = search needs
 
 open-type-requires : tie.Need-open-type-requires
 unfolding decision rowsAfterAll namespaceAfter rowsAfter
@@ -61,9 +49,6 @@ open-type-requires c κs =
     let room = more-room (w .ready) _ (w .roomy) in
     (room .0, ((rw (openSimple-bytes _) at (room .1), start .pre .1), (omega arith, omega arith)))
 
-enum-known-d-3 : tie.Need-enum-known-d-3
-enum-known-d-3 c = search needs
-
 open-type-requires-2 : tie.Need-open-type-requires-2
 unfolding decision rowsAfterAll namespaceAfter rowsAfter
 open-type-requires-2 c κs =
@@ -71,9 +56,6 @@ open-type-requires-2 c κs =
     let w = room-as start _ _ (c .before .before .before .d3 .given .1) refl in
     let room = more-room (w .ready) _ (w .roomy) in
     (room .0, ((rw (openComplex-bytes _) at (room .1), start .pre .1), (omega arith, omega arith)))
-
-enum-known-d-4 : tie.Need-enum-known-d-4
-enum-known-d-4 c = search needs
 
 add-row-requires : tie.Need-add-row-requires
 unfolding decision rowsAfterAll namespaceAfter rowsAfter
@@ -83,9 +65,6 @@ add-row-requires c κs =
     let room = more-room (w .ready) _ (w .roomy) in
     (room .0, (room .1, start .pre .1))
 
-enum-known-d-5 : tie.Need-enum-known-d-5
-enum-known-d-5 c = search needs
-
 append-characters-requires : tie.Need-append-characters-requires
 unfolding decision row join rowsAfterAll namespaceAfter rowsAfter
 append-characters-requires c κs =
@@ -94,9 +73,6 @@ append-characters-requires c κs =
     let room = more-room (w .ready) _ (w .roomy) in
     (room .0, (rw add-zero at (room .1), start .pre .1))
 
-enum-known-d-6 : tie.Need-enum-known-d-6
-enum-known-d-6 c = search needs
-
 append-digits-requires : tie.Need-append-digits-requires
 unfolding decision row join rowsAfterAll namespaceAfter rowsAfter
 append-digits-requires c κs =
@@ -104,9 +80,6 @@ append-digits-requires c κs =
     let w = room-as start _ _ (c .before .before .before .d6 .given .1) refl in
     let room = more-room (w .ready) _ (w .roomy) in
     (room .0, (rw add-zero at (room .1), start .pre .1))
-
-enum-known-d-7 : tie.Need-enum-known-d-7
-enum-known-d-7 c = search needs
 
 put-content-requires : tie.Need-put-content-requires
 unfolding decision Fitting
@@ -117,9 +90,6 @@ put-content-requires c κs =
     let w = room-as start _ _ (c .before .before .before .d7 .given .1) refl in
     let texts = following-used (a .text .now) (a .marks .now) n (w .fitting .name) in
     (content-room (w .ready) (n .tag) (n .a) _ (w .fitting) (contentPairs (n .follows)) _ (contentPairs-bound (n .follows) .1) texts (w .roomy), start .pre .1)
-
-enum-known-d-8 : tie.Need-enum-known-d-8
-enum-known-d-8 c = search needs
 
 put-text-requires-2 : tie.Need-put-text-requires-2
 unfolding decision Fitting
@@ -228,23 +198,23 @@ pub act-spec : {M : Type 1} → statement M
 act-spec =
     tie.close
     (tie.spec
-    enum-told
-    enum-told-2
-    enum-known-d
+    (λ c. search needs)
+    (λ c. search needs)
+    (λ c. search needs)
     put-text-requires
-    enum-known-d-2
+    (λ c. search needs)
     open-type-requires
-    enum-known-d-3
+    (λ c. search needs)
     open-type-requires-2
-    enum-known-d-4
+    (λ c. search needs)
     add-row-requires
-    enum-known-d-5
+    (λ c. search needs)
     append-characters-requires
-    enum-known-d-6
+    (λ c. search needs)
     append-digits-requires
-    enum-known-d-7
+    (λ c. search needs)
     put-content-requires
-    enum-known-d-8
+    (λ c. search needs)
     put-text-requires-2
     returns
     returns-2

@@ -11,15 +11,9 @@ use borrow.Author.Needs.{needs}
 use Rattle.xsd_decide.proofs.empty_in_schema.Statement.{statement}
 use Rattle.xsd_decide.proofs.empty_in_schema.Tie as tie
 
-slice-aggregate-local-is : tie.Need-slice-aggregate-local-is
-slice-aggregate-local-is c = search needs
-
 local-is-requires : tie.Need-local-is-requires
 unfolding contains
 local-is-requires c κs = search needs
-
-top-element-requires : tie.Need-top-element-requires
-top-element-requires c κs = search needs
 
 returns : tie.Need-returns
 unfolding bytes emptyInSchema
@@ -40,4 +34,4 @@ returns-2 c =
 pub empty-in-schema-spec : {M : Type 1} → statement M
 empty-in-schema-spec =
     tie.close
-    (tie.spec slice-aggregate-local-is local-is-requires top-element-requires returns returns-2)
+    (tie.spec (λ c. search needs) local-is-requires (λ c κs. search needs) returns returns-2)

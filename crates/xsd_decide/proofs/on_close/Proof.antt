@@ -27,9 +27,6 @@ returns-2 c =
     let neither : eqb (a .head) 16 && eqb (a .m .nesting) 0 ≡ false = rw (eq-eqb (a .head) 16 (c .before .before .if1 .left), ne-eqb (a .m .nesting) 0 (c .if2 .taken)) in
     if-false ok _ _ neither refl
 
-content-alone-requires : tie.Need-content-alone-requires
-content-alone-requires c κs = search needs
-
 returns-3 : tie.Need-returns-3
 unfolding decidedClose
 returns-3 c =
@@ -38,4 +35,4 @@ returns-3 c =
     if-true ok _ _ (and-true (eq-eqb (a .head) 16 (c .before .before .before .if1 .left)) (eq-eqb (a .m .nesting) 0 (c .before .if2 .left))) (c .content-alone .ensures text marks)
 
 pub on-close-spec : {M : Type 1} → statement M
-on-close-spec = tie.close (tie.spec returns returns-2 content-alone-requires returns-3)
+on-close-spec = tie.close (tie.spec returns returns-2 (λ c κs. search needs) returns-3)

@@ -7,34 +7,19 @@ use borrow.Author.Needs.{needs}
 use Rattle.xsd_decide.proofs.on_empty.Statement.{statement}
 use Rattle.xsd_decide.proofs.on_empty.Tie as tie
 
-raw-name-requires : tie.Need-raw-name-requires
-raw-name-requires c κs = search needs
-
-root-found-requires : tie.Need-root-found-requires
-root-found-requires c κs = search needs
-
 returns : tie.Need-returns
 unfolding decidedEmpty
 returns c = if-true whole _ _ (eq-eqb _ 0 (c .before .if1 .taken)) (c .root-found .ensures)
 
-empty-in-schema-requires : tie.Need-empty-in-schema-requires
-empty-in-schema-requires c κs = search needs
-
 returns-2 : tie.Need-returns-2
 unfolding decidedEmpty emptyInSchema
 returns-2 c = if-false whole _ _ (ne-eqb _ 0 (c .before .before .before .if1 .left)) (if-true whole _ _ (eq-eqb _ 1 (c .before .if2 .taken)) (c .empty-in-schema .ensures))
-
-empty-in-simple-type-requires : tie.Need-empty-in-simple-type-requires
-empty-in-simple-type-requires c κs = search needs
 
 returns-3 : tie.Need-returns-3
 unfolding decidedEmpty
 returns-3 c =
     if-false whole _ _ (ne-eqb _ 0 (c .before .before .before .before .before .if1 .left))
     (if-false whole _ _ (ne-eqb _ 1 (c .before .before .before .if2 .left)) (if-true whole _ _ (eq-eqb _ 2 (c .before .if3 .taken)) (c .empty-in-simple-type .ensures)))
-
-empty-in-complex-type-requires : tie.Need-empty-in-complex-type-requires
-empty-in-complex-type-requires c κs = search needs
 
 returns-4 : tie.Need-returns-4
 unfolding decidedEmpty
@@ -46,12 +31,12 @@ pub on-empty-spec : {M : Type 1} → statement M
 on-empty-spec =
     tie.close
     (tie.spec
-    raw-name-requires
-    root-found-requires
+    (λ c κs. search needs)
+    (λ c κs. search needs)
     returns
-    empty-in-schema-requires
+    (λ c κs. search needs)
     returns-2
-    empty-in-simple-type-requires
+    (λ c κs. search needs)
     returns-3
-    empty-in-complex-type-requires
+    (λ c κs. search needs)
     returns-4)

@@ -6,34 +6,19 @@ use borrow.Author.Needs.{needs}
 use Rattle.xsd_decide.proofs.on_start.Statement.{statement}
 use Rattle.xsd_decide.proofs.on_start.Tie as tie
 
-raw-name-requires : tie.Need-raw-name-requires
-raw-name-requires c κs = search needs
-
-root-found-requires : tie.Need-root-found-requires
-root-found-requires c κs = search needs
-
 returns : tie.Need-returns
 unfolding decidedStart
 returns c = if-true whole _ _ (eq-eqb _ 0 (c .before .if1 .taken)) (c .root-found .ensures)
 
-start-in-schema-requires : tie.Need-start-in-schema-requires
-start-in-schema-requires c κs = search needs
-
 returns-2 : tie.Need-returns-2
 unfolding decidedStart
 returns-2 c = if-false whole _ _ (ne-eqb _ 0 (c .before .before .before .if1 .left)) (if-true whole _ _ (eq-eqb _ 1 (c .before .if2 .taken)) (c .start-in-schema .ensures))
-
-start-in-simple-type-requires : tie.Need-start-in-simple-type-requires
-start-in-simple-type-requires c κs = search needs
 
 returns-3 : tie.Need-returns-3
 unfolding decidedStart
 returns-3 c =
     if-false whole _ _ (ne-eqb _ 0 (c .before .before .before .before .before .if1 .left))
     (if-false whole _ _ (ne-eqb _ 1 (c .before .before .before .if2 .left)) (if-true whole _ _ (eq-eqb _ 2 (c .before .if3 .taken)) (c .start-in-simple-type .ensures)))
-
-start-in-complex-type-requires : tie.Need-start-in-complex-type-requires
-start-in-complex-type-requires c κs = search needs
 
 returns-4 : tie.Need-returns-4
 unfolding decidedStart
@@ -45,12 +30,12 @@ pub on-start-spec : {M : Type 1} → statement M
 on-start-spec =
     tie.close
     (tie.spec
-    raw-name-requires
-    root-found-requires
+    (λ c κs. search needs)
+    (λ c κs. search needs)
     returns
-    start-in-schema-requires
+    (λ c κs. search needs)
     returns-2
-    start-in-simple-type-requires
+    (λ c κs. search needs)
     returns-3
-    start-in-complex-type-requires
+    (λ c κs. search needs)
     returns-4)

@@ -11,18 +11,9 @@ use borrow.Author.Needs.{needs}
 use Rattle.xsd_decide.proofs.open_type.Statement.{statement}
 use Rattle.xsd_decide.proofs.open_type.Tie as tie
 
-slice-aggregate-attribute : tie.Need-slice-aggregate-attribute
-slice-aggregate-attribute c = search needs
-
 attribute-requires : tie.Need-attribute-requires
 unfolding contains
 attribute-requires c κs = search needs
-
-enum-known-i : tie.Need-enum-known-i
-enum-known-i c = search needs
-
-enum-told : tie.Need-enum-told
-enum-told c = search needs
 
 returns : tie.Need-returns
 unfolding bytes decision
@@ -54,10 +45,10 @@ pub open-type-spec : {M : Type 1} → statement M
 open-type-spec =
     tie.close
     (tie.spec
-    slice-aggregate-attribute
+    (λ c. search needs)
     attribute-requires
-    enum-known-i
-    enum-told
+    (λ c. search needs)
+    (λ c. search needs)
     returns
     returns-2
     returns-3)

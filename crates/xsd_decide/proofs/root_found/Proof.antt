@@ -12,15 +12,9 @@ use borrow.Author.Needs.{needs}
 use Rattle.xsd_decide.proofs.root_found.Statement.{statement}
 use Rattle.xsd_decide.proofs.root_found.Tie as tie
 
-slice-aggregate-local-is : tie.Need-slice-aggregate-local-is
-slice-aggregate-local-is c = search needs
-
 local-is-requires : tie.Need-local-is-requires
 unfolding contains
 local-is-requires c κs = search needs
-
-slice-aggregate-value-place : tie.Need-slice-aggregate-value-place
-slice-aggregate-value-place c = search needs
 
 value-place-requires : tie.Need-value-place-requires
 unfolding contains
@@ -47,9 +41,9 @@ pub root-found-spec : {M : Type 1} → statement M
 root-found-spec =
     tie.close
     (tie.spec
-    slice-aggregate-local-is
+    (λ c. search needs)
     local-is-requires
-    slice-aggregate-value-place
+    (λ c. search needs)
     value-place-requires
     returns
     returns-2)

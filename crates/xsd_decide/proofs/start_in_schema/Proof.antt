@@ -11,15 +11,9 @@ use borrow.Author.Needs.{needs}
 use Rattle.xsd_decide.proofs.start_in_schema.Statement.{statement}
 use Rattle.xsd_decide.proofs.start_in_schema.Tie as tie
 
-slice-aggregate-local-is : tie.Need-slice-aggregate-local-is
-slice-aggregate-local-is c = search needs
-
 local-is-requires : tie.Need-local-is-requires
 unfolding contains
 local-is-requires c κs = search needs
-
-open-type-requires : tie.Need-open-type-requires
-open-type-requires c κs = search needs
 
 returns : tie.Need-returns
 unfolding bytes startInSchema openedAs
@@ -29,15 +23,9 @@ returns c =
     let t = recordTag (start .args .text .now) (start .args .marks .now) (start .args .t) in
     if-true whole _ _ (tagIs-told t "simpleType" (start .pre .0) (first .local-is .ensures) (c .before .if1 .taken)) (c .open-type .ensures)
 
-slice-aggregate-local-is-2 : tie.Need-slice-aggregate-local-is-2
-slice-aggregate-local-is-2 c = search needs
-
 local-is-requires-2 : tie.Need-local-is-requires-2
 unfolding contains
 local-is-requires-2 c κs = search needs
-
-open-type-requires-2 : tie.Need-open-type-requires-2
-open-type-requires-2 c κs = search needs
 
 returns-2 : tie.Need-returns-2
 unfolding bytes startInSchema openedAs
@@ -49,15 +37,9 @@ returns-2 c =
     if-false whole _ _ (tagIs-told t "simpleType" (start .pre .0) (first .local-is .ensures) (second .before .before .if1 .left))
     (if-true whole _ _ (tagIs-told t "complexType" (start .pre .0) (second .local-is2 .ensures) (c .before .if2 .taken)) (c .open-type2 .ensures))
 
-slice-aggregate-local-is-3 : tie.Need-slice-aggregate-local-is-3
-slice-aggregate-local-is-3 c = search needs
-
 local-is-requires-3 : tie.Need-local-is-requires-3
 unfolding contains
 local-is-requires-3 c κs = search needs
-
-top-element-requires : tie.Need-top-element-requires
-top-element-requires c κs = search needs
 
 returns-3 : tie.Need-returns-3
 unfolding bytes startInSchema
@@ -87,16 +69,16 @@ pub start-in-schema-spec : {M : Type 1} → statement M
 start-in-schema-spec =
     tie.close
     (tie.spec
-    slice-aggregate-local-is
+    (λ c. search needs)
     local-is-requires
-    open-type-requires
+    (λ c κs. search needs)
     returns
-    slice-aggregate-local-is-2
+    (λ c. search needs)
     local-is-requires-2
-    open-type-requires-2
+    (λ c κs. search needs)
     returns-2
-    slice-aggregate-local-is-3
+    (λ c. search needs)
     local-is-requires-3
-    top-element-requires
+    (λ c κs. search needs)
     returns-3
     returns-4)

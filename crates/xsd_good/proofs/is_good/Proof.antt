@@ -16,12 +16,6 @@ returns c =
     let a = c .before .before .before .args in
     sym (too-short (a .rows .now) (a .names .now) (c .if1 .taken))
 
-row0-at-requires : tie.Need-row0-at-requires
-row0-at-requires c κs = search needs
-
-used-parts-requires : tie.Need-used-parts-requires
-used-parts-requires c κs = search needs
-
 returns-2 : tie.Need-returns-2
 returns-2 c =
     let a = c .before .before .before .before .before .before .args in
@@ -37,19 +31,10 @@ inside p =
     let a = p .before .before .before .before .before .before .args in
     parts-in (asRow0 (p .before .before .row0-at .result)) (length (a .rows .now)) (length (a .names .now)) (fits p)
 
-cast-n : tie.Need-cast-n
-cast-n c = search needs
-
 scan-sheet-requires : tie.Need-scan-sheet-requires
 scan-sheet-requires c κs =
     let h = inside (c .before) in
     (h .0, h .1)
-
-row0-form-requires : tie.Need-row0-form-requires
-row0-form-requires c κs = search needs
-
-wide-requires : tie.Need-wide-requires
-wide-requires c κs = search needs
 
 zeros-behind-requires : tie.Need-zeros-behind-requires
 zeros-behind-requires c κs =
@@ -58,21 +43,6 @@ zeros-behind-requires c κs =
 
 names-test-requires : tie.Need-names-test-requires
 names-test-requires c κs = inside (c .before .before .before .before .before .before .before) .2
-
-limits-requires : tie.Need-limits-requires
-limits-requires c κs = search needs
-
-root-test-requires : tie.Need-root-test-requires
-root-test-requires c κs = search needs
-
-nesting-test-requires : tie.Need-nesting-test-requires
-nesting-test-requires c κs = search needs
-
-context-test-requires : tie.Need-context-test-requires
-context-test-requires c κs = search needs
-
-extension-test-requires : tie.Need-extension-test-requires
-extension-test-requires c κs = search needs
 
 returns-3 : tie.Need-returns-3
 returns-3 c =
@@ -88,18 +58,18 @@ is-good-spec =
     tie.close
     (tie.spec
     returns
-    row0-at-requires
-    used-parts-requires
+    (λ c κs. search needs)
+    (λ c κs. search needs)
     returns-2
-    cast-n
+    (λ c. search needs)
     scan-sheet-requires
-    row0-form-requires
-    wide-requires
+    (λ c κs. search needs)
+    (λ c κs. search needs)
     zeros-behind-requires
     names-test-requires
-    limits-requires
-    root-test-requires
-    nesting-test-requires
-    context-test-requires
-    extension-test-requires
+    (λ c κs. search needs)
+    (λ c κs. search needs)
+    (λ c κs. search needs)
+    (λ c κs. search needs)
+    (λ c κs. search needs)
     returns-3)

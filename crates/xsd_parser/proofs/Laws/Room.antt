@@ -13,7 +13,7 @@ use Rattle.sheet.proofs.Laws.Packs.{namesOf-append}
 use Rattle.xsd_types.specs.State.{Reader, State}
 use Rattle.xsd_types.specs.Rows.{namespaceRow, itemsRows, contextRows, rowsOf, rowsUsed, namesUsed}
 use Rattle.xsd_parser.specs.Event.{Event}
-use Rattle.xsd_parser.specs.Handlers.{Outcome, ok, refuse, _andThen_}
+use Rattle.xsd_parser.specs.Handlers.{ok, _andThen_}
 use Rattle.xsd_parser.specs.Step.{handled, tagsAfter, counted, roomFor, step}
 
 pub rows-parts : (s : State) → rowsUsed s ≡ 2 + length (itemsRows (s .reader .schema .items)) + length (contextRows (s .reader .context))

@@ -1,9 +1,9 @@
 -- Reading by computation: the numbers 9 and 10, and the values that pass.
 use mathlib.Core.Path.{_≡_, refl}
-use mathlib.Core.List.{List, [], _∷_}
+use mathlib.Core.List.{[], _∷_}
 use Rattle.sheet.specs.Rows.{Sheet}
 use Rattle.xsd_types.specs.Examples.Sheets.{line, noNamespace, sheet, blank}
-use Rattle.xsd_parser.specs.Examples.Tapes.{Tag, start, empty, named, typed, valued, schema, simpleType, reads, gives, taped}
+use Rattle.xsd_parser.specs.Examples.Tapes.{start, empty, named, typed, valued, schema, simpleType, reads, gives, taped}
 
 -- ---- 9: `MissingAttribute`
 

@@ -1,11 +1,11 @@
 -- Reading by computation: the numbers 6, 7 and 8, and the order of refusals.
 use Prim.Native.Nat.{ℕ}
 use mathlib.Core.Path.{_≡_, refl}
-use mathlib.Core.List.{List, [], _∷_}
+use mathlib.Core.List.{[], _∷_}
 use Rattle.sheet.specs.Rows.{Sheet}
 use Rattle.xsd_parser.specs.Read.{read}
 use Rattle.xsd_types.specs.Examples.Sheets.{line, noNamespace, sheet, blank}
-use Rattle.xsd_parser.specs.Examples.Tapes.{Tag, start, empty, close, valued, simpleType, reads, gives, taped}
+use Rattle.xsd_parser.specs.Examples.Tapes.{start, empty, close, valued, simpleType, reads, gives, taped}
 
 -- a sheet without a root, with so many events done and tags open
 at : ℕ → ℕ → Sheet

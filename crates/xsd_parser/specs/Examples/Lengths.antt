@@ -17,7 +17,7 @@ use Rattle.xsd_types.proofs.Laws.Clear.{clear-sheet, good-clear, first-fits}
 use Rattle.xsd_types.proofs.Laws.SheetOf.{length-sheetOf}
 use Rattle.xsd_parser.specs.Read.{read, refusedAt, sheetOfReading, readState, readRecords}
 use Rattle.xsd_parser.specs.Tape.{records, recordsFrom}
-use Rattle.xsd_parser.specs.Examples.Tapes.{Tag, schema, reads, gives, taped}
+use Rattle.xsd_parser.specs.Examples.Tapes.{schema, reads, gives, taped}
 
 -- ---- buffers of any length
 

@@ -1,6 +1,6 @@
 -- Reading by computation: the numbers 3, 4 and 5, on the text "schema".
 use mathlib.Core.Path.{_≡_, refl}
-use mathlib.Core.List.{List, [], _∷_, _++_}
+use mathlib.Core.List.{[], _∷_, _++_}
 use lib.ListN.{replicate}
 use Rattle.text.specs.Text.{bytes}
 use Rattle.xsd_parser.specs.Read.{read}

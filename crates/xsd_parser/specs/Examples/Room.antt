@@ -1,9 +1,9 @@
 -- Reading by computation: the number 11, and the room that is used again.
 use mathlib.Core.Path.{_≡_, refl}
-use mathlib.Core.List.{List, [], _∷_}
+use mathlib.Core.List.{[], _∷_}
 use Rattle.sheet.specs.Rows.{Sheet}
 use Rattle.xsd_types.specs.Examples.Sheets.{line, noNamespace, sheet, blank}
-use Rattle.xsd_parser.specs.Examples.Tapes.{Tag, start, empty, close, named, typed, based, schema, complexType, reads, gives, taped}
+use Rattle.xsd_parser.specs.Examples.Tapes.{start, empty, close, named, typed, based, schema, complexType, reads, gives, taped}
 
 -- ---- 11: "the state after the event needs more rows or names than lent"
 

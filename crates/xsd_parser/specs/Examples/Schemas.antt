@@ -1,8 +1,8 @@
 -- What an event does, by computation: contexts 0 and 1, and pieces.
 use mathlib.Core.Path.{_≡_, refl}
-use mathlib.Core.List.{List, [], _∷_}
+use mathlib.Core.List.{[], _∷_}
 use Rattle.xsd_types.specs.Examples.Sheets.{line, noNamespace, sheet, blank}
-use Rattle.xsd_parser.specs.Examples.Tapes.{Tag, start, empty, close, named, typed, schema, simpleType, reads, gives, taped}
+use Rattle.xsd_parser.specs.Examples.Tapes.{start, empty, close, named, typed, schema, simpleType, reads, gives, taped}
 
 -- ---- context 0
 

@@ -1,9 +1,9 @@
 -- What an event does, by computation: simple content, its extension and attributes.
 use mathlib.Core.Path.{_≡_, refl}
-use mathlib.Core.List.{List, [], _∷_}
+use mathlib.Core.List.{[], _∷_}
 use Rattle.sheet.specs.Rows.{Sheet}
 use Rattle.xsd_types.specs.Examples.Sheets.{line, noNamespace, sheet, blank}
-use Rattle.xsd_parser.specs.Examples.Tapes.{Tag, start, empty, close, named, typed, based, schema, complexType, reads, gives, taped}
+use Rattle.xsd_parser.specs.Examples.Tapes.{start, empty, close, named, typed, based, schema, complexType, reads, gives, taped}
 
 -- ---- `extension`
 

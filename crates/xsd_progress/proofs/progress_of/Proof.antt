@@ -12,17 +12,8 @@ use borrow.Author.Needs.{needs}
 use Rattle.xsd_progress.proofs.progress_of.Statement.{statement}
 use Rattle.xsd_progress.proofs.progress_of.Tie as tie
 
-row0-at-requires : tie.Need-row0-at-requires
-row0-at-requires c κs = search needs
-
-cast-n : tie.Need-cast-n
-cast-n c = search needs
-
 open-head-requires : tie.Need-open-head-requires
 open-head-requires c κs = rw (ap (λ (z : Row0). z .rowsUsed) (c .before .row0-at .ensures)) (c .before .before .before .pre .1)
-
-cast-t8 : tie.Need-cast-t8
-cast-t8 c = search needs
 
 -- of row 0 read and the head found
 progress-read : (rows : List ℕ) (z : Row0) (head : ℕ) → z ≡ row0From (ten rows) → head ≡ headRow rows (z .rowsUsed) → progressOf z head ≡ progressIn rows
@@ -38,4 +29,4 @@ returns c =
     (progress-read rows (asRow0 (z .row0-at .result)) (h .open-head .result) (z .row0-at .ensures) (h .open-head .ensures), words-each rows (λ i. z .before .shared-slice-known .given i .fits))
 
 pub progress-of-spec : {M : Type 1} → statement M
-progress-of-spec = tie.close (tie.spec row0-at-requires cast-n open-head-requires cast-t8 returns)
+progress-of-spec = tie.close (tie.spec (λ c κs. search needs) (λ c. search needs) open-head-requires (λ c. search needs) returns)

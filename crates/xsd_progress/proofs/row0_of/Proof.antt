@@ -1,7 +1,7 @@
 -- `xsd_progress::row0_of` meets its contract: row 0 has the numbers and the two flags. Assumes nothing.
 use Prim.Native.Nat.{ℕ}
 use mathlib.Core.Path.{ap₂, _∙_}
-use mathlib.Core.List.{List, [], _∷_}
+use mathlib.Core.List.{[], _∷_}
 use native.Mathlib.Omega.{arith}
 use Rattle.sheet.specs.Rows.{numbers}
 use Rattle.xsd_types.specs.Row0.{Row0, row0Ten}
@@ -17,15 +17,6 @@ cast-t2 c = omega (arith, c .before .pre .0)
 
 cast-t3 : tie.Need-cast-t3
 cast-t3 c = omega (arith, c .before .before .pre .1)
-
-flag-requires : tie.Need-flag-requires
-flag-requires c κs = search needs
-
-flag-requires-2 : tie.Need-flag-requires-2
-flag-requires-2 c κs = search needs
-
-row0-numbers-requires : tie.Need-row0-numbers-requires
-row0-numbers-requires c κs = search needs
 
 -- row 0 with the two flags
 abbrev with-flags : Progress → ℕ → ℕ → Row0
@@ -53,4 +44,4 @@ returns c =
 pub row0-of-spec : {M : Type 1} → statement M
 row0-of-spec =
     tie.close
-    (tie.spec cast-t2 cast-t3 flag-requires flag-requires-2 row0-numbers-requires returns)
+    (tie.spec cast-t2 cast-t3 (λ c κs. search needs) (λ c κs. search needs) (λ c κs. search needs) returns)

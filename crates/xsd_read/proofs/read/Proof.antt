@@ -9,28 +9,10 @@ use Rattle.xsd_read.proofs.Laws.Calls.{lengthsPass, read-one, read-two,
 use Rattle.xsd_read.proofs.read.Statement.{statement}
 use Rattle.xsd_read.proofs.read.Tie as tie
 
-read-lengths-requires : tie.Need-read-lengths-requires
-read-lengths-requires c κs = search needs
-
-refused-requires : tie.Need-refused-requires
-refused-requires c κs = search needs
-
 returns : tie.Need-returns
 returns c =
     let a = c .before .before .before .before .before .before .before .args in
     read-one (a .rows .now) (a .names .now) (a .text .now) (a .marks .now) (c .refused .ensures) (sym (c .before .before .read-lengths .ensures) ∙ not-true _ (c .before .if1 .taken))
-
-is-good-requires : tie.Need-is-good-requires
-is-good-requires c κs = search needs
-
-refused-requires-2 : tie.Need-refused-requires-2
-refused-requires-2 c κs = search needs
-
-same-length : tie.Need-same-length
-same-length c = search needs
-
-same-length-2 : tie.Need-same-length-2
-same-length-2 c = search needs
 
 -- behind the tests the lengths are as the paper has them, and the sheet is good
 lengths-pass : (p : tie.Else1) → lengthsPass (p .before .before .before .before .before .before .args .rows .now) (p .before .before .before .before .before .before .args .names .now) (p .before .before .before .before .before .before .args .text .now) (p .before .before .before .before .before .before .args .marks .now) ≡ true
@@ -49,16 +31,10 @@ read-good-requires c κs =
     let a = c .before .before .before .before .before .before .before .before .before .before .before .before .args in
     good-sheet (a .rows .now) (a .names .now) (a .text .now) (a .marks .now) (lengths-pass (c .before .before .before .before .before .before)) (sheet-good (c .before .before))
 
-same-length-3 : tie.Need-same-length-3
-same-length-3 c = search needs
-
-same-length-4 : tie.Need-same-length-4
-same-length-4 c = search needs
-
 returns-3 : tie.Need-returns-3
 returns-3 c =
     let a = c .before .before .before .before .before .before .before .before .before .before .before .before .before .before .before .before .before .args in
     read-through (a .rows .now) (a .names .now) (a .text .now) (a .marks .now) (lengths-pass (c .before .before .before .before .before .before .before .before .before .before .before)) (sheet-good (c .before .before .before .before .before .before .before)) (c .before .before .before .before .read-good .ensures)
 
 pub read-spec : {M : Type 1} → statement M
-read-spec = tie.close (tie.spec read-lengths-requires refused-requires returns is-good-requires refused-requires-2 same-length same-length-2 returns-2 read-good-requires same-length-3 same-length-4 returns-3)
+read-spec = tie.close (tie.spec (λ c κs. search needs) (λ c κs. search needs) returns (λ c κs. search needs) (λ c κs. search needs) (λ c. search needs) (λ c. search needs) returns-2 read-good-requires (λ c. search needs) (λ c. search needs) returns-3)

@@ -24,16 +24,10 @@ put-row0-requires c κs =
     let start = c .before .before .before .before .before .before .before .before .before .before .before .before .before .before .before in
     omega (arith, good-used _ (start .args .names .now) (start .pre .isGood) .0, c .before .before .before .before .before .before .read-records .ensures .rowsLength)
 
-same-length : tie.Need-same-length
-same-length c = search needs
-
-same-length-2 : tie.Need-same-length-2
-same-length-2 c = search needs
-
 returns : tie.Need-returns
 returns c =
     let from = c .before .before .before .before .before .before .before .before .before .before .before .before .progress-of .ensures in
     good-read (c .before .before .before .before .before .before .before .before .before .before .before .before .before .before .before .before .before .before .pre) (from .1) (from .0) (c .before .before .before .before .before .before .before .before .before .read-records .ensures) (c .before .before .before .before .row0-of .ensures) (c .before .before .put-row0 .ensures)
 
 pub read-good-spec : {M : Type 1} → statement M
-read-good-spec = tie.close (tie.spec progress-of-requires read-records-requires row0-of-requires put-row0-requires same-length same-length-2 returns)
+read-good-spec = tie.close (tie.spec progress-of-requires read-records-requires row0-of-requires put-row0-requires (λ c. search needs) (λ c. search needs) returns)

@@ -6,12 +6,9 @@ use borrow.Author.Needs.{needs}
 use Rattle.xsd_read.proofs.read_lengths.Statement.{statement}
 use Rattle.xsd_read.proofs.read_lengths.Tie as tie
 
-sheet-lengths-requires : tie.Need-sheet-lengths-requires
-sheet-lengths-requires c κs = search needs
-
 returns : tie.Need-returns
 unfolding tapeLengths
 returns c = ap (λ (b : Bool). b && tapeLengths (c .before .args .text) (c .before .args .marks)) (c .sheet-lengths .ensures)
 
 pub read-lengths-spec : {M : Type 1} → statement M
-read-lengths-spec = tie.close (tie.spec sheet-lengths-requires returns)
+read-lengths-spec = tie.close (tie.spec (λ c κs. search needs) returns)

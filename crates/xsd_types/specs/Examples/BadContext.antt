@@ -1,6 +1,6 @@
 -- Bad sheets, continued: the counters, root seen, nesting, the open type and the extension flag.
 use mathlib.Core.Path.{_≡_, refl}
-use mathlib.Core.List.{List, [], _∷_}
+use mathlib.Core.List.{[], _∷_}
 use Rattle.xsd_types.specs.Examples.Sheets.{line, noNamespace, sheet}
 use Rattle.xsd_types.specs.Examples.Judging.{Part, verdict, badBy, judged}
 

@@ -1,6 +1,6 @@
 -- Bad sheets, continued: the order of rows, the pairs, and what stands past the used parts.
 use mathlib.Core.Path.{_≡_, refl}
-use mathlib.Core.List.{List, [], _∷_}
+use mathlib.Core.List.{[], _∷_}
 use Rattle.sheet.specs.Rows.{Sheet}
 use Rattle.xsd_types.specs.Examples.Sheets.{line, noNamespace, sheet}
 use Rattle.xsd_types.specs.Examples.Judging.{Part, verdict, badBy, badByBoth, judged}

@@ -1,7 +1,7 @@
 -- Each sentence of "A sheet is good if" broken once, by computation; `badBy` says that no other is. First row 0, row 1 and the numbers of rows.
 use mathlib.Core.Bool.{false}
 use mathlib.Core.Path.{_≡_, refl}
-use mathlib.Core.List.{List, [], _∷_}
+use mathlib.Core.List.{[], _∷_}
 use Rattle.xsd_types.specs.Good.{good}
 use Rattle.xsd_types.specs.Examples.Sheets.{line, noNamespace, sheet}
 use Rattle.xsd_types.specs.Examples.Judging.{Part, verdict, badBy, badByBoth, judged}

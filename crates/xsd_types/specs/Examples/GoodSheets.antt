@@ -1,6 +1,6 @@
 -- Good sheets at the borders, by computation. "A sheet is good if it has this form, .." Nothing more is asked than the sentences say.
 use mathlib.Core.Path.{_≡_, refl}
-use mathlib.Core.List.{List, [], _∷_}
+use mathlib.Core.List.{[], _∷_}
 use Rattle.sheet.specs.Rows.{Sheet}
 use Rattle.xsd_types.specs.Examples.Sheets.{line, noNamespace, sheet}
 use Rattle.xsd_types.specs.Examples.Judging.{verdict, fine, judged}

@@ -4,7 +4,6 @@
 --     verdict       whether the sheet is good, with the broken parts
 --     fine, badBy, badByBoth    what a good sheet gives, and one that breaks exactly one part, or two
 --     judged        one name that unfolds all that the examples compute with
-use Prim.Native.Nat.{ℕ}
 use mathlib.Core.Bool.{Bool, true, false, _&&_}
 use mathlib.Core.List.{List, [], _∷_, map}
 use lib.Dec.{eqb}

@@ -5,33 +5,6 @@ use borrow.Author.Needs.{needs}
 use Rattle.buffer.proofs.replace.replace_names.Statement.{statement}
 use Rattle.buffer.proofs.replace.replace_names.Tie as tie
 
-add-from : tie.Need-add-from
-add-from c = search needs
-
-add-to : tie.Need-add-to
-add-to c = search needs
-
-sub-count : tie.Need-sub-count
-sub-count c = search needs
-
-shift-names-requires : tie.Need-shift-names-requires
-shift-names-requires c κs = search needs
-
-add-end : tie.Need-add-end
-add-end c = search needs
-
-excess-requires : tie.Need-excess-requires
-excess-requires c κs = search needs
-
-zero-names-requires : tie.Need-zero-names-requires
-zero-names-requires c κs = search needs
-
-copy-text-requires : tie.Need-copy-text-requires
-copy-text-requires c κs = search needs
-
-same-length : tie.Need-same-length
-same-length c = search needs
-
 returns : tie.Need-returns
 returns c n p q r e long place size whole =
     let start = c .before .before .before .before .before .before .before .before .before .before .before .before .before .before .before in
@@ -42,13 +15,13 @@ pub replace-names-spec : {M : Type 1} → statement M
 replace-names-spec =
     tie.close
     (tie.spec
-    add-from
-    add-to
-    sub-count
-    shift-names-requires
-    add-end
-    excess-requires
-    zero-names-requires
-    copy-text-requires
-    same-length
+    (λ c. search needs)
+    (λ c. search needs)
+    (λ c. search needs)
+    (λ c κs. search needs)
+    (λ c. search needs)
+    (λ c κs. search needs)
+    (λ c κs. search needs)
+    (λ c κs. search needs)
+    (λ c. search needs)
     returns)

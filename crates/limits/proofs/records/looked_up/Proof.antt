@@ -5,18 +5,6 @@ use borrow.Author.Needs.{needs}
 use Rattle.limits.proofs.records.looked_up.Statement.{statement}
 use Rattle.limits.proofs.records.looked_up.Tie as tie
 
-has-byte-requires : tie.Need-has-byte-requires
-has-byte-requires c κs = search needs
-
-returns : tie.Need-returns
-returns c = search needs
-
-read-at-requires : tie.Need-read-at-requires
-read-at-requires c κs = search needs
-
-enum-known-t : tie.Need-enum-known-t
-enum-known-t c = search needs
-
 tag-value-requires : tie.Need-tag-value-requires
 unfolding placed
 tag-value-requires c κs =
@@ -25,12 +13,6 @@ tag-value-requires c κs =
     let a = seen .before .before .before .before .before .args in
     (sym (seen .before .has-byte .ensures) ∙ seen .if1 .left, subst (placed (a .text .now) (a .marks .now) 0) (c .before .t .given .1) (read .read-at .ensures .places))
 
-returns-2 : tie.Need-returns-2
-returns-2 c = search needs
-
-returns-3 : tie.Need-returns-3
-returns-3 c = search needs
-
 pub looked-up-spec : {M : Type 1} → statement M
 looked-up-spec =
-    tie.close (tie.spec has-byte-requires returns read-at-requires enum-known-t tag-value-requires returns-2 returns-3)
+    tie.close (tie.spec (λ c κs. search needs) (λ c. search needs) (λ c κs. search needs) (λ c. search needs) tag-value-requires (λ c. search needs) (λ c. search needs))

@@ -4,14 +4,8 @@ use borrow.Author.Needs.{needs}
 use Rattle.limits.proofs.records.read_at.Statement.{statement}
 use Rattle.limits.proofs.records.read_at.Tie as tie
 
-is-text-requires : tie.Need-is-text-requires
-is-text-requires c κs = search needs
-
 record-at-requires : tie.Need-record-at-requires
 record-at-requires c κs = λ plain. sym (c .is-text .ensures) ∙ plain
 
-returns : tie.Need-returns
-returns c = search needs
-
 pub read-at-spec : {M : Type 1} → statement M
-read-at-spec = tie.close (tie.spec is-text-requires record-at-requires returns)
+read-at-spec = tie.close (tie.spec (λ c κs. search needs) record-at-requires (λ c. search needs))

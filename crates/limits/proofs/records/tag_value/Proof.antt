@@ -3,14 +3,8 @@ use borrow.Author.Needs.{needs}
 use Rattle.limits.proofs.records.tag_value.Statement.{statement}
 use Rattle.limits.proofs.records.tag_value.Tie as tie
 
-returns : tie.Need-returns
-returns c = search needs
-
 attribute-requires : tie.Need-attribute-requires
 attribute-requires c κs = let pre = c .before .before .before .before .before .pre in (pre .0, pre .1 .tag (c .if1 .left) .inside)
 
-returns-2 : tie.Need-returns-2
-returns-2 c = search needs
-
 pub tag-value-spec : {M : Type 1} → statement M
-tag-value-spec = tie.close (tie.spec returns attribute-requires returns-2)
+tag-value-spec = tie.close (tie.spec (λ c. search needs) attribute-requires (λ c. search needs))

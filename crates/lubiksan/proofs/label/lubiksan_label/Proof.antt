@@ -7,12 +7,6 @@ use borrow.Author.Needs.{needs}
 use Rattle.lubiksan.proofs.label.lubiksan_label.Statement.{statement}
 use Rattle.lubiksan.proofs.label.lubiksan_label.Tie as tie
 
-find-label-requires : tie.Need-find-label-requires
-find-label-requires c κs = search needs
-
-bit-of-requires : tie.Need-bit-of-requires
-bit-of-requires c κs = search needs
-
 returns : tie.Need-returns
 unfolding spotOf
 returns c =
@@ -25,4 +19,4 @@ returns c =
     }
 
 pub lubiksan-label-spec : {M : Type 1} → statement M
-lubiksan-label-spec = tie.close (tie.spec find-label-requires bit-of-requires returns)
+lubiksan-label-spec = tie.close (tie.spec (λ c κs. search needs) (λ c κs. search needs) returns)

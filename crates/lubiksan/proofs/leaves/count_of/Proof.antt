@@ -5,12 +5,6 @@ use borrow.Author.Needs.{needs}
 use Rattle.lubiksan.proofs.leaves.count_of.Statement.{statement}
 use Rattle.lubiksan.proofs.leaves.count_of.Tie as tie
 
-enum-known-w : tie.Need-enum-known-w
-enum-known-w c = search needs
-
-enum-told : tie.Need-enum-told
-enum-told c = search needs
-
 returns : tie.Need-returns
 returns c = sym (ap countOf (c .before .w .given .1))
 
@@ -18,4 +12,4 @@ returns-2 : tie.Need-returns-2
 returns-2 c = sym (ap countOf (c .enum-told .given .1))
 
 pub count-of-spec : {M : Type 1} → statement M
-count-of-spec = tie.close (tie.spec enum-known-w enum-told returns returns-2)
+count-of-spec = tie.close (tie.spec (λ c. search needs) (λ c. search needs) returns returns-2)

@@ -5,15 +5,6 @@ use borrow.Author.Needs.{needs}
 use Rattle.lubiksan.proofs.leaves.lubiksan_code_to_pascal_case.Statement.{statement}
 use Rattle.lubiksan.proofs.leaves.lubiksan_code_to_pascal_case.Tie as tie
 
-code-to-pascal-case-requires : tie.Need-code-to-pascal-case-requires
-code-to-pascal-case-requires c κs = search needs
-
-count-of-requires : tie.Need-count-of-requires
-count-of-requires c κs = search needs
-
-same-length : tie.Need-same-length
-same-length c = search needs
-
 returns : tie.Need-returns
 returns c =
     let put = c .before .before .before .code-to-pascal-case .ensures in
@@ -21,4 +12,4 @@ returns c =
 
 pub lubiksan-code-to-pascal-case-spec : {M : Type 1} → statement M
 lubiksan-code-to-pascal-case-spec =
-    tie.close (tie.spec code-to-pascal-case-requires count-of-requires same-length returns)
+    tie.close (tie.spec (λ c κs. search needs) (λ c κs. search needs) (λ c. search needs) returns)

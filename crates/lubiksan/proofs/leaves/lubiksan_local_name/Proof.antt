@@ -9,9 +9,6 @@ use borrow.Author.Needs.{needs}
 use Rattle.lubiksan.proofs.leaves.lubiksan_local_name.Statement.{statement}
 use Rattle.lubiksan.proofs.leaves.lubiksan_local_name.Tie as tie
 
-local-name-requires : tie.Need-local-name-requires
-local-name-requires c κs = search needs
-
 sub-result : tie.Need-sub-result
 sub-result c = omega (arith, ap length (c .local-name .ensures .bytes), localName-length (c .before .before .args .name .now))
 
@@ -19,4 +16,4 @@ returns : tie.Need-returns
 returns c = ap (λ (l : Text). length (c .before .before .args .name .now) - length l) (c .local-name .ensures .bytes)
 
 pub lubiksan-local-name-spec : {M : Type 1} → statement M
-lubiksan-local-name-spec = tie.close (tie.spec local-name-requires sub-result returns)
+lubiksan-local-name-spec = tie.close (tie.spec (λ c κs. search needs) sub-result returns)

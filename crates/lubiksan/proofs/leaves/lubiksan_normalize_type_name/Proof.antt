@@ -5,15 +5,6 @@ use borrow.Author.Needs.{needs}
 use Rattle.lubiksan.proofs.leaves.lubiksan_normalize_type_name.Statement.{statement}
 use Rattle.lubiksan.proofs.leaves.lubiksan_normalize_type_name.Tie as tie
 
-normalize-type-name-requires : tie.Need-normalize-type-name-requires
-normalize-type-name-requires c κs = search needs
-
-count-of-requires : tie.Need-count-of-requires
-count-of-requires c κs = search needs
-
-same-length : tie.Need-same-length
-same-length c = search needs
-
 returns : tie.Need-returns
 returns c =
     let put = c .before .before .before .normalize-type-name .ensures in
@@ -21,4 +12,4 @@ returns c =
 
 pub lubiksan-normalize-type-name-spec : {M : Type 1} → statement M
 lubiksan-normalize-type-name-spec =
-    tie.close (tie.spec normalize-type-name-requires count-of-requires same-length returns)
+    tie.close (tie.spec (λ c κs. search needs) (λ c κs. search needs) (λ c. search needs) returns)

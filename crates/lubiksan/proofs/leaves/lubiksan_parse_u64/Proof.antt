@@ -6,15 +6,6 @@ use Rattle.lubiksan.proofs.Laws.Exported.{exported-as}
 use Rattle.lubiksan.proofs.leaves.lubiksan_parse_u64.Statement.{statement}
 use Rattle.lubiksan.proofs.leaves.lubiksan_parse_u64.Tie as tie
 
-parse-u64-requires : tie.Need-parse-u64-requires
-parse-u64-requires c κs = search needs
-
-enum-known-v : tie.Need-enum-known-v
-enum-known-v c = search needs
-
-enum-told : tie.Need-enum-told
-enum-told c = search needs
-
 returns : tie.Need-returns
 returns c =
     let at = c .before .before .before in
@@ -27,4 +18,4 @@ returns-2 c =
 
 pub lubiksan-parse-u64-spec : {M : Type 1} → statement M
 lubiksan-parse-u64-spec =
-    tie.close (tie.spec parse-u64-requires enum-known-v enum-told returns returns-2)
+    tie.close (tie.spec (λ c κs. search needs) (λ c. search needs) (λ c. search needs) returns returns-2)

@@ -5,15 +5,6 @@ use borrow.Author.Needs.{needs}
 use Rattle.lubiksan.proofs.leaves.lubiksan_xml_to_snake_case.Statement.{statement}
 use Rattle.lubiksan.proofs.leaves.lubiksan_xml_to_snake_case.Tie as tie
 
-xml-to-snake-case-requires : tie.Need-xml-to-snake-case-requires
-xml-to-snake-case-requires c κs = search needs
-
-count-of-requires : tie.Need-count-of-requires
-count-of-requires c κs = search needs
-
-same-length : tie.Need-same-length
-same-length c = search needs
-
 returns : tie.Need-returns
 returns c =
     let put = c .before .before .before .xml-to-snake-case .ensures in
@@ -21,4 +12,4 @@ returns c =
 
 pub lubiksan-xml-to-snake-case-spec : {M : Type 1} → statement M
 lubiksan-xml-to-snake-case-spec =
-    tie.close (tie.spec xml-to-snake-case-requires count-of-requires same-length returns)
+    tie.close (tie.spec (λ c κs. search needs) (λ c κs. search needs) (λ c. search needs) returns)

@@ -7,16 +7,10 @@ use Rattle.names.proofs.Laws.Words.{word-after-lower, word-after-upper,
 use Rattle.names.proofs.snake.starts_word.Statement.{statement}
 use Rattle.names.proofs.snake.starts_word.Tie as tie
 
-is-upper-requires : tie.Need-is-upper-requires
-is-upper-requires c κs = search needs
-
 returns : tie.Need-returns
 returns c =
     let a = c .before .before .args in
     sym (word-not-upper (a .prev) (a .c) (a .next) (sym (c .before .is-upper .ensures) ∙ not-true (c .before .is-upper .result) (c .if1 .taken)))
-
-is-lower-requires : tie.Need-is-lower-requires
-is-lower-requires c κs = search needs
 
 returns-2 : tie.Need-returns-2
 returns-2 c =
@@ -24,12 +18,6 @@ returns-2 c =
     let a = at .before .args in
     let u = sym (at .is-upper .ensures) ∙ not-false (at .is-upper .result) (c .before .before .if1 .left) in
     sym (word-after-lower (a .prev) (a .c) (a .next) u (sym (c .before .is-lower .ensures) ∙ c .if2 .taken))
-
-is-upper-requires-2 : tie.Need-is-upper-requires-2
-is-upper-requires-2 c κs = search needs
-
-is-lower-requires-2 : tie.Need-is-lower-requires-2
-is-lower-requires-2 c κs = search needs
 
 returns-3 : tie.Need-returns-3
 returns-3 c =
@@ -54,11 +42,11 @@ pub starts-word-spec : {M : Type 1} → statement M
 starts-word-spec =
     tie.close
     (tie.spec
-    is-upper-requires
+    (λ c κs. search needs)
     returns
-    is-lower-requires
+    (λ c κs. search needs)
     returns-2
-    is-upper-requires-2
-    is-lower-requires-2
+    (λ c κs. search needs)
+    (λ c κs. search needs)
     returns-3
     returns-4)

@@ -5,15 +5,6 @@ use Rattle.number.specs.Answers.{ofU64}
 use Rattle.number.proofs.counts.character_count.Statement.{statement}
 use Rattle.number.proofs.counts.character_count.Tie as tie
 
-parse-u64-requires : tie.Need-parse-u64-requires
-parse-u64-requires c κs = search needs
-
-enum-known-v : tie.Need-enum-known-v
-enum-known-v c = search needs
-
-enum-told : tie.Need-enum-told
-enum-told c = search needs
-
 returns : tie.Need-returns
 returns c = sym (ap ofU64 (c .before .v .given .1)) ∙ c .before .before .before .parse-u64 .ensures
 
@@ -21,4 +12,4 @@ returns-2 : tie.Need-returns-2
 returns-2 c = sym (ap ofU64 (c .enum-told .given .1)) ∙ c .before .before .parse-u64 .ensures
 
 pub character-count-spec : {M : Type 1} → statement M
-character-count-spec = tie.close (tie.spec parse-u64-requires enum-known-v enum-told returns returns-2)
+character-count-spec = tie.close (tie.spec (λ c κs. search needs) (λ c. search needs) (λ c. search needs) returns returns-2)

@@ -9,15 +9,6 @@ use Rattle.program.proofs.Laws.Lines.{before-bound, before-take}
 use Rattle.program.proofs.lines.before.Statement.{statement}
 use Rattle.program.proofs.lines.before.Tie as tie
 
-find-requires : tie.Need-find-requires
-find-requires c κs = search needs
-
-sub-result : tie.Need-sub-result
-sub-result c = search needs
-
-part-result-start : tie.Need-part-result-start
-part-result-start c = search needs
-
 part-result-end : tie.Need-part-result-end
 part-result-end c =
     let args = c .before .before .args in
@@ -30,4 +21,4 @@ returns c =
     rw e (before-take (args .c) (args .s .now))
 
 pub before-spec : {M : Type 1} → statement M
-before-spec = tie.close (tie.spec find-requires sub-result part-result-start part-result-end returns)
+before-spec = tie.close (tie.spec (λ c κs. search needs) (λ c. search needs) (λ c. search needs) part-result-end returns)

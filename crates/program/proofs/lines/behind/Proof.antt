@@ -11,21 +11,6 @@ use Rattle.program.proofs.Laws.Lines.{before-bound, behind-drop}
 use Rattle.program.proofs.lines.behind.Statement.{statement}
 use Rattle.program.proofs.lines.behind.Tie as tie
 
-find-requires : tie.Need-find-requires
-find-requires c κs = search needs
-
-add-start : tie.Need-add-start
-add-start c = search needs
-
-sub-result : tie.Need-sub-result
-sub-result c = search needs
-
-part-result-start : tie.Need-part-result-start
-part-result-start c = search needs
-
-part-result-end : tie.Need-part-result-end
-part-result-end c = search needs
-
 returns : tie.Need-returns
 returns c =
     let args = c .before .before .before .before .args in
@@ -43,9 +28,6 @@ part-result-start-2 c =
     let args = c .before .before .before .args in
     omega (arith, c .before .find .ensures, before-bound (args .c) (args .s .now))
 
-part-result-end-2 : tie.Need-part-result-end-2
-part-result-end-2 c = search needs
-
 returns-2 : tie.Need-returns-2
 returns-2 c =
     let args = c .before .before .before .before .args in
@@ -58,13 +40,13 @@ pub behind-spec : {M : Type 1} → statement M
 behind-spec =
     tie.close
     (tie.spec
-    find-requires
-    add-start
-    sub-result
-    part-result-start
-    part-result-end
+    (λ c κs. search needs)
+    (λ c. search needs)
+    (λ c. search needs)
+    (λ c. search needs)
+    (λ c. search needs)
     returns
     sub-result-2
     part-result-start-2
-    part-result-end-2
+    (λ c. search needs)
     returns-2)

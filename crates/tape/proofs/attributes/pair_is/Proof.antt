@@ -5,14 +5,8 @@ use borrow.Author.Needs.{needs}
 use Rattle.tape.proofs.attributes.pair_is.Statement.{statement}
 use Rattle.tape.proofs.attributes.pair_is.Tie as tie
 
-inside-part-requires : tie.Need-inside-part-requires
-inside-part-requires c κs = search needs
-
-local-is-requires : tie.Need-local-is-requires
-local-is-requires c κs = search needs
-
 returns : tie.Need-returns
 returns c = c .local-is .ensures ∙ ap (λ (l : Text). same (localName l) (c .before .before .before .before .before .args .word .now)) (c .before .inside-part .ensures)
 
 pub pair-is-spec : {M : Type 1} → statement M
-pair-is-spec = tie.close (tie.spec inside-part-requires local-is-requires returns)
+pair-is-spec = tie.close (tie.spec (λ c κs. search needs) (λ c κs. search needs) returns)

@@ -19,15 +19,6 @@ returns-3 c = let a = c .before .before .before .args in sym (form-many (a .kind
 returns-4 : tie.Need-returns-4
 returns-4 c = let a = c .before .before .before .before .args in sym (form-close (a .kind) (a .count) (a .left) (c .if4 .taken) (omega arith))
 
-mul-result : tie.Need-mul-result
-mul-result c = search needs
-
-add-result : tie.Need-add-result
-add-result c = search needs
-
-mul-result-2 : tie.Need-mul-result-2
-mul-result-2 c = search needs
-
 returns-5 : tie.Need-returns-5
 unfolding pairCount
 returns-5 c = let a = c .before .before .before .before .args in sym (form-tag (a .kind) (a .count) (a .left) (omega arith) (omega arith) (omega arith) (c .if4 .left))
@@ -35,4 +26,4 @@ returns-5 c = let a = c .before .before .before .before .args in sym (form-tag (
 pub has-form-spec : {M : Type 1} → statement M
 has-form-spec =
     tie.close
-    (tie.spec returns returns-2 returns-3 returns-4 mul-result add-result mul-result-2 returns-5)
+    (tie.spec returns returns-2 returns-3 returns-4 (λ c. search needs) (λ c. search needs) (λ c. search needs) returns-5)

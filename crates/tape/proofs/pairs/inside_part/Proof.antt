@@ -8,36 +8,9 @@ use borrow.Author.Needs.{needs}
 use Rattle.tape.proofs.pairs.inside_part.Statement.{statement}
 use Rattle.tape.proofs.pairs.inside_part.Tie as tie
 
-mul-wide : tie.Need-mul-wide
-mul-wide c = search needs
-
-shared-slice-read-wide : tie.Need-shared-slice-read-wide
-shared-slice-read-wide c = search needs
-
-wide-requires : tie.Need-wide-requires
-wide-requires c κs = search needs
-
-add-wide : tie.Need-add-wide
-add-wide c = search needs
-
-mul-wide-2 : tie.Need-mul-wide-2
-mul-wide-2 c = search needs
-
-shared-slice-read-wide-2 : tie.Need-shared-slice-read-wide-2
-shared-slice-read-wide-2 c = search needs
-
-wide-requires-2 : tie.Need-wide-requires-2
-wide-requires-2 c κs = search needs
-
 add-end : tie.Need-add-end
 unfolding pairAt
 add-end c = omega arith
-
-sub-result : tie.Need-sub-result
-sub-result c = search needs
-
-part-result-start : tie.Need-part-result-start
-part-result-start c = search needs
 
 part-result-end : tie.Need-part-result-end
 unfolding pairAt
@@ -55,15 +28,15 @@ pub inside-part-spec : {M : Type 1} → statement M
 inside-part-spec =
     tie.close
     (tie.spec
-    mul-wide
-    shared-slice-read-wide
-    wide-requires
-    add-wide
-    mul-wide-2
-    shared-slice-read-wide-2
-    wide-requires-2
+    (λ c. search needs)
+    (λ c. search needs)
+    (λ c κs. search needs)
+    (λ c. search needs)
+    (λ c. search needs)
+    (λ c. search needs)
+    (λ c κs. search needs)
     add-end
-    sub-result
-    part-result-start
+    (λ c. search needs)
+    (λ c. search needs)
     part-result-end
     returns)

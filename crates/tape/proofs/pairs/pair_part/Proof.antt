@@ -6,31 +6,10 @@ use borrow.Author.Needs.{needs}
 use Rattle.tape.proofs.pairs.pair_part.Statement.{statement}
 use Rattle.tape.proofs.pairs.pair_part.Tie as tie
 
-part-of-requires : tie.Need-part-of-requires
-part-of-requires c κs = search needs
-
 returns : tie.Need-returns
 returns c =
     let a = c .before .before .before .before .args in
     c .part-of .ensures ∙ sym (pair-past (a .text .now) (a .marks .now) (a .at) (c .before .if1 .taken))
-
-mark-at-requires : tie.Need-mark-at-requires
-mark-at-requires c κs = search needs
-
-wide-requires : tie.Need-wide-requires
-wide-requires c κs = search needs
-
-add-mark-at : tie.Need-add-mark-at
-add-mark-at c = search needs
-
-mark-at-requires-2 : tie.Need-mark-at-requires-2
-mark-at-requires-2 c κs = search needs
-
-wide-requires-2 : tie.Need-wide-requires-2
-wide-requires-2 c κs = search needs
-
-part-of-requires-2 : tie.Need-part-of-requires-2
-part-of-requires-2 c κs = search needs
 
 returns-2 : tie.Need-returns-2
 unfolding pairAt
@@ -44,12 +23,12 @@ pub pair-part-spec : {M : Type 1} → statement M
 pair-part-spec =
     tie.close
     (tie.spec
-    part-of-requires
+    (λ c κs. search needs)
     returns
-    mark-at-requires
-    wide-requires
-    add-mark-at
-    mark-at-requires-2
-    wide-requires-2
-    part-of-requires-2
+    (λ c κs. search needs)
+    (λ c κs. search needs)
+    (λ c. search needs)
+    (λ c κs. search needs)
+    (λ c κs. search needs)
+    (λ c κs. search needs)
     returns-2)

@@ -3,11 +3,5 @@ use borrow.Author.Needs.{needs}
 use Rattle.tape.proofs.tests.pair_end.Statement.{statement}
 use Rattle.tape.proofs.tests.pair_end.Tie as tie
 
-add-result : tie.Need-add-result
-add-result c = search needs
-
-returns : tie.Need-returns
-returns c = search needs
-
 pub pair-end-spec : {M : Type 1} → statement M
-pair-end-spec = tie.close (tie.spec add-result returns)
+pair-end-spec = tie.close (tie.spec (λ c. search needs) (λ c. search needs))

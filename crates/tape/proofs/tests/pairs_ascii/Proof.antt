@@ -13,11 +13,5 @@ returns c =
     let a = start .args in
     sym (ascii-whole (a .text .now) (start .pre .1 (c .if1 .taken)) (pairsOf (a .n) (drop (a .from) (a .marks .now))))
 
-bytes-ascii-requires : tie.Need-bytes-ascii-requires
-bytes-ascii-requires c κs = search needs
-
-returns-2 : tie.Need-returns-2
-returns-2 c = search needs
-
 pub pairs-ascii-spec : {M : Type 1} → statement M
-pairs-ascii-spec = tie.close (tie.spec returns bytes-ascii-requires returns-2)
+pairs-ascii-spec = tie.close (tie.spec returns (λ c κs. search needs) (λ c. search needs))

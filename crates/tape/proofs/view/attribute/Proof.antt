@@ -9,17 +9,11 @@ use borrow.Author.Needs.{needs}
 use Rattle.tape.proofs.view.attribute.Statement.{statement}
 use Rattle.tape.proofs.view.attribute.Tie as tie
 
-event-marks-requires : tie.Need-event-marks-requires
-event-marks-requires c κs = search needs
-
 in-view-requires : tie.Need-in-view-requires
 in-view-requires c κs =
     let start = c .before .before .before .before in
     let a = start .args in
     record { clean = start .pre .0; inside = rw (c .event-marks .ensures) (inside-cut (a .text .now) (a .marks .now) (a .pairs) (a .count) (start .pre .1)) }
-
-enum-known-i : tie.Need-enum-known-i
-enum-known-i c = search needs
 
 add-t10 : tie.Need-add-t10
 add-t10 c =
@@ -29,9 +23,6 @@ add-t10 c =
     let a = start .args in
     let place = found-inside (a .text .now) (a .marks .now) (marked .event-marks .result .now) (a .pairs) (a .count) (a .word .now) (called .in-view .result) (marked .event-marks .ensures) (called .in-view .ensures) _ (c .before .i .given .1) in
     omega (arith, place, event-length (a .text .now) (a .marks .now) (a .pairs) (a .count) (start .pre .1), ap (λ (l : List ℕ). length l) (marked .event-marks .ensures))
-
-enum-told : tie.Need-enum-told
-enum-told c = search needs
 
 returns : tie.Need-returns
 returns c =
@@ -51,10 +42,10 @@ pub attribute-spec : {M : Type 1} → statement M
 attribute-spec =
     tie.close
     (tie.spec
-    event-marks-requires
+    (λ c κs. search needs)
     in-view-requires
-    enum-known-i
+    (λ c. search needs)
     add-t10
-    enum-told
+    (λ c. search needs)
     returns
     returns-2)

@@ -22,15 +22,6 @@ add-end-2 : tie.Need-add-end-2
 unfolding pairCount
 add-end-2 c = omega arith
 
-mul-result : tie.Need-mul-result
-mul-result c = search needs
-
-sub-result : tie.Need-sub-result
-sub-result c = search needs
-
-part-result-start : tie.Need-part-result-start
-part-result-start c = search needs
-
 part-result-end : tie.Need-part-result-end
 unfolding pairCount
 part-result-end c = omega arith
@@ -49,8 +40,8 @@ event-marks-spec =
     mul-end
     add-end
     add-end-2
-    mul-result
-    sub-result
-    part-result-start
+    (λ c. search needs)
+    (λ c. search needs)
+    (λ c. search needs)
     part-result-end
     returns)

@@ -3,11 +3,8 @@ use borrow.Author.Needs.{needs}
 use Rattle.text.proofs.ascii.is_lower.Statement.{statement}
 use Rattle.text.proofs.ascii.is_lower.Tie as tie
 
-in-range-requires : tie.Need-in-range-requires
-in-range-requires c κs = search needs
-
 returns : tie.Need-returns
 returns c = c .in-range .ensures
 
 pub is-lower-spec : {M : Type 1} → statement M
-is-lower-spec = tie.close (tie.spec in-range-requires returns)
+is-lower-spec = tie.close (tie.spec (λ c κs. search needs) returns)

@@ -3,11 +3,8 @@ use borrow.Author.Needs.{needs}
 use Rattle.text.proofs.ascii.is_upper.Statement.{statement}
 use Rattle.text.proofs.ascii.is_upper.Tie as tie
 
-in-range-requires : tie.Need-in-range-requires
-in-range-requires c κs = search needs
-
 returns : tie.Need-returns
 returns c = c .in-range .ensures
 
 pub is-upper-spec : {M : Type 1} → statement M
-is-upper-spec = tie.close (tie.spec in-range-requires returns)
+is-upper-spec = tie.close (tie.spec (λ c κs. search needs) returns)

@@ -6,9 +6,6 @@ use Rattle.text.proofs.Laws.Texts.{between-high, lower-of-upper, lower-
 use Rattle.text.proofs.ascii.to_lower.Statement.{statement}
 use Rattle.text.proofs.ascii.to_lower.Tie as tie
 
-is-upper-requires : tie.Need-is-upper-requires
-is-upper-requires c κs = search needs
-
 add-result : tie.Need-add-result
 add-result c = omega (arith, between-high 65 90 (c .before .before .args .b) (sym (c .before .is-upper .ensures) ∙ c .if1 .taken))
 
@@ -19,4 +16,4 @@ returns-2 : tie.Need-returns-2
 returns-2 c = sym (lower-of-other (c .before .before .args .b) (sym (c .before .is-upper .ensures) ∙ c .if1 .left))
 
 pub to-lower-spec : {M : Type 1} → statement M
-to-lower-spec = tie.close (tie.spec is-upper-requires add-result returns returns-2)
+to-lower-spec = tie.close (tie.spec (λ c κs. search needs) add-result returns returns-2)

@@ -6,9 +6,6 @@ use Rattle.text.proofs.Laws.Texts.{between-low, upper-of-lower, upper-o
 use Rattle.text.proofs.ascii.to_upper.Statement.{statement}
 use Rattle.text.proofs.ascii.to_upper.Tie as tie
 
-is-lower-requires : tie.Need-is-lower-requires
-is-lower-requires c κs = search needs
-
 sub-result : tie.Need-sub-result
 sub-result c = omega (arith, between-low 97 122 (c .before .before .args .b) (sym (c .before .is-lower .ensures) ∙ c .if1 .taken))
 
@@ -19,4 +16,4 @@ returns-2 : tie.Need-returns-2
 returns-2 c = sym (upper-of-other (c .before .before .args .b) (sym (c .before .is-lower .ensures) ∙ c .if1 .left))
 
 pub to-upper-spec : {M : Type 1} → statement M
-to-upper-spec = tie.close (tie.spec is-lower-requires sub-result returns returns-2)
+to-upper-spec = tie.close (tie.spec (λ c κs. search needs) sub-result returns returns-2)

@@ -6,19 +6,10 @@ use borrow.Author.Needs.{needs}
 use Rattle.xsd_act.proofs.needs.bytes_of.Statement.{statement}
 use Rattle.xsd_act.proofs.needs.bytes_of.Tie as tie
 
-returns : tie.Need-returns
-returns c = search needs
-
-returns-2 : tie.Need-returns-2
-returns-2 c = search needs
-
-add-result : tie.Need-add-result
-add-result c = search needs
-
 returns-3 : tie.Need-returns-3
 returns-3 c =
     let a = c .before .before .args in
     (sym (used-both (a .pairs) (a .first) (a .second) (c .before .if1 .left) (c .if2 .left)), omega arith)
 
 pub bytes-of-spec : {M : Type 1} → statement M
-bytes-of-spec = tie.close (tie.spec returns returns-2 add-result returns-3)
+bytes-of-spec = tie.close (tie.spec (λ c. search needs) (λ c. search needs) (λ c. search needs) returns-3)

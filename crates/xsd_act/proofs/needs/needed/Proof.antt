@@ -23,18 +23,6 @@ found-as : (c : tie.Start) (x : Decision) (r : Used) → c .args .d ≡ x → Ne
     → Needed (c .args .rows .now) (c .args .used) (c .args .head) (decision (c .args .text .now) (c .args .marks .now) (c .args .d)) r
 found-as c x r e h = subst (λ (y : Decision). Needed (c .args .rows .now) (c .args .used) (c .args .head) (decision (c .args .text .now) (c .args .marks .now) y) r) (sym e) h
 
-enum-told : tie.Need-enum-told
-enum-told c = search needs
-
-enum-told-2 : tie.Need-enum-told-2
-enum-told-2 c = search needs
-
-enum-known-d : tie.Need-enum-known-d
-enum-known-d c = search needs
-
-pair-part-requires : tie.Need-pair-part-requires
-pair-part-requires c κs = search needs
-
 needed-text-requires : tie.Need-needed-text-requires
 unfolding decision textAtMark
 needed-text-requires c κs =
@@ -45,12 +33,6 @@ needed-text-requires c κs =
     let new = ap length (c .pair-part .ensures) in
     (record { names = w .names; spot = _; text = ready-root (w .ready) }, (start .pre .1 .namesUsed, omega (arith, textAtMark-bound (a .text .now) (a .marks .now) (found .0 .0))))
 
-enum-known-d-2 : tie.Need-enum-known-d-2
-enum-known-d-2 c = search needs
-
-pair-part-requires-2 : tie.Need-pair-part-requires-2
-pair-part-requires-2 c κs = search needs
-
 with-row-requires : tie.Need-with-row-requires
 unfolding textAtMark
 with-row-requires c κs =
@@ -58,12 +40,6 @@ with-row-requires c κs =
     let a = start .args in
     let new = ap length (c .pair-part2 .ensures) in
     omega (arith, start .pre .1, textAtMark-bound (a .text .now) (a .marks .now) (c .before .before .d2 .given .0 .0))
-
-enum-known-d-3 : tie.Need-enum-known-d-3
-enum-known-d-3 c = search needs
-
-pair-part-requires-3 : tie.Need-pair-part-requires-3
-pair-part-requires-3 c κs = search needs
 
 with-row-requires-2 : tie.Need-with-row-requires-2
 unfolding textAtMark
@@ -73,27 +49,6 @@ with-row-requires-2 c κs =
     let new = ap length (c .pair-part3 .ensures) in
     omega (arith, start .pre .1, textAtMark-bound (a .text .now) (a .marks .now) (c .before .before .d3 .given .0 .0))
 
-enum-known-d-4 : tie.Need-enum-known-d-4
-enum-known-d-4 c = search needs
-
-needed-row-requires : tie.Need-needed-row-requires
-needed-row-requires c κs = search needs
-
-enum-told-3 : tie.Need-enum-told-3
-enum-told-3 c = search needs
-
-with-row-requires-3 : tie.Need-with-row-requires-3
-with-row-requires-3 c κs = search needs
-
-enum-told-4 : tie.Need-enum-told-4
-enum-told-4 c = search needs
-
-with-row-requires-4 : tie.Need-with-row-requires-4
-with-row-requires-4 c κs = search needs
-
-enum-known-d-5 : tie.Need-enum-known-d-5
-enum-known-d-5 c = search needs
-
 needed-content-requires : tie.Need-needed-content-requires
 unfolding decision Fitting
 needed-content-requires c κs =
@@ -101,12 +56,6 @@ needed-content-requires c κs =
     let a = start .args in
     let w = start .pre .0 _ (ap (decision (a .text .now) (a .marks .now)) (c .before .d5 .given .1)) in
     (record { names = w .names; z = w .z; rs = _; name = _; head = ready-head (w .ready) (w .fitting) }, start .pre .1)
-
-enum-known-d-6 : tie.Need-enum-known-d-6
-enum-known-d-6 c = search needs
-
-pair-part-requires-4 : tie.Need-pair-part-requires-4
-pair-part-requires-4 c κs = search needs
 
 needed-text-requires-2 : tie.Need-needed-text-requires-2
 unfolding decision textAtMark Fitting
@@ -198,27 +147,27 @@ pub needed-spec : {M : Type 1} → statement M
 needed-spec =
     tie.close
     (tie.spec
-    enum-told
-    enum-told-2
-    enum-known-d
-    pair-part-requires
+    (λ c. search needs)
+    (λ c. search needs)
+    (λ c. search needs)
+    (λ c κs. search needs)
     needed-text-requires
-    enum-known-d-2
-    pair-part-requires-2
+    (λ c. search needs)
+    (λ c κs. search needs)
     with-row-requires
-    enum-known-d-3
-    pair-part-requires-3
+    (λ c. search needs)
+    (λ c κs. search needs)
     with-row-requires-2
-    enum-known-d-4
-    needed-row-requires
-    enum-told-3
-    with-row-requires-3
-    enum-told-4
-    with-row-requires-4
-    enum-known-d-5
+    (λ c. search needs)
+    (λ c κs. search needs)
+    (λ c. search needs)
+    (λ c κs. search needs)
+    (λ c. search needs)
+    (λ c κs. search needs)
+    (λ c. search needs)
     needed-content-requires
-    enum-known-d-6
-    pair-part-requires-4
+    (λ c. search needs)
+    (λ c κs. search needs)
     needed-text-requires-2
     returns
     returns-2

@@ -15,9 +15,6 @@ facts c = head-numbers (c .pre .0 .head)
 name-end-requires : tie.Need-name-end-requires
 name-end-requires c κs = omega (arith, facts (c .before .before .before))
 
-pair-part-requires : tie.Need-pair-part-requires
-pair-part-requires c κs = search needs
-
 add-t10 : tie.Need-add-t10
 add-t10 c = omega (arith, facts (c .before .before .before .before .before .before))
 
@@ -61,4 +58,4 @@ returns-2 c =
 pub needed-content-spec : {M : Type 1} → statement M
 needed-content-spec =
     tie.close
-    (tie.spec name-end-requires pair-part-requires add-t10 add-t12 returns add-t13 returns-2)
+    (tie.spec name-end-requires (λ c κs. search needs) add-t10 add-t12 returns add-t13 returns-2)

@@ -10,15 +10,6 @@ use borrow.Author.Needs.{needs}
 use Rattle.xsd_act.proofs.needs.needed_row.Statement.{statement}
 use Rattle.xsd_act.proofs.needs.needed_row.Tie as tie
 
-pair-part-requires : tie.Need-pair-part-requires
-pair-part-requires c κs = search needs
-
-pair-part-requires-2 : tie.Need-pair-part-requires-2
-pair-part-requires-2 c κs = search needs
-
-few-pairs-requires : tie.Need-few-pairs-requires
-few-pairs-requires c κs = search needs
-
 bytes-of-requires : tie.Need-bytes-of-requires
 unfolding textAtMark
 bytes-of-requires c κs =
@@ -26,9 +17,6 @@ bytes-of-requires c κs =
     let first = ap length (c .before .before .pair-part .ensures) in
     let second = ap length (c .before .pair-part2 .ensures) in
     omega (arith, textAtMark-bound (a .text .now) (a .marks .now) (a .n .first), textAtMark-bound (a .text .now) (a .marks .now) (a .n .second))
-
-with-row-requires : tie.Need-with-row-requires
-with-row-requires c κs = search needs
 
 returns : tie.Need-returns
 unfolding textAtMark
@@ -44,9 +32,9 @@ pub needed-row-spec : {M : Type 1} → statement M
 needed-row-spec =
     tie.close
     (tie.spec
-    pair-part-requires
-    pair-part-requires-2
-    few-pairs-requires
+    (λ c κs. search needs)
+    (λ c κs. search needs)
+    (λ c κs. search needs)
     bytes-of-requires
-    with-row-requires
+    (λ c κs. search needs)
     returns)

@@ -18,13 +18,10 @@ sub-t7 c =
     let start = c .before .before .before in
     omega (arith, facts start, c .before .text-length .ensures _ _ _ (start .pre .0 .text))
 
-add-t8 : tie.Need-add-t8
-add-t8 c = search needs
-
 returns : tie.Need-returns
 returns c =
     let a = c .before .before .before .args in
     record { sameRows = refl; bytes = λ names x h. ap (λ (n : ℕ). a .used .names - n + a .new) (c .before .text-length .ensures names (a .used) x h) }
 
 pub needed-text-spec : {M : Type 1} → statement M
-needed-text-spec = tie.close (tie.spec text-length-requires sub-t7 add-t8 returns)
+needed-text-spec = tie.close (tie.spec text-length-requires sub-t7 (λ c. search needs) returns)

@@ -6,15 +6,6 @@ use borrow.Author.Needs.{needs}
 use Rattle.xsd_act.proofs.put.add_row.Statement.{statement}
 use Rattle.xsd_act.proofs.put.add_row.Tie as tie
 
-pair-part-requires : tie.Need-pair-part-requires
-pair-part-requires c κs = search needs
-
-pair-part-requires-2 : tie.Need-pair-part-requires-2
-pair-part-requires-2 c κs = search needs
-
-few-pairs-requires : tie.Need-few-pairs-requires
-few-pairs-requires c κs = search needs
-
 append-requires : tie.Need-append-requires
 unfolding textAtMark
 append-requires c κs =
@@ -25,12 +16,6 @@ append-requires c κs =
     let first = c .before .before .before .before .pair-part .ensures in
     let second = c .before .before .before .pair-part2 .ensures in
     (start .pre .0, ((rw (first, second) (rw bytes at (start .pre .1 .0)), start .pre .1 .1), few .ensures .0))
-
-same-length : tie.Need-same-length
-same-length c = search needs
-
-same-length-2 : tie.Need-same-length-2
-same-length-2 c = search needs
 
 returns : tie.Need-returns
 unfolding newRow row textAtMark
@@ -48,10 +33,10 @@ pub add-row-spec : {M : Type 1} → statement M
 add-row-spec =
     tie.close
     (tie.spec
-    pair-part-requires
-    pair-part-requires-2
-    few-pairs-requires
+    (λ c κs. search needs)
+    (λ c κs. search needs)
+    (λ c κs. search needs)
     append-requires
-    same-length
-    same-length-2
+    (λ c. search needs)
+    (λ c. search needs)
     returns)

@@ -7,12 +7,6 @@ use borrow.Author.Needs.{needs}
 use Rattle.xsd_act.proofs.put.open_type.Statement.{statement}
 use Rattle.xsd_act.proofs.put.open_type.Tie as tie
 
-pair-part-requires : tie.Need-pair-part-requires
-pair-part-requires c κs = search needs
-
-slice-aggregate-append : tie.Need-slice-aggregate-append
-slice-aggregate-append c = search needs
-
 append-requires : tie.Need-append-requires
 unfolding textAtMark
 append-requires c κs =
@@ -20,12 +14,6 @@ append-requires c κs =
     let a = start .args in
     let t = textAtMark (a .text .now) (a .marks .now) (a .at) in
     rw (c .before .before .before .pair-part .ensures) (omega (arith, start .pre, usedLength-empty-bound (a .head .pairs) (length t)))
-
-same-length : tie.Need-same-length
-same-length c = search needs
-
-same-length-2 : tie.Need-same-length-2
-same-length-2 c = search needs
 
 returns : tie.Need-returns
 unfolding textAtMark
@@ -35,9 +23,9 @@ pub open-type-spec : {M : Type 1} → statement M
 open-type-spec =
     tie.close
     (tie.spec
-    pair-part-requires
-    slice-aggregate-append
+    (λ c κs. search needs)
+    (λ c. search needs)
     append-requires
-    same-length
-    same-length-2
+    (λ c. search needs)
+    (λ c. search needs)
     returns)

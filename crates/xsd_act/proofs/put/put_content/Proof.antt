@@ -5,12 +5,6 @@ use borrow.Author.Needs.{needs}
 use Rattle.xsd_act.proofs.put.put_content.Statement.{statement}
 use Rattle.xsd_act.proofs.put.put_content.Tie as tie
 
-pair-part-requires : tie.Need-pair-part-requires
-pair-part-requires c κs = search needs
-
-content-pairs-requires : tie.Need-content-pairs-requires
-content-pairs-requires c κs = search needs
-
 replace-head-requires : tie.Need-replace-head-requires
 unfolding textAtMark
 replace-head-requires c κs =
@@ -18,12 +12,6 @@ replace-head-requires c κs =
     let a = start .args in
     let pairs = c .before .before .content-pairs .ensures in
     (rw (pairs, c .before .before .before .pair-part .ensures) (start .pre .0), (rw pairs (contentPairs-bound (a .n .follows)), start .pre .1))
-
-same-length : tie.Need-same-length
-same-length c = search needs
-
-same-length-2 : tie.Need-same-length-2
-same-length-2 c = search needs
 
 returns : tie.Need-returns
 unfolding textAtMark
@@ -33,9 +21,9 @@ pub put-content-spec : {M : Type 1} → statement M
 put-content-spec =
     tie.close
     (tie.spec
-    pair-part-requires
-    content-pairs-requires
+    (λ c κs. search needs)
+    (λ c κs. search needs)
     replace-head-requires
-    same-length
-    same-length-2
+    (λ c. search needs)
+    (λ c. search needs)
     returns)

@@ -4,18 +4,9 @@ use borrow.Author.Needs.{needs}
 use Rattle.xsd_act.proofs.put.put_text.Statement.{statement}
 use Rattle.xsd_act.proofs.put.put_text.Tie as tie
 
-pair-part-requires : tie.Need-pair-part-requires
-pair-part-requires c κs = search needs
-
 replace-text-requires : tie.Need-replace-text-requires
 unfolding textAtMark
 replace-text-requires c κs = rw (c .before .before .pair-part .ensures) (c .before .before .before .before .before .before .before .pre)
-
-same-length : tie.Need-same-length
-same-length c = search needs
-
-same-length-2 : tie.Need-same-length-2
-same-length-2 c = search needs
 
 returns : tie.Need-returns
 unfolding textAtMark
@@ -23,4 +14,4 @@ returns c = rw (c .before .before .before .before .before .before .before .pair-
 
 pub put-text-spec : {M : Type 1} → statement M
 put-text-spec =
-    tie.close (tie.spec pair-part-requires replace-text-requires same-length same-length-2 returns)
+    tie.close (tie.spec (λ c κs. search needs) replace-text-requires (λ c. search needs) (λ c. search needs) returns)

@@ -10,21 +10,9 @@ use borrow.Author.Needs.{needs}
 use Rattle.xsd_decide.proofs.complex.any_content.Statement.{statement}
 use Rattle.xsd_decide.proofs.complex.any_content.Tie as tie
 
-slice-aggregate-attribute : tie.Need-slice-aggregate-attribute
-slice-aggregate-attribute c = search needs
-
 attribute-requires : tie.Need-attribute-requires
 unfolding contains
 attribute-requires c κs = search needs
-
-enum-known-second : tie.Need-enum-known-second
-enum-known-second c = search needs
-
-enum-told : tie.Need-enum-told
-enum-told c = search needs
-
-content-alone-requires : tie.Need-content-alone-requires
-content-alone-requires c κs = search needs
 
 returns : tie.Need-returns
 unfolding bytes decision following anyContent
@@ -45,10 +33,10 @@ pub any-content-spec : {M : Type 1} → statement M
 any-content-spec =
     tie.close
     (tie.spec
-    slice-aggregate-attribute
+    (λ c. search needs)
     attribute-requires
-    enum-known-second
-    enum-told
-    content-alone-requires
+    (λ c. search needs)
+    (λ c. search needs)
+    (λ c κs. search needs)
     returns
     returns-2)

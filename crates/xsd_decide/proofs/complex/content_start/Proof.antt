@@ -16,15 +16,9 @@ use borrow.Author.Needs.{needs}
 use Rattle.xsd_decide.proofs.complex.content_start.Statement.{statement}
 use Rattle.xsd_decide.proofs.complex.content_start.Tie as tie
 
-slice-aggregate-local-is : tie.Need-slice-aggregate-local-is
-slice-aggregate-local-is c = search needs
-
 local-is-requires : tie.Need-local-is-requires
 unfolding contains
 local-is-requires c κs = search needs
-
-content-alone-requires : tie.Need-content-alone-requires
-content-alone-requires c κs = search needs
 
 returns : tie.Need-returns
 unfolding bytes contentStart
@@ -34,15 +28,9 @@ returns c =
     let t = recordTag (start .args .text .now) (start .args .marks .now) (start .args .t) in
     if-true ok _ _ (tagIs-told t "sequence" (start .pre) (first .local-is .ensures) (c .before .if1 .taken)) (c .content-alone .ensures (start .args .text .now) (start .args .marks .now))
 
-slice-aggregate-local-is-2 : tie.Need-slice-aggregate-local-is-2
-slice-aggregate-local-is-2 c = search needs
-
 local-is-requires-2 : tie.Need-local-is-requires-2
 unfolding contains
 local-is-requires-2 c κs = search needs
-
-content-alone-requires-2 : tie.Need-content-alone-requires-2
-content-alone-requires-2 c κs = search needs
 
 returns-2 : tie.Need-returns-2
 unfolding bytes contentStart
@@ -53,9 +41,6 @@ returns-2 c =
     let t = recordTag (start .args .text .now) (start .args .marks .now) (start .args .t) in
     if-false ok _ _ (tagIs-told t "sequence" (start .pre) (first .local-is .ensures) (second .before .before .if1 .left))
     (if-true ok _ _ (tagIs-told t "choice" (start .pre) (second .local-is2 .ensures) (c .before .if2 .taken)) (c .content-alone2 .ensures (start .args .text .now) (start .args .marks .now)))
-
-slice-aggregate-local-is-3 : tie.Need-slice-aggregate-local-is-3
-slice-aggregate-local-is-3 c = search needs
 
 local-is-requires-3 : tie.Need-local-is-requires-3
 unfolding contains
@@ -91,15 +76,15 @@ pub content-start-spec : {M : Type 1} → statement M
 content-start-spec =
     tie.close
     (tie.spec
-    slice-aggregate-local-is
+    (λ c. search needs)
     local-is-requires
-    content-alone-requires
+    (λ c κs. search needs)
     returns
-    slice-aggregate-local-is-2
+    (λ c. search needs)
     local-is-requires-2
-    content-alone-requires-2
+    (λ c κs. search needs)
     returns-2
-    slice-aggregate-local-is-3
+    (λ c. search needs)
     local-is-requires-3
     returns-3
     returns-4)

@@ -10,15 +10,9 @@ use borrow.Author.Needs.{needs}
 use Rattle.xsd_decide.proofs.complex.empty_in_complex_type.Statement.{statement}
 use Rattle.xsd_decide.proofs.complex.empty_in_complex_type.Tie as tie
 
-slice-aggregate-local-is : tie.Need-slice-aggregate-local-is
-slice-aggregate-local-is c = search needs
-
 local-is-requires : tie.Need-local-is-requires
 unfolding contains
 local-is-requires c κs = search needs
-
-element-inside-requires : tie.Need-element-inside-requires
-element-inside-requires c κs = search needs
 
 returns : tie.Need-returns
 unfolding bytes emptyInComplexType
@@ -28,15 +22,9 @@ returns c =
     let t = recordTag (start .args .text .now) (start .args .marks .now) (start .args .t) in
     if-true whole _ _ (tagIs-told t "element" (start .pre .0) (first .local-is .ensures) (c .before .if1 .taken)) (c .element-inside .ensures)
 
-slice-aggregate-local-is-2 : tie.Need-slice-aggregate-local-is-2
-slice-aggregate-local-is-2 c = search needs
-
 local-is-requires-2 : tie.Need-local-is-requires-2
 unfolding contains
 local-is-requires-2 c κs = search needs
-
-any-content-requires : tie.Need-any-content-requires
-any-content-requires c κs = search needs
 
 returns-2 : tie.Need-returns-2
 unfolding bytes emptyInComplexType
@@ -48,15 +36,9 @@ returns-2 c =
     if-false whole _ _ (tagIs-told t "element" (start .pre .0) (first .local-is .ensures) (second .before .before .if1 .left))
     (if-true whole _ _ (tagIs-told t "any" (start .pre .0) (second .local-is2 .ensures) (c .before .if2 .taken)) (c .any-content .ensures))
 
-slice-aggregate-local-is-3 : tie.Need-slice-aggregate-local-is-3
-slice-aggregate-local-is-3 c = search needs
-
 local-is-requires-3 : tie.Need-local-is-requires-3
 unfolding contains
 local-is-requires-3 c κs = search needs
-
-attribute-inside-requires : tie.Need-attribute-inside-requires
-attribute-inside-requires c κs = search needs
 
 returns-3 : tie.Need-returns-3
 unfolding bytes emptyInComplexType
@@ -86,16 +68,16 @@ pub empty-in-complex-type-spec : {M : Type 1} → statement M
 empty-in-complex-type-spec =
     tie.close
     (tie.spec
-    slice-aggregate-local-is
+    (λ c. search needs)
     local-is-requires
-    element-inside-requires
+    (λ c κs. search needs)
     returns
-    slice-aggregate-local-is-2
+    (λ c. search needs)
     local-is-requires-2
-    any-content-requires
+    (λ c κs. search needs)
     returns-2
-    slice-aggregate-local-is-3
+    (λ c. search needs)
     local-is-requires-3
-    attribute-inside-requires
+    (λ c κs. search needs)
     returns-3
     returns-4)

@@ -9,9 +9,6 @@ use borrow.Author.Needs.{needs}
 use Rattle.xsd_decide.proofs.complex.extension_start.Statement.{statement}
 use Rattle.xsd_decide.proofs.complex.extension_start.Tie as tie
 
-base-set-requires : tie.Need-base-set-requires
-base-set-requires c κs = search needs
-
 returns : tie.Need-returns
 unfolding extended
 returns c = if-true ok _ _ (eq-eqb _ 14 (c .before .if1 .taken)) (c .base-set .ensures)
@@ -21,4 +18,4 @@ unfolding decision extended
 returns-2 c = if-false ok _ _ (ne-eqb _ 14 (c .if1 .left)) refl
 
 pub extension-start-spec : {M : Type 1} → statement M
-extension-start-spec = tie.close (tie.spec base-set-requires returns returns-2)
+extension-start-spec = tie.close (tie.spec (λ c κs. search needs) returns returns-2)

@@ -10,15 +10,9 @@ use borrow.Author.Needs.{needs}
 use Rattle.xsd_decide.proofs.complex.start_at_two.Statement.{statement}
 use Rattle.xsd_decide.proofs.complex.start_at_two.Tie as tie
 
-slice-aggregate-local-is : tie.Need-slice-aggregate-local-is
-slice-aggregate-local-is c = search needs
-
 local-is-requires : tie.Need-local-is-requires
 unfolding contains
 local-is-requires c κs = search needs
-
-extension-start-requires : tie.Need-extension-start-requires
-extension-start-requires c κs = search needs
 
 returns : tie.Need-returns
 unfolding bytes startAtTwo
@@ -28,15 +22,9 @@ returns c =
     let t = recordTag (start .args .text .now) (start .args .marks .now) (start .args .t) in
     if-true whole _ _ (tagIs-told t "extension" (start .pre .0) (first .local-is .ensures) (c .before .if1 .taken)) (c .extension-start .ensures)
 
-slice-aggregate-local-is-2 : tie.Need-slice-aggregate-local-is-2
-slice-aggregate-local-is-2 c = search needs
-
 local-is-requires-2 : tie.Need-local-is-requires-2
 unfolding contains
 local-is-requires-2 c κs = search needs
-
-element-inside-requires : tie.Need-element-inside-requires
-element-inside-requires c κs = search needs
 
 returns-2 : tie.Need-returns-2
 unfolding bytes startAtTwo
@@ -62,12 +50,12 @@ pub start-at-two-spec : {M : Type 1} → statement M
 start-at-two-spec =
     tie.close
     (tie.spec
-    slice-aggregate-local-is
+    (λ c. search needs)
     local-is-requires
-    extension-start-requires
+    (λ c κs. search needs)
     returns
-    slice-aggregate-local-is-2
+    (λ c. search needs)
     local-is-requires-2
-    element-inside-requires
+    (λ c κs. search needs)
     returns-2
     returns-3)

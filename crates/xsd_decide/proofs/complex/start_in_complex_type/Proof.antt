@@ -10,15 +10,9 @@ use borrow.Author.Needs.{needs}
 use Rattle.xsd_decide.proofs.complex.start_in_complex_type.Statement.{statement}
 use Rattle.xsd_decide.proofs.complex.start_in_complex_type.Tie as tie
 
-content-start-requires : tie.Need-content-start-requires
-content-start-requires c κs = search needs
-
 returns : tie.Need-returns
 unfolding startInComplexType
 returns c = if-true whole _ _ (eq-eqb _ 1 (ap suc (c .before .if1 .taken))) (c .content-start .ensures)
-
-start-at-two-requires : tie.Need-start-at-two-requires
-start-at-two-requires c κs = search needs
 
 returns-2 : tie.Need-returns-2
 unfolding startInComplexType
@@ -34,4 +28,4 @@ returns-3 c =
 
 pub start-in-complex-type-spec : {M : Type 1} → statement M
 start-in-complex-type-spec =
-    tie.close (tie.spec content-start-requires returns start-at-two-requires returns-2 returns-3)
+    tie.close (tie.spec (λ c κs. search needs) returns (λ c κs. search needs) returns-2 returns-3)

@@ -20,15 +20,6 @@ returns c =
     let a = c .before .before .before .args in
     ap ok (sym (attribute-off (recordTag (a .text .now) (a .marks .now) (a .t)) (not-true (a .flag) (c .if1 .taken))))
 
-name-and-type-requires : tie.Need-name-and-type-requires
-name-and-type-requires c κs = search needs
-
-enum-known-p : tie.Need-enum-known-p
-enum-known-p c = search needs
-
-enum-told : tie.Need-enum-told
-enum-told c = search needs
-
 returns-2 : tie.Need-returns-2
 unfolding decision named typedValues forBoth
 returns-2 c =
@@ -37,12 +28,6 @@ returns-2 c =
     let t = recordTag (a .text .now) (a .marks .now) (a .t) in
     let on = attribute-on t (not-false (a .flag) (called .before .if1 .left)) refl in
     ap ok (sym (on ∙ typed-told (a .text .now) (a .marks .now) (attrValue t "name") (attrValue t "type") (called .name-and-type .ensures) (c .enum-told .given .1) (typedRow 20 (bit (isRequired (attrValue t "use"))) 0)))
-
-is-required-requires : tie.Need-is-required-requires
-is-required-requires c κs = search needs
-
-typed-row-requires : tie.Need-typed-row-requires
-typed-row-requires c κs = search needs
 
 returns-3 : tie.Need-returns-3
 unfolding named typedValues forBoth bit
@@ -53,9 +38,6 @@ returns-3 c =
     let on = attribute-on t (not-false (a .flag) (called .before .if1 .left)) (sym (c .before .before .is-required .ensures) ∙ c .before .if2 .taken) in
     c .typed-row .ensures (a .text .now) (a .marks .now)
     ∙ ap ok (sym (on ∙ typed-told (a .text .now) (a .marks .now) (attrValue t "name") (attrValue t "type") (called .name-and-type .ensures) (c .before .before .before .before .p .given .1) (typedRow 20 1 0)))
-
-typed-row-requires-2 : tie.Need-typed-row-requires-2
-typed-row-requires-2 c κs = search needs
 
 returns-4 : tie.Need-returns-4
 unfolding named typedValues forBoth bit
@@ -72,12 +54,12 @@ attribute-inside-spec =
     tie.close
     (tie.spec
     returns
-    name-and-type-requires
-    enum-known-p
-    enum-told
+    (λ c κs. search needs)
+    (λ c. search needs)
+    (λ c. search needs)
     returns-2
-    is-required-requires
-    typed-row-requires
+    (λ c κs. search needs)
+    (λ c κs. search needs)
     returns-3
-    typed-row-requires-2
+    (λ c κs. search needs)
     returns-4)

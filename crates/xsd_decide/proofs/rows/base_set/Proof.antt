@@ -11,9 +11,6 @@ use borrow.Author.Needs.{needs}
 use Rattle.xsd_decide.proofs.rows.base_set.Statement.{statement}
 use Rattle.xsd_decide.proofs.rows.base_set.Tie as tie
 
-slice-aggregate-value-place : tie.Need-slice-aggregate-value-place
-slice-aggregate-value-place c = search needs
-
 value-place-requires : tie.Need-value-place-requires
 unfolding contains
 value-place-requires c κs = search needs
@@ -25,4 +22,4 @@ returns c =
     ap (λ v. ok (Action.base v)) (place-told (recordTag (a .text .now) (a .marks .now) (a .t)) "base" (c .value-place .ensures))
 
 pub base-set-spec : {M : Type 1} → statement M
-base-set-spec = tie.close (tie.spec slice-aggregate-value-place value-place-requires returns)
+base-set-spec = tie.close (tie.spec (λ c. search needs) value-place-requires returns)

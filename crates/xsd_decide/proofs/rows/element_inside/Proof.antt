@@ -10,15 +10,9 @@ use borrow.Author.Needs.{needs}
 use Rattle.xsd_decide.proofs.rows.element_inside.Statement.{statement}
 use Rattle.xsd_decide.proofs.rows.element_inside.Tie as tie
 
-occurs-added-requires : tie.Need-occurs-added-requires
-occurs-added-requires c κs = search needs
-
 returns : tie.Need-returns
 unfolding elementInside
 returns c = if-true whole _ _ (eq-eqb _ 12 (c .before .if1 .taken)) (c .occurs-added .ensures)
-
-named-row-requires : tie.Need-named-row-requires
-named-row-requires c κs = search needs
 
 returns-2 : tie.Need-returns-2
 unfolding elementInside typedRow variantRow
@@ -30,4 +24,4 @@ returns-3 c = if-false whole _ _ (ne-eqb _ 12 (c .before .if1 .left)) (if-false 
 
 pub element-inside-spec : {M : Type 1} → statement M
 element-inside-spec =
-    tie.close (tie.spec occurs-added-requires returns named-row-requires returns-2 returns-3)
+    tie.close (tie.spec (λ c κs. search needs) returns (λ c κs. search needs) returns-2 returns-3)

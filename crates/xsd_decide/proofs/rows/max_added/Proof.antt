@@ -9,24 +9,6 @@ use borrow.Author.Needs.{needs}
 use Rattle.xsd_decide.proofs.rows.max_added.Statement.{statement}
 use Rattle.xsd_decide.proofs.rows.max_added.Tie as tie
 
-max-occurs-requires : tie.Need-max-occurs-requires
-max-occurs-requires c κs = search needs
-
-enum-known-max : tie.Need-enum-known-max
-enum-known-max c = search needs
-
-typed-row-requires : tie.Need-typed-row-requires
-typed-row-requires c κs = search needs
-
-enum-told : tie.Need-enum-told
-enum-told c = search needs
-
-typed-row-requires-2 : tie.Need-typed-row-requires-2
-typed-row-requires-2 c κs = search needs
-
-enum-told-2 : tie.Need-enum-told-2
-enum-told-2 c = search needs
-
 returns : tie.Need-returns
 unfolding maxAdded maxAnswer _andThen_ occursRow typedRow
 returns c =
@@ -55,12 +37,12 @@ pub max-added-spec : {M : Type 1} → statement M
 max-added-spec =
     tie.close
     (tie.spec
-    max-occurs-requires
-    enum-known-max
-    typed-row-requires
-    enum-told
-    typed-row-requires-2
-    enum-told-2
+    (λ c κs. search needs)
+    (λ c. search needs)
+    (λ c κs. search needs)
+    (λ c. search needs)
+    (λ c κs. search needs)
+    (λ c. search needs)
     returns
     returns-2
     returns-3)

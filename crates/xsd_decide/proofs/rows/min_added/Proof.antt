@@ -12,18 +12,6 @@ use borrow.Author.Needs.{needs}
 use Rattle.xsd_decide.proofs.rows.min_added.Statement.{statement}
 use Rattle.xsd_decide.proofs.rows.min_added.Tie as tie
 
-min-occurs-requires : tie.Need-min-occurs-requires
-min-occurs-requires c κs = search needs
-
-enum-known-min : tie.Need-enum-known-min
-enum-known-min c = search needs
-
-max-added-requires : tie.Need-max-added-requires
-max-added-requires c κs = search needs
-
-enum-told : tie.Need-enum-told
-enum-told c = search needs
-
 returns : tie.Need-returns
 unfolding occursAdded maxAdded _andThen_ onParsed
 returns c =
@@ -47,4 +35,4 @@ returns-2 c =
 pub min-added-spec : {M : Type 1} → statement M
 min-added-spec =
     tie.close
-    (tie.spec min-occurs-requires enum-known-min max-added-requires enum-told returns returns-2)
+    (tie.spec (λ c κs. search needs) (λ c. search needs) (λ c κs. search needs) (λ c. search needs) returns returns-2)

@@ -11,18 +11,6 @@ use borrow.Author.Needs.{needs}
 use Rattle.xsd_decide.proofs.rows.named_row.Statement.{statement}
 use Rattle.xsd_decide.proofs.rows.named_row.Tie as tie
 
-name-and-type-requires : tie.Need-name-and-type-requires
-name-and-type-requires c κs = search needs
-
-enum-known-p : tie.Need-enum-known-p
-enum-known-p c = search needs
-
-typed-row-requires : tie.Need-typed-row-requires
-typed-row-requires c κs = search needs
-
-enum-told : tie.Need-enum-told
-enum-told c = search needs
-
 returns : tie.Need-returns
 unfolding named typedValues forBoth
 returns c =
@@ -43,4 +31,4 @@ returns-2 c =
 pub named-row-spec : {M : Type 1} → statement M
 named-row-spec =
     tie.close
-    (tie.spec name-and-type-requires enum-known-p typed-row-requires enum-told returns returns-2)
+    (tie.spec (λ c κs. search needs) (λ c. search needs) (λ c κs. search needs) (λ c. search needs) returns returns-2)

@@ -8,18 +8,6 @@ use borrow.Author.Needs.{needs}
 use Rattle.xsd_decide.proofs.rows.occurs_added.Statement.{statement}
 use Rattle.xsd_decide.proofs.rows.occurs_added.Tie as tie
 
-name-and-type-requires : tie.Need-name-and-type-requires
-name-and-type-requires c κs = search needs
-
-enum-known-p : tie.Need-enum-known-p
-enum-known-p c = search needs
-
-min-added-requires : tie.Need-min-added-requires
-min-added-requires c κs = search needs
-
-enum-told : tie.Need-enum-told
-enum-told c = search needs
-
 returns : tie.Need-returns
 unfolding typedValues forBoth
 returns c =
@@ -39,4 +27,4 @@ returns-2 c =
 pub occurs-added-spec : {M : Type 1} → statement M
 occurs-added-spec =
     tie.close
-    (tie.spec name-and-type-requires enum-known-p min-added-requires enum-told returns returns-2)
+    (tie.spec (λ c κs. search needs) (λ c. search needs) (λ c κs. search needs) (λ c. search needs) returns returns-2)

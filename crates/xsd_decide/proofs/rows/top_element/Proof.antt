@@ -6,12 +6,9 @@ use borrow.Author.Needs.{needs}
 use Rattle.xsd_decide.proofs.rows.top_element.Statement.{statement}
 use Rattle.xsd_decide.proofs.rows.top_element.Tie as tie
 
-named-row-requires : tie.Need-named-row-requires
-named-row-requires c κs = search needs
-
 returns : tie.Need-returns
 unfolding topElement headC typedRow
 returns c = c .named-row .ensures
 
 pub top-element-spec : {M : Type 1} → statement M
-top-element-spec = tie.close (tie.spec named-row-requires returns)
+top-element-spec = tie.close (tie.spec (λ c κs. search needs) returns)

@@ -9,18 +9,6 @@ use borrow.Author.Needs.{needs}
 use Rattle.xsd_decide.proofs.simple.digits_row.Statement.{statement}
 use Rattle.xsd_decide.proofs.simple.digits_row.Tie as tie
 
-pair-part-requires : tie.Need-pair-part-requires
-pair-part-requires c κs = search needs
-
-digit-count-requires : tie.Need-digit-count-requires
-digit-count-requires c κs = search needs
-
-enum-known-count : tie.Need-enum-known-count
-enum-known-count c = search needs
-
-enum-told : tie.Need-enum-told
-enum-told c = search needs
-
 returns : tie.Need-returns
 unfolding decision textAtMark onParsed digitsAdded
 returns c =
@@ -38,4 +26,4 @@ returns-2 c =
 pub digits-row-spec : {M : Type 1} → statement M
 digits-row-spec =
     tie.close
-    (tie.spec pair-part-requires digit-count-requires enum-known-count enum-told returns returns-2)
+    (tie.spec (λ c κs. search needs) (λ c κs. search needs) (λ c. search needs) (λ c. search needs) returns returns-2)

@@ -12,15 +12,9 @@ use borrow.Author.Needs.{needs}
 use Rattle.xsd_decide.proofs.simple.empty_in_simple_type.Statement.{statement}
 use Rattle.xsd_decide.proofs.simple.empty_in_simple_type.Tie as tie
 
-slice-aggregate-local-is : tie.Need-slice-aggregate-local-is
-slice-aggregate-local-is c = search needs
-
 local-is-requires : tie.Need-local-is-requires
 unfolding contains
 local-is-requires c κs = search needs
-
-base-set-requires : tie.Need-base-set-requires
-base-set-requires c κs = search needs
 
 returns : tie.Need-returns
 unfolding bytes emptyInSimpleType
@@ -30,22 +24,13 @@ returns c =
     let t = recordTag (start .args .text .now) (start .args .marks .now) (start .args .t) in
     if-true whole _ _ (tagIs-told t "restriction" (start .pre .0) (first .local-is .ensures) (c .before .if1 .taken)) (c .base-set .ensures)
 
-slice-aggregate-value-place : tie.Need-slice-aggregate-value-place
-slice-aggregate-value-place c = search needs
-
 value-place-requires : tie.Need-value-place-requires
 unfolding contains
 value-place-requires c κs = search needs
 
-slice-aggregate-local-is-2 : tie.Need-slice-aggregate-local-is-2
-slice-aggregate-local-is-2 c = search needs
-
 local-is-requires-2 : tie.Need-local-is-requires-2
 unfolding contains
 local-is-requires-2 c κs = search needs
-
-text-row-requires : tie.Need-text-row-requires
-text-row-requires c κs = search needs
 
 returns-2 : tie.Need-returns-2
 unfolding bytes emptyInSimpleType facetValue facetAdded facetRow textAdded
@@ -59,15 +44,9 @@ returns-2 c =
     if-false whole _ _ (tagIs-told t "restriction" (start .pre .0) (first .local-is .ensures) (placed .before .before .if1 .left))
     (if-true whole _ _ (tagIs-told t "enumeration" (start .pre .0) (second .local-is2 .ensures) (c .before .if2 .taken)) (c .text-row .ensures (start .args .text .now) (start .args .marks .now) ∙ ap (λ v. ok (textAdded 4 v)) value))
 
-slice-aggregate-local-is-3 : tie.Need-slice-aggregate-local-is-3
-slice-aggregate-local-is-3 c = search needs
-
 local-is-requires-3 : tie.Need-local-is-requires-3
 unfolding contains
 local-is-requires-3 c κs = search needs
-
-text-row-requires-2 : tie.Need-text-row-requires-2
-text-row-requires-2 c κs = search needs
 
 returns-3 : tie.Need-returns-3
 unfolding bytes emptyInSimpleType facetValue facetAdded facetRow textAdded
@@ -108,19 +87,19 @@ pub empty-in-simple-type-spec : {M : Type 1} → statement M
 empty-in-simple-type-spec =
     tie.close
     (tie.spec
-    slice-aggregate-local-is
+    (λ c. search needs)
     local-is-requires
-    base-set-requires
+    (λ c κs. search needs)
     returns
-    slice-aggregate-value-place
+    (λ c. search needs)
     value-place-requires
-    slice-aggregate-local-is-2
+    (λ c. search needs)
     local-is-requires-2
-    text-row-requires
+    (λ c κs. search needs)
     returns-2
-    slice-aggregate-local-is-3
+    (λ c. search needs)
     local-is-requires-3
-    text-row-requires-2
+    (λ c κs. search needs)
     returns-3
     length-facet-requires
     returns-4)

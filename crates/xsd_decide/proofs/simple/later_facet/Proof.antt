@@ -12,15 +12,9 @@ use borrow.Author.Needs.{needs}
 use Rattle.xsd_decide.proofs.simple.later_facet.Statement.{statement}
 use Rattle.xsd_decide.proofs.simple.later_facet.Tie as tie
 
-slice-aggregate-local-is : tie.Need-slice-aggregate-local-is
-slice-aggregate-local-is c = search needs
-
 local-is-requires : tie.Need-local-is-requires
 unfolding contains
 local-is-requires c κs = search needs
-
-text-row-requires : tie.Need-text-row-requires
-text-row-requires c κs = search needs
 
 returns : tie.Need-returns
 unfolding bytes laterFacet
@@ -30,15 +24,9 @@ returns c =
     let t = recordTag (start .args .text .now) (start .args .marks .now) (start .args .t) in
     if-true whole _ _ (tagIs-told t "minInclusive" (start .pre .0) (first .local-is .ensures) (c .before .if1 .taken)) (c .text-row .ensures (start .args .text .now) (start .args .marks .now) ∙ ap (λ v. ok (textAdded 8 v)) (start .pre .1))
 
-slice-aggregate-local-is-2 : tie.Need-slice-aggregate-local-is-2
-slice-aggregate-local-is-2 c = search needs
-
 local-is-requires-2 : tie.Need-local-is-requires-2
 unfolding contains
 local-is-requires-2 c κs = search needs
-
-text-row-requires-2 : tie.Need-text-row-requires-2
-text-row-requires-2 c κs = search needs
 
 returns-2 : tie.Need-returns-2
 unfolding bytes laterFacet
@@ -50,15 +38,9 @@ returns-2 c =
     if-false whole _ _ (tagIs-told t "minInclusive" (start .pre .0) (first .local-is .ensures) (second .before .before .if1 .left))
     (if-true whole _ _ (tagIs-told t "maxInclusive" (start .pre .0) (second .local-is2 .ensures) (c .before .if2 .taken)) (c .text-row2 .ensures (start .args .text .now) (start .args .marks .now) ∙ ap (λ v. ok (textAdded 9 v)) (start .pre .1)))
 
-slice-aggregate-local-is-3 : tie.Need-slice-aggregate-local-is-3
-slice-aggregate-local-is-3 c = search needs
-
 local-is-requires-3 : tie.Need-local-is-requires-3
 unfolding contains
 local-is-requires-3 c κs = search needs
-
-digits-row-requires : tie.Need-digits-row-requires
-digits-row-requires c κs = search needs
 
 returns-3 : tie.Need-returns-3
 unfolding bytes laterFacet
@@ -72,15 +54,9 @@ returns-3 c =
     (if-false whole _ _ (tagIs-told t "maxInclusive" (start .pre .0) (second .local-is2 .ensures) (third .before .before .if2 .left))
     (if-true whole _ _ (tagIs-told t "totalDigits" (start .pre .0) (third .local-is3 .ensures) (c .before .if3 .taken)) (c .digits-row .ensures ∙ ap (λ v. onParsed (number 32 v) (digitsAdded 10)) (start .pre .1))))
 
-slice-aggregate-local-is-4 : tie.Need-slice-aggregate-local-is-4
-slice-aggregate-local-is-4 c = search needs
-
 local-is-requires-4 : tie.Need-local-is-requires-4
 unfolding contains
 local-is-requires-4 c κs = search needs
-
-digits-row-requires-2 : tie.Need-digits-row-requires-2
-digits-row-requires-2 c κs = search needs
 
 returns-4 : tie.Need-returns-4
 unfolding bytes laterFacet
@@ -114,20 +90,20 @@ pub later-facet-spec : {M : Type 1} → statement M
 later-facet-spec =
     tie.close
     (tie.spec
-    slice-aggregate-local-is
+    (λ c. search needs)
     local-is-requires
-    text-row-requires
+    (λ c κs. search needs)
     returns
-    slice-aggregate-local-is-2
+    (λ c. search needs)
     local-is-requires-2
-    text-row-requires-2
+    (λ c κs. search needs)
     returns-2
-    slice-aggregate-local-is-3
+    (λ c. search needs)
     local-is-requires-3
-    digits-row-requires
+    (λ c κs. search needs)
     returns-3
-    slice-aggregate-local-is-4
+    (λ c. search needs)
     local-is-requires-4
-    digits-row-requires-2
+    (λ c κs. search needs)
     returns-4
     returns-5)

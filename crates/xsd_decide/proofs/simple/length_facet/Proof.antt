@@ -11,15 +11,9 @@ use borrow.Author.Needs.{needs}
 use Rattle.xsd_decide.proofs.simple.length_facet.Statement.{statement}
 use Rattle.xsd_decide.proofs.simple.length_facet.Tie as tie
 
-slice-aggregate-local-is : tie.Need-slice-aggregate-local-is
-slice-aggregate-local-is c = search needs
-
 local-is-requires : tie.Need-local-is-requires
 unfolding contains
 local-is-requires c κs = search needs
-
-length-row-requires : tie.Need-length-row-requires
-length-row-requires c κs = search needs
 
 returns : tie.Need-returns
 unfolding bytes lengthFacet
@@ -29,15 +23,9 @@ returns c =
     let t = recordTag (start .args .text .now) (start .args .marks .now) (start .args .t) in
     if-true whole _ _ (tagIs-told t "minLength" (start .pre .0) (first .local-is .ensures) (c .before .if1 .taken)) (c .length-row .ensures ∙ ap (λ v. onParsed (number 64 v) (lengthAdded 6)) (start .pre .1))
 
-slice-aggregate-local-is-2 : tie.Need-slice-aggregate-local-is-2
-slice-aggregate-local-is-2 c = search needs
-
 local-is-requires-2 : tie.Need-local-is-requires-2
 unfolding contains
 local-is-requires-2 c κs = search needs
-
-length-row-requires-2 : tie.Need-length-row-requires-2
-length-row-requires-2 c κs = search needs
 
 returns-2 : tie.Need-returns-2
 unfolding bytes lengthFacet
@@ -48,9 +36,6 @@ returns-2 c =
     let t = recordTag (start .args .text .now) (start .args .marks .now) (start .args .t) in
     if-false whole _ _ (tagIs-told t "minLength" (start .pre .0) (first .local-is .ensures) (second .before .before .if1 .left))
     (if-true whole _ _ (tagIs-told t "maxLength" (start .pre .0) (second .local-is2 .ensures) (c .before .if2 .taken)) (c .length-row2 .ensures ∙ ap (λ v. onParsed (number 64 v) (lengthAdded 7)) (start .pre .1)))
-
-later-facet-requires : tie.Need-later-facet-requires
-later-facet-requires c κs = search needs
 
 returns-3 : tie.Need-returns-3
 unfolding bytes lengthFacet
@@ -66,13 +51,13 @@ pub length-facet-spec : {M : Type 1} → statement M
 length-facet-spec =
     tie.close
     (tie.spec
-    slice-aggregate-local-is
+    (λ c. search needs)
     local-is-requires
-    length-row-requires
+    (λ c κs. search needs)
     returns
-    slice-aggregate-local-is-2
+    (λ c. search needs)
     local-is-requires-2
-    length-row-requires-2
+    (λ c κs. search needs)
     returns-2
-    later-facet-requires
+    (λ c κs. search needs)
     returns-3)

@@ -9,18 +9,6 @@ use borrow.Author.Needs.{needs}
 use Rattle.xsd_decide.proofs.simple.length_row.Statement.{statement}
 use Rattle.xsd_decide.proofs.simple.length_row.Tie as tie
 
-pair-part-requires : tie.Need-pair-part-requires
-pair-part-requires c κs = search needs
-
-character-count-requires : tie.Need-character-count-requires
-character-count-requires c κs = search needs
-
-enum-known-count : tie.Need-enum-known-count
-enum-known-count c = search needs
-
-enum-told : tie.Need-enum-told
-enum-told c = search needs
-
 returns : tie.Need-returns
 unfolding decision textAtMark onParsed lengthAdded
 returns c =
@@ -39,9 +27,9 @@ pub length-row-spec : {M : Type 1} → statement M
 length-row-spec =
     tie.close
     (tie.spec
-    pair-part-requires
-    character-count-requires
-    enum-known-count
-    enum-told
+    (λ c κs. search needs)
+    (λ c κs. search needs)
+    (λ c. search needs)
+    (λ c. search needs)
     returns
     returns-2)

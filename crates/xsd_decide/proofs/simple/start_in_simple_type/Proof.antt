@@ -25,15 +25,9 @@ returns c =
     let t = recordTag (start .args .text .now) (start .args .marks .now) (start .args .t) in
     if-false ok _ _ (ap (λ b. b && tagIs t "restriction") (ne-eqb (suc (start .args .nesting)) 1 (λ e. c .if1 .taken (omega arith)))) refl
 
-slice-aggregate-local-is : tie.Need-slice-aggregate-local-is
-slice-aggregate-local-is c = search needs
-
 local-is-requires : tie.Need-local-is-requires
 unfolding contains
 local-is-requires c κs = search needs
-
-base-set-requires : tie.Need-base-set-requires
-base-set-requires c κs = search needs
 
 returns-2 : tie.Need-returns-2
 unfolding bytes startInSimpleType
@@ -60,8 +54,8 @@ start-in-simple-type-spec =
     tie.close
     (tie.spec
     returns
-    slice-aggregate-local-is
+    (λ c. search needs)
     local-is-requires
-    base-set-requires
+    (λ c κs. search needs)
     returns-2
     returns-3)

@@ -9,27 +9,9 @@ use borrow.Author.Needs.{needs}
 use Rattle.xsd_decide.proofs.values.is_required.Statement.{statement}
 use Rattle.xsd_decide.proofs.values.is_required.Tie as tie
 
-slice-aggregate-attribute : tie.Need-slice-aggregate-attribute
-slice-aggregate-attribute c = search needs
-
 attribute-requires : tie.Need-attribute-requires
 unfolding contains
 attribute-requires c κs = search needs
-
-enum-known-i : tie.Need-enum-known-i
-enum-known-i c = search needs
-
-pair-part-requires : tie.Need-pair-part-requires
-pair-part-requires c κs = search needs
-
-slice-aggregate-same-text : tie.Need-slice-aggregate-same-text
-slice-aggregate-same-text c = search needs
-
-same-text-requires : tie.Need-same-text-requires
-same-text-requires c κs = search needs
-
-enum-told : tie.Need-enum-told
-enum-told c = search needs
 
 returns : tie.Need-returns
 unfolding bytes isRequired is textAtMark
@@ -51,12 +33,12 @@ pub is-required-spec : {M : Type 1} → statement M
 is-required-spec =
     tie.close
     (tie.spec
-    slice-aggregate-attribute
+    (λ c. search needs)
     attribute-requires
-    enum-known-i
-    pair-part-requires
-    slice-aggregate-same-text
-    same-text-requires
-    enum-told
+    (λ c. search needs)
+    (λ c κs. search needs)
+    (λ c. search needs)
+    (λ c κs. search needs)
+    (λ c. search needs)
     returns
     returns-2)

@@ -10,24 +10,9 @@ use borrow.Author.Needs.{needs}
 use Rattle.xsd_decide.proofs.values.max_occurs.Statement.{statement}
 use Rattle.xsd_decide.proofs.values.max_occurs.Tie as tie
 
-slice-aggregate-attribute : tie.Need-slice-aggregate-attribute
-slice-aggregate-attribute c = search needs
-
 attribute-requires : tie.Need-attribute-requires
 unfolding contains
 attribute-requires c κs = search needs
-
-enum-known-i : tie.Need-enum-known-i
-enum-known-i c = search needs
-
-pair-part-requires : tie.Need-pair-part-requires
-pair-part-requires c κs = search needs
-
-max-of-requires : tie.Need-max-of-requires
-max-of-requires c κs = search needs
-
-enum-told : tie.Need-enum-told
-enum-told c = search needs
 
 returns : tie.Need-returns
 unfolding bytes textAtMark
@@ -49,11 +34,11 @@ pub max-occurs-spec : {M : Type 1} → statement M
 max-occurs-spec =
     tie.close
     (tie.spec
-    slice-aggregate-attribute
+    (λ c. search needs)
     attribute-requires
-    enum-known-i
-    pair-part-requires
-    max-of-requires
-    enum-told
+    (λ c. search needs)
+    (λ c κs. search needs)
+    (λ c κs. search needs)
+    (λ c. search needs)
     returns
     returns-2)

@@ -9,24 +9,9 @@ use borrow.Author.Needs.{needs}
 use Rattle.xsd_decide.proofs.values.max_of.Statement.{statement}
 use Rattle.xsd_decide.proofs.values.max_of.Tie as tie
 
-slice-aggregate-same-text : tie.Need-slice-aggregate-same-text
-slice-aggregate-same-text c = search needs
-
-same-text-requires : tie.Need-same-text-requires
-same-text-requires c κs = search needs
-
 returns : tie.Need-returns
 unfolding bytes is isUnbounded parseMaxOccurs maxAnswer
 returns c = rw (sym (c .before .same-text .ensures), c .if1 .taken)
-
-parse-u32-requires : tie.Need-parse-u32-requires
-parse-u32-requires c κs = search needs
-
-enum-known-v : tie.Need-enum-known-v
-enum-known-v c = search needs
-
-enum-told : tie.Need-enum-told
-enum-told c = search needs
 
 returns-2 : tie.Need-returns-2
 unfolding bytes is isUnbounded parseMaxOccurs maxAnswer onParsed
@@ -44,11 +29,11 @@ pub max-of-spec : {M : Type 1} → statement M
 max-of-spec =
     tie.close
     (tie.spec
-    slice-aggregate-same-text
-    same-text-requires
+    (λ c. search needs)
+    (λ c κs. search needs)
     returns
-    parse-u32-requires
-    enum-known-v
-    enum-told
+    (λ c κs. search needs)
+    (λ c. search needs)
+    (λ c. search needs)
     returns-2
     returns-3)

@@ -9,18 +9,9 @@ use borrow.Author.Needs.{needs}
 use Rattle.xsd_decide.proofs.values.name_and_type.Statement.{statement}
 use Rattle.xsd_decide.proofs.values.name_and_type.Tie as tie
 
-slice-aggregate-attribute : tie.Need-slice-aggregate-attribute
-slice-aggregate-attribute c = search needs
-
 attribute-requires : tie.Need-attribute-requires
 unfolding contains
 attribute-requires c κs = search needs
-
-enum-known-name : tie.Need-enum-known-name
-enum-known-name c = search needs
-
-enum-told : tie.Need-enum-told
-enum-told c = search needs
 
 returns : tie.Need-returns
 unfolding bytes both typedValues
@@ -30,18 +21,9 @@ returns c =
     let t = recordTag (a .text .now) (a .marks .now) (a .t) in
     sym (ap (λ (v : Option Text). both v (attrValue t "type")) (attrValue-none (a .text .now) (a .marks .now) t "name" (called .attribute .ensures) (c .enum-told .given .1)))
 
-slice-aggregate-attribute-2 : tie.Need-slice-aggregate-attribute-2
-slice-aggregate-attribute-2 c = search needs
-
 attribute-requires-2 : tie.Need-attribute-requires-2
 unfolding contains
 attribute-requires-2 c κs = search needs
-
-enum-known-typ : tie.Need-enum-known-typ
-enum-known-typ c = search needs
-
-enum-told-2 : tie.Need-enum-told-2
-enum-told-2 c = search needs
 
 returns-2 : tie.Need-returns-2
 unfolding bytes both typedValues
@@ -69,14 +51,14 @@ pub name-and-type-spec : {M : Type 1} → statement M
 name-and-type-spec =
     tie.close
     (tie.spec
-    slice-aggregate-attribute
+    (λ c. search needs)
     attribute-requires
-    enum-known-name
-    enum-told
+    (λ c. search needs)
+    (λ c. search needs)
     returns
-    slice-aggregate-attribute-2
+    (λ c. search needs)
     attribute-requires-2
-    enum-known-typ
-    enum-told-2
+    (λ c. search needs)
+    (λ c. search needs)
     returns-2
     returns-3)

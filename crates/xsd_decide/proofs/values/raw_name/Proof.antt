@@ -5,13 +5,10 @@ use borrow.Author.Needs.{needs}
 use Rattle.xsd_decide.proofs.values.raw_name.Statement.{statement}
 use Rattle.xsd_decide.proofs.values.raw_name.Tie as tie
 
-pair-part-requires : tie.Need-pair-part-requires
-pair-part-requires c κs = search needs
-
 returns : tie.Need-returns
 returns c =
     let a = c .before .before .before .args in
     c .pair-part .ensures ∙ sym (tag-name (a .text .now) (a .marks .now) (a .t .pairs) (a .t .count))
 
 pub raw-name-spec : {M : Type 1} → statement M
-raw-name-spec = tie.close (tie.spec pair-part-requires returns)
+raw-name-spec = tie.close (tie.spec (λ c κs. search needs) returns)

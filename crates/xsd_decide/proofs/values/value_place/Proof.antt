@@ -10,15 +10,6 @@ use borrow.Author.Needs.{needs}
 use Rattle.xsd_decide.proofs.values.value_place.Statement.{statement}
 use Rattle.xsd_decide.proofs.values.value_place.Tie as tie
 
-attribute-requires : tie.Need-attribute-requires
-attribute-requires c κs = search needs
-
-enum-known-i : tie.Need-enum-known-i
-enum-known-i c = search needs
-
-enum-told : tie.Need-enum-told
-enum-told c = search needs
-
 returns : tie.Need-returns
 unfolding orEmpty foundValue textAtMark
 returns c =
@@ -36,4 +27,4 @@ returns-2 c =
 
 pub value-place-spec : {M : Type 1} → statement M
 value-place-spec =
-    tie.close (tie.spec attribute-requires enum-known-i enum-told returns returns-2)
+    tie.close (tie.spec (λ c κs. search needs) (λ c. search needs) (λ c. search needs) returns returns-2)

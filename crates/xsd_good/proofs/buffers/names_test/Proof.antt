@@ -6,19 +6,10 @@ use borrow.Author.Needs.{needs}
 use Rattle.xsd_good.proofs.buffers.names_test.Statement.{statement}
 use Rattle.xsd_good.proofs.buffers.names_test.Tie as tie
 
-cast-used : tie.Need-cast-used
-cast-used c = search needs
-
 slice-aggregate-is-text : tie.Need-slice-aggregate-is-text
 slice-aggregate-is-text c =
     let a = c .before .before .before .args in
     sym (length-take-le _ (a .names .now) (omega arith))
 
-is-text-requires : tie.Need-is-text-requires
-is-text-requires c κs = search needs
-
-returns : tie.Need-returns
-returns c = search needs
-
 pub names-test-spec : {M : Type 1} → statement M
-names-test-spec = tie.close (tie.spec cast-used slice-aggregate-is-text is-text-requires returns)
+names-test-spec = tie.close (tie.spec (λ c. search needs) slice-aggregate-is-text (λ c κs. search needs) (λ c. search needs))

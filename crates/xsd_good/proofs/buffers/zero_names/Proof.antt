@@ -6,7 +6,6 @@ use mathlib.Core.Bool.{_&&_}
 use native.Mathlib.Numerals.{add-one}
 use native.Mathlib.Omega.{arith}
 use lib.ListN.{length, drop}
-use borrow.Author.Needs.{needs}
 use Rattle.sheet.specs.Rows.{allZero}
 use Rattle.xsd_good.proofs.Laws.Buffers.{zero-on, zero-end}
 use Rattle.xsd_good.proofs.buffers.zero_names.Statement.{statement}

@@ -8,42 +8,6 @@ use Rattle.sheet.specs.Rows.{allZero}
 use Rattle.xsd_good.proofs.buffers.zeros_behind.Statement.{statement}
 use Rattle.xsd_good.proofs.buffers.zeros_behind.Tie as tie
 
-cast-n : tie.Need-cast-n
-cast-n c = search needs
-
-mul-rows-end : tie.Need-mul-rows-end
-mul-rows-end c = search needs
-
-cast-names-end : tie.Need-cast-names-end
-cast-names-end c = search needs
-
-mul-zero-rows : tie.Need-mul-zero-rows
-mul-zero-rows c = search needs
-
-sub-zero-rows : tie.Need-sub-zero-rows
-sub-zero-rows c = search needs
-
-part-zero-rows-start : tie.Need-part-zero-rows-start
-part-zero-rows-start c = search needs
-
-part-zero-rows-end : tie.Need-part-zero-rows-end
-part-zero-rows-end c = search needs
-
-zero-rows-requires : tie.Need-zero-rows-requires
-zero-rows-requires c κs = search needs
-
-sub-zero-names : tie.Need-sub-zero-names
-sub-zero-names c = search needs
-
-part-zero-names-start : tie.Need-part-zero-names-start
-part-zero-names-start c = search needs
-
-part-zero-names-end : tie.Need-part-zero-names-end
-part-zero-names-end c = search needs
-
-zero-names-requires : tie.Need-zero-names-requires
-zero-names-requires c κs = search needs
-
 returns : tie.Need-returns
 returns c =
     let a = c .before .before .before .before .before .before .before .before .args in
@@ -53,16 +17,16 @@ pub zeros-behind-spec : {M : Type 1} → statement M
 zeros-behind-spec =
     tie.close
     (tie.spec
-    cast-n
-    mul-rows-end
-    cast-names-end
-    mul-zero-rows
-    sub-zero-rows
-    part-zero-rows-start
-    part-zero-rows-end
-    zero-rows-requires
-    sub-zero-names
-    part-zero-names-start
-    part-zero-names-end
-    zero-names-requires
+    (λ c. search needs)
+    (λ c. search needs)
+    (λ c. search needs)
+    (λ c. search needs)
+    (λ c. search needs)
+    (λ c. search needs)
+    (λ c. search needs)
+    (λ c κs. search needs)
+    (λ c. search needs)
+    (λ c. search needs)
+    (λ c. search needs)
+    (λ c κs. search needs)
     returns)

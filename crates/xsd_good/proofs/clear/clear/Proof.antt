@@ -17,19 +17,10 @@ use Rattle.xsd_good.proofs.Laws.Clear.{lengths-rows, clear-refused, cle
 use Rattle.xsd_good.proofs.clear.clear.Statement.{statement}
 use Rattle.xsd_good.proofs.clear.clear.Tie as tie
 
-sheet-lengths-requires : tie.Need-sheet-lengths-requires
-sheet-lengths-requires c κs = search needs
-
 returns : tie.Need-returns
 returns c =
     let a = c .before .before .before .before .args in
     clear-refused (a .rows .now) (a .names .now) (sym (c .before .sheet-lengths .ensures) ∙ not-true _ (c .if1 .taken))
-
-zero-rows-requires : tie.Need-zero-rows-requires
-zero-rows-requires c κs = search needs
-
-zero-names-requires : tie.Need-zero-names-requires
-zero-names-requires c κs = search needs
 
 -- behind the test the lengths are as the paper has them
 lengths-pass : (p : tie.Else1) → sheetLengths (length (p .before .before .before .before .args .rows .now)) (length (p .before .before .before .before .args .names .now)) ≡ true
@@ -37,12 +28,6 @@ lengths-pass p = sym (p .before .sheet-lengths .ensures) ∙ not-false _ (p .if1
 
 long-enough : (p : tie.Else1) → 20 ≤ length (p .before .before .before .before .args .rows .now)
 long-enough p = lengths-rows _ (length (p .before .before .before .before .args .names .now)) (lengths-pass p)
-
-cleared-row0-requires : tie.Need-cleared-row0-requires
-cleared-row0-requires c κs = search needs
-
-row0-numbers-requires : tie.Need-row0-numbers-requires
-row0-numbers-requires c κs = search needs
 
 put-row-requires : tie.Need-put-row-requires
 put-row-requires c κs = omega (arith, long-enough (c .before .before .before .before .before .before .before .before .before .before .before))
@@ -52,9 +37,6 @@ slice-write-rows c = omega (arith, long-enough (c .before .before .before .befor
 
 same-length : tie.Need-same-length
 same-length c = simp length-set (c .before .before .put-row .kept .0 ∙ c .before .before .before .before .before .before .before .before .before .before .before .before .zero-rows .kept .0)
-
-same-length-2 : tie.Need-same-length-2
-same-length-2 c = search needs
 
 returns-2 : tie.Need-returns-2
 returns-2 c =
@@ -70,14 +52,14 @@ pub clear-spec : {M : Type 1} → statement M
 clear-spec =
     tie.close
     (tie.spec
-    sheet-lengths-requires
+    (λ c κs. search needs)
     returns
-    zero-rows-requires
-    zero-names-requires
-    cleared-row0-requires
-    row0-numbers-requires
+    (λ c κs. search needs)
+    (λ c κs. search needs)
+    (λ c κs. search needs)
+    (λ c κs. search needs)
     put-row-requires
     slice-write-rows
     same-length
-    same-length-2
+    (λ c. search needs)
     returns-2)

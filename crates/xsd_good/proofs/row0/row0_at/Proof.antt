@@ -5,11 +5,8 @@ use Rattle.xsd_types.specs.Row0.{row0From}
 use Rattle.xsd_good.proofs.row0.row0_at.Statement.{statement}
 use Rattle.xsd_good.proofs.row0.row0_at.Tie as tie
 
-ten-of-requires : tie.Need-ten-of-requires
-ten-of-requires c κs = search needs
-
 returns : tie.Need-returns
 returns c = ap row0From (c .ten-of .ensures)
 
 pub row0-at-spec : {M : Type 1} → statement M
-row0-at-spec = tie.close (tie.spec ten-of-requires returns)
+row0-at-spec = tie.close (tie.spec (λ c κs. search needs) returns)

@@ -6,18 +6,6 @@ use Rattle.xsd_good.proofs.Laws.Scan.{first-passes}
 use Rattle.xsd_good.proofs.scan.first_row.Statement.{statement}
 use Rattle.xsd_good.proofs.scan.first_row.Tie as tie
 
-end-of-requires : tie.Need-end-of-requires
-end-of-requires c κs = search needs
-
-row-covers-requires : tie.Need-row-covers-requires
-row-covers-requires c κs = search needs
-
-wide-requires : tie.Need-wide-requires
-wide-requires c κs = search needs
-
-failed-requires : tie.Need-failed-requires
-failed-requires c κs = search needs
-
 returns : tie.Need-returns
 unfolding firstRow
 returns c =
@@ -37,4 +25,4 @@ returns-2 c =
 pub first-row-spec : {M : Type 1} → statement M
 first-row-spec =
     tie.close
-    (tie.spec end-of-requires row-covers-requires wide-requires failed-requires returns returns-2)
+    (tie.spec (λ c κs. search needs) (λ c κs. search needs) (λ c κs. search needs) (λ c κs. search needs) returns returns-2)

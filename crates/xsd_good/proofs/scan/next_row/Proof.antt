@@ -7,27 +7,6 @@ use Rattle.xsd_good.proofs.Laws.Scan.{next-passes}
 use Rattle.xsd_good.proofs.scan.next_row.Statement.{statement}
 use Rattle.xsd_good.proofs.scan.next_row.Tie as tie
 
-end-of-requires : tie.Need-end-of-requires
-end-of-requires c κs = search needs
-
-row-form-requires : tie.Need-row-form-requires
-row-form-requires c κs = search needs
-
-may-follow-requires : tie.Need-may-follow-requires
-may-follow-requires c κs = search needs
-
-row-covers-requires : tie.Need-row-covers-requires
-row-covers-requires c κs = search needs
-
-wide-requires : tie.Need-wide-requires
-wide-requires c κs = search needs
-
-head-after-requires : tie.Need-head-after-requires
-head-after-requires c κs = search needs
-
-failed-requires : tie.Need-failed-requires
-failed-requires c κs = search needs
-
 returns : tie.Need-returns
 unfolding nextRow tenForm
 returns c =
@@ -50,12 +29,12 @@ pub next-row-spec : {M : Type 1} → statement M
 next-row-spec =
     tie.close
     (tie.spec
-    end-of-requires
-    row-form-requires
-    may-follow-requires
-    row-covers-requires
-    wide-requires
-    head-after-requires
-    failed-requires
+    (λ c κs. search needs)
+    (λ c κs. search needs)
+    (λ c κs. search needs)
+    (λ c κs. search needs)
+    (λ c κs. search needs)
+    (λ c κs. search needs)
+    (λ c κs. search needs)
     returns
     returns-2)

@@ -7,24 +7,6 @@ use Rattle.xsd_good.proofs.Laws.Scan.{first-end, scan-starts}
 use Rattle.xsd_good.proofs.scan.scan_sheet.Statement.{statement}
 use Rattle.xsd_good.proofs.scan.scan_sheet.Tie as tie
 
-ten-at-requires : tie.Need-ten-at-requires
-ten-at-requires c κs = search needs
-
-first-row-requires : tie.Need-first-row-requires
-first-row-requires c κs = search needs
-
-sub-scan-rows : tie.Need-sub-scan-rows
-sub-scan-rows c = search needs
-
-part-scan-rows-start : tie.Need-part-scan-rows-start
-part-scan-rows-start c = search needs
-
-part-scan-rows-end : tie.Need-part-scan-rows-end
-part-scan-rows-end c = search needs
-
-sub-scan-rows-2 : tie.Need-sub-scan-rows-2
-sub-scan-rows-2 c = search needs
-
 scan-rows-requires : tie.Need-scan-rows-requires
 scan-rows-requires c κs =
     let a = c .before .before .before .before .args in
@@ -42,11 +24,11 @@ pub scan-sheet-spec : {M : Type 1} → statement M
 scan-sheet-spec =
     tie.close
     (tie.spec
-    ten-at-requires
-    first-row-requires
-    sub-scan-rows
-    part-scan-rows-start
-    part-scan-rows-end
-    sub-scan-rows-2
+    (λ c κs. search needs)
+    (λ c κs. search needs)
+    (λ c. search needs)
+    (λ c. search needs)
+    (λ c. search needs)
+    (λ c. search needs)
     scan-rows-requires
     returns)

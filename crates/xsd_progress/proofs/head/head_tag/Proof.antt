@@ -8,15 +8,6 @@ use Rattle.xsd_progress.proofs.head.head_tag.Tie as tie
 returns : tie.Need-returns
 returns c = record { is = λ names used z ns r h e p. head-none-open (r .context) (omega arith) }
 
-mul-result : tie.Need-mul-result
-mul-result c = search needs
-
-mul-result-2 : tie.Need-mul-result-2
-mul-result-2 c = search needs
-
-shared-slice-read-result : tie.Need-shared-slice-read-result
-shared-slice-read-result c = search needs
-
 returns-2 : tie.Need-returns-2
 returns-2 c = record { is = λ names used z ns r h e p. head-tag-at ns r (h .packs) (omega arith) (c .before .before .before .args .head) (p (omega arith)) }
 
@@ -26,4 +17,4 @@ returns-3 c = record { is = λ names used z ns r h e p. absurd (let no : ⊥ = o
 pub head-tag-spec : {M : Type 1} → statement M
 head-tag-spec =
     tie.close
-    (tie.spec returns mul-result mul-result-2 shared-slice-read-result returns-2 returns-3)
+    (tie.spec returns (λ c. search needs) (λ c. search needs) (λ c. search needs) returns-2 returns-3)

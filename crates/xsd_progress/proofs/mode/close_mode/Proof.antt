@@ -13,12 +13,9 @@ returns-2 : tie.Need-returns-2
 unfolding closeMode
 returns-2 c = rw (lt-leb _ _ (c .before .before .if1 .left), eq-eqb _ _ (c .if2 .taken))
 
-sub-t3 : tie.Need-sub-t3
-sub-t3 c = search needs
-
 returns-3 : tie.Need-returns-3
 unfolding closeMode
 returns-3 c = rw (lt-leb _ _ (c .before .before .before .if1 .left), ne-eqb _ _ (c .before .if2 .left))
 
 pub close-mode-spec : {M : Type 1} → statement M
-close-mode-spec = tie.close (tie.spec returns returns-2 sub-t3 returns-3)
+close-mode-spec = tie.close (tie.spec returns returns-2 (λ c. search needs) returns-3)

@@ -7,9 +7,6 @@ use Rattle.xsd_progress.proofs.Laws.Modes.{closed-more}
 use Rattle.xsd_progress.proofs.mode.close_tags.Statement.{statement}
 use Rattle.xsd_progress.proofs.mode.close_tags.Tie as tie
 
-sub-t5 : tie.Need-sub-t5
-sub-t5 c = search needs
-
 returns : tie.Need-returns
 unfolding tags tagsAfter closed
 returns c = sym (ap closed (c .if1 .taken))
@@ -19,4 +16,4 @@ unfolding tags tagsAfter
 returns-2 c = sym (closed-more (c .before .args .open-tags) (c .if1 .left))
 
 pub close-tags-spec : {M : Type 1} → statement M
-close-tags-spec = tie.close (tie.spec sub-t5 returns returns-2)
+close-tags-spec = tie.close (tie.spec (λ c. search needs) returns returns-2)

@@ -5,9 +5,6 @@ use Rattle.xsd_progress.specs.Modes.{nestingOf}
 use Rattle.xsd_progress.proofs.mode.nesting_after.Statement.{statement}
 use Rattle.xsd_progress.proofs.mode.nesting_after.Tie as tie
 
-add-result : tie.Need-add-result
-add-result c = search needs
-
 returns : tie.Need-returns
 unfolding nestingOf
 returns c = rw (c .if1 .taken, add-one)
@@ -17,4 +14,4 @@ unfolding nestingOf
 returns-2 c = rw (c .if1 .left)
 
 pub nesting-after-spec : {M : Type 1} → statement M
-nesting-after-spec = tie.close (tie.spec add-result returns returns-2)
+nesting-after-spec = tie.close (tie.spec (λ c. search needs) returns returns-2)

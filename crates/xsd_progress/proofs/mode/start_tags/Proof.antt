@@ -7,9 +7,6 @@ use Rattle.xsd_progress.specs.Answers.{tags}
 use Rattle.xsd_progress.proofs.mode.start_tags.Statement.{statement}
 use Rattle.xsd_progress.proofs.mode.start_tags.Tie as tie
 
-add-t4 : tie.Need-add-t4
-add-t4 c = search needs
-
 returns : tie.Need-returns
 unfolding tags tagsAfter
 returns c = λ t. rw (lt-ltb (c .before .args .open-tags) 255 (c .if1 .taken), add-one)
@@ -19,4 +16,4 @@ unfolding tags tagsAfter
 returns-2 c = λ t. rw (le-ltb (c .before .args .open-tags) 255 (c .if1 .left))
 
 pub start-tags-spec : {M : Type 1} → statement M
-start-tags-spec = tie.close (tie.spec add-t4 returns returns-2)
+start-tags-spec = tie.close (tie.spec (λ c. search needs) returns returns-2)

@@ -5,18 +5,6 @@ use Rattle.xsd_progress.proofs.Laws.Modes.{mode-parts, decided-mode}
 use Rattle.xsd_progress.proofs.mode.tag_mode.Statement.{statement}
 use Rattle.xsd_progress.proofs.mode.tag_mode.Tie as tie
 
-context-after-requires : tie.Need-context-after-requires
-context-after-requires c κs = search needs
-
-nesting-after-requires : tie.Need-nesting-after-requires
-nesting-after-requires c κs = search needs
-
-root-after-requires : tie.Need-root-after-requires
-root-after-requires c κs = search needs
-
-flag-after-requires : tie.Need-flag-after-requires
-flag-after-requires c κs = search needs
-
 returns : tie.Need-returns
 returns c =
     let at = c .before .before .before in
@@ -25,4 +13,4 @@ returns c =
     λ text marks x e. parts ∙ decided-mode (a .start) (a .m) text marks (a .d) x e
 
 pub tag-mode-spec : {M : Type 1} → statement M
-tag-mode-spec = tie.close (tie.spec context-after-requires nesting-after-requires root-after-requires flag-after-requires returns)
+tag-mode-spec = tie.close (tie.spec (λ c κs. search needs) (λ c κs. search needs) (λ c κs. search needs) (λ c κs. search needs) returns)

@@ -6,14 +6,8 @@ use Rattle.xsd_progress.proofs.Laws.Kinds.{as-start, as-close, as-empty
 use Rattle.xsd_progress.proofs.mode.tags_after.Statement.{statement}
 use Rattle.xsd_progress.proofs.mode.tags_after.Tie as tie
 
-start-tags-requires : tie.Need-start-tags-requires
-start-tags-requires c κs = search needs
-
 returns : tie.Need-returns
 returns c t = rw (as-start _ t (c .before .if1 .taken)) (c .start-tags .ensures t)
-
-close-tags-requires : tie.Need-close-tags-requires
-close-tags-requires c κs = search needs
 
 returns-2 : tie.Need-returns-2
 returns-2 c t = rw (as-close _ t (c .before .if2 .taken)) (c .close-tags .ensures)
@@ -24,4 +18,4 @@ returns-3 c t = rw (as-empty _ t (c .before .if1 .left) (c .if2 .left))
 
 pub tags-after-spec : {M : Type 1} → statement M
 tags-after-spec =
-    tie.close (tie.spec start-tags-requires returns close-tags-requires returns-2 returns-3)
+    tie.close (tie.spec (λ c κs. search needs) returns (λ c κs. search needs) returns-2 returns-3)

@@ -8,9 +8,6 @@ use borrow.Author.Needs.{needs}
 use Rattle.xsd_progress.proofs.open_tags.by_value.Statement.{statement}
 use Rattle.xsd_progress.proofs.open_tags.by_value.Tie as tie
 
-mode-of-requires : tie.Need-mode-of-requires
-mode-of-requires c κs = search needs
-
 mode-after-requires : tie.Need-mode-after-requires
 unfolding modeWith
 mode-after-requires c κs = omega (arith, ap (λ (m : Mode). m .nesting) (c .mode-of .ensures))
@@ -21,4 +18,4 @@ returns c =
     changed (subst (λ (m : Mode). ModeAfter (a .kind) (a .decision) m (c .mode-after .result)) (c .before .mode-of .ensures) (c .mode-after .ensures))
 
 pub by-value-spec : {M : Type 1} → statement M
-by-value-spec = tie.close (tie.spec mode-of-requires mode-after-requires returns)
+by-value-spec = tie.close (tie.spec (λ c κs. search needs) mode-after-requires returns)

@@ -4,17 +4,8 @@ use Rattle.xsd_progress.proofs.Laws.Change.{event-after}
 use Rattle.xsd_progress.proofs.open_tags.event_after.Statement.{statement}
 use Rattle.xsd_progress.proofs.open_tags.event_after.Tie as tie
 
-after-requires : tie.Need-after-requires
-after-requires c κs = search needs
-
-seen-after-requires : tie.Need-seen-after-requires
-seen-after-requires c κs = search needs
-
-mode-of-requires : tie.Need-mode-of-requires
-mode-of-requires c κs = search needs
-
 returns : tie.Need-returns
 returns c = event-after (c .before .before .after .ensures) (c .before .seen-after .ensures) (c .mode-of .ensures)
 
 pub event-after-spec : {M : Type 1} → statement M
-event-after-spec = tie.close (tie.spec after-requires seen-after-requires mode-of-requires returns)
+event-after-spec = tie.close (tie.spec (λ c κs. search needs) (λ c κs. search needs) (λ c κs. search needs) returns)

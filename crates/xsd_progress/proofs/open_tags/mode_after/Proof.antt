@@ -4,17 +4,11 @@ use Rattle.xsd_progress.proofs.Laws.Change.{mode-close, mode-tag}
 use Rattle.xsd_progress.proofs.open_tags.mode_after.Statement.{statement}
 use Rattle.xsd_progress.proofs.open_tags.mode_after.Tie as tie
 
-close-mode-requires : tie.Need-close-mode-requires
-close-mode-requires c κs = search needs
-
 returns : tie.Need-returns
 returns c = mode-close (c .before .if1 .taken) (c .close-mode .ensures)
-
-tag-mode-requires : tie.Need-tag-mode-requires
-tag-mode-requires c κs = search needs
 
 returns-2 : tie.Need-returns-2
 returns-2 c = mode-tag (c .before .if1 .left) (c .tag-mode .ensures)
 
 pub mode-after-spec : {M : Type 1} → statement M
-mode-after-spec = tie.close (tie.spec close-mode-requires returns tag-mode-requires returns-2)
+mode-after-spec = tie.close (tie.spec (λ c κs. search needs) returns (λ c κs. search needs) returns-2)

@@ -7,11 +7,8 @@ use Rattle.xsd_progress.proofs.open_tags.seen_after.Tie as tie
 returns : tie.Need-returns
 returns c = seen-close (c .if1 .taken)
 
-root-after-requires : tie.Need-root-after-requires
-root-after-requires c κs = search needs
-
 returns-2 : tie.Need-returns-2
 returns-2 c = seen-tag (c .before .if1 .left) (c .root-after .ensures)
 
 pub seen-after-spec : {M : Type 1} → statement M
-seen-after-spec = tie.close (tie.spec returns root-after-requires returns-2)
+seen-after-spec = tie.close (tie.spec returns (λ c κs. search needs) returns-2)

@@ -16,14 +16,8 @@ needed-requires c κs = let q = c .before .before .before .before .before .pre i
 has-room-requires : tie.Need-has-room-requires
 has-room-requires c κs = omega (arith, c .needed .ensures .few)
 
-same-length : tie.Need-same-length
-same-length c = search needs
-
 returns : tie.Need-returns
 returns c = stepped-refused (c .before .before .needed .ensures) (sym (c .before .has-room .ensures) ∙ not-true _ (c .if1 .taken))
-
-head-after-requires : tie.Need-head-after-requires
-head-after-requires c κs = search needs
 
 act-requires : tie.Need-act-requires
 act-requires c κs =
@@ -38,12 +32,6 @@ add-t24 c =
     let q = c .before .before .before .before .before .before .before .before .before .before .before .before .before .before .before .before .before .before .before .pre in
     omega (arith, q .due .at .events, proper-events (q .s) (q .due .at .proper))
 
-same-length-2 : tie.Need-same-length-2
-same-length-2 c = search needs
-
-same-length-3 : tie.Need-same-length-3
-same-length-3 c = search needs
-
 returns-2 : tie.Need-returns-2
 returns-2 c =
     let room = c .before .before .before .before .before .before .before .before .before .before .before in
@@ -52,4 +40,4 @@ returns-2 c =
 pub carry-out-spec : {M : Type 1} → statement M
 carry-out-spec =
     tie.close
-    (tie.spec needed-requires has-room-requires same-length returns head-after-requires act-requires event-after-requires add-t24 same-length-2 same-length-3 returns-2)
+    (tie.spec needed-requires has-room-requires (λ c. search needs) returns (λ c κs. search needs) act-requires event-after-requires add-t24 (λ c. search needs) (λ c. search needs) returns-2)

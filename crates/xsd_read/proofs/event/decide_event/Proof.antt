@@ -19,9 +19,6 @@ returns c =
     let is = record-as (a .text .now) (a .marks .now) (a .t) ∙ as-start (a .t .kind) _ (c .before .if1 .taken) in
     c .on-start .ensures ∙ sym (ap (λ (e : Event). decided e (a .m) (a .head)) is)
 
-on-close-requires : tie.Need-on-close-requires
-on-close-requires c κs = search needs
-
 returns-2 : tie.Need-returns-2
 unfolding decided
 returns-2 c =
@@ -42,4 +39,4 @@ returns-3 c =
 pub decide-event-spec : {M : Type 1} → statement M
 decide-event-spec =
     tie.close
-    (tie.spec on-start-requires returns on-close-requires returns-2 on-empty-requires returns-3)
+    (tie.spec on-start-requires returns (λ c κs. search needs) returns-2 on-empty-requires returns-3)

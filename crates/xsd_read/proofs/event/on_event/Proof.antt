@@ -43,24 +43,6 @@ not-refused d h r e = miss others 0 tt (subst (OneOf others) (ap (tagOf the-type
 returns : tie.Need-returns
 returns c = taken-eight (c .if1 .taken)
 
-tags-after-requires : tie.Need-tags-after-requires
-tags-after-requires c κs = search needs
-
-enum-known-tags : tie.Need-enum-known-tags
-enum-known-tags c = search needs
-
-enum-known-tags-2 : tie.Need-enum-known-tags-2
-enum-known-tags-2 c = search needs
-
-head-tag-requires : tie.Need-head-tag-requires
-head-tag-requires c κs = search needs
-
-decide-event-requires : tie.Need-decide-event-requires
-decide-event-requires c κs = search needs
-
-enum-known-decision : tie.Need-enum-known-decision
-enum-known-decision c = search needs
-
 carry-out-requires : tie.Need-carry-out-requires
 carry-out-requires c κs =
     let at = c .before .before .before in
@@ -73,17 +55,8 @@ returns-2 c =
     let a = c .before .before .before .before .before .before .before .before .before .before .args in
     taken-tags _ (omega (arith, c .before .before .before .before .if1 .left)) (counted-as (a .text .now) (a .marks .now) (a .t) (a .p .«open_tags») _ (c .before .before .before .tags-after .ensures) (c .before .tags .given .1))
 
-same-length : tie.Need-same-length
-same-length c = search needs
-
 returns-3 : tie.Need-returns-3
 returns-3 c = taken-decided _ (arrives (c .before .before .before)) (c .before .decision .given .1)
-
-same-length-2 : tie.Need-same-length-2
-same-length-2 c = search needs
-
-same-length-3 : tie.Need-same-length-3
-same-length-3 c = search needs
 
 returns-4 : tie.Need-returns-4
 returns-4 c =
@@ -96,16 +69,16 @@ on-event-spec =
     tie.close
     (tie.spec
     returns
-    tags-after-requires
-    enum-known-tags
-    enum-known-tags-2
-    head-tag-requires
-    decide-event-requires
-    enum-known-decision
+    (λ c κs. search needs)
+    (λ c. search needs)
+    (λ c. search needs)
+    (λ c κs. search needs)
+    (λ c κs. search needs)
+    (λ c. search needs)
     carry-out-requires
     returns-2
-    same-length
+    (λ c. search needs)
     returns-3
-    same-length-2
-    same-length-3
+    (λ c. search needs)
+    (λ c. search needs)
     returns-4)

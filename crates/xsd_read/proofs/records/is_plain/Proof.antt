@@ -6,9 +6,6 @@ use borrow.Author.Needs.{needs}
 use Rattle.xsd_read.proofs.records.is_plain.Statement.{statement}
 use Rattle.xsd_read.proofs.records.is_plain.Tie as tie
 
-is-text-requires : tie.Need-is-text-requires
-is-text-requires c κs = search needs
-
 returns : tie.Need-returns
 returns c e = sym (c .is-text .ensures) ∙ e
 
@@ -16,4 +13,4 @@ returns-2 : tie.Need-returns-2
 returns-2 c e = let z : _≡_ {A = ℕ} 0 1 = cc in absurd (omega arith)
 
 pub is-plain-spec : {M : Type 1} → statement M
-is-plain-spec = tie.close (tie.spec is-text-requires returns returns-2)
+is-plain-spec = tie.close (tie.spec (λ c κs. search needs) returns returns-2)

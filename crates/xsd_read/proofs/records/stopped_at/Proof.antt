@@ -6,9 +6,6 @@ use Rattle.xsd_read.specs.declared.records.ReadTo.{ReadTo}
 use Rattle.xsd_read.proofs.records.stopped_at.Statement.{statement}
 use Rattle.xsd_read.proofs.records.stopped_at.Tie as tie
 
-number-of-requires : tie.Need-number-of-requires
-number-of-requires c κs = search needs
-
 returns : tie.Need-returns
 returns c =
     let a = c .before .args in
@@ -16,4 +13,4 @@ returns c =
     ap at (c .number-of .ensures)
 
 pub stopped-at-spec : {M : Type 1} → statement M
-stopped-at-spec = tie.close (tie.spec number-of-requires returns)
+stopped-at-spec = tie.close (tie.spec (λ c κs. search needs) returns)

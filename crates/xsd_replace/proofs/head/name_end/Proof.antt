@@ -6,15 +6,6 @@ use borrow.Author.Needs.{needs}
 use Rattle.xsd_replace.proofs.head.name_end.Statement.{statement}
 use Rattle.xsd_replace.proofs.head.name_end.Tie as tie
 
-mul-pair-at : tie.Need-mul-pair-at
-mul-pair-at c = search needs
-
-add-pair-at : tie.Need-add-pair-at
-add-pair-at c = search needs
-
-pair-at-requires : tie.Need-pair-at-requires
-pair-at-requires c κs = search needs
-
 add-result : tie.Need-add-result
 add-result c =
     let start = c .before .before .before in
@@ -26,4 +17,4 @@ returns : tie.Need-returns
 returns c names used z rs name h = omega (arith, c .before .pair-at .ensures, head-numbers h)
 
 pub name-end-spec : {M : Type 1} → statement M
-name-end-spec = tie.close (tie.spec mul-pair-at add-pair-at pair-at-requires add-result returns)
+name-end-spec = tie.close (tie.spec (λ c. search needs) (λ c. search needs) (λ c κs. search needs) add-result returns)

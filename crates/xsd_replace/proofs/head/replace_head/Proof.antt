@@ -39,9 +39,6 @@ set-row-requires c κs =
     let rest = room start in
     omega (arith, facts start, found .ensures, c .before .before .before .before .before .cut .kept, start .pre, room start, used-rest (start .args .pairs) (found .result .len) (length (start .args .second .now)) (start .pre .1 .0 .0) (start .pre .1 .0 .1))
 
-sub-put-texts : tie.Need-sub-put-texts
-sub-put-texts c = search needs
-
 put-texts-requires : tie.Need-put-texts-requires
 put-texts-requires c κs =
     let start = c .before .before .before .before .before .before .before .before .before .before .before .before .before .before .before .before .before .before in
@@ -49,12 +46,6 @@ put-texts-requires c κs =
 
 add-t13 : tie.Need-add-t13
 add-t13 c = omega (arith, facts (c .before .before .before .before .before .before .before .before .before .before .before .before .before .before .before .before .before .before .before .before .before))
-
-same-length : tie.Need-same-length
-same-length c = search needs
-
-same-length-2 : tie.Need-same-length-2
-same-length-2 c = search needs
 
 returns : tie.Need-returns
 returns c =
@@ -81,9 +72,9 @@ replace-head-spec =
     add-end
     cut-requires
     set-row-requires
-    sub-put-texts
+    (λ c. search needs)
     put-texts-requires
     add-t13
-    same-length
-    same-length-2
+    (λ c. search needs)
+    (λ c. search needs)
     returns)

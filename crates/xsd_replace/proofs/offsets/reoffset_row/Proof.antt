@@ -44,9 +44,6 @@ add-pair-at-2 c = omega (arith, facts (c .before .before .before .before .before
 pair-at-requires-2 : tie.Need-pair-at-requires-2
 pair-at-requires-2 c κs = omega (arith, facts (c .before .before .before .before .before .before))
 
-used-pairs-requires : tie.Need-used-pairs-requires
-used-pairs-requires c κs = search needs
-
 set-row-requires : tie.Need-set-row-requires
 set-row-requires c κs =
     let x = first (c .before .before .before .before .before .before .before .before .before) in
@@ -61,9 +58,6 @@ add-result : tie.Need-add-result
 add-result c =
     let x = first (c .before .before .before .before .before .before .before .before .before .before .before .before .before) in
     omega (arith, read (c .before .before .before .before .before) x, x .bytes, x .room, c .texts-length .ensures)
-
-same-length : tie.Need-same-length
-same-length c = search needs
 
 returns : tie.Need-returns
 returns c goal total o =
@@ -85,9 +79,9 @@ reoffset-row-spec =
     mul-pair-at-2
     add-pair-at-2
     pair-at-requires-2
-    used-pairs-requires
+    (λ c κs. search needs)
     set-row-requires
     texts-length-requires
     add-result
-    same-length
+    (λ c. search needs)
     returns)

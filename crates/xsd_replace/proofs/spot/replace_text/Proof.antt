@@ -70,9 +70,6 @@ reoffset-requires c κs =
 same-length : tie.Need-same-length
 same-length c = c .before .before .reoffset .kept .0 ∙ simp length-set
 
-same-length-2 : tie.Need-same-length-2
-same-length-2 c = search needs
-
 returns : tie.Need-returns
 returns c =
     let start = c .before .before .before .before .before .before .before .before .before .before .before .before .before .before .before in
@@ -109,5 +106,5 @@ replace-text-spec =
     slice-write-rows
     reoffset-requires
     same-length
-    same-length-2
+    (λ c. search needs)
     returns)

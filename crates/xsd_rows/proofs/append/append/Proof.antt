@@ -9,21 +9,6 @@ use borrow.Author.Needs.{needs}
 use Rattle.xsd_rows.proofs.append.append.Statement.{statement}
 use Rattle.xsd_rows.proofs.append.append.Tie as tie
 
-set-row-requires : tie.Need-set-row-requires
-set-row-requires c κs = search needs
-
-put-texts-requires : tie.Need-put-texts-requires
-put-texts-requires c κs = search needs
-
-add-t14 : tie.Need-add-t14
-add-t14 c = search needs
-
-same-length : tie.Need-same-length
-same-length c = search needs
-
-same-length-2 : tie.Need-same-length-2
-same-length-2 c = search needs
-
 returns : tie.Need-returns
 unfolding row
 returns c =
@@ -42,4 +27,4 @@ returns c =
 pub append-spec : {M : Type 1} → statement M
 append-spec =
     tie.close
-    (tie.spec set-row-requires put-texts-requires add-t14 same-length same-length-2 returns)
+    (tie.spec (λ c κs. search needs) (λ c κs. search needs) (λ c. search needs) (λ c. search needs) (λ c. search needs) returns)

@@ -5,12 +5,9 @@ use borrow.Author.Needs.{needs}
 use Rattle.xsd_rows.proofs.numbers.has_room.Statement.{statement}
 use Rattle.xsd_rows.proofs.numbers.has_room.Tie as tie
 
-mul-result : tie.Need-mul-result
-mul-result c = search needs
-
 returns : tie.Need-returns
 unfolding fits
 returns c = refl
 
 pub has-room-spec : {M : Type 1} → statement M
-has-room-spec = tie.close (tie.spec mul-result returns)
+has-room-spec = tie.close (tie.spec (λ c. search needs) returns)

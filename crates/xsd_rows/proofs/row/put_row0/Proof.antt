@@ -6,12 +6,6 @@ use borrow.Author.Needs.{needs}
 use Rattle.xsd_rows.proofs.row.put_row0.Statement.{statement}
 use Rattle.xsd_rows.proofs.row.put_row0.Tie as tie
 
-put-row-requires : tie.Need-put-row-requires
-put-row-requires c κs = search needs
-
-same-length : tie.Need-same-length
-same-length c = search needs
-
 returns : tie.Need-returns
 returns c =
     let put = c .before .before .put-row in
@@ -19,4 +13,4 @@ returns c =
     record { rowsLength = put .kept .0; packs = λ names z rs p. packs-row0 (c .before .before .before .before .before .args .row) p ten (put .ensures) }
 
 pub put-row0-spec : {M : Type 1} → statement M
-put-row0-spec = tie.close (tie.spec put-row-requires same-length returns)
+put-row0-spec = tie.close (tie.spec (λ c κs. search needs) (λ c. search needs) returns)

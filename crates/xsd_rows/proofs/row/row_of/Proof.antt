@@ -11,9 +11,6 @@ use Rattle.xsd_rows.proofs.row.row_of.Tie as tie
 returns : tie.Need-returns
 returns c t u p q = numbers-none _ _ t u (c .if1 .taken)
 
-cast-start : tie.Need-cast-start
-cast-start c = search needs
-
 cast-len : tie.Need-cast-len
 cast-len c =
     let a = c .before .args in
@@ -38,4 +35,4 @@ returns-3 c t u p q =
     numbers-two _ _ t u two p q
 
 pub row-of-spec : {M : Type 1} → statement M
-row-of-spec = tie.close (tie.spec returns cast-start cast-len returns-2 add-t9 cast-t10 returns-3)
+row-of-spec = tie.close (tie.spec returns (λ c. search needs) cast-len returns-2 add-t9 cast-t10 returns-3)

@@ -17,12 +17,6 @@ copy-text-requires c κs =
     let a = c .before .before .before .before .before .args in
     omega (arith, used-first (a .pairs) (length (a .first .now)) (length (a .second .now)) (c .before .if1 .left))
 
-add-end : tie.Need-add-end
-add-end c = search needs
-
-same-length : tie.Need-same-length
-same-length c = search needs
-
 returns-2 : tie.Need-returns-2
 returns-2 c =
     let a = c .before .before .before .before .before .before .before .before .before .args in
@@ -40,9 +34,6 @@ add-result c =
     let a = start .args in
     omega (arith, start .pre, used-both (a .pairs) (length (a .first .now)) (length (a .second .now)) (c .before .before .before .before .before .before .before .before .before .if1 .left) (c .before .before .before .before .if2 .left))
 
-same-length-2 : tie.Need-same-length-2
-same-length-2 c = search needs
-
 returns-3 : tie.Need-returns-3
 returns-3 c =
     let start = c .before .before .before .before .before .before .before .before .before .before .before .before .before in
@@ -57,10 +48,10 @@ put-texts-spec =
     (tie.spec
     returns
     copy-text-requires
-    add-end
-    same-length
+    (λ c. search needs)
+    (λ c. search needs)
     returns-2
     copy-text-requires-2
     add-result
-    same-length-2
+    (λ c. search needs)
     returns-3)

@@ -7,9 +7,6 @@ use Rattle.xsd_rows.specs.Texts.{usedLength}
 use Rattle.xsd_rows.proofs.texts.texts_length.Statement.{statement}
 use Rattle.xsd_rows.proofs.texts.texts_length.Tie as tie
 
-returns : tie.Need-returns
-returns c = search needs
-
 add-result : tie.Need-add-result
 add-result c =
     let a = c .before .before .args in
@@ -28,4 +25,4 @@ returns-3 c =
     rw one
 
 pub texts-length-spec : {M : Type 1} → statement M
-texts-length-spec = tie.close (tie.spec returns add-result returns-2 returns-3)
+texts-length-spec = tie.close (tie.spec (λ c. search needs) add-result returns-2 returns-3)

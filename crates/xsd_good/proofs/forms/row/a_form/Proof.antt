@@ -7,18 +7,6 @@ use Rattle.xsd_good.specs.Forms.{aForm}
 use Rattle.xsd_good.proofs.forms.row.a_form.Statement.{statement}
 use Rattle.xsd_good.proofs.forms.row.a_form.Tie as tie
 
-in-range-requires : tie.Need-in-range-requires
-in-range-requires c κs = search needs
-
-in-range-requires-2 : tie.Need-in-range-requires-2
-in-range-requires-2 c κs = search needs
-
-in-range-requires-3 : tie.Need-in-range-requires-3
-in-range-requires-3 c κs = search needs
-
-is-flag-requires : tie.Need-is-flag-requires
-is-flag-requires c κs = search needs
-
 returns : tie.Need-returns
 unfolding aForm
 returns c =
@@ -29,4 +17,4 @@ returns c =
 pub a-form-spec : {M : Type 1} → statement M
 a-form-spec =
     tie.close
-    (tie.spec in-range-requires in-range-requires-2 in-range-requires-3 is-flag-requires returns)
+    (tie.spec (λ c κs. search needs) (λ c κs. search needs) (λ c κs. search needs) (λ c κs. search needs) returns)

@@ -5,9 +5,6 @@ use Rattle.xsd_types.specs.Good.{headAfter}
 use Rattle.xsd_good.proofs.forms.row.head_after.Statement.{statement}
 use Rattle.xsd_good.proofs.forms.row.head_after.Tie as tie
 
-is-head-requires : tie.Need-is-head-requires
-is-head-requires c κs = search needs
-
 returns : tie.Need-returns
 unfolding headAfter
 returns c = rw (sym (c .before .is-head .ensures) ∙ c .if1 .taken)
@@ -17,4 +14,4 @@ unfolding headAfter
 returns-2 c = rw (sym (c .before .is-head .ensures) ∙ c .if1 .left)
 
 pub head-after-spec : {M : Type 1} → statement M
-head-after-spec = tie.close (tie.spec is-head-requires returns returns-2)
+head-after-spec = tie.close (tie.spec (λ c κs. search needs) returns returns-2)

@@ -7,12 +7,6 @@ use Rattle.xsd_types.specs.Good.{isChild}
 use Rattle.xsd_good.proofs.forms.row.is_child.Statement.{statement}
 use Rattle.xsd_good.proofs.forms.row.is_child.Tie as tie
 
-in-range-requires : tie.Need-in-range-requires
-in-range-requires c κs = search needs
-
-in-range-requires-2 : tie.Need-in-range-requires-2
-in-range-requires-2 c κs = search needs
-
 returns : tie.Need-returns
 unfolding isChild
 returns c =
@@ -20,4 +14,4 @@ returns c =
     ap₂ (λ (x y : Bool). (eqb (a .head) 3 && x) || (eqb (a .head) 12 && y) || (eqb (a .head) 13 && eqb (a .tag) 19) || (eqb (a .head) 14 && eqb (a .tag) 20)) (c .before .in-range .ensures) (c .in-range2 .ensures)
 
 pub is-child-spec : {M : Type 1} → statement M
-is-child-spec = tie.close (tie.spec in-range-requires in-range-requires-2 returns)
+is-child-spec = tie.close (tie.spec (λ c κs. search needs) (λ c κs. search needs) returns)

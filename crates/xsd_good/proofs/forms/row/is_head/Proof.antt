@@ -6,15 +6,9 @@ use Rattle.xsd_types.specs.Good.{isHead}
 use Rattle.xsd_good.proofs.forms.row.is_head.Statement.{statement}
 use Rattle.xsd_good.proofs.forms.row.is_head.Tie as tie
 
-in-range-requires : tie.Need-in-range-requires
-in-range-requires c κs = search needs
-
-in-range-requires-2 : tie.Need-in-range-requires-2
-in-range-requires-2 c κs = search needs
-
 returns : tie.Need-returns
 unfolding isHead
 returns c = ap₂ _||_ (c .before .in-range .ensures) (c .in-range2 .ensures)
 
 pub is-head-spec : {M : Type 1} → statement M
-is-head-spec = tie.close (tie.spec in-range-requires in-range-requires-2 returns)
+is-head-spec = tie.close (tie.spec (λ c κs. search needs) (λ c κs. search needs) returns)

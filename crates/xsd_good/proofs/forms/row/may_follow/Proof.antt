@@ -7,16 +7,10 @@ use Rattle.xsd_types.specs.Good.{mayFollow}
 use Rattle.xsd_good.proofs.forms.row.may_follow.Statement.{statement}
 use Rattle.xsd_good.proofs.forms.row.may_follow.Tie as tie
 
-is-head-requires : tie.Need-is-head-requires
-is-head-requires c κs = search needs
-
-is-child-requires : tie.Need-is-child-requires
-is-child-requires c κs = search needs
-
 returns : tie.Need-returns
 unfolding mayFollow
 returns c =
     ap₂ (λ (x y : Bool). not (eqb (c .before .before .args .head) 16) && (x || y)) (c .before .is-head .ensures) (c .is-child .ensures)
 
 pub may-follow-spec : {M : Type 1} → statement M
-may-follow-spec = tie.close (tie.spec is-head-requires is-child-requires returns)
+may-follow-spec = tie.close (tie.spec (λ c κs. search needs) (λ c κs. search needs) returns)

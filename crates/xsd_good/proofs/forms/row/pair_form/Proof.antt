@@ -4,9 +4,6 @@ use Rattle.sheet.specs.Form.{pairForm}
 use Rattle.xsd_good.proofs.forms.row.pair_form.Statement.{statement}
 use Rattle.xsd_good.proofs.forms.row.pair_form.Tie as tie
 
-wide-requires : tie.Need-wide-requires
-wide-requires c κs = search needs
-
 returns : tie.Need-returns
 unfolding pairForm
 returns c = rw (c .before .if1 .taken, c .wide .ensures)
@@ -16,4 +13,4 @@ unfolding pairForm
 returns-2 c = rw (c .if1 .left)
 
 pub pair-form-spec : {M : Type 1} → statement M
-pair-form-spec = tie.close (tie.spec wide-requires returns returns-2)
+pair-form-spec = tie.close (tie.spec (λ c κs. search needs) returns returns-2)

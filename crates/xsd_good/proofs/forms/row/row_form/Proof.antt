@@ -8,15 +8,6 @@ use Rattle.xsd_good.specs.Forms.{aForm}
 use Rattle.xsd_good.proofs.forms.row.row_form.Statement.{statement}
 use Rattle.xsd_good.proofs.forms.row.row_form.Tie as tie
 
-in-range-requires : tie.Need-in-range-requires
-in-range-requires c κs = search needs
-
-in-range-requires-2 : tie.Need-in-range-requires-2
-in-range-requires-2 c κs = search needs
-
-a-form-requires : tie.Need-a-form-requires
-a-form-requires c κs = search needs
-
 returns : tie.Need-returns
 unfolding rowForm aForm
 returns c =
@@ -24,4 +15,4 @@ returns c =
     ap₂ _&&_ (ap₂ (λ (x y : Bool). x && eqb (a .c) 0 && (eqb (a .b) 0 || y || eqb (a .tag) 17)) (c .before .before .in-range .ensures) (c .before .in-range2 .ensures)) (c .a-form .ensures)
 
 pub row-form-spec : {M : Type 1} → statement M
-row-form-spec = tie.close (tie.spec in-range-requires in-range-requires-2 a-form-requires returns)
+row-form-spec = tie.close (tie.spec (λ c κs. search needs) (λ c κs. search needs) (λ c κs. search needs) returns)

@@ -10,12 +10,6 @@ use Rattle.xsd_types.specs.Good.{usedPairs}
 use Rattle.xsd_good.proofs.forms.row.used_pairs.Statement.{statement}
 use Rattle.xsd_good.proofs.forms.row.used_pairs.Tie as tie
 
-in-range-requires : tie.Need-in-range-requires
-in-range-requires c κs = search needs
-
-in-range-requires-2 : tie.Need-in-range-requires-2
-in-range-requires-2 c κs = search needs
-
 returns : tie.Need-returns
 unfolding usedPairs
 returns c =
@@ -30,22 +24,10 @@ tagOf p = p .before .before .before .args .tag
 has-pairs : (p : tie.Else1) → between 6 7 (tagOf p) || between 10 11 (tagOf p) ≡ false
 has-pairs p = sym (ap₂ _||_ (p .before .before .in-range .ensures) (p .before .in-range2 .ensures)) ∙ p .if1 .left
 
-wide-requires : tie.Need-wide-requires
-wide-requires c κs = search needs
-
-add-result : tie.Need-add-result
-add-result c = search needs
-
 returns-2 : tie.Need-returns-2
 unfolding usedPairs
 returns-2 c =
     rw (has-pairs (c .before .before), eq-eqb _ _ (c .before .if2 .taken), c .wide .ensures)
-
-in-range-requires-3 : tie.Need-in-range-requires-3
-in-range-requires-3 c κs = search needs
-
-in-range-requires-4 : tie.Need-in-range-requires-4
-in-range-requires-4 c κs = search needs
 
 -- the code's test of the tags with two pairs is the definition's
 two-pairs : (p : tie.After-in-range4) → p .before .in-range3 .result || eqb (tagOf (p .before .before .before)) 14 || p .in-range4 .result ≡ between 2 3 (tagOf (p .before .before .before)) || eqb (tagOf (p .before .before .before)) 14 || between 17 20 (tagOf (p .before .before .before))
@@ -65,13 +47,13 @@ pub used-pairs-spec : {M : Type 1} → statement M
 used-pairs-spec =
     tie.close
     (tie.spec
-    in-range-requires
-    in-range-requires-2
+    (λ c κs. search needs)
+    (λ c κs. search needs)
     returns
-    wide-requires
-    add-result
+    (λ c κs. search needs)
+    (λ c. search needs)
     returns-2
-    in-range-requires-3
-    in-range-requires-4
+    (λ c κs. search needs)
+    (λ c κs. search needs)
     returns-3
     returns-4)

@@ -5,9 +5,6 @@ use Rattle.xsd_types.specs.Good.{contextTest}
 use Rattle.xsd_good.proofs.row0.tests.context_test.Statement.{statement}
 use Rattle.xsd_good.proofs.row0.tests.context_test.Tie as tie
 
-in-range-requires : tie.Need-in-range-requires
-in-range-requires c κs = search needs
-
 returns : tie.Need-returns
 unfolding contextTest
 returns c = rw (eq-eqb _ _ (c .if1 .taken))
@@ -21,4 +18,4 @@ unfolding contextTest
 returns-3 c = rw (ne-eqb _ _ (c .before .if1 .left), ne-eqb _ _ (c .if2 .left))
 
 pub context-test-spec : {M : Type 1} → statement M
-context-test-spec = tie.close (tie.spec in-range-requires returns returns-2 returns-3)
+context-test-spec = tie.close (tie.spec (λ c κs. search needs) returns returns-2 returns-3)

@@ -5,15 +5,6 @@ use Rattle.xsd_types.specs.Good.{openTagsTest, nestingZero, nestingTest}
 use Rattle.xsd_good.proofs.row0.tests.nesting_test.Statement.{statement}
 use Rattle.xsd_good.proofs.row0.tests.nesting_test.Tie as tie
 
-wide-requires : tie.Need-wide-requires
-wide-requires c κs = search needs
-
-add-result : tie.Need-add-result
-add-result c = search needs
-
-wide-requires-2 : tie.Need-wide-requires-2
-wide-requires-2 c κs = search needs
-
 returns : tie.Need-returns
 unfolding nestingTest nestingZero openTagsTest
 returns c = rw (le-leb _ _ (c .before .before .if1 .taken), c .before .wide .ensures, c .wide2 .ensures)
@@ -23,4 +14,4 @@ unfolding nestingTest nestingZero openTagsTest
 returns-2 c = rw (lt-leb _ _ (c .before .before .if1 .left))
 
 pub nesting-test-spec : {M : Type 1} → statement M
-nesting-test-spec = tie.close (tie.spec wide-requires add-result wide-requires-2 returns returns-2)
+nesting-test-spec = tie.close (tie.spec (λ c κs. search needs) (λ c. search needs) (λ c κs. search needs) returns returns-2)

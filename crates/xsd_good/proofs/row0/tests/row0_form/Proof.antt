@@ -7,12 +7,6 @@ use Rattle.xsd_types.specs.Good.{row0Form}
 use Rattle.xsd_good.proofs.row0.tests.row0_form.Statement.{statement}
 use Rattle.xsd_good.proofs.row0.tests.row0_form.Tie as tie
 
-is-flag-requires : tie.Need-is-flag-requires
-is-flag-requires c κs = search needs
-
-is-flag-requires-2 : tie.Need-is-flag-requires-2
-is-flag-requires-2 c κs = search needs
-
 returns : tie.Need-returns
 unfolding row0Form
 returns c =
@@ -21,4 +15,4 @@ returns c =
     ap₂ (λ (x y : Bool). eqb (z .first) 0 && leb (z .context) 3 && x && y && eqb (z .last) 0) (p .is-flag .ensures) (c .before .is-flag2 .ensures)
 
 pub row0-form-spec : {M : Type 1} → statement M
-row0-form-spec = tie.close (tie.spec is-flag-requires is-flag-requires-2 returns)
+row0-form-spec = tie.close (tie.spec (λ c κs. search needs) (λ c κs. search needs) returns)

@@ -6,18 +6,9 @@ use Rattle.xsd_good.specs.Row0.{partsFit}
 use Rattle.xsd_good.proofs.row0.tests.used_parts.Statement.{statement}
 use Rattle.xsd_good.proofs.row0.tests.used_parts.Tie as tie
 
-cast-n : tie.Need-cast-n
-cast-n c = search needs
-
-cast-used : tie.Need-cast-used
-cast-used c = search needs
-
-mul-result : tie.Need-mul-result
-mul-result c = search needs
-
 returns : tie.Need-returns
 unfolding partsFit fits
 returns c = refl
 
 pub used-parts-spec : {M : Type 1} → statement M
-used-parts-spec = tie.close (tie.spec cast-n cast-used mul-result returns)
+used-parts-spec = tie.close (tie.spec (λ c. search needs) (λ c. search needs) (λ c. search needs) returns)
