@@ -13,17 +13,20 @@ pub fn local_name(name: &str) -> &str {
         .unwrap_or(name)
 }
 
-/// An optional plus sign, then one or more digits, at most 4294967295.
+/// An optional plus sign, then one or more digits, at most 4294967295; or a minus sign, then one or more
+/// zeros, which is 0. Tabs, line ends and spaces may stand around it.
 ///
 /// ```
 /// assert_eq!(lubiksan::names::parse_u32("+007"), Some(7));
+/// assert_eq!(lubiksan::names::parse_u32(" 35 "), Some(35));
+/// assert_eq!(lubiksan::names::parse_u32("-0"), Some(0));
 /// assert_eq!(lubiksan::names::parse_u32("4294967296"), None);
 /// ```
 pub fn parse_u32(text: &str) -> Option<u32> {
     calls::parse_u32(text.as_bytes())
 }
 
-/// An optional plus sign, then one or more digits, at most 18446744073709551615.
+/// As [`parse_u32`], with values up to 18446744073709551615.
 ///
 /// ```
 /// assert_eq!(lubiksan::names::parse_u64("18446744073709551615"), Some(u64::MAX));

@@ -15,6 +15,9 @@ use crate::random::Random;
 const EVERY_CLASS: &[u8] = b"AZaz09@[`{/:_-+ \0\x7f";
 const FEWER_CLASSES: &[u8] = b"AZaz0_-:+ ";
 const NUMBER_BYTES: &[u8] = b"+-0 9:/";
+/// White space, its neighbours and the bytes that other trims take, signs and digits and their neighbours.
+const SPELLING_BYTES: &[u8] = b"\0\x08\t\n\x0b\x0c\r\x0e\x1c\x1d\x1e\x1f !+,-./019:\x7f";
+const LONGEST_SPELLING: usize = 5;
 const FEW_NAME_BYTES: &[u8] = b"aA_b:";
 
 const SEED: u64 = 52;
@@ -53,6 +56,23 @@ pub fn short_texts() -> Vec<String> {
     let mut texts = texts_over(EVERY_CLASS, 0..=4);
     texts.extend(texts_over(FEWER_CLASSES, 5..=5));
     texts
+}
+
+/// Each short text of the bytes that matter in the spelling of a number.
+pub fn each_spelling(visit: &mut dyn FnMut(&str)) {
+    each_longer(&mut String::new(), visit);
+}
+
+fn each_longer(text: &mut String, visit: &mut dyn FnMut(&str)) {
+    visit(text);
+    if text.len() == LONGEST_SPELLING {
+        return;
+    }
+    for &byte in SPELLING_BYTES {
+        text.push(char::from(byte));
+        each_longer(text, visit);
+        text.pop();
+    }
 }
 
 /// Short names for all pairs.

@@ -20,6 +20,7 @@ pub fn texts() -> Vec<String> {
         every_byte(),
         equal_neighbours(),
         random_texts(),
+        spellings(),
     ]
     .concat()
 }
@@ -81,7 +82,7 @@ fn zeros_with_plus() -> String {
     format!("+{}", "0".repeat(36))
 }
 
-/// Texts that are refused as numbers, and some that only look so.
+/// Texts that paper 01 refuses as numbers, and some that only look so; order 2 takes a few of them.
 fn not_numbers() -> Vec<String> {
     owned(&[
         "",
@@ -238,6 +239,50 @@ fn random_texts() -> Vec<String> {
         for alphabet in alphabets {
             let length = random.below(most + 1);
             texts.push(random.text(alphabet, length));
+        }
+    }
+    texts
+}
+
+/// White space, bytes that only look so, and signs around numbers and `unbounded` (order 2).
+fn spellings() -> Vec<String> {
+    let mut texts = owned(&[
+        " 35 ",
+        " \t\r 35 \r\t",
+        "-000",
+        " -0 ",
+        "- 0",
+        "-00 0",
+        "--0",
+        "+-0",
+        "-+0",
+        "-01",
+        "-0x",
+        " + ",
+        " - ",
+        "+ 7",
+        "7 7",
+        " unbounded ",
+        "un bounded",
+        "&#32;7",
+    ]);
+    for value in [
+        "0",
+        "+7",
+        "-0",
+        "4294967295",
+        "4294967296",
+        "18446744073709551615",
+        "18446744073709551616",
+    ] {
+        for byte in [
+            '\t', '\x0b', '\x0c', '\r', '\x1c', '\x1d', '\x1e', '\x1f', ' ', '\0',
+        ] {
+            texts.extend([
+                format!("{byte}{value}"),
+                format!("{value}{byte}"),
+                format!("{byte}{value}{byte}"),
+            ]);
         }
     }
     texts

@@ -28,19 +28,19 @@ impl Tally {
         }
     }
 
-    /// Counts one case: `call` on `input` gave `rust` and `ours`.
+    /// Counts one case: `call` on `input` must give `expected` and gave `ours`.
     pub fn compare<A: PartialEq + Debug>(
         &mut self,
         call: &str,
         input: &dyn Debug,
-        rust: A,
+        expected: A,
         ours: A,
     ) {
-        self.count(if rust == ours {
+        self.count(if expected == ours {
             Ok(())
         } else {
             Err(format!(
-                "{call} of {input:?}: the Rust gives {rust:?}, ours {ours:?}"
+                "{call} of {input:?}: {expected:?} is expected, ours gives {ours:?}"
             ))
         });
     }

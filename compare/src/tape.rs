@@ -7,6 +7,17 @@ pub struct Tag {
     pub attributes: Vec<(String, String)>,
 }
 
+impl Tag {
+    /// The tag with these attributes, in order.
+    pub fn of(name: &str, attributes: &[(&str, &str)]) -> Tag {
+        let owned = |&(key, value): &(&str, &str)| (key.to_owned(), value.to_owned());
+        Tag {
+            name: name.to_owned(),
+            attributes: attributes.iter().map(owned).collect(),
+        }
+    }
+}
+
 /// An event.
 #[derive(Clone, Debug, PartialEq, Eq)]
 pub enum Event {

@@ -1,10 +1,14 @@
 //! The model of paper 01 against the Rust on many tapes and states, and on the paper's specimens.
 
+use judge::cases::{each_spelling, numbers};
+use judge::leaves::{parse_u32, parse_u64};
 use judge::paper::agree;
 use judge::paper::answer;
 use judge::paper::lowering::lowering;
+use judge::paper::number::{is_new_u32, is_new_u64, is_unbounded, number_u32, number_u64};
 use judge::paper::reading::{clear, events_of, read};
 use judge::paper::sheet::Sheet;
+use judge::paper::state::State;
 use judge::random::Random;
 use judge::tape::{events, xml, Tape};
 use judge::tapes::{document, messed, odd_events, written};
@@ -65,7 +69,8 @@ fn random_tapes_agree_with_the_rust() {
     let mut compared = 0;
     for _ in 0..20_000 {
         for events in [document(&mut random), messed(&mut random)] {
-            compared += usize::from(xml(&events).is_some());
+            let left_out = agree::is_left_out(&State::cleared(), &events);
+            compared += usize::from(xml(&events).is_some() && !left_out);
             agree::check_tape(&events).unwrap_or_else(|text| panic!("{text}"));
         }
     }
@@ -79,5 +84,71 @@ fn events_of_any_words_agree_with_the_handlers() {
         let mut events = events("<schema><complexType name=A>");
         events.extend(odd_events(&mut random, 12));
         let _ = agree::run(&events);
+    }
+}
+
+#[test]
+fn spellings_of_order_2() {
+    let given = [
+        (" 7", Some(7)),
+        ("-0", Some(0)),
+        (" 35 ", Some(35)),
+        ("\t\r\n-000 ", Some(0)),
+        (" +7", Some(7)),
+        ("+", None),
+        (" + ", None),
+        ("", None),
+        (" ", None),
+        ("-", None),
+        ("-1", None),
+        ("-01", None),
+        ("--0", None),
+        ("+-0", None),
+        ("-+0", None),
+        ("- 0", None),
+        ("+ 7", None),
+        ("7 7", None),
+        ("\x0c7", None),
+        ("7\x0b", None),
+        ("\x1c7", None),
+        ("7\0", None),
+        ("&#32;7", None),
+    ];
+    for (text, value) in given {
+        assert_eq!(number_u32(text), value, "{text:?}");
+        assert_eq!(number_u64(text), value.map(u64::from), "{text:?}");
+    }
+    assert!(is_unbounded(" \tunbounded\r\n") && is_unbounded("unbounded"));
+    assert!(["Unbounded", "un bounded", "+unbounded", "\x0cunbounded"]
+        .iter()
+        .all(|t| !is_unbounded(t)));
+}
+
+#[test]
+fn numbers_are_those_of_the_rust_but_for_new_spellings() {
+    each_spelling(&mut |text| {
+        let (old_32, old_64) = (parse_u32(text), parse_u64(text));
+        assert_eq!(
+            old_32,
+            number_u32(text).filter(|_| !is_new_u32(text)),
+            "{text:?}"
+        );
+        assert_eq!(
+            old_64,
+            number_u64(text).filter(|_| !is_new_u64(text)),
+            "{text:?}"
+        );
+    });
+    for text in numbers() {
+        assert_eq!(
+            parse_u32(&text),
+            number_u32(&text).filter(|_| !is_new_u32(&text)),
+            "{text:?}"
+        );
+        assert_eq!(
+            parse_u64(&text),
+            number_u64(&text).filter(|_| !is_new_u64(&text)),
+            "{text:?}"
+        );
     }
 }

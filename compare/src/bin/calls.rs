@@ -9,14 +9,15 @@ use std::path::{Path, PathBuf};
 use std::process::ExitCode;
 use std::thread;
 
-use judge::calls::{labels, longer, small, written};
+use judge::calls::{labels, longer, numbers, small, written};
 use judge::tally::Tally;
 
 type Group = fn() -> Vec<Tally>;
 
 fn main() -> ExitCode {
-    let groups: [Group; 6] = [
+    let groups: [Group; 7] = [
         small::compare,
+        numbers::compare,
         longer::documents,
         longer::sheets,
         written::compare,

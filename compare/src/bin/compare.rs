@@ -19,6 +19,7 @@ fn main() -> ExitCode {
     groups.take("random texts", cases::random_texts());
     take_schemas(&mut groups);
     groups.take_pairs(&cases::short_names());
+    cases::each_spelling(&mut |text| checks::numbers(&mut groups.numbers, text));
     groups.print()
 }
 
@@ -38,11 +39,12 @@ fn schemas_folder() -> PathBuf {
 }
 
 /// The groups of cases: the leaves for each source of texts; over all texts the rooms of the
-/// conversions and the pairs of names.
+/// conversions, the pairs of names, and the numbers with the model.
 struct Groups {
     sources: Vec<Tally>,
     rooms: Tally,
     pairs: Tally,
+    numbers: Tally,
 }
 
 impl Groups {
@@ -51,6 +53,7 @@ impl Groups {
             sources: Vec::new(),
             rooms: Tally::new("conversions in five rooms"),
             pairs: Tally::new("same_normalized"),
+            numbers: Tally::new("numbers with the model of order 2"),
         }
     }
 
@@ -61,6 +64,7 @@ impl Groups {
             checks::leaves(&mut tally, text);
             checks::rooms(&mut self.rooms, text);
             checks::neighbours(&mut self.pairs, previous, text);
+            checks::numbers(&mut self.numbers, text);
             previous = text;
         }
         self.sources.push(tally);
@@ -78,7 +82,7 @@ impl Groups {
         let groups: Vec<Tally> = self
             .sources
             .into_iter()
-            .chain([self.rooms, self.pairs])
+            .chain([self.rooms, self.pairs, self.numbers])
             .collect();
         groups.iter().for_each(|group| println!("{group}"));
         let cases: u64 = groups.iter().map(Tally::cases).sum();

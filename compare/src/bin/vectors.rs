@@ -1,13 +1,14 @@
 //! The fixed sample behind crates/vectors.
 //!
 //! `vectors inputs` prints the texts, one per line. `vectors answers` reads texts, one per line, and
-//! prints for each the answers of the Rust.
+//! prints for each the answers of the Rust; the model's for a number in a spelling of order 2.
 
 use std::env;
 use std::io::{self, Read, Write};
 use std::process::ExitCode;
 
 use judge::leaves;
+use judge::paper::number::{is_new_u32, is_new_u64, number_u32, number_u64};
 use judge::samples;
 
 fn main() -> ExitCode {
@@ -60,21 +61,37 @@ fn lines_of(input: &[u8]) -> io::Result<Vec<&str>> {
     Ok(text.split_terminator('\n').collect())
 }
 
-/// The line with the answers of the Rust on `text`.
+/// The line with the answers on `text`.
 fn answer(text: &str, previous: &str) -> String {
     let normal = leaves::normalize_type_name(text);
     let same = normal == leaves::normalize_type_name(previous);
     format!(
         "local={} u32={} u64={} builtin={} normal={} snake={} pascal={} same={}\n",
         leaves::local_name(text),
-        number_or_dash(leaves::parse_u32(text)),
-        number_or_dash(leaves::parse_u64(text)),
+        number_or_dash(u32_of(text)),
+        number_or_dash(u64_of(text)),
         leaves::builtin_number(leaves::map_builtin(text)),
         normal,
         leaves::xml_to_snake_case(text),
         leaves::code_to_pascal_case(text),
         u8::from(same),
     )
+}
+
+fn u32_of(text: &str) -> Option<u32> {
+    if is_new_u32(text) {
+        number_u32(text)
+    } else {
+        leaves::parse_u32(text)
+    }
+}
+
+fn u64_of(text: &str) -> Option<u64> {
+    if is_new_u64(text) {
+        number_u64(text)
+    } else {
+        leaves::parse_u64(text)
+    }
 }
 
 fn number_or_dash<N: ToString>(value: Option<N>) -> String {

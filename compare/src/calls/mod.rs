@@ -7,10 +7,12 @@
 //! | `small` | every list of a few events in each context |
 //! | `longer` | random documents, damaged, in pieces, on damaged sheets |
 //! | `written` | the cases of the definitions, lengths, the schemas |
+//! | `numbers` | numbers and `unbounded` in every spelling, where an event has one |
 //! | `labels` | the label call on rows of graphs, on any rows and word lists |
 
 pub mod check;
 pub mod labels;
 pub mod longer;
+pub mod numbers;
 pub mod small;
 pub mod written;

@@ -333,17 +333,9 @@ pub fn damage_one(list: &mut [u32], random: &mut Random) {
     };
 }
 
-fn tag(name: &str, attributes: &[(&str, &str)]) -> Tag {
-    let owned = |&(key, value): &(&str, &str)| (key.to_owned(), value.to_owned());
-    Tag {
-        name: name.to_owned(),
-        attributes: attributes.iter().map(owned).collect(),
-    }
-}
-
 /// Tapes that no XML text stands for: the paper alone decides.
 fn outside_xml() -> Vec<Case> {
-    let in_schema = |event: Event| vec![Event::Start(tag("schema", &[])), event];
+    let in_schema = |event: Event| vec![Event::Start(Tag::of("schema", &[])), event];
     let elements = odd_elements()
         .into_iter()
         .map(|(shows, tag)| (shows, in_schema(Event::Empty(tag))));
@@ -355,7 +347,7 @@ fn outside_xml() -> Vec<Case> {
 
 /// Empty tags inside a schema.
 fn odd_elements() -> Vec<(&'static str, Tag)> {
-    let element = |attributes: &[(&str, &str)]| tag("element", attributes);
+    let element = |attributes: &[(&str, &str)]| Tag::of("element", attributes);
     let named = [("name", "A"), ("type", "B")];
     let twice = [("name", "A"), ("name", "B"), ("type", "C"), ("type", "D")];
     vec![
@@ -372,7 +364,7 @@ fn odd_elements() -> Vec<(&'static str, Tag)> {
             "an empty key",
             element(&[("", "x"), ("name", "A"), ("type", "B")]),
         ),
-        ("a space in the tag", tag(" element", &named)),
+        ("a space in the tag", Tag::of(" element", &named)),
         (
             "a space in a key",
             element(&[(" name", "A"), ("type", "B")]),
@@ -385,11 +377,11 @@ fn odd_elements() -> Vec<(&'static str, Tag)> {
 }
 
 fn odd_lists() -> Vec<(&'static str, Vec<Event>)> {
-    let schema = || Event::Start(tag("schema", &[]));
-    let nameless = || Event::Start(tag("", &[]));
-    let colon = Event::Start(tag(":", &[]));
-    let newline = Event::Start(tag("simpleType", &[("name", "\n")]));
-    let length = Event::Empty(tag("minLength", &[("value", "1\n")]));
+    let schema = || Event::Start(Tag::of("schema", &[]));
+    let nameless = || Event::Start(Tag::of("", &[]));
+    let colon = Event::Start(Tag::of(":", &[]));
+    let newline = Event::Start(Tag::of("simpleType", &[("name", "\n")]));
+    let length = Event::Empty(Tag::of("minLength", &[("value", "1\n")]));
     vec![
         ("an empty tag name", vec![nameless(), schema(), nameless()]),
         ("a tag name of a colon", vec![colon, Event::Close, schema()]),

@@ -26,10 +26,26 @@ fn in_domain(state: &State, event: &Event) -> bool {
         }
 }
 
+/// From `start`, an event up to the first refused one has a spelling that order 2 adds, where a number
+/// or `unbounded` is looked for. "Equality with the Rust excludes these spellings."
+pub fn is_left_out(start: &State, events: &[Event]) -> bool {
+    let mut state = start.clone();
+    for event in events {
+        if state.meets_new_spelling(event) {
+            return true;
+        }
+        match state.after(event, ROOMY) {
+            Ok(next) => state = next,
+            Err(_) => return false,
+        }
+    }
+    false
+}
+
 /// The model and the handlers give the same state or the same refusal. Events outside the domain
-/// are passed over.
+/// and those that are left out are passed over.
 pub fn check_event(state: &State, event: &Event) -> Result<(), String> {
-    if !in_domain(state, event) {
+    if !in_domain(state, event) || state.meets_new_spelling(event) {
         return Ok(());
     }
     let model = state.after(event, ROOMY).map(|next| reader(&next));
@@ -47,6 +63,9 @@ pub fn check_tape(events: &[Event]) -> Result<(), String> {
     let Some(text) = xml(events) else {
         return Ok(());
     };
+    if is_left_out(&State::cleared(), events) {
+        return Ok(());
+    }
     let model = run(events).and_then(|state| match state.root_seen {
         true => Ok(state.schema()),
         false => Err(12),
@@ -71,8 +90,8 @@ pub fn run(events: &[Event]) -> Result<State, u32> {
 }
 
 /// A reading call that gave `given` and left `after` did what the handlers of the Rust do to the
-/// state `start` over `events`. None where an event up to the refused one is outside the domain, or
-/// the call was refused before its first event.
+/// state `start` over `events`. None where an event up to the refused one is outside the domain or
+/// left out, or the call was refused before its first event.
 pub fn check_reading(
     start: &State,
     events: &[Event],
@@ -82,7 +101,8 @@ pub fn check_reading(
     let place = given.place as usize;
     let done = events.get(..place)?;
     let judged = &events[..events.len().min(place + 1)];
-    if matches!(given.number, 1 | 2) || !all_in_domain(start, judged) {
+    if matches!(given.number, 1 | 2) || !all_in_domain(start, judged) || is_left_out(start, judged)
+    {
         return None;
     }
     let rust = done.iter().try_fold(reader(start), handled);
@@ -127,7 +147,7 @@ fn all_in_domain(start: &State, events: &[Event]) -> bool {
 }
 
 /// A reading of a whole document into a cleared sheet gave what `parse_str` gives for its XML text.
-/// None outside the domain and for a refusal that the Rust does not have.
+/// None outside the domain, for documents that are left out and for a refusal that the Rust does not have.
 pub fn check_document(
     events: &[Event],
     given: Answer,
@@ -142,6 +162,9 @@ pub fn check_document(
         _ => return None,
     };
     let text = xml(events)?;
+    if is_left_out(&State::cleared(), events) {
+        return None;
+    }
     let rust = parse_str(&text).map_err(|error| refusal(&error));
     if rust == ours {
         return Some(Ok(()));

@@ -1,8 +1,9 @@
 //! What an event does to the state, with the refusals 6 to 11.
 
+use super::number::{is_new_max, is_new_u32, is_new_u64, is_unbounded, number_u32, number_u64};
 use super::sheet::{fits, Lent, Row};
 use super::state::State;
-use crate::leaves::{local_name, parse_u32, parse_u64};
+use crate::leaves::local_name;
 use crate::tape::{Event, Tag};
 
 impl State {
@@ -20,6 +21,28 @@ impl State {
         } else {
             Err(11)
         }
+    }
+
+    /// A number or the word `unbounded` is looked for in a text of `event` on which paper 01 alone and
+    /// with order 2 differ.
+    pub fn meets_new_spelling(&self, event: &Event) -> bool {
+        match event {
+            Event::Empty(tag) if self.context == 2 => is_new_facet(tag),
+            Event::Empty(tag) if self.context == 3 => self.has_new_occurs(tag),
+            Event::Start(tag) if self.context == 3 && self.nesting == 1 => self.has_new_occurs(tag),
+            _ => false,
+        }
+    }
+
+    /// An element of a sequence with a new spelling in its min, or in its max where the min is a number.
+    fn has_new_occurs(&self, tag: &Tag) -> bool {
+        let counts = local(tag) == "element" && self.rows[self.head()].tag == 12;
+        if !counts || name_and_type(tag).is_none() {
+            return false;
+        }
+        let min = lookup(tag, "minOccurs");
+        let max = || lookup(tag, "maxOccurs").is_some_and(is_new_max);
+        min.is_some_and(is_new_u32) || (number_or_one(min).is_ok() && max())
     }
 
     /// Counts the event and its tag: 8, then 6 or 7.
@@ -212,6 +235,16 @@ fn lookup<'a>(tag: &'a Tag, word: &str) -> Option<&'a str> {
     found.map(|(_, value)| value.as_str())
 }
 
+/// A facet with a number in a new spelling.
+fn is_new_facet(tag: &Tag) -> bool {
+    let value = or_empty(tag, "value");
+    match local(tag) {
+        "minLength" | "maxLength" => is_new_u64(&value),
+        "totalDigits" | "fractionDigits" => is_new_u32(&value),
+        _ => false,
+    }
+}
+
 fn or_empty(tag: &Tag, word: &str) -> String {
     lookup(tag, word).unwrap_or("").to_owned()
 }
@@ -220,18 +253,18 @@ fn name_and_type(tag: &Tag) -> Option<(&str, &str)> {
     lookup(tag, "name").zip(lookup(tag, "type"))
 }
 
-/// "min before max, default 1; a max of exactly `unbounded` gives tag 18"
+/// "min before max, default 1; a max of exactly `unbounded` gives tag 18", white space around it aside
 fn sequence_row(tag: &Tag, name: &str, type_name: &str) -> Result<Row, u32> {
     let texts = [name, type_name];
     let min = number_or_one(lookup(tag, "minOccurs"))?;
     match lookup(tag, "maxOccurs") {
-        Some("unbounded") => Ok(Row::new(18, &texts).with(min, 0)),
+        Some(max) if is_unbounded(max) => Ok(Row::new(18, &texts).with(min, 0)),
         max => Ok(Row::new(17, &texts).with(min, number_or_one(max)?)),
     }
 }
 
 fn number_or_one(text: Option<&str>) -> Result<u32, u32> {
-    text.map_or(Some(1), parse_u32).ok_or(10)
+    text.map_or(Some(1), number_u32).ok_or(10)
 }
 
 /// The row of an empty facet; none for a tag that is no facet.
@@ -252,10 +285,10 @@ fn facet_row(word: &str, value: &str) -> Result<Option<Row>, u32> {
 
 /// "a low, b high 32 bits"
 fn length_row(tag: u32, value: &str) -> Result<Row, u32> {
-    let length = parse_u64(value).ok_or(10u32)?;
+    let length = number_u64(value).ok_or(10u32)?;
     Ok(Row::new(tag, &[]).with(length as u32, (length >> 32) as u32))
 }
 
 fn digits_row(tag: u32, value: &str) -> Result<Row, u32> {
-    Ok(Row::new(tag, &[]).with(parse_u32(value).ok_or(10u32)?, 0))
+    Ok(Row::new(tag, &[]).with(number_u32(value).ok_or(10u32)?, 0))
 }

@@ -5,6 +5,7 @@
 //! |---|---|
 //! | `sheet` | rows of ten numbers, how pairs are packed |
 //! | `state` | what a schema sheet says, and when it is good |
+//! | `number` | numbers and `unbounded`, as order 2 spells them |
 //! | `event` | what an event does |
 //! | `reading` | the tape, clearing, the reading call |
 //! | `graph`, `back` | the graph sheet of a type graph, and the type graph that a sheet says |
@@ -18,6 +19,7 @@ pub mod event;
 pub mod graph;
 pub mod label;
 pub mod lowering;
+pub mod number;
 pub mod reading;
 pub mod sheet;
 pub mod state;

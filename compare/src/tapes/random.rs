@@ -55,12 +55,14 @@ const CODES: [&str; 8] = [
 ];
 const GOOD_NUMBERS: [&str; 8] = ["0", "1", "2", "35", "+7", "007", "4294967295", "1"];
 const WIDE_NUMBERS: [&str; 4] = ["4294967296", "18446744073709551615", "5", "8589934593"];
+/// Order 2 takes them, and the Rust does not.
+const NEW_NUMBERS: [&str; 6] = ["-0", " 7", "7 ", "  35 ", " -000 ", " +1"];
 const BAD_NUMBERS: [&str; 9] = [
     "",
     "+",
-    "-0",
-    " 7",
-    "7 ",
+    "-1",
+    "- 0",
+    " ",
     "1_0",
     "x",
     "4294967296",
@@ -312,10 +314,12 @@ impl Walk<'_> {
         }
     }
 
-    /// A number, a bad one now and then.
+    /// A number, a bad one or one in a spelling of order 2 now and then.
     fn number<'k>(&mut self, key: &'k str, times: usize) -> Vec<(&'k str, String)> {
-        if self.chance(5) {
+        if self.chance(4) {
             self.maybe(key, &BAD_NUMBERS, times)
+        } else if self.chance(3) {
+            self.maybe(key, &NEW_NUMBERS, times)
         } else {
             self.maybe(key, &GOOD_NUMBERS, times)
         }
@@ -371,7 +375,13 @@ impl Walk<'_> {
         if self.chance(30) {
             attributes.extend(self.maybe(
                 "maxOccurs",
-                &["unbounded", "unbounded", "Unbounded"],
+                &[
+                    "unbounded",
+                    "unbounded",
+                    "unbounded",
+                    "Unbounded",
+                    " unbounded ",
+                ],
                 100,
             ));
         } else if self.chance(60) {

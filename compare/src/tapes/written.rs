@@ -131,14 +131,14 @@ const LOOKUP: [Line; 12] = [
     ("the first max counts", "<schema><complexType name=A><sequence><element name=a type=b maxOccurs=2 x:maxOccurs=unbounded/></></>"),
 ];
 
-const NUMBERS: [Line; 20] = [
+const NUMBERS: [Line; 28] = [
     ("a min past u32", "<schema><complexType name=A><sequence><element name=a type=b minOccurs=4294967296/>"),
     ("total digits past u32", "<schema><simpleType name=A><fractionDigits value=4294967295/><totalDigits value=4294967296/>"),
     ("a max length past u64", "<schema><simpleType name=A><minLength value=18446744073709551615/><maxLength value=18446744073709551616/>"),
     ("occurs default to 1", "<schema><complexType name=A><sequence><element name=a type=b/><element name=a type=b minOccurs=5/><element name=a type=b maxOccurs=5/></></>"),
     ("unbounded", "<schema><complexType name=A><sequence><element name=a type=b maxOccurs=unbounded/><element name=a type=b minOccurs=5 maxOccurs=unbounded/></></>"),
     ("a bad min with an unbounded max", "<schema><complexType name=A><sequence><element name=a type=b minOccurs=x maxOccurs=unbounded/>"),
-    ("unbounded with a space is a bad number", "<schema><complexType name=A><sequence><element name=a type=b maxOccurs='unbounded '/>"),
+    ("unbounded with a space behind it", "<schema><complexType name=A><sequence><element name=a type=b maxOccurs='unbounded '/>"),
     ("min unbounded is a bad number", "<schema><complexType name=A><sequence><element name=a type=b minOccurs=unbounded/>"),
     ("signs and zeros", "<schema><complexType name=A><sequence><element name=a type=b minOccurs=+0 maxOccurs=+00012/><element name=a type=b minOccurs=007/></></>"),
     ("the largest u32", "<schema><complexType name=A><sequence><element name=a type=b minOccurs=4294967295 maxOccurs=00000000004294967295/></></>"),
@@ -151,6 +151,14 @@ const NUMBERS: [Line; 20] = [
     ("minus zero", "<schema><simpleType name=A><minLength value=-0/>"),
     ("a space before", "<schema><simpleType name=A><maxLength value=' 7'/>"),
     ("two signs", "<schema><simpleType name=A><fractionDigits value=++1/>"),
+    ("spaces around a number and minus zeros", "<schema><complexType name=A><sequence><element name=a type=b minOccurs='  35 ' maxOccurs=' -000'/><element name=a type=b minOccurs=' +7' maxOccurs=' unbounded  '/></></>"),
+    ("a minus before another digit", "<schema><simpleType name=A><minLength value=-01/>"),
+    ("a minus alone", "<schema><simpleType name=A><totalDigits value=-/>"),
+    ("a plus before minus zero", "<schema><simpleType name=A><maxLength value=+-0/>"),
+    ("a space behind the sign", "<schema><simpleType name=A><maxLength value='- 0'/>"),
+    ("spaces alone", "<schema><simpleType name=A><fractionDigits value='  '/>"),
+    ("unbounded with a space in it", "<schema><complexType name=A><sequence><element name=a type=b maxOccurs='un bounded'/>"),
+    ("new spellings where nothing is parsed", "<schema><complexType name=A><choice><element name=a type=b minOccurs=' 1' maxOccurs=-0/></></><complexType name=B><sequence><element name=a minOccurs=' 1'/></></><simpleType name=C><restriction base=' string'><minLength value=' 1'></><minInclusive value=-0/><maxInclusive value=' 7'/><enumeration value=' 7'/><pattern value=' '/></></>"),
     ("an underscore in a number", "<schema><simpleType name=A><totalDigits value=1_0/>"),
 ];
 

@@ -144,8 +144,9 @@
 /* Where the local name, the part after the last colon, begins in the name. */
 size_t lubiksan_local_name(const uint8_t *name, size_t length);
 
-/* An optional plus sign, then one or more digits, within the width: LUBIKSAN_ACCEPTED with the value stored, or LUBIKSAN_VALUE with
-   the value as it was. */
+/* An optional plus sign, then one or more digits, within the width; or a minus sign, then one or more zeros, which is 0. White space
+   (the bytes 9, 10, 13 and 32, and no other) may stand before and behind, and nowhere else. LUBIKSAN_ACCEPTED with the value stored,
+   or LUBIKSAN_VALUE with the value as it was. */
 uint32_t lubiksan_parse_u32(const uint8_t *text, size_t length, uint32_t *value);
 uint32_t lubiksan_parse_u64(const uint8_t *text, size_t length, uint64_t *value);
 

@@ -1,12 +1,13 @@
-// Numbers: 000, `parse_u32` and `parse_u64`. An occurrence number is a plain u32; lengths count
-// characters and digit facets count digits, each with a type of its own (read in `counts`).
+// Numbers: 000, `parse_u32` and `parse_u64`, with the spellings of order 2. An occurrence number is a plain u32;
+// lengths count characters and digit facets count digits, each with a type of its own (read in `counts`).
 pub mod counts;
 
 ghost use mathlib.Core.Path.{_≡_};
 ghost use Prim.Native.Nat.{_+_, _≤_};
-ghost use Rattle.number.specs.Number.{number, numeral, afterPlus};
+ghost use Rattle.number.specs.Number.{number, numberBelow, plainBelow, numeral, isMinusZeros, afterPlus};
 ghost use Rattle.number.specs.Answers.{ofU32, ofU64};
 use text::ascii::is_digit;
+use text::trimmed;
 
 // The value of a minLength or maxLength facet.
 pub struct CharacterCount(pub u64);
@@ -61,16 +62,74 @@ fn parse_digits(d: &[u8], max: u64) -> U64
     U64::Value(v)
 }
 
+// Whether a minus stands before zeros, one at least.
+fn is_minus_zeros(s: &[u8]) -> bool
+    ensures { λ r. ⌜ r ≡ isMinusZeros (now (s .entry)) ⌝ }
+{
+    if s.len() < 2 {
+        return false;
+    }
+    if s[0] != b'-' {
+        return false;
+    }
+    let mut i = 1;
+    while i < s.len() {
+        if s[i] != b'0' {
+            return false;
+        }
+        i += 1;
+    }
+    true
+}
+
+// What a text gives by paper 01 alone, where its value is at most max.
+fn parse_plain(s: &[u8], max: u64) -> U64
+    requires { ⌜ 9 ≤ max ⌝ }
+    ensures { λ r. ⌜ ofU64 r ≡ plainBelow (max + 1) (now (s .entry)) ⌝ }
+{
+    parse_digits(after_plus(s), max)
+}
+
+// The same with the spellings of order 2.
+fn parse_spelt(s: &[u8], max: u64) -> U64
+    requires { ⌜ 9 ≤ max ⌝ }
+    ensures { λ r. ⌜ ofU64 r ≡ numberBelow (max + 1) (now (s .entry)) ⌝ }
+{
+    let t = trimmed(s);
+    if is_minus_zeros(t) {
+        return U64::Value(0);
+    }
+    parse_plain(t, max)
+}
+
+// What a text gives, where its value is at most max: a text that paper 01 takes keeps its value.
+fn parse(s: &[u8], max: u64) -> U64
+    requires { ⌜ 9 ≤ max ⌝ }
+    ensures { λ r. ⌜ ofU64 r ≡ numberBelow (max + 1) (now (s .entry)) ⌝ }
+{
+    match parse_plain(s, max) {
+        U64::Value(v) => U64::Value(v),
+        U64::Invalid => parse_spelt(s, max),
+    }
+}
+
+// Nearly all numbers are plain. They are tried here too, without the call of `parse`, which takes as long as two digits.
 pub fn parse_u64(s: &[u8]) -> U64
     ensures { λ r. ⌜ ofU64 r ≡ number 64 (now (s .entry)) ⌝ }
 {
-    parse_digits(after_plus(s), 18446744073709551615)
+    match parse_plain(s, 18446744073709551615) {
+        U64::Value(v) => U64::Value(v),
+        U64::Invalid => parse(s, 18446744073709551615),
+    }
 }
 
 pub fn parse_u32(s: &[u8]) -> U32
     ensures { λ r. ⌜ ofU32 r ≡ number 32 (now (s .entry)) ⌝ }
 {
-    match parse_digits(after_plus(s), 4294967295) {
+    if let U64::Value(v) = parse_plain(s, 4294967295) {
+        return U32::Value(v as u32);
+    }
+    match parse(s, 4294967295) {
         U64::Value(v) => U32::Value(v as u32),
         U64::Invalid => U32::Invalid,
     }

@@ -7,7 +7,10 @@ use mathlib.Core.Bool.{true}
 use mathlib.Core.List.{List, _∷_, _++_}
 use mathlib.Core.Option.{some}
 use lib.ListN.{length}
-use Rattle.text.specs.Text.{Text, every, join}
+use Rattle.text.specs.Text.{Text, bytes, every, join}
+use Rattle.text.specs.Trim.{Around}
+use Rattle.number.specs.Number.{parsed, plainNumber, number, Spells}
+use Rattle.number.proofs.Laws.Spellings.{number-kept, number-exactly}
 use Rattle.sheet.specs.Rows.{Sheet}
 use Rattle.sheet.specs.Form.{words}
 use Rattle.sheet.specs.Lengths.{tapeLengths, Lengths, lengthsOf, goodLengths}
@@ -20,10 +23,11 @@ use Rattle.xsd_types.proofs.Laws.SheetOf.{stateOf-sheetOf}
 use Rattle.xsd_types.proofs.Laws.StateOf.{good-exactly, sheetOf-stateOf}
 use Rattle.xsd_parser.specs.Event.{Event}
 use Rattle.xsd_parser.specs.EventText.{eventOk}
-use Rattle.xsd_parser.specs.Handlers.{ok}
+use Rattle.xsd_parser.specs.Handlers.{ok, isUnbounded}
 use Rattle.xsd_parser.specs.Step.{step}
 use Rattle.xsd_parser.specs.Read.{read, readState, sheetOfReading}
 use Rattle.xsd_parser.specs.Whole.{wholeRecords}
+use Rattle.xsd_parser.proofs.Laws.Occurs.{unbounded-exactly}
 use Rattle.xsd_parser.proofs.Laws.Steps.{step-proper}
 use Rattle.xsd_parser.proofs.Laws.Reads.{readState-place}
 use Rattle.ir_types.specs.Types.{Cardinality, TypeGraph}
@@ -110,6 +114,18 @@ claim-cut-calls-first = cut-calls-refused
 -- the events joined are the same
 pub claim-joined-cut : (x : Sheet) (before lowerings behind : List Call) (text : Text) (m₁ m₂ : List ℕ) → goodLengths (lengthsOf x) ≡ true → good x ≡ true → tapeLengths (length text) (length (m₁ ++ m₂)) ≡ true → every isLowering lowerings ≡ true → readBehind x before text m₁ .answer .number ≡ 0 → joined x (cutCalls before text m₁ lowerings m₂ behind) ≡ joined x (uncutCalls before text m₁ m₂ behind)
 claim-joined-cut = joined-cut
+
+-- order 2, numbers: a text accepted before keeps its value. What is accepted is white space around a text accepted before or around minus zeros, or such a
+-- text alone, at every width; what is new is `-` before zeros and white space around either
+pub claim-number-kept : (w : ℕ) (s : Text) (v : ℕ) → plainNumber w s ≡ parsed v → number w s ≡ parsed v
+claim-number-kept = number-kept
+
+pub claim-number-exactly : (w : ℕ) (s : Text) (v : ℕ) → (number w s ≡ parsed v) ↔ ((core : Text) × Around core s × Spells w core v)
+claim-number-exactly = number-exactly
+
+-- "`unbounded` may have white space around it too", and nothing else is unbounded
+pub claim-unbounded : (v : Text) → (isUnbounded v ≡ true) ↔ Around (bytes "unbounded") v
+claim-unbounded = unbounded-exactly
 
 -- "min 0 and max 1 optional", and nothing else is; "unbounded gives vec", and nothing else does
 pub claim-optional : (min : ℕ) (max : MaxOccurs) → (lowerCardinality min max ≡ Cardinality.optional) ↔ ((min ≡ 0) × (max ≡ MaxOccurs.bounded 1))

@@ -69,19 +69,19 @@ specimens =
     -- "● `my:date` is Date; `QName` is unknown.", types 4 and 0
     ∷ builtin "my:date" 4
     ∷ builtin "QName" 0
-    -- "● `+7` is 7; `007` is 7; empty, `+`, `-0`, ` 7` give 10.", at both widths
+    -- "● `+7` is 7; `007` is 7; empty, `+` .. give 10." Order 2: "The specimens ` 7` and `-0` in paper 01 become accepted; `+` alone is still 10." At both widths
     ∷ parse 32 "+7" (parsed 7)
     ∷ parse 32 "007" (parsed 7)
     ∷ parse 32 "" (refused 10)
     ∷ parse 32 "+" (refused 10)
-    ∷ parse 32 "-0" (refused 10)
-    ∷ parse 32 " 7" (refused 10)
+    ∷ parse 32 "-0" (parsed 0)
+    ∷ parse 32 " 7" (parsed 7)
     ∷ parse 64 "+7" (parsed 7)
     ∷ parse 64 "007" (parsed 7)
     ∷ parse 64 "" (refused 10)
     ∷ parse 64 "+" (refused 10)
-    ∷ parse 64 "-0" (refused 10)
-    ∷ parse 64 " 7" (refused 10)
+    ∷ parse 64 "-0" (parsed 0)
+    ∷ parse 64 " 7" (parsed 7)
     -- "For u32, 4294967295 passes and 4294967296 gives 10." For u64 both are within the width
     ∷ parse 32 "4294967295" (parsed 4294967295)
     ∷ parse 32 "4294967296" (refused 10)

@@ -4,3 +4,4 @@ pub mod Texts
 pub mod Every
 pub mod Local
 pub mod Table
+pub mod Trim

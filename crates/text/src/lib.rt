@@ -1,9 +1,11 @@
-// Texts: which bytes they may have, a byte of a text, equality, the local name. `ascii`: the classes and the case of letters.
+// Texts: which bytes they may have, a byte of a text, equality, the local name, white space at the ends. `ascii`: the classes and the case of
+// letters.
 pub mod ascii;
 
 ghost use mathlib.Core.Path.{_≡_};
 ghost use mathlib.Core.Bool.{false};
 ghost use Rattle.text.specs.Text.{isText, contains, first, same, colon, localName, LocalPart};
+ghost use Rattle.text.specs.Trim.{isWhiteSpace, trimStart, trimEnd, trimmed};
 ghost use lib.ListN.{drop};
 
 // Whether all bytes of s may stand in a text.
@@ -89,4 +91,46 @@ pub fn local_is(part: &[u8], word: &[u8]) -> bool
         return true;
     }
     part[start - 1] == b':'
+}
+
+// Tab, line feed, carriage return or space: XML's white space, not that of C, which has two more.
+pub fn is_white_space(b: u8) -> bool
+    ensures { λ r. ⌜ r ≡ isWhiteSpace b ⌝ }
+{
+    (b == 9) | (b == 10) | (b == 13) | (b == 32)
+}
+
+// The text from its first byte that is no white space on.
+fn trim_start(s: &[u8]) -> &[u8]
+    ensures { λ r. ⌜ now r ≡ trimStart (now (s .entry)) ⌝ }
+{
+    let mut i = 0;
+    while i < s.len() {
+        if !is_white_space(s[i]) {
+            return &s[i..];
+        }
+        i += 1;
+    }
+    &s[i..]
+}
+
+// The text up to its last byte that is no white space.
+fn trim_end(s: &[u8]) -> &[u8]
+    ensures { λ r. ⌜ now r ≡ trimEnd (now (s .entry)) ⌝ }
+{
+    let mut end = s.len();
+    while 0 < end {
+        if !is_white_space(s[end - 1]) {
+            return &s[..end];
+        }
+        end -= 1;
+    }
+    &s[..end]
+}
+
+// The text without white space at both ends.
+pub fn trimmed(s: &[u8]) -> &[u8]
+    ensures { λ r. ⌜ now r ≡ trimmed (now (s .entry)) ⌝ }
+{
+    trim_end(trim_start(s))
 }

@@ -91,11 +91,11 @@ pub fn min_occurs(text: &[u8], marks: &[u32], t: TagRecord) -> U32
     }
 }
 
-// The upper bound that a text says.
+// The upper bound that a text says. White space may stand around the word, as around a number.
 fn max_of(s: &[u8]) -> Max
     ensures { λ r. ⌜ maxAnswer r ≡ parseMaxOccurs (some (now (s .entry))) ⌝ }
 {
-    if same_text(s, b"unbounded") {
+    if same_text(text::trimmed(s), b"unbounded") {
         return Max::Unbounded;
     }
     match parse_u32(s) {

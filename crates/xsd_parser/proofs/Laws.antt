@@ -19,3 +19,4 @@ pub mod Facts
 pub mod Pieces
 pub mod Room
 pub mod CloseRoom
+pub mod Occurs

@@ -8,6 +8,7 @@ use mathlib.Core.Bool.{Bool, true, false, _&&_}
 use mathlib.Core.Option.{Option, some, none}
 use lib.Dec.{eqb}
 use Rattle.text.specs.Text.{Text, if_then_else_, is}
+use Rattle.text.specs.Trim.{trimmed}
 use Rattle.number.specs.Number.{Parsed, parsed, refused, number}
 use Rattle.sheet.specs.Returned.{missingAttribute}
 use Rattle.xsd_types.specs.Types.{Facet, MaxOccurs, SequenceElement, ChoiceVariant, Attribute, Item}
@@ -66,9 +67,9 @@ unfoldable pub parseMinOccurs : Option Text → Parsed
 parseMinOccurs none = parsed 1
 parseMinOccurs (some v) = number 32 v
 
--- "a max of exactly `unbounded`"
+-- "a max of exactly `unbounded`"; order 2, "`unbounded` may have white space around it too"
 unfoldable pub isUnbounded : Text → Bool
-isUnbounded v = is v "unbounded"
+isUnbounded v = is (trimmed v) "unbounded"
 
 unfoldable pub parseMaxOccurs : Option Text → Outcome MaxOccurs
 parseMaxOccurs none = ok (MaxOccurs.bounded 1)

@@ -8,12 +8,14 @@ use Prim.Native.Char.{code}
 use native.Mathlib.Omega.{arith}
 use native.Mathlib.Nat.{le-trans, not-suc-le-zero}
 use lib.Dec.{ltb}
+use lib.Pow.{pow-pos}
 use lib.ListN.{length, getD, drop, drop-of-length-le}
 use lib.Seq.{drop-cons}
 use borrow.Author.Tests.{ltb-true, lt-ltb, le-ltb, eq-eqb, ne-eqb}
 use Rattle.text.specs.Text.{Text, if_then_else_, every, isDigit}
+use Rattle.text.specs.Trim.{trimmed}
 use Rattle.text.proofs.Laws.Texts.{between-low, between-high}
-use Rattle.number.specs.Number.{Parsed, parsed, refused, afterPlus, isNumeral, value, below, numeral, number}
+use Rattle.number.specs.Number.{Parsed, parsed, refused, afterPlus, isNumeral, value, below, numeral, plainBelow, isMinusZeros, numberBelow, number}
 
 pub digit-within : (b : ℕ) → isDigit b ≡ true → (48 ≤ b) × (b ≤ 57)
 digit-within b e = (between-low 48 57 b e, between-high 48 57 b e)
@@ -95,6 +97,18 @@ pub numeral-bound : (limit : ℕ) (d : Text) (v : ℕ) → numeral limit d ≡ p
 unfolding numeral
 numeral-bound limit d v e = below-bound limit (value 0 d) v (kept (isNumeral d) (below limit (value 0 d)) v e .1)
 
+pub plainBelow-bound : (limit : ℕ) (s : Text) (v : ℕ) → plainBelow limit s ≡ parsed v → v < limit
+unfolding plainBelow
+plainBelow-bound limit s v e = numeral-bound limit (afterPlus s) v e
+
+pub numberBelow-bound : (limit : ℕ) (s : Text) (v : ℕ) → 0 < limit → numberBelow limit s ≡ parsed v → v < limit
+unfolding numberBelow
+numberBelow-bound limit s v h e = go (isMinusZeros (trimmed s)) e
+  where
+    go : (t : Bool) → (if t then parsed 0 else plainBelow limit (trimmed s)) ≡ parsed v → v < limit
+    go true e = let z : 0 ≡ v = cc in omega arith
+    go false e = plainBelow-bound limit (trimmed s) v e
+
 pub number-bound : (w : ℕ) (s : Text) (v : ℕ) → number w s ≡ parsed v → v < 2 ^ w
 unfolding number
-number-bound w s v e = numeral-bound (2 ^ w) (afterPlus s) v e
+number-bound w s v e = numberBelow-bound (2 ^ w) s v (pow-pos w) e

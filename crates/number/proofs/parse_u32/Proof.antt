@@ -1,44 +1,53 @@
--- `number::parse_u32` meets its contract: its limit is one more than the largest u32, so what parse_digits gives fits the cast. Assumes nothing.
+-- `number::parse_u32` meets its contract: its limit is one more than the largest u32, so both answers fit the cast, and a text that paper 01 takes keeps its
+-- value. Assumes nothing.
 use Prim.Native.Nat.{_^_}
 use mathlib.Core.Path.{sym, ap, _∙_}
 use native.Mathlib.Omega.{arith}
 use borrow.Author.Needs.{needs}
-use Rattle.number.specs.Number.{numeral, number}
+use Rattle.number.specs.Number.{number}
 use Rattle.number.specs.Answers.{ofU64}
-use Rattle.number.proofs.Laws.Numbers.{numeral-bound}
+use Rattle.number.proofs.Laws.Numbers.{plainBelow-bound, numberBelow-bound}
+use Rattle.number.proofs.Laws.Spellings.{numberBelow-kept}
 use Rattle.number.proofs.parse_u32.Statement.{statement}
 use Rattle.number.proofs.parse_u32.Tie as tie
 
-cast-t6 : tie.Need-cast-t6
-cast-t6 c =
+cast-t5 : tie.Need-cast-t5
+cast-t5 c =
     let called = c .before .before .before in
-    let d = called .before .after-plus .result .now in
-    omega (arith, numeral-bound (2 ^ 32) d _ (sym (called .parse-digits .ensures) ∙ ap ofU64 (c .before .v .given .1)))
+    omega (arith, plainBelow-bound (2 ^ 32) (called .before .before .args .s .now) _ (sym (called .parse-plain .ensures) ∙ ap ofU64 (c .before .v .given .1)))
 
 returns : tie.Need-returns
 unfolding number
 returns c =
     let called = c .before .before .before in
-    sym (ap ofU64 (c .before .v .given .1))
-    ∙ called .parse-digits .ensures
-    ∙ ap (numeral (2 ^ 32)) (called .before .after-plus .ensures)
+    sym (numberBelow-kept (2 ^ 32) (called .before .before .args .s .now) _ (sym (called .parse-plain .ensures) ∙ ap ofU64 (c .before .v .given .1)))
+
+cast-t8 : tie.Need-cast-t8
+cast-t8 c =
+    let called = c .before .before .before in
+    let s = called .before .before .before .before .before .args .s .now in
+    omega (arith, numberBelow-bound (2 ^ 32) s _ (omega arith) (sym (called .parse .ensures) ∙ ap ofU64 (c .before .v2 .given .1)))
 
 returns-2 : tie.Need-returns-2
 unfolding number
-returns-2 c =
-    let called = c .before .before in
-    sym (ap ofU64 (c .enum-told .given .1))
-    ∙ called .parse-digits .ensures
-    ∙ ap (numeral (2 ^ 32)) (called .before .after-plus .ensures)
+returns-2 c = sym (ap ofU64 (c .before .v2 .given .1)) ∙ c .before .before .before .parse .ensures
+
+returns-3 : tie.Need-returns-3
+unfolding number
+returns-3 c = sym (ap ofU64 (c .enum-told2 .given .1)) ∙ c .before .before .parse .ensures
 
 pub parse-u32-spec : {M : Type 1} → statement M
 parse-u32-spec =
     tie.close
     (tie.spec
     (λ c κs. search needs)
+    (λ c. search needs)
+    cast-t5
+    returns
+    (λ c. search needs)
     (λ c κs. search needs)
     (λ c. search needs)
-    cast-t6
+    cast-t8
     (λ c. search needs)
-    returns
-    returns-2)
+    returns-2
+    returns-3)

@@ -10,7 +10,8 @@ use lib.Dec.{eqb, ltb}
 use lib.ListN.{length, drop}
 use Rattle.sheet.specs.Lengths.{Lengths}
 use Rattle.text.specs.Text.{Text, if_then_else_}
-use Rattle.number.specs.Number.{Parsed, parsed, refused, number, numeral, below, isNumeral, value as digitsValue, afterPlus}
+use Rattle.text.specs.Trim.{trimmed}
+use Rattle.number.specs.Number.{Parsed, parsed, refused, number, numberBelow, plainBelow, isMinusZeros, numeral, below, isNumeral, value as digitsValue, afterPlus}
 use Rattle.xsd_types.specs.Types.{MaxOccurs, SequenceElement}
 use Rattle.xsd_types.specs.State.{SimpleTypeBuilder, ComplexContentBuilder, ComplexTypeBuilder, Context, Reader, State}
 use Rattle.xsd_types.specs.Sheet.{stateFits}
@@ -30,9 +31,17 @@ pub below-refusal : (limit w r : ℕ) → below limit w ≡ refused r → r ≡ 
 unfolding below
 below-refusal limit w r e = if-refused (ltb w limit) (parsed w) r (λ k q. let z : _≡_ {A = ℕ} 0 1 = cc in absurd (omega arith)) e
 
+pub plain-refusal : (limit : ℕ) (s : Text) (r : ℕ) → plainBelow limit s ≡ refused r → r ≡ 10
+unfolding plainBelow numeral
+plain-refusal limit s r e = if-refused (isNumeral (afterPlus s)) _ r (below-refusal limit (digitsValue 0 (afterPlus s))) e
+
 pub number-refusal : (w : ℕ) (s : Text) (r : ℕ) → number w s ≡ refused r → r ≡ 10
-unfolding number numeral
-number-refusal w s r e = if-refused (isNumeral (afterPlus s)) _ r (below-refusal (2 ^ w) (digitsValue 0 (afterPlus s))) e
+unfolding number numberBelow
+number-refusal w s r e = go (isMinusZeros (trimmed s)) e
+  where
+    go : (t : Bool) → (if t then parsed 0 else plainBelow (2 ^ w) (trimmed s)) ≡ refused r → r ≡ 10
+    go true q = let z : _≡_ {A = ℕ} 0 1 = cc in absurd (omega arith)
+    go false q = plain-refusal (2 ^ w) (trimmed s) r q
 
 abbrev pub Within : ℕ → ℕ → ℕ → Type 0
 Within low high k = (low ≤ k) × (k ≤ high)

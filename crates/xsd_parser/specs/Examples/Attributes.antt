@@ -84,7 +84,7 @@ absent-value : reads inSimpleType (empty "minLength" [] ∷ []) ≡ gives 10 0 i
 unfolding inSimpleType taped
 absent-value = refl
 
--- "empty, `+`, `-0`, ` 7` give 10"
+-- "empty, `+` .. give 10"
 empty-value : reads inSimpleType (empty "minLength" (valued "") ∷ []) ≡ gives 10 0 inSimpleType
 unfolding inSimpleType taped
 empty-value = refl
@@ -93,13 +93,39 @@ plus-alone : reads inSimpleType (empty "maxLength" (valued "+") ∷ []) ≡ give
 unfolding inSimpleType taped
 plus-alone = refl
 
-minus-zero : reads inSimpleType (empty "totalDigits" (valued "-0") ∷ []) ≡ gives 10 0 inSimpleType
+-- order 2: "The specimens ` 7` and `-0` in paper 01 become accepted"
+minus-zero :
+    reads inSimpleType (empty "totalDigits" (valued "-0") ∷ [])
+    ≡ gives 0 1 (sheet 40 1 (line 0 4 1 2 0 1 3 2 0 0 ∷ noNamespace ∷ line 3 0 1 1 0 0 0 0 0 0 ∷ line 10 0 0 0 0 0 0 0 0 0 ∷ []) "S")
 unfolding inSimpleType taped
 minus-zero = refl
 
-leading-space : reads inSimpleType (empty "fractionDigits" (valued " 7") ∷ []) ≡ gives 10 0 inSimpleType
+leading-space :
+    reads inSimpleType (empty "fractionDigits" (valued " 7") ∷ [])
+    ≡ gives 0 1 (sheet 40 1 (line 0 4 1 2 0 1 3 2 0 0 ∷ noNamespace ∷ line 3 0 1 1 0 0 0 0 0 0 ∷ line 11 0 0 0 0 0 0 7 0 0 ∷ []) "S")
 unfolding inSimpleType taped
 leading-space = refl
+
+-- "A licensee's generator writes ` 35 `", at the width of a length
+space-around :
+    reads inSimpleType (empty "maxLength" (valued " 35 ") ∷ [])
+    ≡ gives 0 1 (sheet 40 1 (line 0 4 1 2 0 1 3 2 0 0 ∷ noNamespace ∷ line 3 0 1 1 0 0 0 0 0 0 ∷ line 7 0 0 0 0 0 0 35 0 0 ∷ []) "S")
+unfolding inSimpleType taped
+space-around = refl
+
+-- "a minus only before zeros", and no white space behind a sign
+minus-one : reads inSimpleType (empty "minLength" (valued "-01") ∷ []) ≡ gives 10 0 inSimpleType
+unfolding inSimpleType taped
+minus-one = refl
+
+space-behind-sign : reads inSimpleType (empty "minLength" (valued "- 0") ∷ []) ≡ gives 10 0 inSimpleType
+unfolding inSimpleType taped
+space-behind-sign = refl
+
+-- a reference stays raw: its bytes are no white space
+raw-reference : reads inSimpleType (empty "minLength" (valued "&#32;7") ∷ []) ≡ gives 10 0 inSimpleType
+unfolding inSimpleType taped
+raw-reference = refl
 
 -- a sign twice, a sign behind (E15)
 two-signs : reads inSimpleType (empty "minLength" (valued "++1") ∷ []) ≡ gives 10 0 inSimpleType
@@ -245,6 +271,13 @@ occurs-unbounded :
     ≡ gives 0 1 (sheet 40 3 (line 0 4 3 3 1 1 4 3 0 0 ∷ noNamespace ∷ line 12 0 1 0 0 0 0 0 0 0 ∷ line 18 1 1 2 1 0 0 5 0 0 ∷ []) "Cet")
 unfolding inSequence taped
 occurs-unbounded = refl
+
+-- "`unbounded` may have white space around it too"
+unbounded-space :
+    reads inSequence (empty "element" (("name", "e") ∷ ("type", "t") ∷ ("maxOccurs", " unbounded ") ∷ ("minOccurs", "5") ∷ []) ∷ [])
+    ≡ gives 0 1 (sheet 40 3 (line 0 4 3 3 1 1 4 3 0 0 ∷ noNamespace ∷ line 12 0 1 0 0 0 0 0 0 0 ∷ line 18 1 1 2 1 0 0 5 0 0 ∷ []) "Cet")
+unfolding inSequence taped
+unbounded-space = refl
 
 -- "only then": not where the type is absent (E6)
 min-without-type :
