@@ -8,7 +8,6 @@ ghost use Prim.Native.Nat.{_+_, _≤_};
 ghost use lib.ListN.{length, replicate};
 ghost use lib.Seq.{paste};
 
-// Stores a text into the names.
 pub fn copy_text(names: &mut [u8], at: usize, text: &[u8])
     requires { ⌜ at + length (now text) ≤ length (now names) ⌝ }
     ensures { λ _. ⌜ now (names .exit) ≡ paste (now (names .entry)) at (now (text .entry)) (length (now (text .entry))) ⌝ }
@@ -20,7 +19,6 @@ pub fn copy_text(names: &mut [u8], at: usize, text: &[u8])
     }
 }
 
-// Stores zeros into the rows.
 pub fn zero_rows(rows: &mut [u32], from: usize, count: usize)
     requires { ⌜ from + count ≤ length (now rows) ⌝ }
     ensures { λ _. ⌜ now (rows .exit) ≡ paste (now (rows .entry)) from (replicate count 0) count ⌝ }
@@ -32,7 +30,6 @@ pub fn zero_rows(rows: &mut [u32], from: usize, count: usize)
     }
 }
 
-// Stores zeros into the names.
 pub fn zero_names(names: &mut [u8], from: usize, count: usize)
     requires { ⌜ from + count ≤ length (now names) ⌝ }
     ensures { λ _. ⌜ now (names .exit) ≡ paste (now (names .entry)) from (replicate count 0) count ⌝ }

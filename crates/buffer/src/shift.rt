@@ -28,7 +28,6 @@ pub fn shift_up(names: &mut [u8], from: usize, to: usize, count: usize)
     }
 }
 
-// Moves a part of the names.
 pub fn shift_names(names: &mut [u8], from: usize, to: usize, count: usize)
     requires { ⌜ (from + count ≤ length (now names)) × (to + count ≤ length (now names)) ⌝ }
     ensures { λ _. ⌜ now (names .exit) ≡ paste (now (names .entry)) to (take count (drop from (now (names .entry)))) count ⌝ }

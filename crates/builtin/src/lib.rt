@@ -161,7 +161,6 @@ fn key_of(word: &[u8]) -> u32
     256 * n as u32 + b as u32
 }
 
-// Whether word is the part of names from start to end.
 fn part_is(word: &[u8], names: &[u8], start: usize, end: usize) -> bool
     requires { ⌜ (start ≤ end) × (end ≤ length (now names)) ⌝ }
     ensures { λ r. ⌜ r ≡ same (now (word .entry)) (slice start end (now (names .entry))) ⌝ }
@@ -169,7 +168,6 @@ fn part_is(word: &[u8], names: &[u8], start: usize, end: usize) -> bool
     same_text(word, &names[start..end])
 }
 
-// Whether word is the built-in name at k of the list.
 fn is_name(word: &[u8], k: usize) -> bool
     requires { ⌜ k < 38 ⌝ }
     ensures { λ r. ⌜ r ≡ is (now (word .entry)) (entryAt k .0) ⌝ }
@@ -182,7 +180,6 @@ fn is_name(word: &[u8], k: usize) -> bool
     )
 }
 
-// Whether the key is that of a name.
 fn is_key(key: u32) -> bool
     ensures { λ r. ⌜ r ≡ contains key (keysOf builtins) ⌝ }
 {
@@ -196,7 +193,6 @@ fn is_key(key: u32) -> bool
     found
 }
 
-// The word behind the last colon of a name.
 fn word_of(name: &[u8]) -> &[u8]
     ensures { λ r. ⌜ now r ≡ localName (now (name .entry)) ⌝ }
 {
@@ -217,7 +213,6 @@ fn has_name(word: &[u8], key: u32, entry: u32, k: usize) -> bool
     is_name(word, k)
 }
 
-// The kind of the built-in name at k of the list.
 fn kind_at(k: usize) -> Builtin
     requires { ⌜ k < 38 ⌝ }
     ensures { λ r. ⌜ ofBuiltin r ≡ some (entryAt k .1) ⌝ }
@@ -232,7 +227,6 @@ fn kind_at(k: usize) -> Builtin
     }
 }
 
-// The type of a name, after its last colon.
 pub fn map_builtin(name: &[u8]) -> Builtin
     ensures { λ r. ⌜ ofBuiltin r ≡ mapBuiltin (now (name .entry)) ⌝ }
 {

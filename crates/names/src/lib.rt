@@ -55,7 +55,6 @@ fn put_segments(s: &[u8], separator: u8, first: bool, lowers: bool, out: &mut [u
     Written::Bytes(n)
 }
 
-// The first bytes of a text, so many, stored at the start of the part.
 fn copy_first(s: &[u8], out: &mut [u8], end: usize)
     requires { ⌜ (end ≤ length (now s)) × (end ≤ length (now out)) ⌝ }
     ensures { λ _. ⌜ now (out .exit) ≡ take end (now (s .entry)) ++ drop end (now (out .entry)) ⌝ }
@@ -67,7 +66,6 @@ fn copy_first(s: &[u8], out: &mut [u8], end: usize)
     }
 }
 
-// A text as it is.
 fn put_same(s: &[u8], out: &mut [u8]) -> Written
     ensures { λ r. ⌜ Put (now (s .entry)) (now (out .entry)) r (now (out .exit)) ⌝ }
 {

@@ -29,7 +29,6 @@ fn next_normalized(name: &[u8], from: usize, first: bool) -> Next
     Next::End
 }
 
-// Whether the name has no further byte.
 fn ends(next: Next) -> bool
     ensures { λ r. ⌜ r ≡ isEnd next ⌝ }
 {
@@ -39,7 +38,6 @@ fn ends(next: Next) -> bool
     }
 }
 
-// Whether two names normalise to the same text.
 pub fn same_normalized(a: &[u8], b: &[u8]) -> bool
     ensures { λ r. ⌜ r ≡ same (normalizeTypeName (now (a .entry))) (normalizeTypeName (now (b .entry))) ⌝ }
 {

@@ -2,7 +2,6 @@
 ghost use mathlib.Core.Path.{_≡_};
 ghost use Rattle.text.specs.Text.{between, isUpper, isLower, isDigit, upper, lower};
 
-// Whether b is one of the bytes from low to high.
 pub fn in_range(low: u8, high: u8, b: u8) -> bool
     ensures { λ r. ⌜ r ≡ between low high b ⌝ }
 {

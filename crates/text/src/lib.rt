@@ -8,7 +8,6 @@ ghost use Rattle.text.specs.Text.{isText, contains, first, same, colon, 
 ghost use Rattle.text.specs.Trim.{isWhiteSpace, trimStart, trimEnd, trimmed};
 ghost use lib.ListN.{drop};
 
-// Whether all bytes of s may stand in a text.
 pub fn is_text(s: &[u8]) -> bool
     ensures { λ r. ⌜ r ≡ isText (now (s .entry)) ⌝ }
 {
@@ -21,7 +20,6 @@ pub fn is_text(s: &[u8]) -> bool
     ok
 }
 
-// Whether the byte c stands in s.
 pub fn has_byte(s: &[u8], c: u8) -> bool
     ensures { λ r. ⌜ r ≡ contains c (now (s .entry)) ⌝ }
 {
@@ -41,7 +39,6 @@ pub fn byte_at(s: &[u8], i: usize) -> u8
     if i < s.len() { s[i] } else { 0 }
 }
 
-// Whether two texts are equal.
 pub fn same_text(a: &[u8], b: &[u8]) -> bool
     ensures { λ r. ⌜ r ≡ same (now (a .entry)) (now (b .entry)) ⌝ }
 {
@@ -100,7 +97,6 @@ pub fn is_white_space(b: u8) -> bool
     (b == 9) | (b == 10) | (b == 13) | (b == 32)
 }
 
-// The text from its first byte that is no white space on.
 fn trim_start(s: &[u8]) -> &[u8]
     ensures { λ r. ⌜ now r ≡ trimStart (now (s .entry)) ⌝ }
 {
@@ -114,7 +110,6 @@ fn trim_start(s: &[u8]) -> &[u8]
     &s[i..]
 }
 
-// The text up to its last byte that is no white space.
 fn trim_end(s: &[u8]) -> &[u8]
     ensures { λ r. ⌜ now r ≡ trimEnd (now (s .entry)) ⌝ }
 {
@@ -128,7 +123,6 @@ fn trim_end(s: &[u8]) -> &[u8]
     &s[..end]
 }
 
-// The text without white space at both ends.
 pub fn trimmed(s: &[u8]) -> &[u8]
     ensures { λ r. ⌜ now r ≡ trimmed (now (s .entry)) ⌝ }
 {

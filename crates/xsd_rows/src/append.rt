@@ -10,7 +10,6 @@ ghost use Rattle.xsd_rows.specs.Texts.{usedTexts, usedLength};
 ghost use Rattle.xsd_rows.specs.Packing.{rowOf};
 ghost use Rattle.xsd_rows.specs.Append.{Appended};
 
-// Adds a row with its texts behind the others.
 pub fn append(
     rows: &mut [u32],
     names: &mut [u8],

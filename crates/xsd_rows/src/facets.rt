@@ -32,7 +32,6 @@ pub fn append_characters(
     append(rows, names, used, numbers, b"", b"", 0)
 }
 
-// Adds the row of a digit facet.
 pub fn append_digits(
     rows: &mut [u32],
     names: &mut [u8],

@@ -53,7 +53,6 @@ pub fn numbers_at(rows: &[u32], place: usize) -> RowNumbers
     }
 }
 
-// Whether so many rows, row 0 among them, and so many bytes of names have room.
 pub fn has_room(used: Used, rows: usize, names: usize) -> bool
     requires { ⌜ used .rows ≤ 65536 ⌝ }
     ensures { λ r. ⌜ r ≡ fits (used .rows) (used .names) rows names ⌝ }

@@ -66,7 +66,6 @@ pub fn set_row(
     put_row(rows, place, row);
 }
 
-// Stores row 0.
 pub fn put_row0(rows: &mut [u32], row: [u32; 10])
     requires { ⌜ 10 ≤ length (now rows) ⌝ }
     ensures { λ _. ⌜ Row0Put (now (rows .entry)) row (now (rows .exit)) ⌝ }

@@ -7,7 +7,6 @@ ghost use lib.Seq.{paste};
 ghost use Rattle.text.specs.Text.{join};
 ghost use Rattle.xsd_rows.specs.Texts.{usedTexts, usedLength};
 
-// The bytes of the used texts, so long.
 pub fn texts_length(pairs: usize, first: usize, second: usize) -> usize
     requires { ⌜ (usedLength pairs first second ≤ 65536) × (pairs ≤ 2) ⌝ }
     ensures { λ r. ⌜ r ≡ usedLength pairs first second ⌝ }
