@@ -3,7 +3,7 @@
 pub mod counts;
 
 ghost use mathlib.Core.Path.{_≡_};
-ghost use Prim.Native.Nat.{_+_, _≤_};
+ghost use Prim.Native.Nat.{_+_};
 ghost use Rattle.number.specs.Number.{number, numberBelow, plainBelow, numeral, isMinusZeros, afterPlus};
 ghost use Rattle.number.specs.Answers.{ofU32, ofU64};
 use text::ascii::is_digit;
@@ -37,14 +37,14 @@ fn after_plus(s: &[u8]) -> &[u8]
     s
 }
 
-// The value of one or more digits, where it is at most max. No step leaves max.
+// The value of one or more digits, where it is at most max. No step leaves max, and no step divides.
 fn parse_digits(d: &[u8], max: u64) -> U64
-    requires { ⌜ 9 ≤ max ⌝ }
     ensures { λ r. ⌜ ofU64 r ≡ numeral (max + 1) (now (d .entry)) ⌝ }
 {
     if d.len() == 0 {
         return U64::Invalid;
     }
+    let tenth = max / 10;
     let mut v: u64 = 0;
     let mut i = 0;
     while i < d.len() {
@@ -53,10 +53,14 @@ fn parse_digits(d: &[u8], max: u64) -> U64
             return U64::Invalid;
         }
         let digit = (b - b'0') as u64;
-        if (max - digit) / 10 < v {
+        if tenth < v {
             return U64::Invalid;
         }
-        v = v * 10 + digit;
+        let tens = v * 10;
+        if max - tens < digit {
+            return U64::Invalid;
+        }
+        v = tens + digit;
         i += 1;
     }
     U64::Value(v)
@@ -84,7 +88,6 @@ fn is_minus_zeros(s: &[u8]) -> bool
 
 // What a text gives by paper 01 alone, where its value is at most max.
 fn parse_plain(s: &[u8], max: u64) -> U64
-    requires { ⌜ 9 ≤ max ⌝ }
     ensures { λ r. ⌜ ofU64 r ≡ plainBelow (max + 1) (now (s .entry)) ⌝ }
 {
     parse_digits(after_plus(s), max)
@@ -92,7 +95,6 @@ fn parse_plain(s: &[u8], max: u64) -> U64
 
 // The same with the spellings of order 2.
 fn parse_spelt(s: &[u8], max: u64) -> U64
-    requires { ⌜ 9 ≤ max ⌝ }
     ensures { λ r. ⌜ ofU64 r ≡ numberBelow (max + 1) (now (s .entry)) ⌝ }
 {
     let t = trimmed(s);
@@ -104,7 +106,6 @@ fn parse_spelt(s: &[u8], max: u64) -> U64
 
 // What a text gives, where its value is at most max: a text that paper 01 takes keeps its value.
 fn parse(s: &[u8], max: u64) -> U64
-    requires { ⌜ 9 ≤ max ⌝ }
     ensures { λ r. ⌜ ofU64 r ≡ numberBelow (max + 1) (now (s .entry)) ⌝ }
 {
     match parse_plain(s, max) {
@@ -114,12 +115,16 @@ fn parse(s: &[u8], max: u64) -> U64
 }
 
 // Nearly all numbers are plain. They are tried here too, without the call of `parse`, which takes as long as two digits.
+// A slice that is lent to a call stands in memory: t is lent, so that s, which the digits are read from, need not.
 pub fn parse_u64(s: &[u8]) -> U64
     ensures { λ r. ⌜ ofU64 r ≡ number 64 (now (s .entry)) ⌝ }
 {
     match parse_plain(s, 18446744073709551615) {
         U64::Value(v) => U64::Value(v),
-        U64::Invalid => parse(s, 18446744073709551615),
+        U64::Invalid => {
+            let t = s;
+            parse(t, 18446744073709551615)
+        }
     }
 }
 
@@ -129,7 +134,8 @@ pub fn parse_u32(s: &[u8]) -> U32
     if let U64::Value(v) = parse_plain(s, 4294967295) {
         return U32::Value(v as u32);
     }
-    match parse(s, 4294967295) {
+    let t = s;
+    match parse(t, 4294967295) {
         U64::Value(v) => U32::Value(v as u32),
         U64::Invalid => U32::Invalid,
     }

@@ -1,6 +1,6 @@
 -- Laws of specs/Number.antt, over the limit and never one for each width. No contract cites them. Assumes nothing.
 --     from limit v d    what the digits d behind the value v give below the limit
-use mathlib.Core.Path.{_≡_, refl}
+use mathlib.Core.Path.{_≡_, refl, _∙_}
 use mathlib.Core.Bool.{Bool, true, false}
 use mathlib.Core.List.{[], _∷_}
 use Prim.Native.Nat.{ℕ, suc, _+_, _-_, _*_, _^_, _≤_, _<_}
@@ -70,10 +70,13 @@ pub from-past : (limit v : ℕ) (d : Text) → limit ≤ v → from limit v d �
 unfolding from
 from-past limit v d h = rw (below-past limit (value v d) (le-trans h (value-grows v d))) (either-way (every isDigit d) (refused 10))
 
--- the byte at place i: a digit is one step, any other refuses, and behind the last stands the value
+-- the byte at place i: a digit is one step, one that reaches the limit refuses, as any other byte does, and behind the last stands the value
 pub from-digit : (limit v : ℕ) (d : Text) (i : ℕ) → i < length d → isDigit (getD d i 0) ≡ true → from limit v (drop i d) ≡ from limit (v * 10 + (getD d i 0 - 48)) (drop (suc i) d)
 unfolding from every value
 from-digit limit v d i h e = rw (drop-cons d i 0 h, e)
+
+pub from-over : (limit v : ℕ) (d : Text) (i : ℕ) → i < length d → isDigit (getD d i 0) ≡ true → limit ≤ v * 10 + (getD d i 0 - 48) → from limit v (drop i d) ≡ refused 10
+from-over limit v d i h e p = from-digit limit v d i h e ∙ from-past limit (v * 10 + (getD d i 0 - 48)) (drop (suc i) d) p
 
 pub from-other : (limit v : ℕ) (d : Text) (i : ℕ) → i < length d → isDigit (getD d i 0) ≡ false → from limit v (drop i d) ≡ refused 10
 unfolding from every

@@ -11,8 +11,8 @@ use Rattle.number.proofs.Laws.Spellings.{numberBelow-kept}
 use Rattle.number.proofs.parse_u32.Statement.{statement}
 use Rattle.number.proofs.parse_u32.Tie as tie
 
-cast-t5 : tie.Need-cast-t5
-cast-t5 c =
+cast-t6 : tie.Need-cast-t6
+cast-t6 c =
     let called = c .before .before .before in
     omega (arith, plainBelow-bound (2 ^ 32) (called .before .before .args .s .now) _ (sym (called .parse-plain .ensures) ∙ ap ofU64 (c .before .v .given .1)))
 
@@ -22,8 +22,8 @@ returns c =
     let called = c .before .before .before in
     sym (numberBelow-kept (2 ^ 32) (called .before .before .args .s .now) _ (sym (called .parse-plain .ensures) ∙ ap ofU64 (c .before .v .given .1)))
 
-cast-t8 : tie.Need-cast-t8
-cast-t8 c =
+cast-t9 : tie.Need-cast-t9
+cast-t9 c =
     let called = c .before .before .before in
     let s = called .before .before .before .before .before .args .s .now in
     omega (arith, numberBelow-bound (2 ^ 32) s _ (omega arith) (sym (called .parse .ensures) ∙ ap ofU64 (c .before .v2 .given .1)))
@@ -42,12 +42,12 @@ parse-u32-spec =
     (tie.spec
     (λ c κs. search needs)
     (λ c. search needs)
-    cast-t5
+    cast-t6
     returns
     (λ c. search needs)
     (λ c κs. search needs)
     (λ c. search needs)
-    cast-t8
+    cast-t9
     (λ c. search needs)
     returns-2
     returns-3)
