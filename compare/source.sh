@@ -1,12 +1,13 @@
-# Sourced by run and definitions, in compare/: sets `source_flags` for cargo. The crates come from a directory source where there is one, else from
-# the registry. Where cargo is missing, or neither source can be reached, it says so and ends the script that sources it with 0.
+# Sourced by run and definitions, in compare/: sets `source_flags` for cargo. The crates come from the folder LUBIKSAN_VENDOR or ../shared/vendor where
+# that is there, else from the registry. Where cargo is missing, or neither source can be reached, it says so and ends the script that sources it with 0.
 source_flags=()
 if ! command -v cargo >/dev/null; then
   echo "compare: cargo is not installed, the comparison was skipped"
   exit 0
 fi
-if [ -d ../../shared/vendor ]; then
-  vendor=$(cd ../../shared/vendor && pwd)
+vendor=${LUBIKSAN_VENDOR:-../../shared/vendor}
+if [ -d "$vendor" ]; then
+  vendor=$(cd "$vendor" && pwd)
   source_flags=(--offline
     --config 'source.crates-io.replace-with="vendored"'
     --config "source.vendored.directory=\"$vendor\"")

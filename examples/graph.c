@@ -1,11 +1,11 @@
-/* Reads a schema from tapes and prints its types: clear, read, lower, label.
+/* Reads a schema from its text, or from tapes, and prints its types: tape, clear, read, lower, label.
 
    Build, in the folder of a delivery (in the repository: -Icrates/lubiksan/include and target/staticlib/liblubiksan.a):
 
        cc -std=c99 -Wall -Wextra -Werror -Iinclude examples/graph.c lib/liblubiksan.a -o graph
 
    Run:  ./graph TAPE..     with what `lubiksan tape FILE.xsd --output TAPE` writes, the pieces in order
-         ./graph            with a small schema of its own */
+         ./graph            with the text of a small schema of its own */
 #include <stdio.h>
 #include <stdlib.h>
 #include <string.h>
@@ -66,20 +66,25 @@ static int read_tape(FILE *file) {
     return 1;
 }
 
-/* A schema with one root element and one type: the texts of its events behind each other, and for each event its kind (1 a start, 2 an
-   empty tag, 3 a close), the number of attributes, and offset and length of each text. */
-static void small_tape(void) {
-    static const char text[] =
-        "schemaelementnameDocumenttypePaymentcomplexTypenamePaymentsequenceelementnameMsgIdtypexs:s"
-        "tringminOccurs0";
-    static const uint32_t marks[] = {
-        1, 0, 0, 6, 2, 2, 6, 7, 13, 4, 17, 8, 25, 4, 29, 7, 1, 1, 36, 11, 47, 4, 51, 7, 1, 0, 58, 8, 2, 3,
-        66, 7, 73, 4, 77, 5, 82, 4, 86, 9, 95, 9, 104, 1, 3, 0, 3, 0, 3, 0,
-    };
-    tape.text_length = sizeof text - 1;
-    memcpy(tape.text, text, tape.text_length);
-    tape.marks_length = sizeof marks / sizeof marks[0];
-    memcpy(tape.marks, marks, sizeof marks);
+/* A schema with one root element and one type. */
+static const char small[] = "<schema>\n"
+                            "  <element name='Document' type='Payment'/>\n"
+                            "  <complexType name='Payment'>\n"
+                            "    <sequence> <!-- one field -->\n"
+                            "      <element name='MsgId' type='xs:string' minOccurs='0'/>\n"
+                            "    </sequence>\n"
+                            "  </complexType>\n"
+                            "</schema>\n";
+
+/* The tape of a text of at most TEXT bytes; 0 where it has none. */
+static int tape_of(const char *text, size_t length) {
+    memcpy(tape.text, text, length);
+    tape.text_length = length;
+    uint32_t number = lubiksan_tape(tape.text, length, tape.marks, MARKS, &tape.marks_length);
+    if (number != 0) {
+        fprintf(stderr, "the text is refused with %u\n", (unsigned)number);
+    }
+    return number == 0;
 }
 
 /* Reads the tape into the schema sheet; 0 where an event is refused. */
@@ -93,11 +98,10 @@ static int read_piece(void) {
     return number == 0;
 }
 
-/* Reads the tapes of the files, or the small one; 0 where one is refused. */
+/* Reads the tapes of the files, or the small schema; 0 where one is refused. */
 static int read_all(int count, char **files) {
     if (count == 0) {
-        small_tape();
-        return read_piece();
+        return tape_of(small, sizeof small - 1) && read_piece();
     }
     for (int i = 0; i < count; i++) {
         FILE *file = fopen(files[i], "rb");

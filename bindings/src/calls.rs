@@ -5,6 +5,13 @@
 
 mod c {
     extern "C" {
+        pub fn lubiksan_tape(
+            text: *const u8,
+            text_len: usize,
+            marks: *mut u32,
+            marks_len: usize,
+            place: *mut usize,
+        ) -> u32;
         pub fn lubiksan_clear(
             rows: *mut u32,
             rows_len: usize,
@@ -84,6 +91,21 @@ mod c {
 pub(crate) struct Answer {
     pub number: u32,
     pub place: usize,
+}
+
+pub(crate) fn tape(text: &[u8], marks: &mut [u32]) -> Answer {
+    let mut place = 0;
+    // SAFETY: each address and its length are those of one slice; all are lent for the call.
+    let number = unsafe {
+        c::lubiksan_tape(
+            text.as_ptr(),
+            text.len(),
+            marks.as_mut_ptr(),
+            marks.len(),
+            &mut place,
+        )
+    };
+    Answer { number, place }
 }
 
 pub(crate) fn clear(rows: &mut [u32], names: &mut [u8]) -> Answer {

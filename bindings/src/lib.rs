@@ -1,9 +1,10 @@
-//! Schema events in, a type graph out: safe Rust over the static library `lubiksan`, whose calls are proved to meet
+//! Schema text or events in, a type graph out: safe Rust over the static library `lubiksan`, whose calls are proved to meet
 //! their contracts. This crate carries buffers to the library and words back; it decides nothing.
 //!
 //! | Type | Is |
 //! |---|---|
 //! | [`TapeBuilder`], [`Tape`] | a piece of a run of events: start tags, empty tags, closes |
+//! | [`Tape::of_text`], [`tape_of`], [`NoTape`] | the tape of a schema text, or why it has none |
 //! | [`SchemaSheet`] | the state of a reading: what the events so far say. It is two buffers and can be stored |
 //! | [`Graph`] | the type graph of a schema, with typed views that borrow from it |
 //! | [`Refusal`] | why a call was refused: the library's number, a sentence, the place |
@@ -37,6 +38,20 @@
 //! # Ok::<(), Box<dyn std::error::Error>>(())
 //! ```
 //!
+//! The same from the text of a schema, which the library reads itself:
+//!
+//! ```
+//! use lubiksan::{Graph, SchemaSheet, Tape};
+//!
+//! let text = "<xs:schema><xs:element name='Document' type='Payment'/></xs:schema>";
+//! let mut sheet = SchemaSheet::new();
+//! sheet.read(&Tape::of_text(text.into())?)?;
+//! let mut graph = Graph::new();
+//! sheet.lower(&mut graph)?;
+//! assert_eq!(graph.roots().count(), 1);
+//! # Ok::<(), Box<dyn std::error::Error>>(())
+//! ```
+//!
 //! A refusal says what is wrong and where:
 //!
 //! ```
@@ -61,6 +76,7 @@ pub mod names;
 mod refusal;
 mod sheet;
 mod tape;
+mod text;
 
 pub use graph::{
     Attribute, BadGraph, Builtin, Cardinality, CharacterCount, Choice, Code, CodeList, DigitCount,
@@ -69,3 +85,4 @@ pub use graph::{
 pub use refusal::{At, Refusal};
 pub use sheet::{Context, Declared, Kind, SchemaSheet};
 pub use tape::{Event, Events, PieceFull, Tag, Tape, TapeBuilder};
+pub use text::{tape_of, NoTape};

@@ -145,8 +145,18 @@ impl<'a> SchemaSheet<'a> {
     /// The [`Refusal`] of the first refused event: the events before it are done, it and the rest of the piece are
     /// not. Or that of the call: then nothing is changed.
     pub fn read(&mut self, tape: &Tape) -> Result<usize, Refusal> {
+        self.read_buffers(tape.text(), tape.marks())
+    }
+
+    /// Reads a piece that lies in these buffers, whatever they hold, and gives the number of its events: so a part of
+    /// the marks of a long text is read without a copy.
+    ///
+    /// # Errors
+    ///
+    /// As [`SchemaSheet::read`].
+    pub fn read_buffers(&mut self, text: &[u8], marks: &[u32]) -> Result<usize, Refusal> {
         let done = self.events_done();
-        let answer = calls::read(&mut self.rows, &mut self.names, tape.text(), tape.marks());
+        let answer = calls::read(&mut self.rows, &mut self.names, text, marks);
         accepted(answer, done)
     }
 

@@ -2,8 +2,10 @@
 
 use std::error::Error;
 use std::fmt;
+use std::ops::Range;
 
 use crate::limits::{MARKS, TEXT};
+use crate::text::{tape_of, NoTape};
 
 const START: u32 = 1;
 const EMPTY: u32 = 2;
@@ -36,6 +38,32 @@ impl Tape {
         Tape { text, marks }
     }
 
+    /// The tape of a schema text, which the library reads: ASCII, at most 65,536 bytes, well formed and whole.
+    ///
+    /// # Errors
+    ///
+    /// [`NoTape`] where it is not, or where its tags take over 16,384 marks.
+    ///
+    /// ```
+    /// use lubiksan::{NoTape, SchemaSheet, Tape};
+    ///
+    /// let tape = Tape::of_text(b"<?xml version='1.0'?><!-- one --><schema><a/></schema>".to_vec())?;
+    /// assert_eq!(SchemaSheet::new().read(&tape)?, 3);
+    /// assert_eq!(Tape::of_text(b"<schema>".to_vec()), Err(NoTape::Malformed));
+    /// # Ok::<(), Box<dyn std::error::Error>>(())
+    /// ```
+    pub fn of_text(text: Vec<u8>) -> Result<Tape, NoTape> {
+        let mut marks = vec![0; MARKS];
+        let used = tape_of(&text, &mut marks)?;
+        marks.truncate(used);
+        Ok(Tape { text, marks })
+    }
+
+    /// The text and the marks.
+    pub fn into_buffers(self) -> (Vec<u8>, Vec<u32>) {
+        (self.text, self.marks)
+    }
+
     /// The text.
     pub fn text(&self) -> &[u8] {
         &self.text
@@ -48,10 +76,7 @@ impl Tape {
 
     /// The events in order, up to the first record that is none.
     pub fn events(&self) -> Events<'_> {
-        Events {
-            text: &self.text,
-            marks: &self.marks,
-        }
+        Events::of(&self.text, &self.marks)
     }
 }
 
@@ -60,6 +85,18 @@ impl Tape {
 pub struct Events<'t> {
     text: &'t [u8],
     marks: &'t [u32],
+}
+
+impl<'t> Events<'t> {
+    /// The events in these buffers, whatever they hold, in order, up to the first record that is none.
+    pub fn of(text: &'t [u8], marks: &'t [u32]) -> Events<'t> {
+        Events { text, marks }
+    }
+
+    /// The marks of the events that are still to come.
+    pub fn marks(&self) -> &'t [u32] {
+        self.marks
+    }
 }
 
 /// An event of a [`Tape`].
@@ -118,12 +155,33 @@ impl<'t> Tag<'t> {
         (0..count).map(move |i| (tag.part(1 + 2 * i), tag.part(2 + 2 * i)))
     }
 
-    /// The part under a pair; a pair outside the text has an empty one.
-    fn part(&self, pair: usize) -> &'t [u8] {
+    /// Where the name stands in the text, then the key and the value of each attribute, as the marks say it.
+    ///
+    /// ```
+    /// use lubiksan::{Event, Tape};
+    ///
+    /// let tape = Tape::of_text(b"<a b='cd'/>".to_vec())?;
+    /// let Some(Event::Empty(tag)) = tape.events().next() else {
+    ///     return Err("an empty tag was expected".into());
+    /// };
+    /// assert!(tag.ranges().eq([1..2, 3..4, 6..8]));
+    /// # Ok::<(), Box<dyn std::error::Error>>(())
+    /// ```
+    pub fn ranges(&self) -> impl Iterator<Item = Range<usize>> + 't {
+        let tag = *self;
+        (0..tag.pairs.len() / 2).map(move |pair| tag.range(pair))
+    }
+
+    /// Where the part under a pair stands.
+    fn range(&self, pair: usize) -> Range<usize> {
         let number = |i: usize| self.pairs.get(i).map_or(0, |&n| n as usize);
         let (offset, length) = (number(2 * pair), number(2 * pair + 1));
-        let behind = self.text.get(offset..).unwrap_or_default();
-        behind.get(..length).unwrap_or_default()
+        offset..offset.saturating_add(length)
+    }
+
+    /// The part under a pair; a pair outside the text has an empty one.
+    fn part(&self, pair: usize) -> &'t [u8] {
+        self.text.get(self.range(pair)).unwrap_or_default()
     }
 }
 

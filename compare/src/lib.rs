@@ -16,6 +16,8 @@
 //! | `reader`, `grapher` | clearing and reading, lowering and labels of the static library (feature `ours`) |
 //! | `calls` | clearing, reading and labels compared with the model and with the handlers of the Rust |
 //! | `lowerings` | lowering compared with the model and with `lower` of the Rust |
+//! | `texts` | the tape of a text compared with the model of order 1 and with other parsers |
+//! | `parsers` | quick-xml's events as a tape, and the verdicts of expat and libxml2 |
 //! | `events` | the events of an XML text |
 //! | `prints` | the printing program: what it prints by the model, and inputs to try |
 //! | `definitions` | cases for the definitions under crates/, as statements of the proof language |
@@ -40,6 +42,7 @@ pub mod names;
 #[cfg(feature = "ours")]
 pub mod ours;
 pub mod paper;
+pub mod parsers;
 pub mod prints;
 pub mod random;
 #[cfg(feature = "ours")]
@@ -48,4 +51,5 @@ pub mod samples;
 pub mod tally;
 pub mod tape;
 pub mod tapes;
+pub mod texts;
 pub mod xsd;

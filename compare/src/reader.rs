@@ -1,4 +1,4 @@
-//! Clearing and reading of the static library `lubiksan`. A slice is passed as its address and its length.
+//! Clearing, reading and the tape of a text, by the static library `lubiksan`. A slice is passed as its address and its length.
 
 #![allow(unsafe_code)]
 
@@ -23,6 +23,13 @@ mod c {
             text: *const u8,
             text_len: usize,
             marks: *const u32,
+            marks_len: usize,
+            place: *mut usize,
+        ) -> u32;
+        pub fn lubiksan_tape(
+            text: *const u8,
+            text_len: usize,
+            marks: *mut u32,
             marks_len: usize,
             place: *mut usize,
         ) -> u32;
@@ -64,6 +71,22 @@ pub fn read(sheet: &mut Sheet, tape: &Tape) -> Answer {
             tape.text.len(),
             tape.marks.as_ptr(),
             tape.marks.len(),
+            &mut place,
+        )
+    };
+    answer(number, place as u32)
+}
+
+/// Writes the tape of the text into the marks.
+pub fn tape(text: &[u8], marks: &mut [u32]) -> Answer {
+    let mut place = UNSET;
+    // SAFETY: each address and its length are those of one slice; all are lent for the call.
+    let number = unsafe {
+        c::lubiksan_tape(
+            text.as_ptr(),
+            text.len(),
+            marks.as_mut_ptr(),
+            marks.len(),
             &mut place,
         )
     };

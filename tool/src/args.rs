@@ -98,6 +98,8 @@ pub struct Command {
     pub action: Action,
     /// No warnings and no progress.
     pub quiet: bool,
+    /// Say who reads each text.
+    pub verbose: bool,
     /// What was not kept is a refusal.
     pub strict: bool,
 }
@@ -123,6 +125,7 @@ fn shown(error: &clap::Error) -> Result<Command, Failure> {
             Ok(Command {
                 action: Action::Nothing,
                 quiet: true,
+                verbose: false,
                 strict: false,
             })
         }
@@ -138,6 +141,11 @@ fn parser() -> Parser {
         .subcommand_required(true)
         .arg_required_else_help(true)
         .arg(flag("quiet", "No warnings and no progress").global(true))
+        .arg(
+            flag("verbose", "Say who reads each text, the library or quick-xml")
+                .global(true)
+                .conflicts_with("quiet"),
+        )
         .subcommand(graph())
         .subcommand(names())
         .subcommand(read())
@@ -267,6 +275,7 @@ fn command(matches: &ArgMatches) -> Command {
     Command {
         action,
         quiet: matches.get_flag("quiet") || inner.get_flag("quiet"),
+        verbose: matches.get_flag("verbose") || inner.get_flag("verbose"),
         strict,
     }
 }

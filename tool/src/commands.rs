@@ -2,9 +2,10 @@
 
 use std::path::{Path, PathBuf};
 
-use lubiksan::{Context, Graph, Kind, SchemaSheet, Tape};
+use lubiksan::{Context, Graph, Kind, SchemaSheet};
 
 use crate::args::{Action, Command, Format};
+use crate::document::Piece;
 use crate::failure::{say, Failure};
 use crate::formats::{dot, json, rows, rust, text};
 use crate::interrupt;
@@ -42,7 +43,7 @@ pub fn run(command: &Command) -> Result<(), Failure> {
         } => read(command, file, sheet, *events, *restart),
         Action::Shelf(arguments) => shelf::run(command, arguments),
         Action::Check { sheet } => check(sheet),
-        Action::Tape { file, output } => tape(file, output),
+        Action::Tape { file, output } => tape(command, file, output),
     }
 }
 
@@ -60,6 +61,7 @@ fn input(command: &Command, file: &Path, partial: bool) -> Result<Input, Failure
         return of_stored(command, file, stored, partial);
     }
     let source = Source::of(file, bytes)?;
+    say_way(command, &source);
     let sheet = read_whole(&source)?;
     warn(command, losses::lines(&source, &sheet))?;
     Ok(Input {
@@ -90,6 +92,13 @@ fn of_stored(
         sheet: stored.sheet,
         source: None,
     })
+}
+
+/// With `--verbose`: who read the text.
+pub fn say_way(command: &Command, source: &Source) {
+    if command.verbose {
+        say(&source.way());
+    }
 }
 
 /// What was not kept: a warning, or with `--strict` a refusal.
@@ -202,6 +211,7 @@ fn read(
     interrupt::watch();
     remove_left_beside(sheet);
     let source = Source::load(file)?;
+    say_way(command, &source);
     let mut stored = stored::resumed(sheet, &source, restart)?;
     let progress = Progress::new(source.document().events().len(), command.quiet);
     let read = advance(&source, sheet, &mut stored, events, &progress);
@@ -283,14 +293,15 @@ fn described(path: &Path, stored: &Stored) -> String {
     )
 }
 
-fn tape(file: &Path, output: &Path) -> Result<(), Failure> {
+fn tape(command: &Command, file: &Path, output: &Path) -> Result<(), Failure> {
     remove_left_beside(output);
     let source = Source::load(file)?;
-    let tapes = tapes(&source)?;
-    match tapes.as_slice() {
+    say_way(command, &source);
+    let pieces = pieces(&source)?;
+    match pieces.as_slice() {
         [one] => write_output(Some(output), &printed(one)),
-        several => several.iter().enumerate().try_for_each(|(index, tape)| {
-            write_output(Some(&numbered(output, index)), &printed(tape))
+        several => several.iter().enumerate().try_for_each(|(index, piece)| {
+            write_output(Some(&numbered(output, index)), &printed(piece))
         }),
     }
 }
@@ -303,28 +314,28 @@ fn numbered(output: &Path, index: usize) -> PathBuf {
 }
 
 /// The source in as few pieces as hold it; one at least.
-fn tapes(source: &Source) -> Result<Vec<Tape>, Failure> {
+fn pieces(source: &Source) -> Result<Vec<Piece<'_>>, Failure> {
     let document = source.document();
-    let mut tapes = Vec::new();
+    let mut pieces = Vec::new();
     let mut first = 0;
-    while first < document.events().len() || tapes.is_empty() {
+    while first < document.events().len() || pieces.is_empty() {
         let piece = document
             .piece(first, usize::MAX)
             .map_err(|fault| source.too_long(&fault))?;
         first += piece.events;
-        tapes.push(piece.tape);
+        pieces.push(piece);
     }
-    Ok(tapes)
+    Ok(pieces)
 }
 
 /// The printing program's input: the two lengths, the text, the marks.
-fn printed(tape: &Tape) -> Vec<u8> {
-    let lengths = [tape.text().len() as u32, tape.marks().len() as u32];
+fn printed(piece: &Piece<'_>) -> Vec<u8> {
+    let lengths = [piece.text.len() as u32, piece.marks.len() as u32];
     let mut bytes: Vec<u8> = lengths
         .iter()
         .flat_map(|number| number.to_le_bytes())
         .collect();
-    bytes.extend(tape.text());
-    bytes.extend(tape.marks().iter().flat_map(|number| number.to_le_bytes()));
+    bytes.extend(piece.text.iter());
+    bytes.extend(piece.marks.iter().flat_map(|number| number.to_le_bytes()));
     bytes
 }

@@ -1,8 +1,11 @@
 //! The events of an XML text and the pieces that they make.
 
-use lubiksan::names::local_name;
-use lubiksan::{PieceFull, Tape, TapeBuilder};
+use std::borrow::Cow;
 
+use lubiksan::names::local_name;
+use lubiksan::{NoTape, PieceFull, TapeBuilder};
+
+use crate::taped::{document_type, Taped};
 use crate::xml::{self, Event, EventKind, Events, Fault};
 
 /// The bytes that a file in UTF-8 may start with.
@@ -13,29 +16,84 @@ pub const BYTE_ORDER_MARK: &[u8] = b"\xEF\xBB\xBF";
 pub struct Document {
     text: String,
     found: Events,
+    way: Way,
+}
+
+/// Who read the text.
+#[derive(Clone, Debug)]
+pub enum Way {
+    /// The library, into a tape.
+    Library(Taped),
+    /// This program by quick-xml, since the library writes no tape of it.
+    QuickXml(NoTape),
 }
 
 /// Some events as a tape.
 #[derive(Clone, Debug)]
-pub struct Piece {
-    /// The tape.
-    pub tape: Tape,
+pub struct Piece<'d> {
+    /// The text of the tape.
+    pub text: Cow<'d, [u8]>,
+    /// The marks into it.
+    pub marks: Cow<'d, [u32]>,
     /// How many events it has.
     pub events: usize,
 }
 
+/// Why the bytes of a file are no document.
+#[derive(Clone, Debug, PartialEq, Eq)]
+pub struct NoDocument {
+    /// What is wrong.
+    pub words: String,
+    /// The text, as far as it is one, and the byte where it is wrong; none where that is not known.
+    pub place: Option<(String, usize)>,
+}
+
+impl NoDocument {
+    fn at(text: String, at: usize, words: String) -> NoDocument {
+        let place = Some((text, at));
+        NoDocument { words, place }
+    }
+
+    /// The same with the library's number behind the words.
+    fn refused_with(mut self, number: u32) -> NoDocument {
+        self.words += &format!(" (refused with {number})");
+        self
+    }
+}
+
 impl Document {
-    /// The document of the bytes of a file.
+    /// The document of the bytes of a file: read by the library where it writes a tape of them, else by quick-xml.
     ///
     /// # Errors
     ///
-    /// [`Fault`], with the text up to it, where the bytes are no well-formed XML in UTF-8.
-    pub fn of(bytes: Vec<u8>) -> Result<Document, (Fault, String)> {
-        let text = decoded(bytes)?;
-        match xml::events(&text) {
-            Ok(found) => Ok(Document { text, found }),
-            Err(fault) => Err((fault, text)),
+    /// [`NoDocument`] where the bytes are no well-formed XML in UTF-8, or have a document type that the library refuses.
+    pub fn of(bytes: Vec<u8>) -> Result<Document, NoDocument> {
+        match Taped::of(&bytes) {
+            Ok((tape, found)) => Ok(Document {
+                text: decoded(bytes)?,
+                found,
+                way: Way::Library(tape),
+            }),
+            Err(NoTape::Malformed) => Err(malformed(decoded(bytes))),
+            Err(NoTape::Doctype) => Err(with_document_type(decoded(bytes)?)),
+            Err(why) => Document::by_quick_xml(decoded(bytes)?, why),
         }
+    }
+
+    fn by_quick_xml(text: String, why: NoTape) -> Result<Document, NoDocument> {
+        match xml::events(&text) {
+            Ok(found) => Ok(Document {
+                text,
+                found,
+                way: Way::QuickXml(why),
+            }),
+            Err(fault) => Err(NoDocument::at(text, fault.at, fault.words)),
+        }
+    }
+
+    /// Who read the text.
+    pub fn way(&self) -> &Way {
+        &self.way
     }
 
     /// The text, without a byte order mark.
@@ -85,7 +143,20 @@ impl Document {
     /// # Errors
     ///
     /// [`Fault`] for a tag that fits into no piece and is the first.
-    pub fn piece(&self, first: usize, most: usize) -> Result<Piece, Fault> {
+    pub fn piece(&self, first: usize, most: usize) -> Result<Piece<'_>, Fault> {
+        if let Way::Library(tape) = &self.way {
+            let (marks, events) = tape.part(first, most);
+            return Ok(Piece {
+                text: Cow::Borrowed(self.text.as_bytes()),
+                marks: Cow::Borrowed(marks),
+                events,
+            });
+        }
+        self.built(first, most)
+    }
+
+    /// A piece with a text of its own.
+    fn built(&self, first: usize, most: usize) -> Result<Piece<'_>, Fault> {
         let mut builder = TapeBuilder::new();
         for event in self.events().iter().skip(first).take(most) {
             match self.put(&mut builder, event) {
@@ -105,8 +176,10 @@ impl Document {
             }
         }
         let events = builder.events();
+        let (text, marks) = builder.finish().into_buffers();
         Ok(Piece {
-            tape: builder.finish(),
+            text: Cow::Owned(text),
+            marks: Cow::Owned(marks),
             events,
         })
     }
@@ -124,12 +197,37 @@ impl Document {
     }
 }
 
+/// A text with a document type, which the library does not read.
+fn with_document_type(text: String) -> NoDocument {
+    let (at, words) = (
+        document_type(&text),
+        "a document type is not read".to_owned(),
+    );
+    NoDocument::at(text, at, words).refused_with(NoTape::Doctype.number())
+}
+
+/// What is wrong in a text that the library finds not well formed, as far as this program's own tests can tell.
+fn malformed(decoded: Result<String, NoDocument>) -> NoDocument {
+    let refusal = NoTape::Malformed;
+    let text = match decoded {
+        Ok(text) => text,
+        Err(no_text) => return no_text.refused_with(refusal.number()),
+    };
+    match xml::fault_of(&text) {
+        Some(fault) => NoDocument::at(text, fault.at, fault.words).refused_with(refusal.number()),
+        None => NoDocument {
+            words: refusal.to_string(),
+            place: None,
+        },
+    }
+}
+
 /// The bytes as text: UTF-8 with or without a byte order mark.
-fn decoded(mut bytes: Vec<u8>) -> Result<String, (Fault, String)> {
+fn decoded(mut bytes: Vec<u8>) -> Result<String, NoDocument> {
     let wide = [&b"\xFF\xFE"[..], b"\xFE\xFF", b"<\0", b"\0<", b"\0\0"];
     if wide.iter().any(|start| bytes.starts_with(start)) {
         let words = "the file is in UTF-16 or UTF-32, only UTF-8 is read".to_owned();
-        return Err((Fault { at: 0, words }, String::new()));
+        return Err(NoDocument::at(String::new(), 0, words));
     }
     if bytes.starts_with(BYTE_ORDER_MARK) {
         bytes.drain(..BYTE_ORDER_MARK.len());
@@ -137,12 +235,6 @@ fn decoded(mut bytes: Vec<u8>) -> Result<String, (Fault, String)> {
     String::from_utf8(bytes).map_err(|error| {
         let at = error.utf8_error().valid_up_to();
         let text = String::from_utf8_lossy(error.as_bytes()).into_owned();
-        (
-            Fault {
-                at,
-                words: "a byte that is no UTF-8".to_owned(),
-            },
-            text,
-        )
+        NoDocument::at(text, at, "a byte that is no UTF-8".to_owned())
     })
 }

@@ -3,7 +3,9 @@
 //!
 //! | Module | Holds |
 //! |---|---|
-//! | [`xml`], [`document`] | XML text into events, with every test that XML asks for; the events in pieces |
+//! | [`taped`] | the events of a text that the library itself reads into a tape |
+//! | [`xml`] | any other XML text into events, with every test that XML asks for |
+//! | [`document`] | a text read in one of the two ways; its events in pieces |
 //! | [`source`], [`reading`] | a schema file; its events read into a schema sheet |
 //! | [`explain`], [`losses`] | a refusal in words; what of the file was not kept |
 //! | [`stored`], [`output`] | stored sheets; files that are whole or as they were |
@@ -33,6 +35,7 @@ mod scan;
 pub mod shelf;
 pub mod source;
 pub mod stored;
+pub mod taped;
 pub mod xml;
 
 use std::ffi::OsString;

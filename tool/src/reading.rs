@@ -32,7 +32,7 @@ pub fn read_on(
         let piece = document
             .piece(first, end - first)
             .map_err(|fault| source.too_long(&fault))?;
-        let read = sheet.read(&piece.tape);
+        let read = sheet.read_buffers(&piece.text, &piece.marks);
         after(sheet)?;
         read.map_err(|refusal| explain::reading(source, &refusal))?;
     }

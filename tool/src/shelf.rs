@@ -11,7 +11,7 @@ use std::thread;
 use std::time::{Duration, Instant};
 
 use crate::args::{Command, Shelf};
-use crate::commands::{advance, warn};
+use crate::commands::{advance, say_way, warn};
 use crate::failure::Failure;
 use crate::formats::plural;
 use crate::interrupt;
@@ -185,6 +185,7 @@ fn one(command: &Command, shelf: &Shelf, job: &Job) -> End {
     };
     interrupt::stop_if_asked().map_err(named)?;
     let source = Source::load(&job.file)?;
+    say_way(command, &source);
     let mut stored = stored::resumed(&job.sheet, &source, shelf.restart)?;
     let quiet = Progress::new(0, true);
     advance(&source, &job.sheet, &mut stored, usize::MAX, &quiet).map_err(named)?;

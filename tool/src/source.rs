@@ -5,9 +5,10 @@ use std::io::{self, Read};
 use std::path::{Path, PathBuf};
 use std::sync::OnceLock;
 
+use lubiksan::{limits, NoTape};
 use sha2::{Digest, Sha256};
 
-use crate::document::{Document, BYTE_ORDER_MARK};
+use crate::document::{Document, Way, BYTE_ORDER_MARK};
 use crate::failure::Failure;
 use crate::xml::{line_and_column, Fault};
 
@@ -26,7 +27,7 @@ impl Source {
     ///
     /// # Errors
     ///
-    /// [`Failure`] where it can't be read or is no well-formed XML in UTF-8.
+    /// [`Failure`] where it can't be read, is no well-formed XML in UTF-8, or has a document type that the library refuses.
     pub fn load(path: &Path) -> Result<Source, Failure> {
         let bytes = bytes_of(path).map_err(|error| Failure::input(path, &error))?;
         Source::of(path, bytes)
@@ -36,11 +37,15 @@ impl Source {
     ///
     /// # Errors
     ///
-    /// [`Failure`] where they are no well-formed XML in UTF-8.
+    /// [`Failure`] where they are no well-formed XML in UTF-8, or have a document type that the library refuses.
     pub fn of(path: &Path, bytes: Vec<u8>) -> Result<Source, Failure> {
         let length = bytes.len() as u64;
-        let document = Document::of(bytes).map_err(|(fault, text)| {
-            Failure::Refused(format!("{}{}", placed(path, &text, fault.at), fault.words))
+        let document = Document::of(bytes).map_err(|refused| {
+            let place = match &refused.place {
+                Some((text, at)) => placed(path, text, *at),
+                None => format!("{}: ", path.display()),
+            };
+            Failure::Refused(place + &refused.words)
         })?;
         Ok(Source {
             path: path.to_owned(),
@@ -71,6 +76,26 @@ impl Source {
     /// The events.
     pub fn document(&self) -> &Document {
         &self.document
+    }
+
+    /// Who read the text, in words.
+    pub fn way(&self) -> String {
+        let name = self.path.display();
+        let why = match self.document.way() {
+            Way::Library(tape) => {
+                let (events, marks) = (self.document.events().len(), tape.marks().len());
+                return format!(
+                    "{name}: read by the library from its text, {events} events in {marks} marks"
+                );
+            }
+            Way::QuickXml(NoTape::Lengths) => format!("it is longer than {} bytes", limits::TEXT),
+            Way::QuickXml(NoTape::NotAscii) => "it has a byte above 127".to_owned(),
+            Way::QuickXml(NoTape::ShortMarks) => {
+                format!("its tags take over {} marks", limits::MARKS)
+            }
+            Way::QuickXml(why) => why.to_string(),
+        };
+        format!("{name}: read by quick-xml, since {why}")
     }
 
     /// The words with the place of a byte before them.

@@ -62,8 +62,18 @@ pub struct Events {
 ///
 /// [`Fault`] where the text is not well formed.
 pub fn events(text: &str) -> Result<Events, Fault> {
-    characters(text)?;
+    events_by(Parser::new(text))
+}
+
+/// What is not well formed in a text, whatever its encoding is called; none where nothing is found.
+pub fn fault_of(text: &str) -> Option<Fault> {
     let mut parser = Parser::new(text);
+    parser.any_encoding = true;
+    events_by(parser).err()
+}
+
+fn events_by(mut parser: Parser<'_>) -> Result<Events, Fault> {
+    characters(parser.text)?;
     let mut base = 0;
     while let Some(next) = parser.up_to_document_type(base)? {
         base = next;
@@ -130,6 +140,8 @@ struct Parser<'t> {
     root: bool,
     doctype: bool,
     standalone: bool,
+    /// The name of the encoding is not looked up.
+    any_encoding: bool,
     entities: Rc<Entities>,
 }
 
@@ -142,6 +154,7 @@ impl<'t> Parser<'t> {
             root: false,
             doctype: false,
             standalone: false,
+            any_encoding: false,
             entities: Rc::default(),
         }
     }
@@ -315,7 +328,9 @@ impl<'t> Parser<'t> {
                 );
             }
             first = false;
-            declared(key, value, attribute.value.start)?;
+            if !(self.any_encoding && key == "encoding" && is_encoding(value)) {
+                declared(key, value, attribute.value.start)?;
+            }
             self.standalone |= (key, value) == ("standalone", "yes");
         }
         if first {
@@ -376,6 +391,12 @@ impl<'t> Parser<'t> {
         }
         Ok(self.found)
     }
+}
+
+/// A letter, then letters, digits, `.`, `_` and `-`.
+fn is_encoding(name: &str) -> bool {
+    let goes_on = |b: u8| b.is_ascii_alphanumeric() || matches!(b, b'.' | b'_' | b'-');
+    name.starts_with(|c: char| c.is_ascii_alphabetic()) && name.bytes().all(goes_on)
 }
 
 /// The value of a word of the XML declaration.

@@ -4,7 +4,7 @@ mod common;
 
 use std::fs;
 
-use common::{lubiksan, Folder, Ran};
+use common::{lubiksan, marked, Folder, Ran};
 
 /// Runs `graph --format rows` on a schema that is in a file `a.xsd`; its folder is cut from the words.
 fn graph(text: impl AsRef<[u8]>, more: &[&str]) -> Ran {
@@ -171,8 +171,8 @@ fn thirteen_from_a_stored_sheet_names_the_type() {
     );
 }
 
-/// Texts that are no XML, and why.
-const BAD: [(&[u8], &str); 30] = [
+/// Texts that are no XML, and why. Those of ASCII are refused by the library, with 17.
+const BAD: [(&[u8], &str); 29] = [
     (
         b"<schema>\n<a/>\n",
         r#"a.xsd:3:1: the file ends, and "schema" of line 1 is not closed"#,
@@ -235,10 +235,6 @@ const BAD: [(&[u8], &str); 30] = [
         "a.xsd:1:2: the XML declaration is not at the start of the file",
     ),
     (
-        b"<?xml version='1.0' encoding='latin1'?><a/>",
-        r#"a.xsd:1:31: the encoding "latin1" is not read, only UTF-8"#,
-    ),
-    (
         b"\xff\xfe<\0a\0",
         "a.xsd:1:1: the file is in UTF-16 or UTF-32, only UTF-8 is read",
     ),
@@ -256,27 +252,50 @@ const BAD: [(&[u8], &str); 30] = [
 #[test]
 fn what_is_no_xml_is_refused() {
     for (text, words) in BAD {
+        let shown = String::from_utf8_lossy(text);
+        let number = if text.is_ascii() {
+            " (refused with 17)"
+        } else {
+            ""
+        };
         let (said, line) = refused(text);
         assert_eq!(
-            (said.as_str(), line.as_str()),
-            (words, ""),
-            "{}",
-            String::from_utf8_lossy(text)
+            (said, line.as_str()),
+            (format!("{words}{number}"), ""),
+            "{shown}"
         );
+        if text.is_ascii() {
+            assert_eq!(refused(marked(text)).0, words, "{shown}");
+        }
     }
+}
+
+#[test]
+fn the_name_of_an_encoding_is_looked_up_only_where_it_matters() {
+    let text = "<?xml version='1.0' encoding='latin1'?><schema/>";
+    assert_eq!(graph(text, &[]).status, Some(0), "ASCII is read as it is");
+    let words = r#"a.xsd:1:31: the encoding "latin1" is not read, only UTF-8"#;
+    assert_eq!(refused(marked(text)).0, words);
+    assert_eq!(refused(format!("{text}<!-- \u{e9} -->")).0, words);
+    let (said, _) = refused(text.replace("<schema/>", "<schema>"));
+    let words =
+        r#"a.xsd:1:48: the file ends, and "schema" of line 1 is not closed (refused with 17)"#;
+    assert_eq!(said, words);
+    let (said, _) = refused(text.replace("latin1", "1"));
+    let words = r#"a.xsd:1:31: the encoding "1" is not read, only UTF-8 (refused with 17)"#;
+    assert_eq!(said, words);
 }
 
 #[test]
 fn a_byte_order_mark_is_passed_over() {
     let text = sequence(r#"<element name="a" type="b" minOccurs="x"/>"#);
-    let marked = [b"\xEF\xBB\xBF", text.replacen('\n', "", 3).as_bytes()].concat();
-    let (words, _) = refused(marked);
+    let (words, _) = refused(marked(text.replacen('\n', "", 3)));
     assert_eq!(
         words,
         r#"a.xsd:1:85: minOccurs "x" is not a number (refused with 10, event 3)"#
     );
-    let marked = "\u{feff}<?xml version=\"1.0\" encoding=\"utf-8\"?><schema/>";
-    assert_eq!(graph(marked, &[]).status, Some(0));
+    let declared = "<?xml version=\"1.0\" encoding=\"utf-8\"?><schema/>";
+    assert_eq!(graph(marked(declared), &[]).status, Some(0));
 }
 
 #[test]
@@ -448,13 +467,13 @@ const BAD_TYPES: [(&str, &str); 12] = [
 ];
 
 #[test]
-fn document_types_are_tested() {
+fn document_types_are_tested_where_quick_xml_reads() {
     for text in TYPES {
-        let ran = graph(format!("{text}<schema/>"), &[]);
+        let ran = graph(marked(format!("{text}<schema/>")), &[]);
         assert_eq!((ran.status, ran.err.as_str()), (Some(0), ""), "{text}");
     }
     for (text, words) in BAD_TYPES {
-        let (said, _) = refused(format!("{text}<schema/>"));
+        let (said, _) = refused(marked(format!("{text}<schema/>")));
         assert!(
             said.starts_with(&format!("a.xsd:{words}")),
             "{text}: {said}"
@@ -463,18 +482,37 @@ fn document_types_are_tested() {
 }
 
 #[test]
+fn document_types_are_refused_where_the_library_reads() {
+    let said =
+        |place: &str| format!("a.xsd:{place}: a document type is not read (refused with 18)");
+    for text in TYPES.iter().chain(BAD_TYPES.iter().map(|(text, _)| text)) {
+        assert_eq!(refused(format!("{text}<schema/>")).0, said("1:1"), "{text}");
+    }
+    let prologs = [
+        (" \n <!DOCTYPE a>", "2:2"),
+        ("<?xml version='1.0'?><!DOCTYPE a><a/>", "1:22"),
+        ("<!--<!DOCTYPE x>-->\n<?p <!DOCTYPE ?><!DOCTYPE", "2:17"),
+    ];
+    for (text, place) in prologs {
+        assert_eq!(refused(text).0, said(place), "{text}");
+    }
+    let commented = "<!--<!DOCTYPE a>--><schema/>";
+    assert_eq!(graph(commented, &[]).status, Some(0));
+}
+
+#[test]
 fn entities_must_be_declared_where_all_declarations_are_read() {
     let declared = "<!DOCTYPE a [<!ENTITY e 'x'>]><schema a='&e;'/>";
-    assert_eq!(graph(declared, &[]).status, Some(0));
-    let (words, _) = refused("<!DOCTYPE a [<!ENTITY e 'x'>]><schema a='&f;'/>");
+    assert_eq!(graph(marked(declared), &[]).status, Some(0));
+    let (words, _) = refused(marked("<!DOCTYPE a [<!ENTITY e 'x'>]><schema a='&f;'/>"));
     assert_eq!(
         words,
         "a.xsd:1:42: the reference \"&f;\" stands for nothing"
     );
     assert_eq!(
-        graph("<!DOCTYPE a SYSTEM 's'><schema a='&f;'/>", &[]).status,
+        graph(marked("<!DOCTYPE a SYSTEM 's'><schema a='&f;'/>"), &[]).status,
         Some(0)
     );
     let alone = "<?xml version='1.0' standalone='yes'?><!DOCTYPE a SYSTEM 's'><schema a='&f;'/>";
-    assert_eq!(graph(alone, &[]).status, Some(1));
+    assert_eq!(graph(marked(alone), &[]).status, Some(1));
 }

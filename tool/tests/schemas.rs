@@ -12,6 +12,7 @@ use judge::ir::types::{
 };
 use judge::paper::graph::{graph_rows, graph_sheet};
 use judge::paper::sheet::{Lent, Row};
+use lubiksan::{Event, Tag, Tape};
 use serde_json::{json, Value};
 
 /// The graph of the unchanged Rust; none where it refuses the schema.
@@ -341,6 +342,14 @@ fn tapes_are_the_printing_programs_input() {
         let pieces = judge::events::pieces(
             &judge::events::events_of_xml(&fs::read_to_string(file).unwrap()).unwrap(),
         );
+        let text = fs::read(file).unwrap();
+        if let ([piece], true) = (pieces.as_slice(), text.is_ascii() && text.len() <= 65_536) {
+            let written = tape_in(&out);
+            assert!(written.text() == text, "{}", file.display());
+            let expected = Tape::from_buffers(piece.text.clone(), piece.marks.clone());
+            assert!(shown(&written) == shown(&expected), "{}", file.display());
+            continue;
+        }
         for (number, piece) in pieces.iter().enumerate() {
             let name = if pieces.len() == 1 {
                 out.clone()
@@ -355,4 +364,34 @@ fn tapes_are_the_printing_programs_input() {
             assert!(fs::read(name).unwrap() == bytes, "{}", file.display());
         }
     }
+}
+
+/// The tape in a file: the two lengths, the text, the marks.
+fn tape_in(file: &Path) -> Tape {
+    let bytes = fs::read(file).unwrap();
+    let numbers = |bytes: &[u8]| -> Vec<u32> {
+        let fours = bytes.chunks_exact(4);
+        fours
+            .map(|four| u32::from_le_bytes(four.try_into().unwrap()))
+            .collect()
+    };
+    let length = numbers(&bytes[..8])[0] as usize;
+    let (text, marks) = bytes[8..].split_at(length);
+    assert_eq!(marks.len(), 4 * numbers(&bytes[..8])[1] as usize);
+    Tape::from_buffers(text.to_vec(), numbers(marks))
+}
+
+/// The events of a tape with what they say, wherever it stands in the text.
+fn shown(tape: &Tape) -> Vec<(u8, Vec<&[u8]>)> {
+    let events = tape.events().map(|event| match event {
+        Event::Start(tag) => (1, texts(tag)),
+        Event::Empty(tag) => (2, texts(tag)),
+        Event::Close => (3, Vec::new()),
+    });
+    events.collect()
+}
+
+fn texts(tag: Tag<'_>) -> Vec<&[u8]> {
+    let attributes = tag.attributes().flat_map(|(key, value)| [key, value]);
+    std::iter::once(tag.name()).chain(attributes).collect()
 }

@@ -11,6 +11,7 @@
 //! | `graph`, `back` | the graph sheet of a type graph, and the type graph that a sheet says |
 //! | `lowering` | the lowering call; the Rust's `lower` gives the graph |
 //! | `label` | the label call |
+//! | `xml` | order 1: the tape of a text |
 //! | `agree` | the model against the handlers of parser.rs, event by event |
 
 pub mod agree;
@@ -23,6 +24,7 @@ pub mod number;
 pub mod reading;
 pub mod sheet;
 pub mod state;
+pub mod xml;
 
 /// A returned number with its place.
 #[derive(Clone, Copy, Debug, PartialEq, Eq)]

@@ -1,5 +1,5 @@
-/* The calls of the static library lubiksan (rt staticlib lubiksan): the text leaves; a schema sheet cleared, and a piece of a
-   tape read into it; a schema sheet lowered to a graph sheet; the label of a row of a graph sheet.
+/* The calls of the static library lubiksan (rt staticlib lubiksan): the text leaves; the tape of a schema text; a schema sheet
+   cleared, and a piece of a tape read into it; a schema sheet lowered to a graph sheet; the label of a row of a graph sheet.
 
    A buffer is a pointer and a length in elements. Every pointer is valid, also for a length of 0 (any pointer that is not null
    and is aligned for its type), and the buffers of a call and what it stores do not overlap. Any bytes and numbers are taken.
@@ -24,13 +24,13 @@
 #define LUBIKSAN_EVENTS_MAX 1000000
 
 /* The numbers returned, with what is left and which place is stored; where no place is named it is 0. */
-#define LUBIKSAN_ACCEPTED 0      /* the result; a reading's place is the events read, a lowering's the graph's rows used */
+#define LUBIKSAN_ACCEPTED 0      /* the result; a reading's place is the events read, a lowering's the graph's rows used, a tape's the marks used */
 #define LUBIKSAN_LENGTHS 1       /* a buffer has a length outside the limits: nothing is changed */
 #define LUBIKSAN_NOT_GOOD 2      /* the schema sheet is not good, as a cleared one is and one that a reading leaves: nothing is changed */
 /* 3 to 11: an event was refused. The place is its number in the piece, from 0, and the sheet holds the state after the events before it. */
 #define LUBIKSAN_RECORD 3        /* kind not 1 to 3, record cut short, too many attributes, a close with any */
 #define LUBIKSAN_PAIR 4          /* a pair outside the text or out of order */
-#define LUBIKSAN_BYTE 5          /* a byte above 127 under a pair */
+#define LUBIKSAN_BYTE 5          /* a byte above 127 under a pair; also of lubiksan_tape: anywhere in the text */
 #define LUBIKSAN_CLOSE 6         /* a close with no tag open */
 #define LUBIKSAN_OPEN_TAGS 7     /* a start with LUBIKSAN_OPEN_TAGS_MAX tags open */
 #define LUBIKSAN_EVENTS 8        /* LUBIKSAN_EVENTS_MAX events are done */
@@ -43,6 +43,10 @@
 #define LUBIKSAN_SCRATCH 14      /* the scratch has less than one number for each finished type */
 #define LUBIKSAN_GRAPH_ROOM 15   /* the graph needs more rows or names than lent */
 #define LUBIKSAN_NO_LABEL 16     /* label: the row has no type reference, or the word list is not five words */
+/* 17 to 19: the tape of a text, and 5 before them. All marks are 0. */
+#define LUBIKSAN_MALFORMED 17    /* the text is not well formed by XML 1.0 (Fifth Edition), or not whole */
+#define LUBIKSAN_DOCTYPE 18      /* the bytes <!DOCTYPE with only a well-formed prolog, or nothing, before them */
+#define LUBIKSAN_MARKS 19        /* the tape needs more marks than lent */
 
 /* Kinds of events on a tape: kind, count of attributes, then pairs of offset and length into the text: the tag's name, then key
    and value of each attribute. A close is just its kind and 0. */
@@ -161,6 +165,13 @@ size_t lubiksan_code_to_pascal_case(const uint8_t *value, size_t length, uint8_t
 
 /* 1 where the two names normalise to the same text, else 0. */
 uint32_t lubiksan_same_normalized(const uint8_t *a, size_t a_length, const uint8_t *b, size_t b_length);
+
+/* Writes the tape of a schema text into marks, whatever they held: 0, 1, 5 or 17 to 19, tried in the order 1, 5, 18, 17, 19, each
+   over the whole text; the place in *place. The pairs point into the text, which is read with lubiksan_read together with the
+   first *place marks; the marks behind them are 0. Comments, instructions, CDATA and text give no event, references and white
+   space in values stay as written, and tags with more than LUBIKSAN_ATTRIBUTES_MAX attributes are written too. The call keeps its
+   open tags on the stack: 87,384 bytes, and less than 90,000 with all else. */
+uint32_t lubiksan_tape(const uint8_t *text, size_t text_length, uint32_t *marks, size_t marks_length, size_t *place);
 
 /* Makes a schema sheet empty, whatever it held: LUBIKSAN_ACCEPTED or LUBIKSAN_LENGTHS. *place is set to 0. */
 uint32_t lubiksan_clear(uint32_t *rows, size_t rows_length, uint8_t *names, size_t names_length, size_t *place);

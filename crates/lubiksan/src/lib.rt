@@ -3,3 +3,4 @@ mod label;
 mod leaves;
 mod lowering;
 mod reading;
+mod tape;

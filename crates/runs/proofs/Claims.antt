@@ -1,18 +1,19 @@
 -- The outer claims, each under the paper's words. What a call says of itself is `ClearIs`, `ReadIs`, `LowerIs`, `LabelIs` and `LabelNumberIs` (specs/ of
 -- xsd_types, xsd_parser, ir_lower, ir_types); a `Trace` is a list of calls by these. Every claim is proved below this file. Assumes nothing.
-use Prim.Native.Nat.{ℕ, _+_}
+use Prim.Native.Nat.{ℕ, _+_, _≤_}
 use mathlib.Core.Path.{_≡_}
 use mathlib.Core.Logic.{_↔_}
 use mathlib.Core.Bool.{true}
-use mathlib.Core.List.{List, _∷_, _++_}
+use mathlib.Core.List.{List, [], _∷_, _++_}
 use mathlib.Core.Option.{some}
-use lib.ListN.{length}
-use Rattle.text.specs.Text.{Text, bytes, every, join}
+use lib.ListN.{length, take, drop}
+use Rattle.text.specs.Text.{Text, bytes, every, isText, join}
 use Rattle.text.specs.Trim.{Around}
 use Rattle.number.specs.Number.{parsed, plainNumber, number, Spells}
 use Rattle.number.proofs.Laws.Spellings.{number-kept, number-exactly}
 use Rattle.sheet.specs.Rows.{Sheet}
 use Rattle.sheet.specs.Form.{words}
+use Rattle.sheet.specs.Returned.{accepted}
 use Rattle.sheet.specs.Lengths.{tapeLengths, Lengths, lengthsOf, goodLengths}
 use Rattle.xsd_types.specs.Types.{Schema, MaxOccurs}
 use Rattle.xsd_types.specs.State.{State, proper}
@@ -21,7 +22,9 @@ use Rattle.xsd_types.specs.Good.{good}
 use Rattle.xsd_types.specs.Back.{stateOf}
 use Rattle.xsd_types.proofs.Laws.SheetOf.{stateOf-sheetOf}
 use Rattle.xsd_types.proofs.Laws.StateOf.{good-exactly, sheetOf-stateOf}
-use Rattle.xsd_parser.specs.Event.{Event}
+use Rattle.xsd_parser.specs.Event.{Tag, Event}
+use Rattle.xsd_parser.specs.Kinds.{startKind, emptyKind}
+use Rattle.xsd_parser.specs.Tape.{eventOf, records}
 use Rattle.xsd_parser.specs.EventText.{eventOk}
 use Rattle.xsd_parser.specs.Handlers.{ok, isUnbounded}
 use Rattle.xsd_parser.specs.Step.{step}
@@ -30,6 +33,16 @@ use Rattle.xsd_parser.specs.Whole.{wholeRecords}
 use Rattle.xsd_parser.proofs.Laws.Occurs.{unbounded-exactly}
 use Rattle.xsd_parser.proofs.Laws.Steps.{step-proper}
 use Rattle.xsd_parser.proofs.Laws.Reads.{readState-place}
+use Rattle.xml_text.specs.Tape.{TapeEvent, tapeMarks}
+use Rattle.xml_text.specs.Tags.{tag}
+use Rattle.xml_text.specs.Call.{wellFormed, document, tapeOf}
+use Rattle.xml_text.specs.Accepted.{EventsAt, fewAttributes, eventRead, recordsRead, ReadsThrough}
+use Rattle.xml_text.specs.Written.{isNameText, attributeOk, newKeys, writtenTag, writtenEvent, taggedAs}
+use Rattle.xml_text.proofs.Laws.Events.{events-at}
+use Rattle.xml_text.proofs.Laws.Records.{tape-records}
+use Rattle.xml_text.proofs.Laws.Reads.{tape-reads, accepted-tape}
+use Rattle.xml_text.proofs.Laws.Written.{tag-written}
+use Rattle.xml_text.proofs.Laws.Back.{tag-back}
 use Rattle.ir_types.specs.Types.{Cardinality, TypeGraph}
 use Rattle.ir_types.specs.Distinct.{typeNames, distinct, firsts, find, lastOf}
 use Rattle.ir_types.specs.Form.{graphForm}
@@ -126,6 +139,30 @@ claim-number-exactly = number-exactly
 -- "`unbounded` may have white space around it too", and nothing else is unbounded
 pub claim-unbounded : (v : Text) → (isUnbounded v ≡ true) ↔ Around (bytes "unbounded") v
 claim-unbounded = unbounded-exactly
+
+-- order 1: an accepted tape is that of a well-formed text below 128, up to its place
+pub claim-tape : (text : Text) (before : List ℕ) → tapeOf text before .number ≡ accepted → (es : List TapeEvent) × (document text ≡ wellFormed es) × (isText text ≡ true) × (take (tapeOf text before .place) (tapeOf text before .marks) ≡ tapeMarks es)
+claim-tape = accepted-tape
+
+-- "a tape whose pairs point into it": under each pair stands the name or the value that the production has at that place
+pub claim-tape-pairs : (text : Text) (es : List TapeEvent) → document text ≡ wellFormed es → EventsAt text es
+claim-tape-pairs = events-at
+
+-- such a tape, read whole with its text, is read as its events: with at most 32 attributes it meets none of 3, 4 and 5
+pub claim-tape-records : (text : Text) (es : List TapeEvent) → document text ≡ wellFormed es → isText text ≡ true → every fewAttributes es ≡ true → records text (tapeMarks es) ≡ recordsRead text es
+claim-tape-records = tape-records
+
+-- nor does it meet 6, from any state, and where it is accepted as many tags are open as before
+pub claim-tape-read : (lent : Lengths) (s : State) (text : Text) (es : List TapeEvent) → document text ≡ wellFormed es → isText text ≡ true → every fewAttributes es ≡ true → ReadsThrough (s .openTags) (readState lent s text (tapeMarks es))
+claim-tape-read = tape-reads
+
+-- a tag written by the productions is read as that tag, whatever stands behind it
+pub claim-tag-written : (at kind : ℕ) (t : Tag) (rest : Text) → startKind ≤ kind → kind ≤ emptyKind → isNameText (t .name) ≡ true → every attributeOk (t .attributes) ≡ true → newKeys [] (t .attributes) ≡ true → tag at (writtenTag kind t ++ rest) ≡ taggedAs at kind t rest
+claim-tag-written = tag-written
+
+-- and the pairs of what it is read as stand for the tag's own texts
+pub claim-tag-back : (text : Text) (at kind : ℕ) (t : Tag) (rest : Text) → drop at text ≡ writtenTag kind t ++ rest → eventRead text (writtenEvent at kind t) ≡ eventOf kind t
+claim-tag-back = tag-back
 
 -- "min 0 and max 1 optional", and nothing else is; "unbounded gives vec", and nothing else does
 pub claim-optional : (min : ℕ) (max : MaxOccurs) → (lowerCardinality min max ≡ Cardinality.optional) ↔ ((min ≡ 0) × (max ≡ MaxOccurs.bounded 1))

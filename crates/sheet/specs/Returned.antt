@@ -1,5 +1,5 @@
 -- Paper 01, "Returned numbers": the numbers that the calls return, in the order of the table, and those of an event's refusals.
---     accepted .. badLabel    the numbers 0 to 16
+--     accepted .. badLabel    the numbers 0 to 16; malformed, doctype, shortMarks: 17 to 19, of order 1
 --     refusalNumber           the number of a refusal that an event can meet
 use Prim.Native.Nat.{ℕ}
 use Rattle.sheet.specs.declared.refusal.Refusal.{Refusal}
@@ -71,6 +71,18 @@ noRoomInGraph = 15
 -- "label: length not a multiple of 10, no such row, tag not 5, 7, 9, 10 or 19, .."
 abbrev pub badLabel : ℕ
 badLabel = 16
+
+-- order 1: "17 not well formed"
+abbrev pub malformed : ℕ
+malformed = 17
+
+-- order 1: "18 the bytes `<!DOCTYPE` with only a well-formed prolog, or nothing, before them"
+abbrev pub doctype : ℕ
+doctype = 18
+
+-- order 1: "19 marks too short"
+abbrev pub shortMarks : ℕ
+shortMarks = 19
 
 -- "event by event 3, 4, 5, 8, then 6 or 7, 9, 10, 11"
 abbrev pub refusalNumber : Refusal → ℕ

@@ -50,3 +50,12 @@ pub const NO_ROOM_IN_GRAPH: u32 = 15;
 
 // "label: length not a multiple of 10, no such row, tag not 5, 7, 9, 10 or 19, .."
 pub const BAD_LABEL: u32 = 16;
+
+// order 1: "17 not well formed"
+pub const MALFORMED: u32 = 17;
+
+// order 1: "18 the bytes `<!DOCTYPE` with only a well-formed prolog, or nothing, before them"
+pub const DOCTYPE: u32 = 18;
+
+// order 1: "19 marks too short"
+pub const SHORT_MARKS: u32 = 19;

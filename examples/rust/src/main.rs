@@ -1,4 +1,5 @@
-//! Reads a schema from tapes and prints its types: clear, read, lower, label. The same as graph.c.
+//! Reads a schema from its text, or from tapes, and prints its types: tape, clear, read, lower, label. The same as
+//! graph.c.
 //!
 //! Build and run, in the folder of a delivery or of the repository:
 //!
@@ -6,21 +7,32 @@
 //! cargo run --manifest-path examples/rust/Cargo.toml -- TAPE..
 //! ```
 //!
-//! with what `lubiksan tape FILE.xsd --output TAPE` writes, the pieces in order; without a TAPE it takes a small schema
-//! of its own.
+//! with what `lubiksan tape FILE.xsd --output TAPE` writes, the pieces in order; without a TAPE it takes the text of a
+//! small schema of its own.
 
 use std::error::Error;
 use std::fs;
 
-use lubiksan::{Graph, Label, PieceFull, SchemaSheet, Tape, TapeBuilder, TypeDef};
+use lubiksan::{Graph, Label, SchemaSheet, Tape, TypeDef};
 
 const WORDS: &[u8] = b"String\nbool\nDecimal\nDate\nDateTime\n";
+
+/// A schema with one root element and one type.
+const SMALL: &str = "<schema>
+  <element name='Document' type='Payment'/>
+  <complexType name='Payment'>
+    <sequence> <!-- one field -->
+      <element name='MsgId' type='xs:string' minOccurs='0'/>
+    </sequence>
+  </complexType>
+</schema>
+";
 
 fn main() -> Result<(), Box<dyn Error>> {
     let mut sheet = SchemaSheet::new();
     let files: Vec<String> = std::env::args().skip(1).collect();
     if files.is_empty() {
-        sheet.read(&small_tape()?)?;
+        sheet.read(&Tape::of_text(SMALL.into())?)?;
     }
     for file in &files {
         let tape = tape_of(&fs::read(file)?).ok_or_else(|| format!("{file}: it holds no tape"))?;
@@ -30,23 +42,6 @@ fn main() -> Result<(), Box<dyn Error>> {
     sheet.lower(&mut graph)?;
     print!("{}", printed(&graph));
     Ok(())
-}
-
-/// A schema with one root element and one type.
-fn small_tape() -> Result<Tape, PieceFull> {
-    let mut piece = TapeBuilder::new();
-    piece.start("schema", &[])?;
-    piece.empty("element", &[("name", "Document"), ("type", "Payment")])?;
-    piece.start("complexType", &[("name", "Payment")])?;
-    piece.start("sequence", &[])?;
-    piece.empty(
-        "element",
-        &[("name", "MsgId"), ("type", "xs:string"), ("minOccurs", "0")],
-    )?;
-    for _ in 0..3 {
-        piece.close()?;
-    }
-    Ok(piece.finish())
 }
 
 /// The tape in a file: the two lengths, the text, the marks.

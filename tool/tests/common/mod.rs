@@ -118,9 +118,38 @@ impl Drop for Folder {
     }
 }
 
+/// The bytes before which a text is read by quick-xml: they are not ASCII, and no part of the text.
+pub const MARK: &[u8] = b"\xEF\xBB\xBF";
+
+/// The text with a byte order mark.
+pub fn marked(text: impl AsRef<[u8]>) -> Vec<u8> {
+    [MARK, text.as_ref()].concat()
+}
+
+/// The schemas at hand, but those that order 1 refuses with 18.
+pub fn schemas() -> Vec<PathBuf> {
+    let mut files = all_schemas();
+    files.retain(|file| !has_document_type(file));
+    files
+}
+
+/// The schemas at hand that order 1 refuses with 18.
+pub fn schemas_with_document_type() -> Vec<PathBuf> {
+    let mut files = all_schemas();
+    files.retain(|file| has_document_type(file));
+    files
+}
+
+/// The library reads the text of this file, and there is a document type in it.
+fn has_document_type(file: &Path) -> bool {
+    let bytes = fs::read(file).unwrap();
+    let text = String::from_utf8_lossy(&bytes);
+    bytes.len() <= 65_536 && bytes.is_ascii() && text.contains("<!DOCTYPE")
+}
+
 /// The schemas of tests/data and, where they are at hand, those of the folder that `LUBIKSAN_SCHEMAS` names, or else of
 /// ../shared/schemas beside the repository.
-pub fn schemas() -> Vec<PathBuf> {
+fn all_schemas() -> Vec<PathBuf> {
     let manifest = Path::new(env!("CARGO_MANIFEST_DIR"));
     let named = std::env::var_os("LUBIKSAN_SCHEMAS").map(PathBuf::from);
     let shared = named.unwrap_or_else(|| manifest.join("../../shared/schemas"));

@@ -1,0 +1,77 @@
+-- Laws of the call (specs/Call.antt). Assumes nothing.
+use Prim.Native.Nat.{ℕ, suc, _+_, _-_, _≤_, _<_}
+use mathlib.Core.Path.{_≡_, refl, sym, ap, _∙_}
+use mathlib.Core.List.{List, [], _∷_, _++_}
+use native.Mathlib.Omega.{arith}
+use lib.Dec.{leb}
+use lib.ListN.{length, getD, take, drop, replicate, length-replicate, drop-of-length-le}
+use borrow.Author.Tests.{leb-true}
+use Rattle.sheet.specs.Rows.{filled}
+use Rattle.buffer.proofs.Laws.Buffer.{filled-append}
+use Rattle.text.proofs.Laws.Tests.{bool-cases}
+use lib.Seq.{sets, sets-eq, take-length, drop-cons}
+use Rattle.text.specs.Text.{Text}
+use Rattle.xml_text.specs.Steps.{Step, bad, behind}
+use Rattle.xml_text.specs.Prolog.{misc}
+use Rattle.xml_text.specs.Tape.{TapeEvent, tapeMarks}
+use Rattle.xml_text.specs.Root.{Rooted, unrooted, rooted, root}
+use Rattle.xml_text.specs.Call.{Document, notWellFormed, wellFormed, toEnd, documentFrom, Taken, refused, written, takenOf}
+use Rattle.xml_text.specs.Answers.{IsRoot, FoundIs, answerOf}
+use Rattle.xml_text.specs.declared.call.Found.{Found}
+use Rattle.xml_text.specs.declared.root.WholeRoot.{WholeRoot}
+
+-- what an answer says of the definition's root
+pub root-bad : (text : Text) (marks after : List ℕ) {m : WholeRoot} {d : Rooted} → m ≡ WholeRoot.Bad → IsRoot text marks 0 after m d → d ≡ unrooted
+root-bad text marks after t p = rw t at p
+
+pub root-to : (text : Text) (marks after : List ℕ) {m : WholeRoot} {d : Rooted} {n a : ℕ} → m ≡ WholeRoot.To n a → IsRoot text marks 0 after m d → (events : List TapeEvent) × (d ≡ rooted events a (drop a text)) × (n ≡ length (tapeMarks events)) × (after ≡ sets marks 0 (tapeMarks events))
+root-to text marks after t p = let q = rw t at p in (q .0, q .1, omega (arith, q .2), q .3)
+
+-- a document by its root and what stands behind it
+pub document-bad : (at : ℕ) (s : Text) → root at s ≡ unrooted → documentFrom at s ≡ notWellFormed
+unfolding documentFrom
+document-bad at s e = rw e
+
+pub document-misc : (at : ℕ) (s : Text) (events : List TapeEvent) (a : ℕ) (r : Text) → root at s ≡ rooted events a r → misc a r ≡ bad → documentFrom at s ≡ notWellFormed
+unfolding documentFrom toEnd
+document-misc at s events a r e m = rw (e, m)
+
+pub document-more : (text : Text) (at : ℕ) (s : Text) (events : List TapeEvent) (a end : ℕ) → root at s ≡ rooted events a (drop a text) → misc a (drop a text) ≡ behind end (drop end text) → end < length text → documentFrom at s ≡ notWellFormed
+unfolding documentFrom toEnd
+document-more text at s events a end e m h = rw (e, m, drop-cons text end 0 h)
+
+pub document-whole : (text : Text) (at : ℕ) (s : Text) (events : List TapeEvent) (a end : ℕ) → root at s ≡ rooted events a (drop a text) → misc a (drop a text) ≡ behind end (drop end text) → length text ≤ end → documentFrom at s ≡ wellFormed events
+unfolding documentFrom toEnd
+document-whole text at s events a end e m h = rw (e, m, drop-of-length-le text h)
+
+pub filled-none : (n : ℕ) → replicate n 0 ≡ filled n []
+unfolding filled
+filled-none n = let e : n ≡ n - 0 = omega arith in ap (λ (k : ℕ). replicate k 0) e
+
+pub filled-length : (n : ℕ) → length (filled n []) ≡ n
+filled-length n = ap length (sym (filled-none n)) ∙ length-replicate n 0
+
+-- a tape stored over zeros
+pub sets-filled : (n : ℕ) (tape : List ℕ) → length tape ≤ n → sets (filled n []) 0 tape ≡ filled n tape
+sets-filled n tape h =
+    let zeroed = filled n [] in
+    let fits : 0 + length tape ≤ length zeroed = omega (arith, filled-length n) in
+    sets-eq tape zeroed 0 fits
+    ∙ ap (λ (t : List ℕ). take 0 zeroed ++ t ++ drop (0 + length tape) zeroed) (sym (take-length tape))
+    ∙ filled-append n [] tape 0 (length tape) refl refl (omega arith)
+
+pub taken-refused : (number place : ℕ) (after : List ℕ) (lent k : ℕ) → number ≡ k → place ≡ 0 → after ≡ filled lent [] → _≡_ {A = Taken} (record { number = number; place = place; marks = after }) (refused lent k)
+unfolding refused
+taken-refused number place after lent k e f g = rw (e, f, g)
+
+-- what was found, with the marks stored over zeros, is the definition's answer
+pub found-taken : (lent : ℕ) (marks after : List ℕ) (found : Found) (d : Document) → marks ≡ filled lent [] → length after ≡ lent → FoundIs marks after found d → answerOf after found ≡ takenOf lent d
+unfolding answerOf takenOf written
+found-taken lent marks after Found.Doctype d m h p = rw (p, h)
+found-taken lent marks after Found.Malformed d m h p = rw (p, h)
+found-taken lent marks after (Found.Needs n) d m h p =
+    let tape = tapeMarks (p .0) in
+    rw (p .1, h, p .2)
+    (bool-cases (leb (length tape) lent)
+    (λ y. rw (y, p .3 ∙ ap (λ (l : List ℕ). sets l 0 tape) m ∙ sets-filled lent tape (leb-true (length tape) lent y)))
+    (λ y. rw y))

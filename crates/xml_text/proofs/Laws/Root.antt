@@ -1,0 +1,191 @@
+-- Laws of the root's turns (specs/Root.antt). Assumes nothing.
+use Prim.Native.Nat.{ℕ, zero, suc, _+_, _-_, _*_, _≤_, _<_}
+use mathlib.Core.Path.{_≡_, refl, sym, ap, _∙_}
+use mathlib.Core.List.{List, [], _∷_, _++_, append-nil, append-assoc}
+use mathlib.Core.Bool.{Bool, true, false}
+use native.Mathlib.Omega.{arith}
+use native.Mathlib.Numerals.{add-one}
+use lib.ListN.{length, getD, set, take, drop, length-append}
+use lib.Seq.{sets}
+use borrow.Author.Tests.{eq-eqb, ne-eqb}
+use Rattle.text.specs.Text.{Text, same}
+use Rattle.xsd_parser.specs.Tape.{Pair}
+use Rattle.xml_text.specs.Steps.{Step, bad, behind, nameOf}
+use Rattle.xml_text.specs.Tape.{AttributePairs, TapeEvent, tapeMarks, eventMarks}
+use Rattle.xml_text.specs.Tags.{Tagged, untagged, tagged, tag}
+use Rattle.xml_text.specs.Root.{Piece, passed, ending, starting, passedBy, piece, Level, stop, on, opened, levelOfTag, levelOfClose, levelOf, turn, Rooted, unrooted, rooted, addEvents, noneOpen, inside, onLevel, insideAll, root}
+use Rattle.xml_text.specs.Answers.{namesUpTo, nextPiece, PieceIn, IsTag, GoesOn, IsRoot}
+use Rattle.xml_text.specs.declared.root.WholeRoot.{WholeRoot}
+use Rattle.xml_text.specs.declared.root.Content.{Content}
+use Rattle.xml_text.specs.declared.root.Onward.{Onward}
+use Rattle.xml_text.specs.declared.tags.WholeTag.{WholeTag}
+use Rattle.xml_text.proofs.Laws.Marks.{sets-append}
+use Rattle.xml_text.proofs.Laws.Tags.{names-push, names-cong}
+
+-- an end tag is held against the innermost open tag
+pub close-other : (text : Text) (slots : List ℕ) (count j : ℕ) (n : Text) (a : ℕ) (r : Text) → count ≡ suc j → same n (nameOf (drop (getD slots j 0) text)) ≡ false → levelOfClose (namesUpTo text slots count) n a r ≡ stop
+unfolding namesUpTo
+close-other text slots count j n a r e h = rw (e, h)
+
+pub close-same : (text : Text) (slots : List ℕ) (count j : ℕ) (n : Text) (a : ℕ) (r : Text) → count ≡ suc j → same n (nameOf (drop (getD slots j 0) text)) ≡ true
+    → levelOfClose (namesUpTo text slots count) n a r ≡ on (namesUpTo text slots j) (TapeEvent.close ∷ []) a r
+unfolding namesUpTo
+close-same text slots count j n a r e h = rw (e, h)
+
+-- the numbers of a close
+pub put-close : (m : List ℕ) (used : ℕ) → set (set m used 3) (used + 1) 0 ≡ sets m used (tapeMarks (TapeEvent.close ∷ []))
+unfolding tapeMarks eventMarks
+put-close m used = let one : used + 1 ≡ suc used = omega arith in rw one
+
+pub close-size : length (tapeMarks (TapeEvent.close ∷ [])) ≡ 2
+unfolding tapeMarks eventMarks
+close-size = refl
+
+-- the numbers of one event
+pub one-event : (e : TapeEvent) → tapeMarks (e ∷ []) ≡ eventMarks e
+unfolding tapeMarks
+one-event e = append-nil (eventMarks e)
+
+-- what an answer says of the definition's tag
+pub tag-bad : (text : Text) (at : ℕ) (marks : List ℕ) (used : ℕ) (after : List ℕ) {m : WholeTag} {d : Tagged} → m ≡ WholeTag.Bad → IsTag text at marks used after m d → d ≡ untagged
+tag-bad text at marks used after t p = rw t at p
+
+pub tag-to : (text : Text) (at : ℕ) (marks : List ℕ) (used : ℕ) (after : List ℕ) {m : WholeTag} {d : Tagged} {kind name n a : ℕ} → m ≡ WholeTag.To kind name n a → IsTag text at marks used after m d → IsTag text at marks used after (WholeTag.To kind name n a) d
+tag-to text at marks used after t p = rw t at p
+
+-- a tag behind the open tags, where the slots below are as they were
+pub open-start : (text : Text) (slots after : List ℕ) (count start kind : ℕ) (pair : Pair) (xs : List AttributePairs) (a : ℕ) (r : Text) → kind ≡ 1 → take count after ≡ take count slots → count < length after
+    → levelOfTag (namesUpTo text slots count) (tagged kind pair xs (nameOf (drop start text)) a r) ≡ on (namesUpTo text (set after count start) (count + 1)) (TapeEvent.tag kind pair xs ∷ []) a r
+unfolding opened
+open-start text slots after count start kind pair xs a r k e h =
+    let names = names-push text after count start h ∙ ap (λ (l : List Text). nameOf (drop start text) ∷ l) (names-cong text after slots count e) in
+    rw (add-one count, names, eq-eqb kind 1 k)
+
+pub open-empty : (text : Text) (slots after : List ℕ) (count start kind : ℕ) (pair : Pair) (xs : List AttributePairs) (a : ℕ) (r : Text) → (kind ≡ 1 → ⊥) → take count after ≡ take count slots
+    → levelOfTag (namesUpTo text slots count) (tagged kind pair xs (nameOf (drop start text)) a r) ≡ on (namesUpTo text after count) (TapeEvent.tag kind pair xs ∷ []) a r
+unfolding opened
+open-empty text slots after count start kind pair xs a r k e = rw (names-cong text after slots count e, ne-eqb kind 1 k)
+
+-- a step without an event lies where the step lies
+pub passed-in : (text : Text) (at : ℕ) (r : Content) (d : Step) → ((e : ℕ) → d ≡ behind e (drop e text) → (at < e) × (e ≤ length text)) → nextPiece text r ≡ passedBy d → PieceIn (length text) at r
+passed-in text at Content.Wrong d h q = tt
+passed-in text at (Content.Passed a) bad h q = let z : _≡_ {A = ℕ} 0 1 = cc in absurd (omega arith)
+passed-in text at (Content.Passed a) (behind e r) h q = h a (cc)
+passed-in text at (Content.Ending n a) bad h q = let z : _≡_ {A = ℕ} 0 1 = cc in absurd (omega arith)
+passed-in text at (Content.Ending n a) (behind e r) h q = let z : _≡_ {A = ℕ} 0 1 = cc in absurd (omega arith)
+passed-in text at (Content.Starting a) bad h q = let z : _≡_ {A = ℕ} 0 1 = cc in absurd (omega arith)
+passed-in text at (Content.Starting a) (behind e r) h q = let z : _≡_ {A = ℕ} 0 1 = cc in absurd (omega arith)
+
+pub piece-weaken : (n at a : ℕ) (r : Content) → at ≤ a → PieceIn n a r → PieceIn n at r
+piece-weaken n at a Content.Wrong h p = tt
+piece-weaken n at a (Content.Passed e) h p = (omega arith, omega arith)
+piece-weaken n at a (Content.Ending name e) h p = (omega arith, omega arith, omega arith)
+piece-weaken n at a (Content.Starting e) h p = omega arith
+
+pub goes-weaken : (text : Text) (at start : ℕ) (slots marks : List ℕ) (used : ℕ) (after : List ℕ) (r : Onward) (d : Level) → at ≤ start → GoesOn text start slots marks used after r d → GoesOn text at slots marks used after r d
+goes-weaken text at start slots marks used after Onward.Stop d h p = p
+goes-weaken text at start slots marks used after (Onward.On count n a) d h p = (p .0, p .1, p .2, p .3, omega (arith, p .4), p .5, p .6, p .7)
+
+-- what an answer says of the definition's piece
+pub piece-wrong : (text : Text) {m : Content} {d : Piece} → m ≡ Content.Wrong → nextPiece text m ≡ d → d ≡ Piece.wrong
+piece-wrong text t q = sym q ∙ ap (nextPiece text) t
+
+pub piece-passed : (text : Text) {m : Content} {d : Piece} {a : ℕ} → m ≡ Content.Passed a → nextPiece text m ≡ d → d ≡ passed a (drop a text)
+piece-passed text t q = sym q ∙ ap (nextPiece text) t
+
+pub piece-ending : (text : Text) {m : Content} {d : Piece} {n a : ℕ} → m ≡ Content.Ending n a → nextPiece text m ≡ d → d ≡ ending (nameOf (drop n text)) a (drop a text)
+piece-ending text t q = sym q ∙ ap (nextPiece text) t
+
+pub piece-starting : (text : Text) {m : Content} {d : Piece} {a : ℕ} → m ≡ Content.Starting a → nextPiece text m ≡ d → d ≡ starting a (drop a text)
+piece-starting text t q = sym q ∙ ap (nextPiece text) t
+
+pub in-passed : (n at : ℕ) {m : Content} {a : ℕ} → m ≡ Content.Passed a → PieceIn n at m → (at < a) × (a ≤ n)
+in-passed n at t p = rw t at p
+
+pub in-ending : (n at : ℕ) {m : Content} {s a : ℕ} → m ≡ Content.Ending s a → PieceIn n at m → (at ≤ s) × (s < a) × (a ≤ n)
+in-ending n at t p = rw t at p
+
+pub in-starting : (n at : ℕ) {m : Content} {a : ℕ} → m ≡ Content.Starting a → PieceIn n at m → at ≤ a
+in-starting n at t p = rw t at p
+
+-- a turn by its piece
+pub turn-of : (tags : List Text) (at : ℕ) (s : Text) (d : Piece) → piece at s ≡ d → turn tags at s ≡ levelOf tags d
+unfolding turn
+turn-of tags at s d e = rw e
+
+-- events in front of events
+pub add-none : (d : Rooted) → addEvents [] d ≡ d
+unfolding addEvents
+add-none unrooted = refl
+add-none (rooted es a r) = refl
+
+pub add-add : (xs ys : List TapeEvent) (d : Rooted) → addEvents xs (addEvents ys d) ≡ addEvents (xs ++ ys) d
+unfolding addEvents
+add-add xs ys unrooted = refl
+add-add xs ys (rooted es a r) = ap (λ (l : List TapeEvent). rooted l a r) (sym (append-assoc xs ys es))
+
+pub add-bad : (xs : List TapeEvent) → addEvents xs unrooted ≡ unrooted
+unfolding addEvents
+add-bad xs = refl
+
+pub add-end : (xs : List TapeEvent) (a : ℕ) (r : Text) → addEvents xs (rooted [] a r) ≡ rooted xs a r
+unfolding addEvents
+add-end xs a r = ap (λ (l : List TapeEvent). rooted l a r) (append-nil xs)
+
+pub tape-append : (xs ys : List TapeEvent) → tapeMarks (xs ++ ys) ≡ tapeMarks xs ++ tapeMarks ys
+unfolding tapeMarks
+tape-append [] ys = refl
+tape-append (x ∷ xs) ys = ap (λ (l : List ℕ). eventMarks x ++ l) (tape-append xs ys) ∙ sym (append-assoc (eventMarks x) (tapeMarks xs) (tapeMarks ys))
+
+pub some-open : (text : Text) (slots : List ℕ) (k : ℕ) → 0 < k → noneOpen (namesUpTo text slots k) ≡ false
+unfolding namesUpTo
+some-open text slots zero h = absurd (omega arith)
+some-open text slots (suc k) h = refl
+
+-- the content, by its next turn
+pub inside-stop : (turns : ℕ) (tags : List Text) (at : ℕ) (s : Text) → noneOpen tags ≡ false → turn tags at s ≡ stop → inside turns tags at s ≡ unrooted
+unfolding inside
+inside-stop zero tags at s o e = refl
+inside-stop (suc turns) tags at s o e = rw (o, e)
+
+pub inside-end : (turns : ℕ) (text : Text) (slots : List ℕ) (left at : ℕ) (s : Text) → 0 < turns → left ≤ 0 → inside turns (namesUpTo text slots left) at s ≡ rooted [] at s
+unfolding inside namesUpTo
+inside-end zero text slots left at s h k = absurd (omega arith)
+inside-end (suc turns) text slots zero at s h k = refl
+inside-end (suc turns) text slots (suc left) at s h k = absurd (omega arith)
+
+pub inside-on : (n turns : ℕ) (before : List TapeEvent) (tags : List Text) (at : ℕ) (s : Text) (left : List Text) (events : List TapeEvent) (a : ℕ) (r : Text) (whole : Rooted)
+    → n - at < turns → at < a → a ≤ n → noneOpen tags ≡ false → turn tags at s ≡ on left events a r → addEvents before (inside turns tags at s) ≡ whole
+    → (t : ℕ) × (n - a < t) × (addEvents (before ++ events) (inside t left a r) ≡ whole)
+unfolding inside
+inside-on n zero before tags at s left events a r whole h g k o e w = absurd (omega arith)
+inside-on n (suc turns) before tags at s left events a r whole h g k o e w =
+    (turns, omega arith, sym (add-add before events (inside turns left a r)) ∙ (rw (o, e) at w))
+
+-- what an answer says of the definition's turn
+pub goes-stop : (text : Text) (at : ℕ) (slots marks : List ℕ) (used : ℕ) (after : List ℕ) {m : Onward} {d : Level} → m ≡ Onward.Stop → GoesOn text at slots marks used after m d → d ≡ stop
+goes-stop text at slots marks used after t p = rw t at p
+
+pub goes-on : (text : Text) (at : ℕ) (slots marks : List ℕ) (used : ℕ) (after : List ℕ) {m : Onward} {d : Level} {count n a : ℕ} → m ≡ Onward.On count n a → GoesOn text at slots marks used after m d → GoesOn text at slots marks used after (Onward.On count n a) d
+goes-on text at slots marks used after t p = rw t at p
+
+-- the numbers of more events
+pub tape-more : (m : List ℕ) (used n : ℕ) (xs ys : List TapeEvent) → n ≡ used + length (tapeMarks xs) → sets (sets m used (tapeMarks xs)) n (tapeMarks ys) ≡ sets m used (tapeMarks (xs ++ ys))
+tape-more m used n xs ys e =
+    rw (e, tape-append xs ys) (sym (sets-append m used (tapeMarks xs) (tapeMarks ys)))
+
+-- the root's tag and its content together
+pub root-joined : (text : Text) (m m1 m2 : List ℕ) (n : ℕ) (es : List TapeEvent) (r : WholeRoot) (inner whole : Rooted) → whole ≡ addEvents es inner → m1 ≡ sets m 0 (tapeMarks es) → n ≡ 0 + length (tapeMarks es)
+    → IsRoot text m1 n m2 r inner → IsRoot text m 0 m2 r whole
+unfolding addEvents
+root-joined text m m1 m2 n es WholeRoot.Bad inner whole w s e p = w ∙ ap (addEvents es) p
+root-joined text m m1 m2 n es (WholeRoot.To k a) inner whole w s e p = (
+  es ++ p .0,
+  w ∙ ap (addEvents es) (p .1),
+  omega (arith, p .2, ap length (tape-append es (p .0)), length-append (tapeMarks es) (tapeMarks (p .0))),
+  p .3 ∙ ap (λ (l : List ℕ). sets l n (tapeMarks (p .0))) s ∙ tape-more m 0 n es (p .0) e,
+)
+
+pub root-found : (at : ℕ) (s : Text) (d : Level) → levelOfTag [] (tag at s) ≡ d → root at s ≡ onLevel insideAll d
+unfolding root
+root-found at s d e = rw e

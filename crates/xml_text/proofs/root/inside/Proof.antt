@@ -1,0 +1,87 @@
+-- `xml_text::root::inside` meets its contract. The loop's invariant: the events so far in front of those from i on are all events, with turns enough for the bytes left; the numbers of those so far are stored. The measure is how much is left. Assumes nothing.
+use borrow.Author.Needs.{needs}
+use native.Mathlib.Omega.{arith}
+use Prim.Native.Nat.{ℕ, suc, _+_, _*_, _-_, _<_, _≤_}
+use mathlib.Core.Path.{_≡_, refl, sym, ap, _∙_}
+use mathlib.Core.List.{List, [], _++_}
+use lib.ListN.{length, drop, length-drop, length-append}
+use lib.Seq.{sets, length-sets}
+use Rattle.xml_text.specs.Tape.{TapeEvent, tapeMarks}
+use Rattle.xml_text.specs.Root.{addEvents, inside}
+use Rattle.xml_text.specs.Answers.{namesUpTo}
+use Rattle.xml_text.proofs.Laws.Root.{add-none, add-bad, add-end, tape-append, tape-more, some-open, inside-stop, inside-end, inside-on, goes-stop, goes-on}
+use Rattle.xml_text.proofs.root.inside.Statement.{statement}
+use Rattle.xml_text.proofs.root.inside.Tie as tie
+
+abbrev Inv-loop : tie.InvT-loop
+Inv-loop text slots₀ marks₀ at count used i₀ left₀ n₀ slots marks i left n =
+    (turns : ℕ) × (events : List TapeEvent) × (length text - i < turns) × (addEvents events (inside turns (namesUpTo text slots left) i (drop i text)) ≡ inside (suc (length (drop at text))) (namesUpTo text slots₀ count) at (drop at text))
+    × (n ≡ used + length (tapeMarks events)) × (marks ≡ sets marks₀ used (tapeMarks events)) × (length slots ≡ length slots₀) × (3 * left ≤ i) × (n ≤ 2 * i) × (i ≤ length text) × (length marks ≡ length marks₀)
+
+abbrev μ-loop : tie.MeasureT-loop
+μ-loop text slots₀ marks₀ at count used i₀ left₀ n₀ slots marks i left n = length text - i
+
+loop-holds : tie.Need-loop-holds Inv-loop μ-loop
+unfolding tapeMarks
+loop-holds c =
+    let a = c .before .before .before .args in
+    let p = c .before .before .before .pre in
+    (suc (length (drop (a .at) (a .text .now))), [], omega (arith, length-drop (a .at) (a .text .now)), add-none _, omega arith, refl, refl, p .2, p .3, p .4, refl)
+
+turn-requires : tie.Need-turn-requires Inv-loop μ-loop
+turn-requires c κs = (c .before .before .before .before .before .before .before .pre .0, omega (arith, c .before .before .before .before .before .before .before .pre .1, c .before .before .before .loop .inv .6), c .before .before .before .loop .inv .7, c .before .before .before .loop .inv .8, c .before .before .before .loop .inv .9, omega arith)
+
+enum-known-next-left : tie.Need-enum-known-next-left Inv-loop μ-loop
+enum-known-next-left c = omega arith
+
+enum-told : tie.Need-enum-told Inv-loop μ-loop
+enum-told c = omega arith
+
+same-length : tie.Need-same-length Inv-loop μ-loop
+same-length c = search needs
+
+same-length-2 : tie.Need-same-length-2 Inv-loop μ-loop
+same-length-2 c = search needs
+
+returns : tie.Need-returns Inv-loop μ-loop
+returns c =
+    let stopped = inside-stop (c .before .before .before .before .before .before .before .before .before .before .loop .inv .0) _ (c .before .before .before .before .before .before .before .before .before .before .loop .i) _ (some-open (c .before .before .before .before .before .before .before .before .before .before .before .before .before .before .args .text .now) (c .before .before .before .before .before .before .before .before .before .before .loop .slots) (c .before .before .before .before .before .before .before .before .before .before .loop .left) (omega arith)) (goes-stop (c .before .before .before .before .before .before .before .before .before .before .before .before .before .before .args .text .now) _ _ _ _ _ (c .enum-told .given .1) (c .before .before .before .before .before .before .turn .ensures)) in
+    sym (c .before .before .before .before .before .before .before .before .before .before .loop .inv .3) ∙ ap (addEvents (c .before .before .before .before .before .before .before .before .before .before .loop .inv .1)) stopped ∙ add-bad (c .before .before .before .before .before .before .before .before .before .before .loop .inv .1)
+
+loop-less : tie.Need-loop-less Inv-loop μ-loop
+loop-less c =
+    let g = goes-on (c .before .before .before .before .before .before .before .before .before .before .before .before .before .before .before .args .text .now) (c .before .before .before .before .before .before .before .before .before .before .before .loop .i) _ _ _ _ (c .before .next-left .given .1) (c .before .before .before .before .before .before .before .turn .ensures) in
+    omega (arith, g .4, g .5)
+
+loop-again : tie.Need-loop-again Inv-loop μ-loop
+loop-again c =
+    let a = c .before .before .before .before .before .before .before .before .before .before .before .before .before .before .before .args in
+    let g = goes-on (c .before .before .before .before .before .before .before .before .before .before .before .before .before .before .before .args .text .now) (c .before .before .before .before .before .before .before .before .before .before .before .loop .i) _ _ _ _ (c .before .next-left .given .1) (c .before .before .before .before .before .before .before .turn .ensures) in
+    let next = inside-on (length (a .text .now)) (c .before .before .before .before .before .before .before .before .before .before .before .loop .inv .0) (c .before .before .before .before .before .before .before .before .before .before .before .loop .inv .1) _ (c .before .before .before .before .before .before .before .before .before .before .before .loop .i) _ _ (g .0) _ _ _ (c .before .before .before .before .before .before .before .before .before .before .before .loop .inv .2) (g .4) (g .5) (some-open (c .before .before .before .before .before .before .before .before .before .before .before .before .before .before .before .args .text .now) (c .before .before .before .before .before .before .before .before .before .before .before .loop .slots) (c .before .before .before .before .before .before .before .before .before .before .before .loop .left) (omega arith)) (g .1) (c .before .before .before .before .before .before .before .before .before .before .before .loop .inv .3) in
+    let stored = g .3 ∙ ap (λ (l : List ℕ). sets l (c .before .before .before .before .before .before .before .before .before .before .before .loop .n) (tapeMarks (g .0))) (c .before .before .before .before .before .before .before .before .before .before .before .loop .inv .5) ∙ tape-more (a .marks .now) (a .used) (c .before .before .before .before .before .before .before .before .before .before .before .loop .n) (c .before .before .before .before .before .before .before .before .before .before .before .loop .inv .1) (g .0) (c .before .before .before .before .before .before .before .before .before .before .before .loop .inv .4) in (
+      next .0,
+      c .before .before .before .before .before .before .before .before .before .before .before .loop .inv .1 ++ g .0,
+      next .1,
+      next .2,
+      omega (arith, g .2, c .before .before .before .before .before .before .before .before .before .before .before .loop .inv .4, ap length (tape-append (c .before .before .before .before .before .before .before .before .before .before .before .loop .inv .1) (g .0)), length-append (tapeMarks (c .before .before .before .before .before .before .before .before .before .before .before .loop .inv .1)) (tapeMarks (g .0))),
+      stored,
+      search needs,
+      g .6,
+      g .7,
+      g .5,
+      ap length stored ∙ length-sets (a .marks .now) (a .used) (tapeMarks (c .before .before .before .before .before .before .before .before .before .before .before .loop .inv .1 ++ g .0)),
+    )
+
+same-length-3 : tie.Need-same-length-3 Inv-loop μ-loop
+same-length-3 c = search needs
+
+same-length-4 : tie.Need-same-length-4 Inv-loop μ-loop
+same-length-4 c = search needs
+
+returns-2 : tie.Need-returns-2 Inv-loop μ-loop
+returns-2 c =
+    let e = inside-end (c .before .loop .inv .0) (c .before .before .before .before .before .args .text .now) (c .before .loop .slots) (c .before .loop .left) (c .before .loop .i) _ (omega (arith, c .before .loop .inv .2)) (omega arith) in
+    (c .before .loop .inv .1, sym (c .before .loop .inv .3) ∙ ap (addEvents (c .before .loop .inv .1)) e ∙ add-end (c .before .loop .inv .1) (c .before .loop .i) _, c .before .loop .inv .4, c .before .loop .inv .5)
+
+pub inside-spec : {M : Type 1} → statement M
+inside-spec = tie.close (tie.spec Inv-loop μ-loop loop-holds turn-requires enum-known-next-left enum-told same-length same-length-2 returns loop-less loop-again same-length-3 same-length-4 returns-2)

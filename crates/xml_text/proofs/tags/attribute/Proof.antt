@@ -1,0 +1,34 @@
+-- `xml_text::tags::attribute` meets its contract: the steps one behind the other, each inside the text. Assumes nothing.
+use borrow.Author.Needs.{needs}
+use native.Mathlib.Omega.{arith}
+use Rattle.xml_text.specs.Tags.{attribute}
+use Rattle.xml_text.proofs.Laws.Moved.{to-of, bad-of}
+use lib.ListN.{drop, length-drop}
+use Rattle.xml_text.proofs.Laws.Moves.{inside-text, name-passes, eq-passes, value-passes, value-two}
+use Rattle.xml_text.proofs.tags.attribute.Statement.{statement}
+use Rattle.xml_text.proofs.tags.attribute.Tie as tie
+
+returns : tie.Need-returns
+unfolding attribute
+returns c = (rw (bad-of (c .before .before .before .before .args .text .now) (c .enum-told .given .1) (c .before .before .name .ensures)), tt)
+
+returns-2 : tie.Need-returns-2
+unfolding attribute
+returns-2 c = (rw (to-of (c .before .before .before .before .before .before .before .before .args .text .now) (c .before .before .before .before .end .given .1) (c .before .before .before .before .before .before .name .ensures), bad-of (c .before .before .before .before .before .before .before .before .args .text .now) (c .enum-told2 .given .1) (c .before .before .eq .ensures)), tt)
+
+returns-3 : tie.Need-returns-3
+unfolding attribute
+returns-3 c = (rw (to-of (c .before .before .before .before .before .before .before .before .before .before .before .before .args .text .now) (c .before .before .before .before .before .before .before .before .end .given .1) (c .before .before .before .before .before .before .before .before .before .before .name .ensures), to-of (c .before .before .before .before .before .before .before .before .before .before .before .before .args .text .now) (c .before .before .before .before .quote .given .1) (c .before .before .before .before .before .before .eq .ensures), bad-of (c .before .before .before .before .before .before .before .before .before .before .before .before .args .text .now) (c .enum-told3 .given .1) (c .before .before .value .ensures)), tt)
+
+returns-4 : tie.Need-returns-4
+unfolding attribute
+returns-4 c =
+    let text = (c .before .before .before .before .before .before .before .before .before .before .before .before .before .args .text .now) in
+    let n = inside-text name-passes text (c .before .before .before .before .before .before .before .before .before .before .before .before .before .args .at) _ (to-of (c .before .before .before .before .before .before .before .before .before .before .before .before .before .args .text .now) (c .before .before .before .before .before .before .before .before .before .end .given .1) (c .before .before .before .before .before .before .before .before .before .before .before .name .ensures)) in
+    let e = inside-text eq-passes text _ _ (to-of (c .before .before .before .before .before .before .before .before .before .before .before .before .before .args .text .now) (c .before .before .before .before .before .quote .given .1) (c .before .before .before .before .before .before .before .eq .ensures)) in
+    let v = inside-text value-passes text _ _ (to-of (c .before .before .before .before .before .before .before .before .before .before .before .before .before .args .text .now) (c .before .behind .given .1) (c .before .before .before .value .ensures)) in
+    let w = value-two _ _ _ _ (to-of (c .before .before .before .before .before .before .before .before .before .before .before .before .before .args .text .now) (c .before .behind .given .1) (c .before .before .before .value .ensures)) in
+    (rw (to-of (c .before .before .before .before .before .before .before .before .before .before .before .before .before .args .text .now) (c .before .before .before .before .before .before .before .before .before .end .given .1) (c .before .before .before .before .before .before .before .before .before .before .before .name .ensures), to-of (c .before .before .before .before .before .before .before .before .before .before .before .before .before .args .text .now) (c .before .before .before .before .before .quote .given .1) (c .before .before .before .before .before .before .before .eq .ensures), to-of (c .before .before .before .before .before .before .before .before .before .before .before .before .before .args .text .now) (c .before .behind .given .1) (c .before .before .before .value .ensures)), (omega arith, omega arith, omega arith, omega arith, omega arith))
+
+pub attribute-spec : {M : Type 1} → statement M
+attribute-spec = tie.close (tie.spec (λ c κs. search needs) (λ c. search needs) (λ c. search needs) returns (λ c κs. search needs) (λ c. search needs) (λ c. search needs) returns-2 (λ c κs. search needs) (λ c. search needs) (λ c. search needs) returns-3 returns-4)

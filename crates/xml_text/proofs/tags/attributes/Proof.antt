@@ -1,0 +1,120 @@
+-- `xml_text::tags::attributes` meets its contract. The loop's invariant: the parts from i on end the tag as all of them do, with turns enough for the bytes left; the keys so far are the names of the slots, and their numbers are stored. The measure is how much is left. Assumes nothing.
+use borrow.Author.Needs.{needs}
+use native.Mathlib.Omega.{arith}
+use Prim.Native.Nat.{ℕ, suc, _+_, _*_, _-_, _<_, _≤_}
+use mathlib.Core.Path.{_≡_, refl, sym, ap, _∙_}
+use mathlib.Core.List.{List, [], _∷_, _++_}
+use native.Mathlib.Numerals.{add-one}
+use lib.ListN.{length, drop, length-drop, length-set, length-append}
+use lib.Seq.{sets, length-sets}
+use Rattle.xml_text.specs.Tape.{AttributePairs, attributeMarks}
+use Rattle.xml_text.specs.Tags.{attributesFrom, attributes, attributeFrom}
+use Rattle.xml_text.specs.Answers.{namesUpTo}
+use Rattle.xml_text.proofs.Laws.Tags.{names-push, part-wrong, part-last, part-more, part-in-last, part-in-more, attributes-wrong, attributes-last, attributes-twice, attributes-on, marks-more}
+use Rattle.xml_text.proofs.tags.attributes.Statement.{statement}
+use Rattle.xml_text.proofs.tags.attributes.Tie as tie
+
+abbrev Inv-loop : tie.InvT-loop
+Inv-loop text at keys₀ marks₀ from i₀ count₀ keys marks i count =
+    (turns : ℕ) × (xs : List AttributePairs) × (length text - i < turns) × (attributesFrom turns (namesUpTo text keys count) xs i (drop i text) ≡ attributes at (drop at text)) × (count ≡ length xs)
+    × (marks ≡ sets marks₀ from (attributeMarks xs)) × (at + 3 * count ≤ i) × (length keys ≡ length keys₀) × (length marks ≡ length marks₀)
+
+abbrev μ-loop : tie.MeasureT-loop
+μ-loop text at keys₀ marks₀ from i₀ count₀ keys marks i count = length text - i
+
+loop-holds : tie.Need-loop-holds Inv-loop μ-loop
+unfolding attributes namesUpTo attributeMarks
+loop-holds c =
+    let a = c .before .before .before .args in
+    (suc (length (drop (a .at) (a .text .now))), [], omega (arith, length-drop (a .at) (a .text .now)), refl, refl, refl, omega arith, refl, refl)
+
+part-of-requires : tie.Need-part-of-requires Inv-loop μ-loop
+part-of-requires c κs = search needs
+
+enum-told : tie.Need-enum-told Inv-loop μ-loop
+enum-told c = omega arith
+
+same-length : tie.Need-same-length Inv-loop μ-loop
+same-length c = omega arith
+
+same-length-2 : tie.Need-same-length-2 Inv-loop μ-loop
+same-length-2 c = omega arith
+
+returns : tie.Need-returns Inv-loop μ-loop
+returns c = sym (c .before .before .before .loop .inv .3) ∙ attributes-wrong (c .before .before .before .loop .inv .0) _ (c .before .before .before .loop .inv .1) (c .before .before .before .loop .i) _ (part-wrong (c .before .before .before .before .before .before .before .args .text .now) (c .enum-told .given .1) (c .before .before .part-of .ensures .0))
+
+enum-known-kind : tie.Need-enum-known-kind Inv-loop μ-loop
+enum-known-kind c = omega arith
+
+same-length-3 : tie.Need-same-length-3 Inv-loop μ-loop
+same-length-3 c = omega arith
+
+same-length-4 : tie.Need-same-length-4 Inv-loop μ-loop
+same-length-4 c = omega arith
+
+returns-2 : tie.Need-returns-2 Inv-loop μ-loop
+returns-2 c =
+    let p = part-in-last (length (c .before .before .before .before .before .before .before .before .args .text .now)) (c .before .before .before .before .loop .i) (c .before .kind .given .1) (c .before .before .before .part-of .ensures .1) in
+    let l = part-last (c .before .before .before .before .before .before .before .before .args .text .now) (c .before .kind .given .1) (c .before .before .before .part-of .ensures .0) in
+    (c .before .before .before .before .loop .inv .1, sym (c .before .before .before .before .loop .inv .3) ∙ attributes-last (c .before .before .before .before .loop .inv .0) _ (c .before .before .before .before .loop .inv .1) (c .before .before .before .before .loop .i) _ _ _ _ (omega (arith, c .before .before .before .before .loop .inv .2)) l, c .before .before .before .before .loop .inv .4, c .before .before .before .before .loop .inv .5, omega (arith, p, c .before .before .before .before .loop .inv .6), p .1)
+
+enum-known-key : tie.Need-enum-known-key Inv-loop μ-loop
+enum-known-key c = omega arith
+
+is-among-requires : tie.Need-is-among-requires Inv-loop μ-loop
+is-among-requires c κs = omega (arith, part-in-more (length (c .before .before .before .before .before .before .before .before .before .args .text .now)) (c .before .before .before .before .before .loop .i) (c .before .before .key .given .1) (c .before .before .before .before .part-of .ensures .1), c .before .before .before .before .before .loop .inv .6, c .before .before .before .before .before .loop .inv .7, c .before .before .before .before .before .before .before .before .before .pre)
+
+same-length-5 : tie.Need-same-length-5 Inv-loop μ-loop
+same-length-5 c = omega arith
+
+same-length-6 : tie.Need-same-length-6 Inv-loop μ-loop
+same-length-6 c = omega arith
+
+returns-3 : tie.Need-returns-3 Inv-loop μ-loop
+returns-3 c = sym (c .before .before .before .before .before .before .before .loop .inv .3) ∙ attributes-twice (c .before .before .before .before .before .before .before .loop .inv .0) _ (c .before .before .before .before .before .before .before .loop .inv .1) (c .before .before .before .before .before .before .before .loop .i) _ _ _ _ _ (part-more (c .before .before .before .before .before .before .before .before .before .before .before .args .text .now) (c .before .before .before .before .key .given .1) (c .before .before .before .before .before .before .part-of .ensures .0)) (sym (c .before .is-among .ensures) ∙ c .if1 .taken)
+
+cast-keys : tie.Need-cast-keys Inv-loop μ-loop
+cast-keys c = omega (arith, part-in-more (length (c .before .before .before .before .before .before .before .before .before .before .before .args .text .now)) (c .before .before .before .before .before .before .before .loop .i) (c .before .before .before .before .key .given .1) (c .before .before .before .before .before .before .part-of .ensures .1), c .before .before .before .before .before .before .before .loop .inv .6, c .before .before .before .before .before .before .before .loop .inv .7, c .before .before .before .before .before .before .before .before .before .before .before .pre)
+
+mul-keys : tie.Need-mul-keys Inv-loop μ-loop
+mul-keys c = omega (arith, part-in-more (length (c .before .before .before .before .before .before .before .before .before .before .before .args .text .now)) (c .before .before .before .before .before .before .before .loop .i) (c .before .before .before .before .key .given .1) (c .before .before .before .before .before .before .part-of .ensures .1), c .before .before .before .before .before .before .before .loop .inv .6, c .before .before .before .before .before .before .before .loop .inv .7, c .before .before .before .before .before .before .before .before .before .before .before .pre)
+
+slice-write-keys : tie.Need-slice-write-keys Inv-loop μ-loop
+slice-write-keys c = omega (arith, part-in-more (length (c .before .before .before .before .before .before .before .before .before .before .before .args .text .now)) (c .before .before .before .before .before .before .before .loop .i) (c .before .before .before .before .key .given .1) (c .before .before .before .before .before .before .part-of .ensures .1), c .before .before .before .before .before .before .before .loop .inv .6, c .before .before .before .before .before .before .before .loop .inv .7, c .before .before .before .before .before .before .before .before .before .before .before .pre)
+
+mul-put-attribute : tie.Need-mul-put-attribute Inv-loop μ-loop
+mul-put-attribute c = omega (arith, part-in-more (length (c .before .before .before .before .before .before .before .before .before .before .before .before .args .text .now)) (c .before .before .before .before .before .before .before .before .loop .i) (c .before .before .before .before .before .key .given .1) (c .before .before .before .before .before .before .before .part-of .ensures .1), c .before .before .before .before .before .before .before .before .loop .inv .6, c .before .before .before .before .before .before .before .before .loop .inv .7, c .before .before .before .before .before .before .before .before .before .before .before .before .pre)
+
+add-put-attribute : tie.Need-add-put-attribute Inv-loop μ-loop
+add-put-attribute c = omega (arith, part-in-more (length (c .before .before .before .before .before .before .before .before .before .before .before .before .args .text .now)) (c .before .before .before .before .before .before .before .before .loop .i) (c .before .before .before .before .before .key .given .1) (c .before .before .before .before .before .before .before .part-of .ensures .1), c .before .before .before .before .before .before .before .before .loop .inv .6, c .before .before .before .before .before .before .before .before .loop .inv .7, c .before .before .before .before .before .before .before .before .before .before .before .before .pre)
+
+put-attribute-requires : tie.Need-put-attribute-requires Inv-loop μ-loop
+put-attribute-requires c κs = (omega (arith, part-in-more (length (c .before .before .before .before .before .before .before .before .before .before .before .before .args .text .now)) (c .before .before .before .before .before .before .before .before .loop .i) (c .before .before .before .before .before .key .given .1) (c .before .before .before .before .before .before .before .part-of .ensures .1), c .before .before .before .before .before .before .before .before .loop .inv .6, c .before .before .before .before .before .before .before .before .loop .inv .7, c .before .before .before .before .before .before .before .before .before .before .before .before .pre), omega (arith, part-in-more (length (c .before .before .before .before .before .before .before .before .before .before .before .before .args .text .now)) (c .before .before .before .before .before .before .before .before .loop .i) (c .before .before .before .before .before .key .given .1) (c .before .before .before .before .before .before .before .part-of .ensures .1), c .before .before .before .before .before .before .before .before .loop .inv .6, c .before .before .before .before .before .before .before .before .loop .inv .7, c .before .before .before .before .before .before .before .before .before .before .before .before .pre), omega (arith, part-in-more (length (c .before .before .before .before .before .before .before .before .before .before .before .before .args .text .now)) (c .before .before .before .before .before .before .before .before .loop .i) (c .before .before .before .before .before .key .given .1) (c .before .before .before .before .before .before .before .part-of .ensures .1), c .before .before .before .before .before .before .before .before .loop .inv .6, c .before .before .before .before .before .before .before .before .loop .inv .7, c .before .before .before .before .before .before .before .before .before .before .before .before .pre), omega (arith, part-in-more (length (c .before .before .before .before .before .before .before .before .before .before .before .before .args .text .now)) (c .before .before .before .before .before .before .before .before .loop .i) (c .before .before .before .before .before .key .given .1) (c .before .before .before .before .before .before .before .part-of .ensures .1), c .before .before .before .before .before .before .before .before .loop .inv .6, c .before .before .before .before .before .before .before .before .loop .inv .7, c .before .before .before .before .before .before .before .before .before .before .before .before .pre), omega (arith, part-in-more (length (c .before .before .before .before .before .before .before .before .before .before .before .before .args .text .now)) (c .before .before .before .before .before .before .before .before .loop .i) (c .before .before .before .before .before .key .given .1) (c .before .before .before .before .before .before .before .part-of .ensures .1), c .before .before .before .before .before .before .before .before .loop .inv .6, c .before .before .before .before .before .before .before .before .loop .inv .7, c .before .before .before .before .before .before .before .before .before .before .before .before .pre))
+
+add-count : tie.Need-add-count Inv-loop μ-loop
+add-count c = omega (arith, part-in-more (length (c .before .before .before .before .before .before .before .before .before .before .before .before .before .before .before .args .text .now)) (c .before .before .before .before .before .before .before .before .before .before .before .loop .i) (c .before .before .before .before .before .before .before .before .key .given .1) (c .before .before .before .before .before .before .before .before .before .before .part-of .ensures .1), c .before .before .before .before .before .before .before .before .before .before .before .loop .inv .6, c .before .before .before .before .before .before .before .before .before .before .before .loop .inv .7, c .before .before .before .before .before .before .before .before .before .before .before .before .before .before .before .pre)
+
+loop-less : tie.Need-loop-less Inv-loop μ-loop
+loop-less c = omega (arith, part-in-more (length (c .before .before .before .before .before .before .before .before .before .before .before .before .before .before .before .args .text .now)) (c .before .before .before .before .before .before .before .before .before .before .before .loop .i) (c .before .before .before .before .before .before .before .before .key .given .1) (c .before .before .before .before .before .before .before .before .before .before .part-of .ensures .1), c .before .before .before .before .before .before .before .before .before .before .before .loop .inv .6, c .before .before .before .before .before .before .before .before .before .before .before .loop .inv .7, c .before .before .before .before .before .before .before .before .before .before .before .before .before .before .before .pre)
+
+loop-again : tie.Need-loop-again Inv-loop μ-loop
+loop-again c =
+    let a = c .before .before .before .before .before .before .before .before .before .before .before .before .before .before .before .args in
+    let xs = c .before .before .before .before .before .before .before .before .before .before .before .loop .inv .1 in
+    let x = (attributeFrom (c .before .before .before .before .before .before .before .before .key .given .0 .0) (c .before .before .before .before .before .before .before .before .key .given .0 .1 .0) (c .before .before .before .before .before .before .before .before .key .given .0 .1 .1 .0) (c .before .before .before .before .before .before .before .before .key .given .0 .1 .1 .1 .0)) in
+    let p = part-in-more (length (c .before .before .before .before .before .before .before .before .before .before .before .before .before .before .before .args .text .now)) (c .before .before .before .before .before .before .before .before .before .before .before .loop .i) (c .before .before .before .before .before .before .before .before .key .given .1) (c .before .before .before .before .before .before .before .before .before .before .part-of .ensures .1) in
+    let next = attributes-on (length (a .text .now)) (c .before .before .before .before .before .before .before .before .before .before .before .loop .inv .0) _ xs (c .before .before .before .before .before .before .before .before .before .before .before .loop .i) _ x _ _ _ _ (c .before .before .before .before .before .before .before .before .before .before .before .loop .inv .2) (omega (arith, p)) (p .4) (part-more (c .before .before .before .before .before .before .before .before .before .before .before .before .before .before .before .args .text .now) (c .before .before .before .before .before .before .before .before .key .given .1) (c .before .before .before .before .before .before .before .before .before .before .part-of .ensures .0)) (sym (c .before .before .before .before .before .is-among .ensures) ∙ c .before .before .before .before .if1 .left) (c .before .before .before .before .before .before .before .before .before .before .before .loop .inv .3) in
+    let stored = c .before .before .put-attribute .ensures ∙ ap (λ (l : List ℕ). sets l (a .from + 4 * (c .before .before .before .before .before .before .before .before .before .before .before .loop .count)) (attributeMarks (x ∷ []))) (c .before .before .before .before .before .before .before .before .before .before .before .loop .inv .5) ∙ marks-more (a .marks .now) (a .from) (c .before .before .before .before .before .before .before .before .before .before .before .loop .count) xs x (c .before .before .before .before .before .before .before .before .before .before .before .loop .inv .4) in (
+      next .0,
+      xs ++ x ∷ [],
+      next .1,
+      rw (add-one (c .before .before .before .before .before .before .before .before .before .before .before .loop .count), names-push (a .text .now) (c .before .before .before .before .before .before .before .before .before .before .before .loop .keys) (c .before .before .before .before .before .before .before .before .before .before .before .loop .count) (c .before .before .before .before .before .before .before .before .key .given .0 .0) (omega (arith, p, c .before .before .before .before .before .before .before .before .before .before .before .loop .inv .6, c .before .before .before .before .before .before .before .before .before .before .before .loop .inv .7, c .before .before .before .before .before .before .before .before .before .before .before .before .before .before .before .pre))) (next .2),
+      simp length-append (omega (arith, c .before .before .before .before .before .before .before .before .before .before .before .loop .inv .4)),
+      stored,
+      omega (arith, p, c .before .before .before .before .before .before .before .before .before .before .before .loop .inv .6),
+      length-set (c .before .before .before .before .before .before .before .before .before .before .before .loop .keys) (c .before .before .before .before .before .before .before .before .before .before .before .loop .count) (c .before .before .before .before .before .before .before .before .key .given .0 .0) ∙ c .before .before .before .before .before .before .before .before .before .before .before .loop .inv .7,
+      ap length stored ∙ length-sets (a .marks .now) (a .from) (attributeMarks (xs ++ x ∷ [])),
+    )
+
+pub attributes-spec : {M : Type 1} → statement M
+attributes-spec = tie.close (tie.spec Inv-loop μ-loop loop-holds part-of-requires enum-told same-length same-length-2 returns enum-known-kind same-length-3 same-length-4 returns-2 enum-known-key is-among-requires same-length-5 same-length-6 returns-3 cast-keys mul-keys slice-write-keys mul-put-attribute add-put-attribute put-attribute-requires add-count loop-less loop-again)

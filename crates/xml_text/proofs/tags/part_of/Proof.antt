@@ -1,0 +1,56 @@
+-- `xml_text::tags::part_of` meets its contract: white space, then the words of the definition. Assumes nothing.
+use borrow.Author.Needs.{needs}
+use native.Mathlib.Omega.{arith}
+use Prim.Native.Nat.{_+_}
+use mathlib.Core.Path.{sym, ap, _∙_}
+use lib.ListN.{drop, length-drop}
+use lib.Seq.{drop-drop}
+use borrow.Author.Tests.{eq-eqb, ne-eqb}
+use Rattle.text.specs.Text.{bytes}
+use Rattle.xml_text.specs.Tags.{partOf, last}
+use Rattle.xml_text.proofs.Laws.Steps.{starts-length}
+use Rattle.xml_text.proofs.Laws.Moves.{spaces-moves}
+use Rattle.xml_text.proofs.Laws.Tags.{part-weaken}
+use Rattle.xml_text.proofs.tags.part_of.Statement.{statement}
+use Rattle.xml_text.proofs.tags.part_of.Tie as tie
+
+add-t9 : tie.Need-add-t9
+add-t9 c =
+    let at = c .before .before .before .spaces .result in
+    omega (arith, starts-length _ _ (sym (c .before .starts .ensures) ∙ c .if1 .taken), length-drop at (c .before .before .before .before .before .args .text .now))
+
+returns : tie.Need-returns
+unfolding partOf bytes
+returns c =
+    let start = c .before .before .before .spaces .result in
+    let d = length-drop start (c .before .before .before .before .before .args .text .now) in
+    let m = spaces-moves _ _ _ _ (sym (c .before .before .before .spaces .ensures)) in
+    let w = starts-length _ _ (sym (c .before .starts .ensures) ∙ c .if1 .taken) in
+    (rw (sym (c .before .before .before .spaces .ensures), sym (c .before .starts .ensures) ∙ c .if1 .taken) (ap (last 2 (start + 2)) (sym (drop-drop 2 start (c .before .before .before .before .before .args .text .now)))), (omega arith, omega arith))
+
+add-t13 : tie.Need-add-t13
+add-t13 c =
+    let at = c .before .before .before .before .before .before .spaces .result in
+    omega (arith, starts-length _ _ (sym (c .before .starts2 .ensures) ∙ c .if2 .taken), length-drop at (c .before .before .before .before .before .before .before .before .args .text .now))
+
+returns-2 : tie.Need-returns-2
+unfolding partOf bytes
+returns-2 c =
+    let start = c .before .before .before .before .before .before .spaces .result in
+    let d = length-drop start (c .before .before .before .before .before .before .before .before .args .text .now) in
+    let m = spaces-moves _ _ _ _ (sym (c .before .before .before .before .before .before .spaces .ensures)) in
+    let w = starts-length _ _ (sym (c .before .starts2 .ensures) ∙ c .if2 .taken) in
+    (rw (sym (c .before .before .before .before .before .before .spaces .ensures), sym (c .before .before .before .before .starts .ensures) ∙ c .before .before .before .if1 .left, sym (c .before .starts2 .ensures) ∙ c .if2 .taken) (ap (last 1 (start + 1)) (sym (drop-drop 1 start (c .before .before .before .before .before .before .before .before .args .text .now)))), (omega arith, omega arith))
+
+returns-3 : tie.Need-returns-3
+unfolding partOf bytes
+returns-3 c = (rw (sym (c .before .before .before .before .before .before .before .spaces .ensures), sym (c .before .before .before .before .before .starts .ensures) ∙ c .before .before .before .before .if1 .left, sym (c .before .before .starts2 .ensures) ∙ c .before .if2 .left, eq-eqb _ _ (c .if3 .taken)), tt)
+
+returns-4 : tie.Need-returns-4
+unfolding partOf bytes
+returns-4 c =
+    let m = spaces-moves _ _ _ _ (sym (c .before .before .before .before .before .before .before .before .spaces .ensures)) in
+    (rw (sym (c .before .before .before .before .before .before .before .before .spaces .ensures), sym (c .before .before .before .before .before .before .starts .ensures) ∙ c .before .before .before .before .before .if1 .left, sym (c .before .before .before .starts2 .ensures) ∙ c .before .before .if2 .left, ne-eqb _ _ (c .before .if3 .left)) (c .attribute .ensures .0), part-weaken _ (c .before .before .before .before .before .before .before .before .before .before .args .at) (c .before .before .before .before .before .before .before .before .spaces .result) (c .attribute .result) (m .0) (c .attribute .ensures .1))
+
+pub part-of-spec : {M : Type 1} → statement M
+part-of-spec = tie.close (tie.spec (λ c κs. search needs) (λ c. search needs) (λ c κs. search needs) add-t9 returns (λ c. search needs) (λ c κs. search needs) add-t13 returns-2 returns-3 (λ c κs. search needs) returns-4)

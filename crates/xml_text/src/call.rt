@@ -1,0 +1,114 @@
+// The call.
+use crate::prolog::misc;
+use crate::prolog::prolog;
+use crate::root::WholeRoot;
+use crate::root::root;
+use crate::steps::Moved;
+use crate::steps::starts;
+use sheet::limits;
+use sheet::returned;
+use xsd_good::clear::Answer;
+ghost use mathlib.Core.Path.{_≡_};
+ghost use mathlib.Core.List.{[]};
+ghost use Prim.Native.Nat.{_≤_};
+ghost use lib.ListN.{length, drop};
+ghost use Rattle.sheet.specs.Rows.{filled};
+ghost use Rattle.sheet.specs.Lengths.{tapeLengths};
+ghost use Rattle.xml_text.specs.Call.{documentFrom, document, TapeIs};
+ghost use Rattle.xml_text.specs.Answers.{FoundIs, AnswerIs};
+
+// What a text is found to be: begun by a DOCTYPE, not well formed, or well formed with so many marks needed.
+pub enum Found {
+    Doctype,
+    Malformed,
+    Needs(usize),
+}
+
+fn tape_lengths(text: usize, marks: usize) -> bool
+    ensures { λ r. ⌜ r ≡ tapeLengths text marks ⌝ }
+{
+    (text <= limits::TEXT) & (marks <= limits::MARKS)
+}
+
+fn zero_marks(marks: &mut [u32])
+    ensures { λ _. ⌜ now (marks .exit) ≡ filled (length (now (marks .entry))) [] ⌝ }
+{
+    let n = marks.len();
+    buffer::zero_rows(marks, 0, n);
+}
+
+fn refused(marks: &mut [u32], number: u32) -> Answer
+    ensures { λ r. ⌜ (r .number ≡ number) × (r .place ≡ 0) × (now (marks .exit) ≡ filled (length (now (marks .entry))) []) ⌝ }
+{
+    zero_marks(marks);
+    Answer { number, place: 0 }
+}
+
+fn document_from(text: &[u8], marks: &mut [u32], at: usize) -> Found
+    requires { ⌜ length (now text) ≤ 65536 ⌝ }
+    ensures { λ r. ⌜ FoundIs (now (marks .entry)) (now (marks .exit)) r (documentFrom at (drop at (now (text .entry)))) ⌝ }
+{
+    let WholeRoot::To(used, behind) = root(text, marks, at) else {
+        return Found::Malformed;
+    };
+    let Moved::To(end) = misc(text, behind) else {
+        return Found::Malformed;
+    };
+    if end < text.len() {
+        return Found::Malformed;
+    }
+    Found::Needs(used)
+}
+
+fn document(text: &[u8], marks: &mut [u32]) -> Found
+    requires { ⌜ length (now text) ≤ 65536 ⌝ }
+    ensures { λ r. ⌜ FoundIs (now (marks .entry)) (now (marks .exit)) r (document (now (text .entry))) ⌝ }
+{
+    let Moved::To(at) = prolog(text) else {
+        return Found::Malformed;
+    };
+    if starts(text, at, b"<!DOCTYPE") {
+        return Found::Doctype;
+    }
+    document_from(text, marks, at)
+}
+
+// The answer where the text is found to be so, with the marks stored so far.
+fn answer_of(marks: &mut [u32], found: Found) -> Answer
+    ensures { λ r. ⌜ AnswerIs (now (marks .entry)) found (r .number) (r .place) (now (marks .exit)) ⌝ }
+{
+    match found {
+        Found::Doctype => refused(marks, returned::DOCTYPE),
+        Found::Malformed => refused(marks, returned::MALFORMED),
+        Found::Needs(used) => {
+            if marks.len() < used {
+                return refused(marks, returned::SHORT_MARKS);
+            }
+            Answer {
+                number: returned::ACCEPTED,
+                place: used,
+            }
+        }
+    }
+}
+
+// The tape of a text. Under 1 nothing is changed.
+pub fn tape_of(text: &[u8], marks: &mut [u32]) -> Answer
+    ensures { λ r. ⌜ TapeIs (now (text .entry)) (now (marks .entry)) (r .number) (r .place) (now (marks .exit)) ⌝ }
+{
+    if !tape_lengths(text.len(), marks.len()) {
+        return Answer {
+            number: returned::BAD_LENGTH,
+            place: 0,
+        };
+    }
+    zero_marks(marks);
+    if !text::is_text(text) {
+        return Answer {
+            number: returned::NOT_ASCII,
+            place: 0,
+        };
+    }
+    let found = document(text, marks);
+    answer_of(marks, found)
+}
