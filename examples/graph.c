@@ -163,7 +163,8 @@ static void print_row(size_t index, size_t used) {
 
 int main(int argc, char **argv) {
     size_t place;
-    if (lubiksan_clear(schema.rows, ROWS, schema.names, NAMES, &place) != 0 || !read_all(argc - 1, argv + 1)) {
+    if (lubiksan_clear(schema.rows, ROWS, schema.names, NAMES, LUBIKSAN_BY_STANDARD, &place) != 0 ||
+        !read_all(argc - 1, argv + 1)) {
         return EXIT_FAILURE;
     }
     uint32_t number = lubiksan_lower(schema.rows, ROWS, schema.names, NAMES, graph.rows, ROWS, graph.names, NAMES,

@@ -17,6 +17,7 @@ mod c {
             rows_len: usize,
             names: *mut u8,
             names_len: usize,
+            choice: u32,
             place: *mut usize,
         ) -> u32;
         pub fn lubiksan_read(
@@ -108,7 +109,7 @@ pub(crate) fn tape(text: &[u8], marks: &mut [u32]) -> Answer {
     Answer { number, place }
 }
 
-pub(crate) fn clear(rows: &mut [u32], names: &mut [u8]) -> Answer {
+pub(crate) fn clear(rows: &mut [u32], names: &mut [u8], choice: u32) -> Answer {
     let mut place = 0;
     // SAFETY: each address and its length are those of one slice; all are lent for the call.
     let number = unsafe {
@@ -117,6 +118,7 @@ pub(crate) fn clear(rows: &mut [u32], names: &mut [u8]) -> Answer {
             rows.len(),
             names.as_mut_ptr(),
             names.len(),
+            choice,
             &mut place,
         )
     };

@@ -6,6 +6,7 @@
 //! | [`TapeBuilder`], [`Tape`] | a piece of a run of events: start tags, empty tags, closes |
 //! | [`Tape::of_text`], [`tape_of`], [`NoTape`] | the tape of a schema text, or why it has none |
 //! | [`SchemaSheet`] | the state of a reading: what the events so far say. It is two buffers and can be stored |
+//! | [`ReadAs`] | the choice made when a sheet is cleared: as the original, or a schema ends at its own tag |
 //! | [`Graph`] | the type graph of a schema, with typed views that borrow from it |
 //! | [`Refusal`] | why a call was refused: the library's number, a sentence, the place |
 //! | [`names`] | the text functions of the library: local name, numbers, built-in types, Rust names |
@@ -83,6 +84,6 @@ pub use graph::{
     Facet, Field, Graph, Label, Newtype, Opaque, Root, Struct, TypeDef, TypeRef, Value, Variant,
 };
 pub use refusal::{At, Refusal};
-pub use sheet::{Context, Declared, Kind, SchemaSheet};
+pub use sheet::{Context, Declared, Kind, ReadAs, SchemaSheet};
 pub use tape::{Event, Events, PieceFull, Tag, Tape, TapeBuilder};
 pub use text::{tape_of, NoTape};

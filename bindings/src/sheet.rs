@@ -35,6 +35,48 @@ pub struct SchemaSheet<'a> {
     names: Buffer<'a, u8>,
 }
 
+/// How a schema is read: chosen when a sheet is cleared, and kept in the sheet.
+///
+/// ```
+/// use lubiksan::{ReadAs, SchemaSheet, TapeBuilder};
+///
+/// let mut piece = TapeBuilder::new();
+/// piece.start("schema", &[])?;
+/// piece.start("annotation", &[])?;
+/// piece.close()?;
+/// piece.empty("element", &[("name", "Document"), ("type", "Payment")])?;
+/// piece.close()?;
+/// let piece = piece.finish();
+///
+/// let mut sheet = SchemaSheet::cleared(ReadAs::Standard);
+/// sheet.read(&piece)?;
+/// assert_eq!((sheet.read_as(), sheet.declared().count()), (ReadAs::Standard, 1));
+///
+/// sheet.clear(ReadAs::Original)?;
+/// sheet.read(&piece)?;
+/// assert_eq!((sheet.read_as(), sheet.declared().count()), (ReadAs::Original, 0));
+/// # Ok::<(), Box<dyn std::error::Error>>(())
+/// ```
+#[derive(Clone, Copy, Debug, PartialEq, Eq)]
+pub enum ReadAs {
+    /// As the Rust original reads: any close at the top level of a schema ends it, and a type without a name is refused
+    /// wherever it starts there. Sheets stored before there was a choice are such sheets.
+    Original,
+    /// By the standard: a schema ends at its own tag, only its direct children become elements or types, and whatever stands
+    /// below another tag is passed over.
+    Standard,
+}
+
+impl ReadAs {
+    /// The number that the library takes.
+    fn choice(self) -> u32 {
+        match self {
+            ReadAs::Original => 0,
+            ReadAs::Standard => 1,
+        }
+    }
+}
+
 /// What a reading stands in.
 #[derive(Clone, Copy, Debug, PartialEq, Eq)]
 pub enum Context {
@@ -79,15 +121,20 @@ impl Default for SchemaSheet<'static> {
 }
 
 impl SchemaSheet<'static> {
-    /// A cleared sheet of full size.
+    /// A sheet of full size, cleared to be read as the original reads.
     pub fn new() -> SchemaSheet<'static> {
+        SchemaSheet::cleared(ReadAs::Original)
+    }
+
+    /// A sheet of full size, cleared with this choice.
+    pub fn cleared(read_as: ReadAs) -> SchemaSheet<'static> {
         let mut sheet = SchemaSheet::from_buffers(vec![0; ROW_NUMBERS], vec![0; NAMES]);
         // Full lengths are taken, so clearing is not refused; were it, each call on the sheet would say so.
-        let _ = sheet.clear();
+        let _ = sheet.clear(read_as);
         sheet
     }
 
-    /// A cleared sheet with this room.
+    /// A sheet with this room, cleared to be read as the original reads.
     ///
     /// # Errors
     ///
@@ -97,7 +144,7 @@ impl SchemaSheet<'static> {
             return Err(Refusal::Lengths);
         }
         let mut sheet = SchemaSheet::from_buffers(vec![0; ROW * rows], vec![0; names]);
-        sheet.clear()?;
+        sheet.clear(ReadAs::Original)?;
         Ok(sheet)
     }
 
@@ -119,13 +166,13 @@ impl<'a> SchemaSheet<'a> {
         }
     }
 
-    /// Clears the sheet.
+    /// Clears the sheet and chooses how it is read from then on.
     ///
     /// # Errors
     ///
     /// [`Refusal::Lengths`]; nothing is changed then.
-    pub fn clear(&mut self) -> Result<(), Refusal> {
-        let answer = calls::clear(&mut self.rows, &mut self.names);
+    pub fn clear(&mut self, read_as: ReadAs) -> Result<(), Refusal> {
+        let answer = calls::clear(&mut self.rows, &mut self.names, read_as.choice());
         accepted(answer, 0).map(|_| ())
     }
 
@@ -200,6 +247,14 @@ impl<'a> SchemaSheet<'a> {
     /// How many tags are open.
     pub fn open_tags(&self) -> u32 {
         self.number(0, 7)
+    }
+
+    /// How the sheet is read; no reading changes it.
+    pub fn read_as(&self) -> ReadAs {
+        match self.number(0, 9) {
+            1 => ReadAs::Standard,
+            _ => ReadAs::Original,
+        }
     }
 
     /// A schema element was read.

@@ -1,6 +1,8 @@
 //! The calls through the bindings: every refusal with its number, place and event; lent buffers.
 
-use lubiksan::{limits, Context, Graph, Kind, PieceFull, Refusal, SchemaSheet, Tape, TapeBuilder};
+use lubiksan::{
+    limits, Context, Graph, Kind, PieceFull, ReadAs, Refusal, SchemaSheet, Tape, TapeBuilder,
+};
 
 type Tried = Result<(), Box<dyn std::error::Error>>;
 
@@ -35,7 +37,7 @@ fn deep_and_nameless_tags_are_refused() -> Tried {
         piece.start("a", &[])?;
     }
     assert!(matches!(sheet.read(&piece.finish()), Err(Refusal::TooDeep(at)) if at.event == 255));
-    sheet.clear()?;
+    sheet.clear(ReadAs::Original)?;
     let mut piece = TapeBuilder::new();
     piece.start("schema", &[])?;
     piece.start("simpleType", &[])?;
@@ -44,6 +46,35 @@ fn deep_and_nameless_tags_are_refused() -> Tried {
         refusal.to_string(),
         "a type without a name (refused with 9, event 1)"
     );
+    Ok(())
+}
+
+#[test]
+fn the_choice_is_kept_by_every_reading() -> Tried {
+    for (read_as, names) in [
+        (ReadAs::Original, &["a"][..]),
+        (ReadAs::Standard, &["a", "c"]),
+    ] {
+        let mut sheet = SchemaSheet::cleared(read_as);
+        let mut piece = TapeBuilder::new();
+        piece.start("schema", &[])?;
+        piece.start("element", &[("name", "a"), ("type", "b")])?;
+        piece.close()?;
+        piece.empty("element", &[("name", "c"), ("type", "d")])?;
+        piece.close()?;
+        piece.close()?;
+        let refusal = sheet.read(&piece.finish()).err().ok_or("refused")?;
+        assert_eq!((refusal.number(), refusal.place()), (6, 5));
+        let found: Vec<&str> = sheet.declared().map(|declared| declared.name).collect();
+        assert_eq!((sheet.read_as(), found.as_slice()), (read_as, names));
+        sheet.lower(&mut Graph::new())?;
+        let again = SchemaSheet::from_buffers(sheet.rows().to_vec(), sheet.names().to_vec());
+        assert_eq!(again.read_as(), read_as);
+    }
+    let mut rows = SchemaSheet::new().rows().to_vec();
+    rows[9] = 2;
+    let mut other = SchemaSheet::from_buffers(rows, Vec::new());
+    assert_eq!(other.check(), Err(Refusal::NotGood));
     Ok(())
 }
 
@@ -116,7 +147,7 @@ fn lent_buffers_are_the_callers() -> Tried {
     let (mut rows, mut names) = (vec![9; 40], vec![9; 8]);
     let mut sheet = SchemaSheet::lend(&mut rows, &mut names);
     assert_eq!(sheet.check(), Err(Refusal::NotGood));
-    sheet.clear()?;
+    sheet.clear(ReadAs::Original)?;
     let mut piece = TapeBuilder::new();
     piece.empty("schema", &[("targetNamespace", "urn:a")])?;
     sheet.read(&piece.finish())?;

@@ -52,13 +52,13 @@ fn tape(input: &[u8], (text, marks): (u32, u32)) -> Option<Tape> {
     })
 }
 
-/// "It clears, reads and lowers with 16,000 numbers and 65,536 bytes for each sheet and 4,096 of scratch."
+/// "It clears, reads and lowers with 16,000 numbers and 65,536 bytes for each sheet and 4,096 of scratch." Order 3: "The printing program clears with 0."
 fn printed_tape(tape: &Tape) -> Vec<u8> {
     let lent = Sheet {
         rows: vec![7; 16_000],
         names: vec![7; 65_536],
     };
-    let (answer, sheet) = read(&clear(&lent).1, tape);
+    let (answer, sheet) = read(&clear(&lent, 0).1, tape);
     let mut lines = line("read", answer);
     if answer.number == 0 {
         let lowered = lowering(&sheet, &lent, &[7; 4_096]);

@@ -13,6 +13,7 @@ mod c {
             rows_len: usize,
             names: *mut u8,
             names_len: usize,
+            choice: u32,
             place: *mut usize,
         ) -> u32;
         pub fn lubiksan_read(
@@ -39,8 +40,8 @@ mod c {
 /// What the place holds before a call; no call gives it.
 const UNSET: usize = 77_777;
 
-/// Clears the sheet.
-pub fn clear(sheet: &mut Sheet) -> Answer {
+/// Clears the sheet with a choice.
+pub fn clear(sheet: &mut Sheet, choice: u32) -> Answer {
     let (rows, names) = (&mut sheet.rows, &mut sheet.names);
     let mut place = UNSET;
     // SAFETY: each address and its length are those of one slice; all are lent for the call.
@@ -50,6 +51,7 @@ pub fn clear(sheet: &mut Sheet) -> Answer {
             rows.len(),
             names.as_mut_ptr(),
             names.len(),
+            choice,
             &mut place,
         )
     };

@@ -1,6 +1,7 @@
 //! The model of paper 01 against the Rust on many tapes and states, and on the paper's specimens.
 
 use judge::cases::{each_spelling, numbers};
+use judge::definitions::standard::{examples, header, heads, HEADERS};
 use judge::leaves::{parse_u32, parse_u64};
 use judge::paper::agree;
 use judge::paper::answer;
@@ -9,6 +10,7 @@ use judge::paper::number::{is_new_u32, is_new_u64, is_unbounded, number_u32, num
 use judge::paper::reading::{clear, events_of, read};
 use judge::paper::sheet::Sheet;
 use judge::paper::state::State;
+use judge::paper::tree::{declared, Kind};
 use judge::random::Random;
 use judge::tape::{events, xml, Tape};
 use judge::tapes::{document, messed, odd_events, written};
@@ -18,7 +20,7 @@ fn blank(rows: usize, names: usize) -> Sheet {
         rows: vec![7; rows],
         names: vec![7; names],
     };
-    let (cleared, sheet) = clear(&sheet);
+    let (cleared, sheet) = clear(&sheet, 0);
     assert_eq!(cleared, answer(0, 0));
     sheet
 }
@@ -85,6 +87,51 @@ fn events_of_any_words_agree_with_the_handlers() {
         events.extend(odd_events(&mut random, 12));
         let _ = agree::run(&events);
     }
+}
+
+#[test]
+fn both_choices_as_worked_out_by_hand() {
+    for example in examples() {
+        let (given, sheet) = read(&example.sheet, &example.tape);
+        let shows = (example.shows, example.by_standard);
+        assert_eq!(given, example.answer, "{shows:?}");
+        assert_eq!(sheet.rows[..10], example.row0, "{shows:?}");
+    }
+    for given in HEADERS {
+        let (answer, _) = read(&header(given), &Tape::default());
+        let number = if given.3 { 0 } else { 2 };
+        assert_eq!(answer.number, number, "{given:?}");
+    }
+    for (choice, number) in [(0, 0), (1, 0), (2, 1), (u32::MAX, 1)] {
+        let (answer, sheet) = clear(&blank(40, 3), choice);
+        assert_eq!(answer.number, number);
+        assert_eq!(sheet.rows[9], choice & (1 - number));
+    }
+}
+
+#[test]
+fn by_the_standard_the_heads_are_the_direct_children_of_the_schema() {
+    let mut random = Random::new(15);
+    let mut compared = 0;
+    for _ in 0..20_000 {
+        for events in [document(&mut random), messed(&mut random)] {
+            let Ok(state) = agree::run_from(State::cleared_by(true), &events) else {
+                continue;
+            };
+            let kind = |tag| match tag {
+                2 => Kind::Element,
+                3 => Kind::SimpleType,
+                _ => Kind::ComplexType,
+            };
+            let ours: Vec<(Kind, String)> = heads(&state)
+                .into_iter()
+                .map(|(tag, name)| (kind(tag), name.to_owned()))
+                .collect();
+            assert_eq!(ours, declared(&events), "{events:?}");
+            compared += 1;
+        }
+    }
+    assert!(compared > 20_000, "only {compared} tapes are accepted");
 }
 
 #[test]

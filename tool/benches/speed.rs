@@ -9,7 +9,7 @@ use std::path::{Path, PathBuf};
 use std::process::{Command, Stdio};
 use std::time::{Duration, Instant};
 
-use lubiksan::Graph;
+use lubiksan::{Graph, ReadAs};
 use lubiksan_tool::reading::read_whole;
 use lubiksan_tool::source::Source;
 
@@ -57,7 +57,8 @@ fn rust(text: &str) -> Result<usize, Box<dyn Error>> {
 fn ours(file: &Path, text: &str) -> Result<usize, Box<dyn Error>> {
     let source =
         Source::of(file, text.as_bytes().to_vec()).map_err(|failure| failure.words().to_owned())?;
-    let sheet = read_whole(&source).map_err(|failure| failure.words().to_owned())?;
+    let sheet =
+        read_whole(&source, ReadAs::Standard).map_err(|failure| failure.words().to_owned())?;
     let mut graph = Graph::new();
     sheet.lower(&mut graph)?;
     Ok(graph.types().count())

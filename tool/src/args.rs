@@ -8,6 +8,8 @@ use clap::builder::PossibleValuesParser;
 use clap::error::ErrorKind;
 use clap::{value_parser, Arg, ArgAction, ArgMatches, Command as Parser};
 
+use lubiksan::ReadAs;
+
 use crate::failure::Failure;
 use crate::output::write_output;
 
@@ -102,6 +104,8 @@ pub struct Command {
     pub verbose: bool,
     /// What was not kept is a refusal.
     pub strict: bool,
+    /// How a file is read into a new sheet.
+    pub read_as: ReadAs,
 }
 
 /// The command of these arguments.
@@ -127,6 +131,7 @@ fn shown(error: &clap::Error) -> Result<Command, Failure> {
                 quiet: true,
                 verbose: false,
                 strict: false,
+                read_as: ReadAs::Standard,
             })
         }
         _ => Err(Failure::Usage(text.trim_end().to_owned())),
@@ -171,6 +176,7 @@ fn graph() -> Parser {
             "partial",
             "Take a stored sheet that is not read to its end",
         ))
+        .arg(as_original())
         .arg(strict())
 }
 
@@ -184,6 +190,7 @@ fn names() -> Parser {
             "partial",
             "Take a stored sheet that is not read to its end",
         ))
+        .arg(as_original())
         .arg(strict())
 }
 
@@ -198,6 +205,7 @@ fn read() -> Parser {
         )
         .arg(number("events").help("At most so many events more"))
         .arg(flag("restart", "Begin the sheet anew"))
+        .arg(as_original())
         .arg(strict())
 }
 
@@ -217,6 +225,7 @@ fn shelf() -> Parser {
                 .help("How many seconds to wait for another process on the shelf"),
         )
         .arg(flag("restart", "Begin the sheets anew"))
+        .arg(as_original())
         .arg(strict())
 }
 
@@ -262,21 +271,33 @@ fn strict() -> Arg {
     flag("strict", "Refuse a schema of which something was not kept")
 }
 
+fn as_original() -> Arg {
+    flag(
+        AS_ORIGINAL,
+        "Let any close at the top level end the schema, as the Rust original does",
+    )
+}
+
+const AS_ORIGINAL: &str = "as-original";
+
 fn command(matches: &ArgMatches) -> Command {
     let (action, inner) = match matches.subcommand() {
         Some((name, inner)) => (action(name, inner), inner),
         None => (Action::Nothing, matches),
     };
-    let strict = inner
-        .try_get_one::<bool>("strict")
-        .ok()
-        .flatten()
-        .is_some_and(|&set| set);
+    let set = |name: &str| {
+        let found = inner.try_get_one::<bool>(name).ok().flatten();
+        found.is_some_and(|&set| set)
+    };
     Command {
         action,
         quiet: matches.get_flag("quiet") || inner.get_flag("quiet"),
         verbose: matches.get_flag("verbose") || inner.get_flag("verbose"),
-        strict,
+        strict: set("strict"),
+        read_as: match set(AS_ORIGINAL) {
+            true => ReadAs::Original,
+            false => ReadAs::Standard,
+        },
     }
 }
 

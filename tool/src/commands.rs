@@ -2,7 +2,7 @@
 
 use std::path::{Path, PathBuf};
 
-use lubiksan::{Context, Graph, Kind, SchemaSheet};
+use lubiksan::{Context, Graph, Kind, ReadAs, SchemaSheet};
 
 use crate::args::{Action, Command, Format};
 use crate::document::Piece;
@@ -17,7 +17,7 @@ use crate::progress::Progress;
 use crate::reading::{lowered, read_on, read_whole};
 use crate::shelf;
 use crate::source::{bytes_of, Source};
-use crate::stored::{self, Stored};
+use crate::stored::{self, Begin, Stored};
 use crate::xml::Lines;
 
 /// Runs a command.
@@ -58,11 +58,12 @@ fn input(command: &Command, file: &Path, partial: bool) -> Result<Input, Failure
     let bytes = bytes_of(file).map_err(|error| Failure::input(file, &error))?;
     if stored::is_stored(&bytes) {
         let stored = stored::of_bytes(file, &bytes)?;
+        stored::keeps_choice(file, &stored, command.read_as)?;
         return of_stored(command, file, stored, partial);
     }
     let source = Source::of(file, bytes)?;
     say_way(command, &source);
-    let sheet = read_whole(&source)?;
+    let sheet = read_whole(&source, command.read_as)?;
     warn(command, losses::lines(&source, &sheet))?;
     Ok(Input {
         sheet,
@@ -174,7 +175,7 @@ fn do_not_meet(file: &Path, input: &Input, names: &Names) -> Result<(), Failure>
     let located = input
         .source
         .as_ref()
-        .map(|source| (source, Places::of(source)));
+        .map(|source| (source, Places::of(source, input.sheet.read_as())));
     let place = |row: usize| {
         let found = located
             .as_ref()
@@ -188,10 +189,10 @@ fn names(command: &Command, file: &Path, partial: bool) -> Result<(), Failure> {
     let input = input(command, file, partial)?;
     let graph = lowered(file, input.source.as_ref(), &input.sheet)?;
     let names = Names::of(&input.sheet, &graph);
-    let located = input
-        .source
-        .as_ref()
-        .map(|source| (Lines::of(source.document().text()), Places::of(source)));
+    let located = input.source.as_ref().map(|source| {
+        let places = Places::of(source, input.sheet.read_as());
+        (Lines::of(source.document().text()), places)
+    });
     let line = |row: usize| {
         located
             .as_ref()
@@ -212,7 +213,11 @@ fn read(
     remove_left_beside(sheet);
     let source = Source::load(file)?;
     say_way(command, &source);
-    let mut stored = stored::resumed(sheet, &source, restart)?;
+    let begin = Begin {
+        restart,
+        read_as: command.read_as,
+    };
+    let mut stored = stored::resumed(sheet, &source, begin)?;
     let progress = Progress::new(source.document().events().len(), command.quiet);
     let read = advance(&source, sheet, &mut stored, events, &progress);
     progress.end();
@@ -276,8 +281,12 @@ fn described(path: &Path, stored: &Stored) -> String {
         Context::SimpleType => "in a simple type",
         Context::ComplexType => "in a complex type",
     };
+    let read_as = match sheet.read_as() {
+        ReadAs::Original => "as the original, any close at the top level ends the schema",
+        ReadAs::Standard => "by the standard",
+    };
     format!(
-        "{}: good\nsource: {}, {} bytes, SHA-256 {sum}\ndone: {}, {} tags open, {state}\nholds: {} elements, {} simple types, {} complex types\nuses: {} of {} rows, {} of {} bytes of names\n",
+        "{}: good\nsource: {}, {} bytes, SHA-256 {sum}\nread: {read_as}\ndone: {}, {} tags open, {state}\nholds: {} elements, {} simple types, {} complex types\nuses: {} of {} rows, {} of {} bytes of names\n",
         path.display(),
         about.path.display(),
         about.length,

@@ -144,9 +144,10 @@ fn unknown_base(
             quoted(base)
         ),
     };
-    let at = source
-        .zip(found)
-        .and_then(|(source, declared)| Some((source, opened_at(source, &declared)?)));
+    let at = source.zip(found).and_then(|(source, declared)| {
+        let new = SchemaSheet::cleared(sheet.read_as());
+        Some((source, opened_at(source, new, &declared)?))
+    });
     match at {
         Some((source, at)) => source.at(at, &words),
         None => format!("{}: {words}", file.display()),
@@ -154,10 +155,13 @@ fn unknown_base(
 }
 
 /// Where the tag stands that opened the simple type of a row: of the tags of that name the last one that, read in its
-/// turn, made that row the last.
-fn opened_at(source: &Source, declared: &Declared<'_>) -> Option<usize> {
+/// turn into a new sheet, made that row the last.
+fn opened_at(
+    source: &Source,
+    mut sheet: SchemaSheet<'_>,
+    declared: &Declared<'_>,
+) -> Option<usize> {
     let document = source.document();
-    let mut sheet = SchemaSheet::new();
     let mut found = None;
     for (index, event) in document.events().iter().enumerate() {
         if !opens(document, event, declared) {

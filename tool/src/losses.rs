@@ -2,7 +2,7 @@
 
 use std::collections::HashMap;
 
-use lubiksan::{Context, Kind, SchemaSheet};
+use lubiksan::{Context, Kind, ReadAs, SchemaSheet};
 
 use crate::document::Document;
 use crate::failure::quoted;
@@ -15,6 +15,8 @@ struct Item<'d> {
     event: usize,
     kind: Kind,
     name: &'d str,
+    /// The direct child of the schema that it stands in, or `schema`.
+    parent: &'d str,
 }
 
 /// How many global elements and named types a file has.
@@ -87,7 +89,7 @@ pub fn lines(source: &Source, sheet: &SchemaSheet<'_>) -> Vec<String> {
     );
     let end = lost
         .iter()
-        .find_map(|item| ended_before(source, item.event))
+        .find_map(|item| ended_before(source, sheet.read_as(), item.event))
         .unwrap_or(usize::MAX);
     let mut lines = Vec::new();
     if first.event < end {
@@ -120,6 +122,10 @@ fn passed_over(source: &Source, lost: &[Item<'_>], end: usize, counts: &str) -> 
         Kind::Element => ("element", "it has no type"),
         Kind::SimpleType => ("simpleType", "it has no content"),
         Kind::ComplexType => ("complexType", "it has no content"),
+    };
+    let why = match first.parent {
+        "schema" => why.to_owned(),
+        other => format!("it stands in {}", quoted(other)),
     };
     let more = match before.len() {
         1 => String::new(),
@@ -155,6 +161,7 @@ fn items(document: &Document) -> Vec<Item<'_>> {
                 event: index,
                 kind,
                 name,
+                parent: child_of_schema(&open),
             }));
         }
         if event.kind == EventKind::Start {
@@ -162,6 +169,12 @@ fn items(document: &Document) -> Vec<Item<'_>> {
         }
     }
     found
+}
+
+/// Of the open tags the one directly below the outermost schema; `schema` where there is none.
+fn child_of_schema<'d>(open: &[&'d str]) -> &'d str {
+    let below = open.iter().skip_while(|&&tag| tag != "schema").nth(1);
+    below.copied().unwrap_or("schema")
 }
 
 fn kind_of(parent: Option<&str>, local: &str) -> Option<Kind> {
@@ -190,14 +203,14 @@ fn lost<'d>(items: &[Item<'d>], sheet: &SchemaSheet<'_>) -> Vec<Item<'d>> {
 }
 
 /// The event that ended the schema before `event`; none where `event` still stands in a schema.
-fn ended_before(source: &Source, event: usize) -> Option<usize> {
-    if !is_outside(source, event) {
+fn ended_before(source: &Source, read_as: ReadAs, event: usize) -> Option<usize> {
+    if !is_outside(source, read_as, event) {
         return None;
     }
     let (mut inside, mut outside) = (0, event);
     while outside - inside > 1 {
         let middle = inside + (outside - inside) / 2;
-        match is_outside(source, middle) {
+        match is_outside(source, read_as, middle) {
             true => outside = middle,
             false => inside = middle,
         }
@@ -206,8 +219,8 @@ fn ended_before(source: &Source, event: usize) -> Option<usize> {
 }
 
 /// After `events` events a schema has been read and is left.
-fn is_outside(source: &Source, events: usize) -> bool {
-    let mut sheet = SchemaSheet::new();
+fn is_outside(source: &Source, read_as: ReadAs, events: usize) -> bool {
+    let mut sheet = SchemaSheet::cleared(read_as);
     let read = read_on(source, &mut sheet, events, |_| Ok(()));
     read.is_ok() && sheet.root_seen() && sheet.context() == Context::Outside
 }

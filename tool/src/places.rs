@@ -1,6 +1,6 @@
 //! Where the rows of a schema sheet come from in the file.
 
-use lubiksan::SchemaSheet;
+use lubiksan::{ReadAs, SchemaSheet};
 
 use crate::document::Document;
 use crate::reading::read_on;
@@ -16,7 +16,7 @@ pub struct Places(Vec<usize>);
 
 impl Places {
     /// The places of a source that the library reads to its end.
-    pub fn of(source: &Source) -> Places {
+    pub fn of(source: &Source, read_as: ReadAs) -> Places {
         let document = source.document();
         let changes: Vec<usize> = (0..document.events().len())
             .filter(|&index| {
@@ -27,7 +27,7 @@ impl Places {
             })
             .collect();
         match changes.len() {
-            0..=MOST => Places(made(source, &changes)),
+            0..=MOST => Places(made(source, read_as, &changes)),
             _ => Places::default(),
         }
     }
@@ -39,8 +39,8 @@ impl Places {
 }
 
 /// Reads on from one change to the next and notes which tag made the last row.
-fn made(source: &Source, changes: &[usize]) -> Vec<usize> {
-    let mut sheet = SchemaSheet::new();
+fn made(source: &Source, read_as: ReadAs, changes: &[usize]) -> Vec<usize> {
+    let mut sheet = SchemaSheet::cleared(read_as);
     let mut rows = vec![0; sheet.rows_used()];
     for &index in changes {
         let most = (index + 1).saturating_sub(sheet.events_done());

@@ -2,7 +2,7 @@
 
 use std::path::Path;
 
-use lubiksan::{Graph, SchemaSheet};
+use lubiksan::{Graph, ReadAs, SchemaSheet};
 
 use crate::explain;
 use crate::failure::Failure;
@@ -44,8 +44,8 @@ pub fn read_on(
 /// # Errors
 ///
 /// As [`read_on`].
-pub fn read_whole(source: &Source) -> Result<SchemaSheet<'static>, Failure> {
-    let mut sheet = SchemaSheet::new();
+pub fn read_whole(source: &Source, read_as: ReadAs) -> Result<SchemaSheet<'static>, Failure> {
+    let mut sheet = SchemaSheet::cleared(read_as);
     read_on(source, &mut sheet, usize::MAX, |_| Ok(()))?;
     Ok(sheet)
 }

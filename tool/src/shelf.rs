@@ -20,7 +20,7 @@ use crate::output::{remove_left_behind, write_output};
 use crate::progress::Progress;
 use crate::reading::lowered;
 use crate::source::Source;
-use crate::stored;
+use crate::stored::{self, Begin};
 
 const LOCK: &str = ".lubiksan.lock";
 
@@ -186,7 +186,11 @@ fn one(command: &Command, shelf: &Shelf, job: &Job) -> End {
     interrupt::stop_if_asked().map_err(named)?;
     let source = Source::load(&job.file)?;
     say_way(command, &source);
-    let mut stored = stored::resumed(&job.sheet, &source, shelf.restart)?;
+    let begin = Begin {
+        restart: shelf.restart,
+        read_as: command.read_as,
+    };
+    let mut stored = stored::resumed(&job.sheet, &source, begin)?;
     let quiet = Progress::new(0, true);
     advance(&source, &job.sheet, &mut stored, usize::MAX, &quiet).map_err(named)?;
     let graph = lowered(&job.file, Some(&source), &stored.sheet)?;

@@ -15,7 +15,7 @@ use std::ffi::OsStr;
 use std::os::unix::ffi::OsStrExt;
 use std::path::{Path, PathBuf};
 
-use lubiksan::SchemaSheet;
+use lubiksan::{ReadAs, SchemaSheet};
 use sha2::{Digest, Sha256};
 
 use crate::failure::Failure;
@@ -281,33 +281,55 @@ pub fn store(path: &Path, sheet: &SchemaSheet<'_>, about: &About) -> Result<(), 
     replace_file(target.as_deref().unwrap_or(path), &encoded(sheet, about))
 }
 
-/// The sheet at `path` to read `source` on, or a new one where there is none or `restart` asks for it.
+/// How a sheet is begun: in the place of the one that is there, and how it is read.
+#[derive(Clone, Copy, Debug, PartialEq, Eq)]
+pub struct Begin {
+    /// Begin anew.
+    pub restart: bool,
+    /// How a new sheet is read. A stored one keeps its own.
+    pub read_as: ReadAs,
+}
+
+/// The sheet at `path` to read `source` on, or a new one where there is none or `begin` asks for it.
 ///
 /// # Errors
 ///
 /// [`Failure`] where the stored sheet is refused or is of another source.
-pub fn resumed(path: &Path, source: &Source, restart: bool) -> Result<Stored, Failure> {
+pub fn resumed(path: &Path, source: &Source, begin: Begin) -> Result<Stored, Failure> {
+    let anew = || Stored {
+        sheet: SchemaSheet::cleared(begin.read_as),
+        about: About::of(source),
+    };
     let bytes = match bytes_of(path) {
         Ok(bytes) => bytes,
-        Err(error) if error.kind() == std::io::ErrorKind::NotFound => return Ok(anew(source)),
+        Err(error) if error.kind() == std::io::ErrorKind::NotFound => return Ok(anew()),
         Err(error) => return Err(Failure::input(path, &error)),
     };
-    if restart && (is_stored(&bytes) || bytes.is_empty()) {
-        return Ok(anew(source));
+    if begin.restart && (is_stored(&bytes) || bytes.is_empty()) {
+        return Ok(anew());
     }
     let stored = of_bytes(path, &bytes)?;
     same_source(path, &stored, source)?;
+    keeps_choice(path, &stored, begin.read_as)?;
     Ok(Stored {
         about: About::of(source),
         ..stored
     })
 }
 
-fn anew(source: &Source) -> Stored {
-    Stored {
-        sheet: SchemaSheet::new(),
-        about: About::of(source),
+/// A stored sheet keeps its choice: `--as-original` can't change one that is read by the standard.
+///
+/// # Errors
+///
+/// [`Failure::Refused`].
+pub fn keeps_choice(path: &Path, stored: &Stored, read_as: ReadAs) -> Result<(), Failure> {
+    if read_as == ReadAs::Standard || stored.sheet.read_as() == ReadAs::Original {
+        return Ok(());
     }
+    Err(Failure::Refused(format!(
+        "{}: the stored sheet is read by the standard and stays so; --as-original is for a new one",
+        path.display()
+    )))
 }
 
 fn same_source(path: &Path, stored: &Stored, source: &Source) -> Result<(), Failure> {

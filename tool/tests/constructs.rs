@@ -4,19 +4,24 @@ mod common;
 
 use common::{lubiksan, Folder, Ran};
 
+/// The flag for the choice 0.
+const AS_ORIGINAL: &[&str] = &["--as-original"];
+
 /// The text of a schema with `inside` in it, behind a type `Before` and before a type `Behind`.
-fn schema(inside: &str) -> Ran {
+fn schema(inside: &str, more: &[&str]) -> Ran {
     let text = format!(
         "<schema><complexType name='Before'><choice/></complexType>{inside}<complexType name='Behind'><choice/></complexType></schema>"
     );
     let folder = Folder::new();
     let file = folder.put("a.xsd", text);
-    lubiksan(["graph".as_ref(), file.as_os_str()])
+    let mut args = vec!["graph", file.to_str().unwrap()];
+    args.extend(more);
+    lubiksan(args)
 }
 
 /// The paragraphs between `Before` and `Behind`, and whether `Behind` is there.
-fn between(inside: &str) -> (String, bool) {
-    let ran = schema(inside);
+fn between(inside: &str, more: &[&str]) -> (String, bool) {
+    let ran = schema(inside, more);
     assert_eq!(ran.status, Some(0), "{}", ran.err);
     let parts: Vec<&str> = ran.out.trim_end().split("\n\n").collect();
     let roots = parts[0].trim_start_matches("namespace").trim();
@@ -39,9 +44,11 @@ fn simple(inside: &str) -> String {
     format!("<simpleType name='T'>{inside}</simpleType>")
 }
 
-/// The type is read as `expected`, and so is what stands behind it.
+/// The type is read as `expected`, and so is what stands behind it, under both choices.
 fn reads(inside: &str, expected: &str) {
-    assert_eq!(between(inside), (expected.to_owned(), true));
+    for more in [&[][..], AS_ORIGINAL] {
+        assert_eq!(between(inside, more), (expected.to_owned(), true));
+    }
 }
 
 #[test]
@@ -92,39 +99,84 @@ fn passed_over() {
     reads(&complex("<annotation><documentation>words</documentation></annotation><choice><element name='e' type='t'/></choice>"), "choice T\n    e  e  t");
 }
 
-#[test]
-fn changes_the_outcome() {
-    let ended = |inside: &str, tag: &str| {
-        let ran = schema(inside);
-        assert_eq!(ran.status, Some(0));
-        assert!(
-            ran.err.contains(&format!(
-                "the schema ended here by the close of \"{tag}\": "
-            )),
-            "{}",
-            ran.err
-        );
-        assert!(!ran.out.contains("Behind"));
-    };
-    ended(
+/// What stands at the top level with a close of its own, and the tag whose close ends the schema as the original reads it.
+const CLOSED_AT_THE_TOP: [(&str, &str); 7] = [
+    (
         "<annotation><documentation>words</documentation></annotation>",
         "documentation",
-    );
-    ended("<annotation><documentation/></annotation>", "annotation");
-    ended("<group name='g'><sequence/></group>", "group");
-    ended(
+    ),
+    ("<annotation><documentation/></annotation>", "annotation"),
+    ("<group name='g'><sequence/></group>", "group"),
+    (
         "<attributeGroup name='g'><attribute name='a' type='u'/></attributeGroup>",
         "attributeGroup",
+    ),
+    ("<import namespace='n'></import>", "import"),
+    ("<include schemaLocation='s'></include>", "include"),
+    (
+        "<annotation><appinfo><simpleType/><minLength value='x'/></appinfo></annotation>",
+        "appinfo",
+    ),
+];
+
+#[test]
+fn passed_over_by_the_standard_only() {
+    for (inside, tag) in CLOSED_AT_THE_TOP {
+        assert_eq!(between(inside, &["--strict"]), (String::new(), true));
+        ended(inside, tag);
+    }
+    let redefined = "<redefine schemaLocation='s'><simpleType name='R'><restriction base='string'/></simpleType></redefine>";
+    assert_eq!(between(redefined, &[]), (String::new(), true));
+    let words =
+        "simpleType \"R\" is not kept, it stands in \"redefine\": 3 types in the file, 2 kept";
+    let ran = schema(redefined, &[]);
+    assert!(ran.err.contains(words), "{}", ran.err);
+    ended(redefined, "redefine");
+    let started = "<element name='e' type='t'></element>";
+    assert_eq!(
+        between(started, &["--strict"]),
+        ("root e: t".to_owned(), true)
     );
-    ended("<import namespace='n'></import>", "import");
-    ended("<include schemaLocation='s'></include>", "include");
-    ended("<redefine schemaLocation='s'><simpleType name='R'><restriction base='string'/></simpleType></redefine>", "redefine");
-    ended("<element name='e' type='t'></element>", "element");
+    ended(started, "element");
+}
+
+/// As the original reads it the schema ends at the close of `tag`.
+fn ended(inside: &str, tag: &str) {
+    let ran = schema(inside, AS_ORIGINAL);
+    assert_eq!(ran.status, Some(0));
+    assert!(
+        ran.err.contains(&format!(
+            "the schema ended here by the close of \"{tag}\": "
+        )),
+        "{}",
+        ran.err
+    );
+    assert!(!ran.out.contains("Behind"));
+}
+
+#[test]
+fn changes_the_outcome() {
     reads(
         &complex("<sequence><element name='e' type='t'/><any/></sequence>"),
         "opaque T",
     );
     reads(&complex("<sequence><element name='e' type='t'/><choice><element name='f' type='t'/></choice></sequence>"), "struct T\n    e  e  t\n    f  f  t");
+}
+
+#[test]
+fn a_type_inside_an_element() {
+    let inside = "<element name='e'><complexType><choice/></complexType></element>";
+    let ran = schema(inside, AS_ORIGINAL);
+    assert_eq!(ran.status, Some(1));
+    assert!(
+        ran.err.contains("complexType has no name (refused with 9"),
+        "{}",
+        ran.err
+    );
+    assert_eq!(between(inside, &[]), (String::new(), true));
+    let words = "element \"e\" is not kept, it has no type: 1 element in the file, 0 kept";
+    let ran = schema(inside, &[]);
+    assert!(ran.err.contains(words), "{}", ran.err);
 }
 
 #[test]
@@ -143,12 +195,14 @@ fn refused() {
             "has the base \"other\", which is not built in (refused with 13)",
         ),
         (
-            "<element name='e'><complexType><choice/></complexType></element>".to_owned(),
+            "<complexType><choice/></complexType>".to_owned(),
             "complexType has no name (refused with 9",
         ),
     ] {
-        let ran = schema(&inside);
-        assert_eq!(ran.status, Some(1));
-        assert!(ran.err.contains(words), "{}", ran.err);
+        for more in [&[][..], AS_ORIGINAL] {
+            let ran = schema(&inside, more);
+            assert_eq!(ran.status, Some(1));
+            assert!(ran.err.contains(words), "{}", ran.err);
+        }
     }
 }

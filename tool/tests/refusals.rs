@@ -302,15 +302,17 @@ fn a_byte_order_mark_is_passed_over() {
 fn nothing_is_lost_silently() {
     let types = "<complexType name='A'><sequence/></complexType>\n<simpleType name='B'><restriction base='string'/></simpleType>";
     let text = format!("<schema>\n  <annotation>\n  </annotation>\n{types}</schema>");
-    let ran = graph(&text, &[]);
+    let ran = graph(&text, &["--strict"]);
+    assert_eq!((ran.status, ran.err.as_str()), (Some(0), ""));
+    let ran = graph(&text, &["--as-original"]);
     let words = "a.xsd:3:3: the schema ended here by the close of \"annotation\": 2 types in the file, 0 kept\n";
     assert_eq!((ran.status, ran.err.as_str()), (Some(0), words));
-    let ran = graph(&text, &["--strict"]);
+    let ran = graph(&text, &["--as-original", "--strict"]);
     assert_eq!(
         (ran.status, ran.err.as_str(), ran.out.as_str()),
         (Some(1), words, "")
     );
-    let ran = graph(&text, &["--quiet"]);
+    let ran = graph(&text, &["--as-original", "--quiet"]);
     assert_eq!((ran.status, ran.err.as_str()), (Some(0), ""));
     let untyped =
         "<schema><element name='e'/><element name='f' type='g'/><complexType name='T'/></schema>";
@@ -330,7 +332,7 @@ fn what_a_stored_sheet_lost_is_said_too() {
     );
     let sheet = folder.path("a.sheet");
     let (file, sheet) = (file.to_str().unwrap(), sheet.to_str().unwrap());
-    let read = lubiksan(["read", file, "--sheet", sheet]);
+    let read = lubiksan(["read", file, "--sheet", sheet, "--as-original"]);
     assert!(
         read.err
             .ends_with("by the close of \"annotation\": 1 element in the file, 0 kept\n"),
@@ -346,6 +348,55 @@ fn what_a_stored_sheet_lost_is_said_too() {
         ran.err
     );
     assert_eq!(lubiksan(["graph", sheet, "--strict"]).status, Some(1));
+}
+
+#[test]
+fn a_stored_sheet_keeps_its_choice() {
+    let folder = Folder::new();
+    let file = folder.put(
+        "a.xsd",
+        "<schema><annotation> </annotation><element name='e' type='t'/></schema>",
+    );
+    let file = file.to_str().unwrap();
+    let kinds = [
+        ("old.sheet", &["--as-original"][..], "as the original", 0),
+        ("new.sheet", &[], "by the standard", 1),
+    ];
+    for (name, more, said, elements) in kinds {
+        let sheet = folder.path(name);
+        let sheet = sheet.to_str().unwrap();
+        let begun = ["read", file, "--sheet", sheet, "--events", "2"];
+        assert_eq!(lubiksan([&begun[..], more].concat()).status, Some(0));
+        assert_eq!(
+            lubiksan(["read", file, "--sheet", sheet, "--quiet"]).status,
+            Some(0)
+        );
+        let check = lubiksan(["check", sheet]).out;
+        assert!(check.contains(&format!("\nread: {said}")), "{check}");
+        assert!(
+            check.contains(&format!("\nholds: {elements} elements")),
+            "{check}"
+        );
+    }
+    let new = folder.path("new.sheet");
+    let new = new.to_str().unwrap();
+    for args in [
+        &["graph", new, "--as-original"][..],
+        &["read", file, "--sheet", new, "--as-original"],
+    ] {
+        let ran = lubiksan(args);
+        assert_eq!(ran.status, Some(1));
+        assert!(
+            ran.err.ends_with("new.sheet: the stored sheet is read by the standard and stays so; --as-original is for a new one\n"),
+            "{}",
+            ran.err
+        );
+    }
+    let again = ["read", file, "--sheet", new, "--as-original", "--restart"];
+    assert_eq!(lubiksan(again).status, Some(0));
+    assert!(lubiksan(["check", new])
+        .out
+        .contains("\nread: as the original"));
 }
 
 #[test]

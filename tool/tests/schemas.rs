@@ -12,6 +12,7 @@ use judge::ir::types::{
 };
 use judge::paper::graph::{graph_rows, graph_sheet};
 use judge::paper::sheet::{Lent, Row};
+use judge::paper::tree::{declared, Kind};
 use lubiksan::{Event, Tag, Tape};
 use serde_json::{json, Value};
 
@@ -65,6 +66,7 @@ fn rows_are_those_of_the_unchanged_rust() {
             file.as_os_str(),
             "--format".as_ref(),
             "rows".as_ref(),
+            "--as-original".as_ref(),
             "--quiet".as_ref(),
         ]);
         match judged(&file) {
@@ -86,6 +88,42 @@ fn rows_are_those_of_the_unchanged_rust() {
     }
 }
 
+/// By the standard a sheet holds the elements with name and type and the named types directly in the schema.
+#[test]
+fn a_sheet_holds_what_an_xml_parser_counts() {
+    let folder = Folder::new();
+    let mut compared = 0;
+    for (index, file) in schemas().iter().enumerate() {
+        let text = fs::read_to_string(file).unwrap();
+        let tree = declared(&judge::events::events_of_xml(&text).unwrap());
+        let sheet = folder.path(&format!("s{index}.sheet"));
+        let read: [&std::ffi::OsStr; 5] = [
+            "read".as_ref(),
+            file.as_os_str(),
+            "--sheet".as_ref(),
+            sheet.as_ref(),
+            "--quiet".as_ref(),
+        ];
+        let ran = lubiksan(read);
+        if ran.status != Some(0) {
+            assert!(ran.err.contains("(refused with 5"), "{}", ran.err);
+            continue;
+        }
+        let count = |kind: Kind| tree.iter().filter(|(found, _)| *found == kind).count();
+        let holds = format!(
+            "\nholds: {} elements, {} simple types, {} complex types\n",
+            count(Kind::Element),
+            count(Kind::SimpleType),
+            count(Kind::ComplexType)
+        );
+        let check = lubiksan(["check".as_ref(), sheet.as_os_str()]).out;
+        assert!(check.contains("\nread: by the standard\n"), "{check}");
+        assert!(check.contains(&holds), "{}: {check}", file.display());
+        compared += 1;
+    }
+    assert!(compared >= 3);
+}
+
 #[test]
 fn json_is_the_graph_field_by_field() {
     for file in schemas() {
@@ -95,6 +133,7 @@ fn json_is_the_graph_field_by_field() {
             file.as_os_str(),
             "--format".as_ref(),
             "json".as_ref(),
+            "--as-original".as_ref(),
         ]);
         let shown: Value = serde_json::from_str(&ran.out).unwrap();
         assert_eq!(shown["version"], json!(1));
@@ -272,7 +311,12 @@ fn taken_by_graphviz(text: &str) {
 fn text_shows_every_name_and_no_line_breaks_out() {
     for file in schemas() {
         let Some(graph) = judged(&file) else { continue };
-        let ran = lubiksan(["graph".as_ref(), file.as_os_str(), "--quiet".as_ref()]);
+        let ran = lubiksan([
+            "graph".as_ref(),
+            file.as_os_str(),
+            "--as-original".as_ref(),
+            "--quiet".as_ref(),
+        ]);
         let paragraphs: Vec<&str> = ran.out.split("\n\n").collect();
         assert_eq!(
             paragraphs.len(),

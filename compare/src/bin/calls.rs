@@ -5,17 +5,18 @@
 //! the manifest; without them that group is passed over.
 
 use std::env;
+use std::io;
 use std::path::{Path, PathBuf};
 use std::process::ExitCode;
 use std::thread;
 
-use judge::calls::{labels, longer, numbers, small, written};
+use judge::calls::{labels, longer, numbers, small, standard, written};
 use judge::tally::Tally;
 
 type Group = fn() -> Vec<Tally>;
 
 fn main() -> ExitCode {
-    let groups: [Group; 7] = [
+    let groups: [Group; 12] = [
         small::compare,
         numbers::compare,
         longer::documents,
@@ -23,6 +24,11 @@ fn main() -> ExitCode {
         written::compare,
         labels::compare,
         schemas,
+        standard::written,
+        standard::small,
+        standard::documents,
+        standard::sheets,
+        schemas_by_standard,
     ];
     let running = groups.map(thread::spawn);
     let tallies = running.map(|group| group.join().expect("the group runs to its end"));
@@ -30,12 +36,21 @@ fn main() -> ExitCode {
 }
 
 fn schemas() -> Vec<Tally> {
+    in_folder(written::schemas)
+}
+
+fn schemas_by_standard() -> Vec<Tally> {
+    in_folder(standard::schemas)
+}
+
+/// What `compare` gives for the folder of the schemas, where it is there.
+fn in_folder(compare: fn(&Path) -> io::Result<Vec<Tally>>) -> Vec<Tally> {
     let named = env::var_os("LUBIKSAN_SCHEMAS").unwrap_or_else(|| "../../shared/schemas".into());
     let folder: PathBuf = Path::new(env!("CARGO_MANIFEST_DIR")).join(named);
     if !folder.is_dir() {
         return Vec::new();
     }
-    written::schemas(&folder).expect("the schemas can be read")
+    compare(&folder).expect("the schemas can be read")
 }
 
 fn print(tallies: &[Tally]) -> ExitCode {

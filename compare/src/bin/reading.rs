@@ -49,7 +49,7 @@ fn once(files: &[String]) -> Result<(), Box<dyn Error>> {
     }
     for file in files {
         let case = Case::of(file)?;
-        reader::clear(&mut sheet);
+        reader::clear(&mut sheet, 0);
         let number = read_all(&mut sheet, &case.pieces);
         println!("{}, last number {number}", case.name);
     }
@@ -79,7 +79,7 @@ fn cleared() -> Sheet {
         rows: vec![0; ROWS],
         names: vec![0; NAMES],
     };
-    assert_eq!(reader::clear(&mut sheet).number, 0);
+    assert_eq!(reader::clear(&mut sheet, 0).number, 0);
     sheet
 }
 
@@ -139,7 +139,7 @@ impl Case {
                     times.parse_str.push(timed(|| parse_str(&self.xml)));
                     times.cutting.push(timed(|| cutting.schema()));
                     times.cut.push(timed(|| cut.schema()));
-                    times.clear.push(timed(|| reader::clear(sheet)));
+                    times.clear.push(timed(|| reader::clear(sheet, 0)));
                     times.read.push(timed(|| read_all(sheet, &self.pieces)));
                 }
             });

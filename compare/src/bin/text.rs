@@ -178,7 +178,7 @@ impl Lent {
         self.tape.marks.resize(self.marks, 0);
         let taped = reader::tape(&self.tape.text, &mut self.tape.marks);
         self.tape.marks.truncate(taped.place as usize);
-        let cleared = reader::clear(&mut self.sheet);
+        let cleared = reader::clear(&mut self.sheet, 0);
         let read = reader::read(&mut self.sheet, &self.tape);
         grapher::lower(&self.sheet, &mut self.lowered);
         [taped, cleared, read, self.lowered.answer].map(|answer| answer.number)

@@ -32,13 +32,13 @@ impl Checks {
         vec![self.calls, self.handlers, self.documents]
     }
 
-    /// Clearing.
-    pub fn clear(&mut self, sheet: &Sheet) {
-        let model = clear(sheet);
+    /// Clearing with a choice.
+    pub fn clear(&mut self, sheet: &Sheet, choice: u32) {
+        let model = clear(sheet, choice);
         let mut after = sheet.clone();
-        let given = reader::clear(&mut after);
+        let given = reader::clear(&mut after, choice);
         self.calls.given(given.number);
-        let shown = || format!("lubiksan_clear of {:?}", sheet.lent());
+        let shown = || format!("lubiksan_clear of {:?} with {choice}", sheet.lent());
         self.calls.count(same(&model, &(given, after), shown));
     }
 
@@ -58,7 +58,7 @@ impl Checks {
         model.1
     }
 
-    /// A whole document into a cleared sheet, the schema compared with that of `parse_str`.
+    /// A whole document into a sheet cleared with 0, the schema compared with that of `parse_str`.
     pub fn document(&mut self, lent: Lent, events: &[Event]) {
         let sheet = State::cleared().sheet(lent);
         let tape = Tape::of(events);

@@ -92,7 +92,7 @@ pub fn sheets() -> Vec<Tally> {
             sheet.names[at] = random.below(256) as u8;
         }
         checks.read(&sheet, &Tape::of(&events));
-        checks.clear(&sheet);
+        checks.clear(&sheet, 0);
     }
     checks.tallies()
 }

@@ -6,6 +6,7 @@
 //! | `check` | one call compared |
 //! | `small` | every list of a few events in each context |
 //! | `longer` | random documents, damaged, in pieces, on damaged sheets |
+//! | `standard` | sheets cleared with the choice 1 of order 3 |
 //! | `written` | the cases of the definitions, lengths, the schemas |
 //! | `numbers` | numbers and `unbounded` in every spelling, where an event has one |
 //! | `labels` | the label call on rows of graphs, on any rows and word lists |
@@ -15,4 +16,5 @@ pub mod labels;
 pub mod longer;
 pub mod numbers;
 pub mod small;
+pub mod standard;
 pub mod written;

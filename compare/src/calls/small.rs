@@ -9,10 +9,10 @@ use crate::tape::{events, Event, Tape};
 /// The events that lead to a context, the alphabet there, and the longest list.
 type Context = (&'static str, &'static str, usize);
 
-const OUTSIDE: &str = "<schema targetNamespace=u><schema/><a:schema targetNamespace=vw/><x></><simpleType name=A><complexType><element name=A type=B/><sequence><x/><enumeration value=e/>";
-const IN_SCHEMA: &str = "<simpleType name=A><simpleType><complexType name=B><element name=A type=B/><element name=C type=D><element name=A/></><x><schema targetNamespace=vw><simpleType/><restriction base=C><sequence>";
-const IN_SIMPLE: &str = "<restriction base=BC><restriction base=D/><restriction/><x></><enumeration value=E/><pattern/><minLength value=4294967296/><maxLength value=x/><totalDigits value=3/><fractionDigits value=4294967296/><minInclusive value=0/><x:maxInclusive value=12/>";
-const IN_COMPLEX: &str = "<sequence><choice><simpleContent><extension base=B><element name=C type=D/><element name=C type=D minOccurs=0 maxOccurs=unbounded><element name=C type=D maxOccurs=x/><any/><any namespace=NO/><attribute name=E type=F use=required/></><x>";
+pub(super) const OUTSIDE: &str = "<schema targetNamespace=u><schema/><a:schema targetNamespace=vw/><x></><simpleType name=A><complexType><element name=A type=B/><sequence><x/><enumeration value=e/>";
+pub(super) const IN_SCHEMA: &str = "<simpleType name=A><simpleType><complexType name=B><element name=A type=B/><element name=C type=D><element name=A/></><x><schema targetNamespace=vw><simpleType/><restriction base=C><sequence>";
+pub(super) const IN_SIMPLE: &str = "<restriction base=BC><restriction base=D/><restriction/><x></><enumeration value=E/><pattern/><minLength value=4294967296/><maxLength value=x/><totalDigits value=3/><fractionDigits value=4294967296/><minInclusive value=0/><x:maxInclusive value=12/>";
+pub(super) const IN_COMPLEX: &str = "<sequence><choice><simpleContent><extension base=B><element name=C type=D/><element name=C type=D minOccurs=0 maxOccurs=unbounded><element name=C type=D maxOccurs=x/><any/><any namespace=NO/><attribute name=E type=F use=required/></><x>";
 
 const CONTEXTS: [Context; 9] = [
     ("", OUTSIDE, 4),
@@ -66,7 +66,7 @@ pub fn compare() -> Vec<Tally> {
 }
 
 /// Every list of `length` events of the alphabet.
-fn each_list(alphabet: &[Event], length: usize, visit: &mut dyn FnMut(&[Event])) {
+pub(super) fn each_list(alphabet: &[Event], length: usize, visit: &mut dyn FnMut(&[Event])) {
     let size = alphabet.len();
     for number in 0..size.pow(length as u32) {
         let digit = |at: usize| alphabet[number / size.pow(at as u32) % size].clone();
@@ -75,7 +75,8 @@ fn each_list(alphabet: &[Event], length: usize, visit: &mut dyn FnMut(&[Event]))
     }
 }
 
-fn one(checks: &mut Checks, start: &State, list: &[Event]) {
+/// The list in its rooms, in two pieces, and as a document where the Rust can judge it.
+pub(super) fn one(checks: &mut Checks, start: &State, list: &[Event]) {
     let rooms = rooms(start, list);
     let tape = Tape::of(list);
     for &lent in &rooms {
@@ -84,7 +85,7 @@ fn one(checks: &mut Checks, start: &State, list: &[Event]) {
     let (first, second) = list.split_at(list.len() / 2);
     let between = checks.read(&start.sheet(rooms[0]), &Tape::of(first));
     checks.read(&between, &Tape::of(second));
-    if start.events == 0 {
+    if start.events == 0 && !start.by_standard {
         checks.document(rooms[0], list);
     }
 }

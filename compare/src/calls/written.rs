@@ -27,7 +27,7 @@ pub fn compare() -> Vec<Tally> {
     );
     for case in (0..SEEDS).flat_map(reading_cases) {
         match case.call {
-            Call::Clear(sheet) => checks.clear(&sheet),
+            Call::Clear(sheet, choice) => checks.clear(&sheet, choice),
             Call::Read(sheet, tape) => drop(checks.read(&sheet, &tape)),
             _ => {}
         }
@@ -47,7 +47,9 @@ fn lengths(checks: &mut Checks) {
                 rows: vec![7; rows],
                 names: vec![7; names],
             };
-            checks.clear(&sheet);
+            for choice in [0, 1, 2, u32::MAX] {
+                checks.clear(&sheet, choice);
+            }
             checks.read(&sheet, &close);
         }
     }

@@ -11,7 +11,8 @@ use crate::tape::Tape;
 /// A call of the paper with its arguments.
 #[derive(Clone, Debug)]
 pub enum Call {
-    Clear(Sheet),
+    /// The sheet and the choice.
+    Clear(Sheet, u32),
     Read(Sheet, Tape),
     Lower(Sheet, Sheet, Vec<u32>),
     Label {
@@ -83,8 +84,8 @@ impl Call {
     /// What the model gives for the call.
     pub fn given(&self) -> Given {
         match self {
-            Call::Clear(sheet) => {
-                let (answer, sheet) = clear(sheet);
+            Call::Clear(sheet, choice) => {
+                let (answer, sheet) = clear(sheet, *choice);
                 Given::Sheet(answer, sheet)
             }
             Call::Read(sheet, tape) => {

@@ -231,7 +231,7 @@ fn refusals() -> Vec<Case> {
     let replaced = sheet_after(&events("<schema><complexType name=a_b><sequence><element name=longname type=longtype/></></><complexType name=AB></>"));
     let cleared = sheet_after(&[]);
     let mut bad = unknown.clone();
-    bad.rows[9] = 1;
+    bad.rows[9] = 2;
     let mut short = unknown.clone();
     short.rows.truncate(19);
     let mut wide = unknown.clone();

@@ -7,6 +7,7 @@
 //! | `print` | lists, sheets and statements in the proof language |
 //! | `readings` | tapes read with roomy and tight buffers, damaged, in pieces |
 //! | `sheets` | good sheets that no reading reaches, and bad sheets |
+//! | `standard` | sheets cleared with each choice of order 3 |
 //! | `graphs` | lowering and label calls |
 //! | `runs` | lists of readings and lowerings |
 
@@ -16,6 +17,7 @@ pub mod print;
 pub(crate) mod readings;
 pub(crate) mod runs;
 pub(crate) mod sheets;
+pub mod standard;
 
 use std::collections::HashSet;
 
@@ -36,6 +38,7 @@ pub fn cases(seed: u64) -> Vec<Case> {
     let all = [
         readings::cases(seed),
         sheets::cases(seed),
+        standard::cases(seed),
         graphs::cases(seed),
         runs::cases(seed),
     ];
@@ -47,7 +50,12 @@ pub fn cases(seed: u64) -> Vec<Case> {
 
 /// The cases of reading and clearing, in their groups.
 pub fn reading_cases(seed: u64) -> Vec<Case> {
-    [readings::cases(seed), sheets::cases(seed)].concat()
+    [
+        readings::cases(seed),
+        sheets::cases(seed),
+        standard::cases(seed),
+    ]
+    .concat()
 }
 
 /// The generator of one group; the seed 0 gives the fixed sample.

@@ -57,7 +57,7 @@ pub fn statement(call: &Call) -> String {
 
 fn call_term(call: &Call) -> String {
     match call {
-        Call::Clear(x) => format!("clear ({})", sheet(x)),
+        Call::Clear(x, choice) => format!("clear {choice} ({})", sheet(x)),
         Call::Read(x, Tape { text, marks }) => {
             format!("read ({}) ({}) ({})", sheet(x), bytes(text), numbers(marks))
         }

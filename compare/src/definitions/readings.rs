@@ -39,20 +39,34 @@ fn read_case(group: &'static str, shows: impl Into<String>, sheet: &Sheet, tape:
     }
 }
 
-/// A cleared sheet of these lengths.
+/// A sheet of these lengths, cleared with the choice 0.
 pub fn blank(rows: usize, names: usize) -> Sheet {
-    State::cleared().sheet(Lent { rows, names })
+    blank_by(rows, names, false)
+}
+
+/// A sheet of these lengths, cleared with the choice 1, `by_standard`, or 0.
+pub fn blank_by(rows: usize, names: usize, by_standard: bool) -> Sheet {
+    State::cleared_by(by_standard).sheet(Lent { rows, names })
 }
 
 /// Room for every state on the way through `events`, two rows and three bytes more.
 pub fn roomy(events: &[Event]) -> Sheet {
-    let peak = peak(events);
-    blank(peak.rows + 20, peak.names + 3)
+    roomy_by(events, false)
+}
+
+/// The same, cleared with the choice 1, `by_standard`, or 0.
+pub fn roomy_by(events: &[Event], by_standard: bool) -> Sheet {
+    let peak = peak_by(events, by_standard);
+    blank_by(peak.rows + 20, peak.names + 3, by_standard)
 }
 
 /// The most rows and the most names of a state on the way through `events`.
 fn peak(events: &[Event]) -> Lent {
-    let mut sheet = blank(40_000, 60_000);
+    peak_by(events, false)
+}
+
+fn peak_by(events: &[Event], by_standard: bool) -> Lent {
+    let mut sheet = blank_by(40_000, 60_000, by_standard);
     let mut peak = Lent { rows: 20, names: 0 };
     for event in events {
         sheet = read(&sheet, &Tape::of(std::slice::from_ref(event))).1;
@@ -543,7 +557,7 @@ fn lengths() -> Vec<Case> {
         cases.push(Case {
             group: "lengths",
             shows: format!("clear, {shows}"),
-            call: Call::Clear(sheet.clone()),
+            call: Call::Clear(sheet.clone(), 0),
         });
         cases.push(read_case(
             "lengths",
@@ -551,7 +565,7 @@ fn lengths() -> Vec<Case> {
             &sheet,
             specimen(),
         ));
-        let cleared = clear(&sheet).1;
+        let cleared = clear(&sheet, 0).1;
         cases.push(read_case(
             "lengths",
             format!("read, {shows}"),
@@ -569,7 +583,7 @@ fn long_tapes() -> Vec<Case> {
         marks: vec![9; marks],
     };
     let mut bad = blank(20, 3);
-    bad.rows[9] = 1;
+    bad.rows[9] = 2;
     let lists = [
         ("the longest text", blank(20, 3), tape(65_536, 0)),
         ("a text too long", blank(20, 3), tape(65_537, 0)),

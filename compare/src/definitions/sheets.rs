@@ -47,6 +47,7 @@ fn state(context: u32, nesting: u32, open_tags: u32, rows: &[Row]) -> State {
         events: 0,
         open_tags,
         extension: false,
+        by_standard: false,
     }
 }
 
@@ -405,7 +406,8 @@ fn broken_counts() -> Named {
     vec![
         ("good as it is", full.clone()),
         ("the first number is not 0", with(&full, 0, 0, 1)),
-        ("the last number is not 0", with(&full, 0, 9, 1)),
+        ("the last number is 1", with(&full, 0, 9, 1)),
+        ("the last number is 2", with(&full, 0, 9, 2)),
         ("one row too few", with(&full, 0, 1, used - 1)),
         ("one row too many", with(&full, 0, 1, used + 1)),
         ("more rows than lent", with(&full, 0, 1, 500)),

@@ -1,5 +1,5 @@
 //! The model against the Rust: the handlers of parser.rs on the state before an event, and
-//! `parse_str` on whole tapes.
+//! `parse_str` on whole tapes. "Equality with the Rust is for 0": a state by the standard is left out.
 
 use super::lowering::{complex_type, simple_type};
 use super::sheet::{Lent, Row, Sheet};
@@ -16,9 +16,9 @@ pub const ROOMY: Lent = Lent {
     names: 65_536,
 };
 
-/// The event may be given to the handlers, and the added limits are not met.
+/// The event may be given to the handlers, the choice is theirs, and the added limits are not met.
 fn in_domain(state: &State, event: &Event) -> bool {
-    let limits = state.events < 1_000_000 && state.open_tags < 255;
+    let limits = state.events < 1_000_000 && state.open_tags < 255 && !state.by_standard;
     limits
         && match event {
             Event::Start(tag) | Event::Empty(tag) => is_writable(tag),
@@ -79,9 +79,13 @@ pub fn check_tape(events: &[Event]) -> Result<(), String> {
     ))
 }
 
-/// The state after the events from a cleared sheet, each checked against the handlers.
+/// The state after the events from a sheet cleared with 0, each checked against the handlers.
 pub fn run(events: &[Event]) -> Result<State, u32> {
-    let mut state = State::cleared();
+    run_from(State::cleared(), events)
+}
+
+/// The state after the events from `state`, each checked against the handlers where these judge it.
+pub fn run_from(mut state: State, events: &[Event]) -> Result<State, u32> {
     for event in events {
         check_event(&state, event).unwrap_or_else(|difference| panic!("{difference}"));
         state = state.after(event, ROOMY)?;
@@ -91,7 +95,7 @@ pub fn run(events: &[Event]) -> Result<State, u32> {
 
 /// A reading call that gave `given` and left `after` did what the handlers of the Rust do to the
 /// state `start` over `events`. None where an event up to the refused one is outside the domain or
-/// left out, or the call was refused before its first event.
+/// left out, the start is by the standard, or the call was refused before its first event.
 pub fn check_reading(
     start: &State,
     events: &[Event],
@@ -101,8 +105,8 @@ pub fn check_reading(
     let place = given.place as usize;
     let done = events.get(..place)?;
     let judged = &events[..events.len().min(place + 1)];
-    if matches!(given.number, 1 | 2) || !all_in_domain(start, judged) || is_left_out(start, judged)
-    {
+    let unknown = matches!(given.number, 1 | 2) || start.by_standard;
+    if unknown || !all_in_domain(start, judged) || is_left_out(start, judged) {
         return None;
     }
     let rust = done.iter().try_fold(reader(start), handled);

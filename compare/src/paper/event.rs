@@ -84,8 +84,10 @@ impl State {
         self.rows[0].texts[0] = or_empty(tag, "targetNamespace");
     }
 
+    /// Order 3: "only its direct children become elements or types"; a tag below one of them counts and does nothing else.
     fn start_in_schema(&mut self, tag: &Tag) -> Result<(), u32> {
         match local(tag) {
+            _ if self.nesting > 0 => self.go_below(),
             "simpleType" => {
                 let name = lookup(tag, "name").ok_or(9u32)?;
                 self.open_type(2, Row::new(3, &[name, ""]));
@@ -94,10 +96,20 @@ impl State {
                 let name = lookup(tag, "name").ok_or(9u32)?;
                 self.open_type(3, Row::new(16, &[name]));
             }
-            "element" => self.put_element(tag),
-            _ => {}
+            "element" => {
+                self.put_element(tag);
+                self.go_below();
+            }
+            _ => self.go_below(),
         }
         Ok(())
+    }
+
+    /// "In 1, nesting in context 1 counts the open tags below the schema .. with 0, nesting there stays 0."
+    fn go_below(&mut self) {
+        if self.by_standard {
+            self.nesting += 1;
+        }
     }
 
     fn open_type(&mut self, context: u32, head: Row) {
@@ -178,7 +190,7 @@ impl State {
     fn empty(&mut self, tag: &Tag) -> Result<(), u32> {
         match (self.context, local(tag)) {
             (0, "schema") => self.set_root(tag),
-            (1, "element") => self.put_element(tag),
+            (1, "element") if self.nesting == 0 => self.put_element(tag),
             (2, "restriction") => self.set_base(tag),
             (2, word) => self.rows.extend(facet_row(word, &or_empty(tag, "value"))?),
             (3, "element") => self.put_child_element(tag)?,
@@ -207,8 +219,8 @@ impl State {
     fn close(&mut self) {
         match self.context {
             0 => {}
-            1 => self.context = 0,
             _ if self.nesting > 0 => self.nesting -= 1,
+            1 => self.context = 0,
             _ => self.finish(),
         }
     }

@@ -11,6 +11,7 @@
 //! | `graph`, `back` | the graph sheet of a type graph, and the type graph that a sheet says |
 //! | `lowering` | the lowering call; the Rust's `lower` gives the graph |
 //! | `label` | the label call |
+//! | `tree` | order 3's choice 1 anew, over the tree of the tags |
 //! | `xml` | order 1: the tape of a text |
 //! | `agree` | the model against the handlers of parser.rs, event by event |
 
@@ -24,6 +25,7 @@ pub mod number;
 pub mod reading;
 pub mod sheet;
 pub mod state;
+pub mod tree;
 pub mod xml;
 
 /// A returned number with its place.

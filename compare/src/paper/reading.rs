@@ -5,10 +5,11 @@ use super::state::State;
 use super::{answer, Answer};
 use crate::tape::{Event, Tag, Tape};
 
-/// Clears a sheet.
-pub fn clear(sheet: &Sheet) -> (Answer, Sheet) {
-    if good_lengths(sheet.lent()) {
-        (answer(0, 0), State::cleared().sheet(sheet.lent()))
+/// Clears a sheet. "1 also covers a choice above 1."
+pub fn clear(sheet: &Sheet, choice: u32) -> (Answer, Sheet) {
+    if good_lengths(sheet.lent()) && choice <= 1 {
+        let state = State::cleared_by(choice == 1);
+        (answer(0, 0), state.sheet(sheet.lent()))
     } else {
         (answer(1, 0), sheet.clone())
     }

@@ -12,11 +12,18 @@ pub struct State {
     pub events: u32,
     pub open_tags: u32,
     pub extension: bool,
+    /// Order 3: the schema ends at its own tag.
+    pub by_standard: bool,
 }
 
 impl State {
-    /// The state of a cleared sheet.
+    /// The state of a sheet cleared with the choice 0.
     pub fn cleared() -> State {
+        State::cleared_by(false)
+    }
+
+    /// The state of a sheet cleared with the choice 1, `by_standard`, or 0.
+    pub fn cleared_by(by_standard: bool) -> State {
         State {
             rows: vec![Row::new(1, &[""])],
             context: 0,
@@ -25,6 +32,7 @@ impl State {
             events: 0,
             open_tags: 0,
             extension: false,
+            by_standard,
         }
     }
 
@@ -40,7 +48,7 @@ impl State {
             self.events,
             self.open_tags,
             u32::from(self.extension),
-            0,
+            u32::from(self.by_standard),
         ];
         Sheet::packed(row0, &self.rows, lent)
     }
@@ -58,8 +66,9 @@ impl State {
             events: row0[6],
             open_tags: row0[7],
             extension: flag(row0[8])?,
+            by_standard: flag(row0[9])?,
         };
-        (row0[0] == 0 && row0[9] == 0 && state.is_good()).then_some(state)
+        (row0[0] == 0 && state.is_good()).then_some(state)
     }
 
     /// The same, none also where the lengths are not good.
@@ -87,6 +96,7 @@ impl State {
         let (nesting, open_tags) = (u64::from(self.nesting), u64::from(self.open_tags));
         let fits = match self.context {
             0 => nesting == 0 && last != 16,
+            1 if self.by_standard => last != 16 && open_tags > nesting,
             1 => nesting == 0 && last != 16 && open_tags >= 1,
             2 => last == 3 && open_tags >= nesting + 2,
             3 => (12..=16).contains(&last) && open_tags >= nesting + 2,

@@ -20,7 +20,7 @@ marks : List ℕ
 marks = 1 ∷ 0 ∷ 0 ∷ 6 ∷ 2 ∷ 2 ∷ 6 ∷ 7 ∷ 13 ∷ 4 ∷ 17 ∷ 1 ∷ 18 ∷ 4 ∷ 22 ∷ 1 ∷ 3 ∷ 0 ∷ []
 
 clearing : Cleared
-clearing = clear (junk 40 10)
+clearing = clear 0 (junk 40 10)
 
 reading : ReadAnswer
 reading = read (clearing .sheet) text marks

@@ -1,6 +1,6 @@
 -- Small schemas through the definitions, by computation.
 use mathlib.Core.Path.{_≡_, refl}
-use mathlib.Core.Bool.{true}
+use mathlib.Core.Bool.{true, false}
 use mathlib.Core.List.{List, [], _∷_}
 use mathlib.Core.Option.{Option, some, none}
 use Prim.Native.Nat.{ℕ}
@@ -71,7 +71,7 @@ cardinalities = (refl, refl, refl, refl, refl, refl)
 
 state : List Item → State
 state items =
-    record { reader = record { schema = schema items; rootSeen = true; context = Context.noContext }; events = 0; openTags = 0 }
+    record { reader = record { schema = schema items; rootSeen = true; context = Context.noContext }; events = 0; openTags = 0; byStandard = false }
 
 sevens : ℕ → ℕ → Sheet
 sevens rows names = record { rows = replicate rows 7; names = replicate names 7 }
@@ -103,9 +103,14 @@ unfolding call sevens zeroed state schema simple a bad texts builtinNames conver
 replaced-unknown = refl
 
 -- 12: no root seen
-no-root : call firstState 20 0 1 ≡ zeroed 12 0 20 0 1
+no-root : call (firstState false) 20 0 1 ≡ zeroed 12 0 20 0 1
 unfolding call sevens zeroed texts builtinNames conversions sheets schemas graphs lowerings
 no-root = refl
+
+-- the choice is not looked at
+no-root-standard : call (firstState true) 20 0 1 ≡ zeroed 12 0 20 0 1
+unfolding call sevens zeroed texts builtinNames conversions sheets schemas graphs lowerings
+no-root-standard = refl
 
 -- 14: two finished types, one number of scratch; two numbers are enough, though one name is left
 scratch-short : call (state (a ∷ a ∷ [])) 40 9 1 ≡ kept 14 40 9 1

@@ -2,7 +2,7 @@
 -- enumerations and an open type among them.
 use Prim.Native.Nat.{ℕ}
 use mathlib.Core.Path.{_≡_, refl}
-use mathlib.Core.Bool.{true}
+use mathlib.Core.Bool.{true, false}
 use mathlib.Core.List.{List, [], _∷_}
 use mathlib.Core.Option.{Option, some, none}
 use Rattle.text.specs.Text.{Text, bytes}
@@ -33,7 +33,7 @@ complex name content = Item.complexType (record { name = name; content = content
 
 state : List Item → Context → State
 state items context =
-    record { reader = record { schema = record { targetNamespace = bytes "urn"; items = items }; rootSeen = true; context = context }; events = 0; openTags = 2 }
+    record { reader = record { schema = record { targetNamespace = bytes "urn"; items = items }; rootSeen = true; context = context }; events = 0; openTags = 2; byStandard = false }
 
 -- the rows that a sheet's rows up to a place give
 made : Sheet → ℕ → List Row

@@ -5,7 +5,7 @@
 //     value        the label is looked up in the attributes of the first tag
 //     sheet        a sheet of as many numbers and bytes as the two numbers say is cleared and tested (lengths.rt)
 //     lengths      the same is cleared and read, with a text and marks as long as two more numbers say
-//     clear        the kept sheet gets the lengths that the two numbers say, and is cleared (sheets.rt)
+//     clear        the kept sheet gets the lengths that the two numbers say, and is cleared with the third as the choice, 0 where it is absent (sheets.rt)
 //     write        the second number is written into its rows, at the place that the first says
 //     read         the text is read into it, with the numbers as its marks
 //     print        its used rows and its used names are printed

@@ -18,7 +18,7 @@ fn write_number(rows: &mut [u32], numbers: &[u32]) {
 fn put_cleared(rows: &mut [u32], names: &mut [u8]) {
     io::print_decimal(STDOUT_FILENO, rows.len() as u64);
     output::put_number(names.len() as u64);
-    let answer = clear::clear(rows, names);
+    let answer = clear::clear(rows, names, 0);
     output::put_number(answer.number as u64);
     output::put_number(answer.place as u64);
     if xsd_good::is_good(rows, names) {
@@ -34,7 +34,7 @@ fn put_read(rows: &mut [u32], names: &mut [u8], t: &[u8], marks: &[u32]) {
     output::put_number(names.len() as u64);
     output::put_number(t.len() as u64);
     output::put_number(marks.len() as u64);
-    clear::clear(rows, names);
+    clear::clear(rows, names, 0);
     output::put_answer(xsd_read::read(rows, names, t, marks));
 }
 
@@ -42,7 +42,7 @@ fn put_read(rows: &mut [u32], names: &mut [u8], t: &[u8], marks: &[u32]) {
 fn put_done(letter: u8, numbers: &[u32], t: &[u8], rows: &mut [u32], names: &mut [u8]) {
     match letter {
         b'c' => {
-            output::put_answer(clear::clear(rows, names));
+            output::put_answer(clear::clear(rows, names, mark_at(numbers, 2)));
         }
         b'r' => {
             output::put_answer(xsd_read::read(rows, names, t, numbers));

@@ -25,7 +25,7 @@
 
 /* The numbers returned, with what is left and which place is stored; where no place is named it is 0. */
 #define LUBIKSAN_ACCEPTED 0      /* the result; a reading's place is the events read, a lowering's the graph's rows used, a tape's the marks used */
-#define LUBIKSAN_LENGTHS 1       /* a buffer has a length outside the limits: nothing is changed */
+#define LUBIKSAN_LENGTHS 1       /* a buffer has a length outside the limits, or a clearing's choice is above 1: nothing is changed */
 #define LUBIKSAN_NOT_GOOD 2      /* the schema sheet is not good, as a cleared one is and one that a reading leaves: nothing is changed */
 /* 3 to 11: an event was refused. The place is its number in the piece, from 0, and the sheet holds the state after the events before it. */
 #define LUBIKSAN_RECORD 3        /* kind not 1 to 3, record cut short, too many attributes, a close with any */
@@ -54,6 +54,12 @@
 #define LUBIKSAN_EMPTY 2
 #define LUBIKSAN_END 3
 
+/* Choices of a clearing. */
+#define LUBIKSAN_AS_ORIGINAL 0   /* the first close that is not a type's, an annotation's or an element's too, ends the schema, and what
+                                    follows is lost; a type without a name is refused, below an element too */
+#define LUBIKSAN_BY_STANDARD 1   /* its own close ends the schema; only its direct children become elements and types, and what stands
+                                    deeper in other tags is passed over, a type without a name too */
+
 /* The ten numbers of a row: tag, three pairs of offset and length into the names, a, b, c. */
 #define LUBIKSAN_TAG_AT 0
 #define LUBIKSAN_FIRST_AT 1
@@ -73,6 +79,7 @@
 #define LUBIKSAN_EVENTS_DONE_AT 6
 #define LUBIKSAN_OPEN_TAGS_AT 7
 #define LUBIKSAN_EXTENSION_AT 8
+#define LUBIKSAN_CHOICE_AT 9
 /* Of the graph sheet. */
 #define LUBIKSAN_ROOTS_AT 3
 #define LUBIKSAN_TYPES_AT 4
@@ -173,8 +180,10 @@ uint32_t lubiksan_same_normalized(const uint8_t *a, size_t a_length, const uint8
    open tags on the stack: 87,384 bytes, and less than 90,000 with all else. */
 uint32_t lubiksan_tape(const uint8_t *text, size_t text_length, uint32_t *marks, size_t marks_length, size_t *place);
 
-/* Makes a schema sheet empty, whatever it held: LUBIKSAN_ACCEPTED or LUBIKSAN_LENGTHS. *place is set to 0. */
-uint32_t lubiksan_clear(uint32_t *rows, size_t rows_length, uint8_t *names, size_t names_length, size_t *place);
+/* Makes a schema sheet empty, whatever it held: LUBIKSAN_ACCEPTED or LUBIKSAN_LENGTHS. *place is set to 0. The choice says where the
+   schema ends, and which of its tags become rows. It is kept in the sheet, no reading changes it, and sheets stored before there was a
+   choice have LUBIKSAN_AS_ORIGINAL. Any other choice gives LUBIKSAN_LENGTHS. */
+uint32_t lubiksan_clear(uint32_t *rows, size_t rows_length, uint8_t *names, size_t names_length, uint32_t choice, size_t *place);
 
 /* Reads a piece of a tape into a schema sheet: 0 to 11, the place in *place. */
 uint32_t lubiksan_read(uint32_t *rows, size_t rows_length, uint8_t *names, size_t names_length, const uint8_t *text,

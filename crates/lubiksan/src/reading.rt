@@ -4,12 +4,17 @@ ghost use Rattle.sheet.specs.Calls.{sheet, answered};
 ghost use Rattle.xsd_types.specs.Clear.{ClearIs};
 ghost use Rattle.xsd_parser.specs.Read.{ReadIs};
 
-// Clears a sheet and gives the number; the place is stored.
+// Clears a sheet for a choice, 0 as before or 1 by the standard, and gives the number; the place is stored.
 #[no_mangle]
-pub extern "C" fn lubiksan_clear(rows: &mut [u32], names: &mut [u8], place: &mut usize) -> u32
-    ensures { λ r. ⌜ ClearIs (sheet (now (rows .entry)) (now (names .entry))) (answered r (now (place .exit))) (sheet (now (rows .exit)) (now (names .exit))) ⌝ }
+pub extern "C" fn lubiksan_clear(
+    rows: &mut [u32],
+    names: &mut [u8],
+    choice: u32,
+    place: &mut usize,
+) -> u32
+    ensures { λ r. ⌜ ClearIs choice (sheet (now (rows .entry)) (now (names .entry))) (answered r (now (place .exit))) (sheet (now (rows .exit)) (now (names .exit))) ⌝ }
 {
-    let cleared = clear::clear(rows, names);
+    let cleared = clear::clear(rows, names, choice);
     *place = cleared.place;
     cleared.number
 }

@@ -1,4 +1,4 @@
--- The work of the printing program, as a list of calls: "It clears, reads and lowers".
+-- The work of the printing program, as a list of calls: "It clears, reads and lowers". Order 3: "The printing program clears with 0."
 --     workCalls     the two calls behind the clearing
 --     readAnswered  what a reading of a sheet answers in a run
 --     WorkIs        what the work says of itself: the answers of the two calls and the last sheet are those of the run from the cleared sheet
@@ -21,5 +21,5 @@ readAnswered x a = Answered.readAs a (numberInRun (eventsDone x) a)
 
 abbrev pub WorkIs : Sheet → Text → List ℕ → Sheet → List ℕ → Answer → Lowered → Sheet → Type 0
 WorkIs x text marks graph scratch read lowered last =
-    _≡_ {A = Ran} (record { answers = readAnswered (clear x .sheet) read ∷ Answered.loweredAs lowered ∷ []; last = last })
-    (run (clear x .sheet) (workCalls text marks graph scratch))
+    _≡_ {A = Ran} (record { answers = readAnswered (clear 0 x .sheet) read ∷ Answered.loweredAs lowered ∷ []; last = last })
+    (run (clear 0 x .sheet) (workCalls text marks graph scratch))

@@ -29,7 +29,7 @@ pub fn work(
 ) -> Made
     ensures { λ r. ⌜ WorkIs (sheet (now (rows .entry)) (now (names .entry))) (now (text .entry)) (now (marks .entry)) (sheet (now («graph_rows» .entry)) (now («graph_names» .entry))) (now (scratch .entry)) (answered (r .read .number) (r .read .place)) (record { answer = answered (r .lowered .number) (r .lowered .place); graph = sheet (now («graph_rows» .exit)) (now («graph_names» .exit)); scratch = now (scratch .exit) }) (sheet (now (rows .exit)) (now (names .exit))) ⌝ }
 {
-    clear::clear(rows, names);
+    clear::clear(rows, names, 0);
     let read = xsd_read::read(rows, names, text, marks);
     let lowered = ir_call::lower(rows, names, graph_rows, graph_names, scratch);
     Made { read, lowered }

@@ -3,7 +3,7 @@
 use Prim.Native.Nat.{ℕ, _+_, _≤_}
 use mathlib.Core.Path.{_≡_}
 use mathlib.Core.Logic.{_↔_}
-use mathlib.Core.Bool.{true}
+use mathlib.Core.Bool.{true, false}
 use mathlib.Core.List.{List, [], _∷_, _++_}
 use mathlib.Core.Option.{some}
 use lib.ListN.{length, take, drop}
@@ -17,19 +17,24 @@ use Rattle.sheet.specs.Returned.{accepted}
 use Rattle.sheet.specs.Lengths.{tapeLengths, Lengths, lengthsOf, goodLengths}
 use Rattle.xsd_types.specs.Types.{Schema, MaxOccurs}
 use Rattle.xsd_types.specs.State.{State, proper}
+use Rattle.xsd_types.specs.Row0.{row0In}
 use Rattle.xsd_types.specs.Sheet.{sheetOf, stateFits}
 use Rattle.xsd_types.specs.Good.{good}
 use Rattle.xsd_types.specs.Back.{stateOf}
+use Rattle.xsd_types.specs.Clear.{clear}
+use Rattle.xsd_types.specs.Choice.{paperGood, sheetChosen}
 use Rattle.xsd_types.proofs.Laws.SheetOf.{stateOf-sheetOf}
 use Rattle.xsd_types.proofs.Laws.StateOf.{good-exactly, sheetOf-stateOf}
+use Rattle.xsd_types.proofs.Laws.Choice.{good-before}
 use Rattle.xsd_parser.specs.Event.{Tag, Event}
 use Rattle.xsd_parser.specs.Kinds.{startKind, emptyKind}
-use Rattle.xsd_parser.specs.Tape.{eventOf, records}
 use Rattle.xsd_parser.specs.EventText.{eventOk}
+use Rattle.xsd_parser.specs.Tape.{eventOf, records}
 use Rattle.xsd_parser.specs.Handlers.{ok, isUnbounded}
 use Rattle.xsd_parser.specs.Step.{step}
 use Rattle.xsd_parser.specs.Read.{read, readState, sheetOfReading}
 use Rattle.xsd_parser.specs.Whole.{wholeRecords}
+use Rattle.xsd_parser.specs.Children.{directChildren, heads, onlyTypes}
 use Rattle.xsd_parser.proofs.Laws.Occurs.{unbounded-exactly}
 use Rattle.xsd_parser.proofs.Laws.Steps.{step-proper}
 use Rattle.xsd_parser.proofs.Laws.Reads.{readState-place}
@@ -55,13 +60,15 @@ use Rattle.ir_lower.proofs.Laws.Form.{lowering-form}
 use Rattle.runs.specs.Runs.{Call, Answered, Ran, run}
 use Rattle.runs.specs.Trace.{Trace}
 use Rattle.runs.specs.Cut.{onwardRead, readCut, readBehind, isLowering, uncutCalls, cutCalls, CutAlike}
-use Rattle.runs.specs.Joined.{joined, afterRecords}
+use Rattle.runs.specs.Joined.{joined, refusesNone, afterRecords}
 use Rattle.runs.proofs.NoTwo.{NoneTwo, no-two}
 use Rattle.runs.proofs.Runs.{runs}
 use Rattle.runs.proofs.Cut.{cut, cut-anywhere}
 use Rattle.runs.proofs.Joined.{last-joined, made-joined}
 use Rattle.runs.proofs.CutCalls.{cut-calls, cut-calls-accepted, cut-calls-refused, cut-made}
 use Rattle.runs.proofs.CutJoined.{joined-cut}
+use Rattle.runs.proofs.Choices.{run-choice, cleared-children, cleared-both}
+use Rattle.runs.proofs.Accepted.{run-children}
 
 -- "A sheet is good if it has this form, ..": exactly the sheets of proper states
 pub claim-good : (x : Sheet) → words (x .rows) ≡ true → (good x ≡ true) ↔ ((s : State) × (proper s ≡ true) × (stateFits (length (x .rows)) (length (x .names)) s ≡ true) × (sheetOf s (length (x .rows)) (length (x .names)) ≡ x))
@@ -163,6 +170,26 @@ claim-tag-written = tag-written
 -- and the pairs of what it is read as stand for the tag's own texts
 pub claim-tag-back : (text : Text) (at kind : ℕ) (t : Tag) (rest : Text) → drop at text ≡ writtenTag kind t ++ rest → eventRead text (writtenEvent at kind t) ≡ eventOf kind t
 claim-tag-back = tag-back
+
+-- order 3, the choice: the sheets that were good before are those that are good now with choice 0
+pub claim-good-before : (x : Sheet) → (paperGood x ≡ true) ↔ ((good x ≡ true) × (stateOf x .byStandard ≡ false))
+claim-good-before = good-before
+
+-- "kept as the last number of row 0": no call changes it, refused or not, from every first sheet
+pub claim-choice-kept : (x : Sheet) (calls : List Call) → row0In (run x calls .last) .choice ≡ row0In x .choice
+claim-choice-kept = run-choice
+
+-- with choice 1 "only its direct children become elements or types": of a whole tape in any pieces that are accepted, and of a reading, which may refuse an
+-- event
+pub claim-children : (x : Sheet) (calls : List Call) → clear 1 x .answer .number ≡ 0 → every refusesNone (run (clear 1 x .sheet) calls .answers) ≡ true → heads (stateOf (run (clear 1 x .sheet) calls .last) .reader) ≡ directChildren (joined (clear 1 x .sheet) calls)
+claim-children = run-children
+
+pub claim-children-read : (x : Sheet) (text : Text) (marks : List ℕ) → clear 1 x .answer .number ≡ 0 → let r = read (clear 1 x .sheet) text marks in heads (stateOf (r .sheet) .reader) ≡ directChildren (take (r .answer .place) (records text marks))
+claim-children-read = cleared-children
+
+-- where the schema's own close is the only one in context 1, both choices answer the same and leave the same sheet but for the last number of row 0
+pub claim-both-choices : (x : Sheet) (text : Text) (marks : List ℕ) → clear 0 x .answer .number ≡ 0 → onlyTypes (records text marks) ≡ true → let r = read (clear 0 x .sheet) text marks in read (clear 1 x .sheet) text marks ≡ record { answer = r .answer; sheet = sheetChosen true (r .sheet) }
+claim-both-choices = cleared-both
 
 -- "min 0 and max 1 optional", and nothing else is; "unbounded gives vec", and nothing else does
 pub claim-optional : (min : ℕ) (max : MaxOccurs) → (lowerCardinality min max ≡ Cardinality.optional) ↔ ((min ≡ 0) × (max ≡ MaxOccurs.bounded 1))

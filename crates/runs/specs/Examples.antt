@@ -13,7 +13,7 @@ use Rattle.builtin.specs.Unfold.{computes as builtins}
 use Rattle.names.specs.Unfold.{computes as conversions}
 use Rattle.text.specs.Text.{bytes}
 use Rattle.sheet.specs.Rows.{Sheet}
-use Rattle.xsd_types.specs.Examples.Sheets.{line, noNamespace, sheet, junk, blank, answer}
+use Rattle.xsd_types.specs.Examples.Sheets.{line, noNamespace, sheet, junk, blank, blankBy, answer}
 use Rattle.xsd_types.specs.Good.{good}
 use Rattle.xsd_parser.specs.Examples.Tapes.{Tag, start, empty, close, typed, schema, complexType, textOf, marksOf, taped}
 use Rattle.xsd_parser.specs.Event.{Event}
@@ -88,6 +88,12 @@ cut-run : run (blank 20 0) (Call.reading (bytes "schema") (1 ∷ 0 ∷ 0 ∷ 6 �
     }
 unfolding lowering readTo refusedBy left taped builtins conversions graphs lowerings running
 cut-run = refl
+
+-- With choice 1 an annotation that is cut in two does not end the schema: order 3.
+standard-run : run (blankBy 1 40 6) (reading (schema ∷ start "annotation" [] ∷ []) ∷ reading (close ∷ complexType "C" ∷ []) ∷ [])
+    ≡ record { answers = readTo 0 2 ∷ readTo 0 2 ∷ []; last = sheet 40 6 (line 0 3 1 3 0 1 4 2 0 1 ∷ noNamespace ∷ line 16 0 1 0 0 0 0 0 0 0 ∷ []) "C" }
+unfolding reading readTo taped running
+standard-run = refl
 
 -- Events joined: a refused close is judged and the start behind it dropped; a tape too long has none; the next piece's start is judged.
 some-joined : joined (blank 20 0) (reading (close ∷ schema ∷ []) ∷ lowering 20 0 0 ∷ Call.reading [] (replicate 16385 0) ∷ reading (schema ∷ []) ∷ [])

@@ -18,12 +18,12 @@ pub extern "C" fn sheet_bench_is_good(rows: &[u32], names: &[u8]) -> u32
     if xsd_good::is_good(rows, names) { 1 } else { 0 }
 }
 
-// Clears a sheet and gives the number; the place is stored.
+// Clears a sheet, with choice 0, and gives the number; the place is stored.
 #[no_mangle]
 pub extern "C" fn sheet_bench_clear(rows: &mut [u32], names: &mut [u8], place: &mut usize) -> u32
-    ensures { λ r. ⌜ ClearIs (sheet (now (rows .entry)) (now (names .entry))) (answered r (now (place .exit))) (sheet (now (rows .exit)) (now (names .exit))) ⌝ }
+    ensures { λ r. ⌜ ClearIs 0 (sheet (now (rows .entry)) (now (names .entry))) (answered r (now (place .exit))) (sheet (now (rows .exit)) (now (names .exit))) ⌝ }
 {
-    let answer = clear::clear(rows, names);
+    let answer = clear::clear(rows, names, 0);
     *place = answer.place;
     answer.number
 }

@@ -4,13 +4,14 @@
 --     behind        the rows behind row 1
 --     Action        keep: no row changes; root: the namespace set anew; openSimple, openComplex: a type opened; add: a row more;
 --                   content: the open type's content replaced by a tag, the texts behind the name and a; base: the open type's base set
+--     raises        whether a start raises nesting; opensType: whether the action opens a type
 --     modeAfter, namespaceAfter, rowsAfter    the mode, the namespace and the rows behind row 1 after an event and its action
 --     Fitting       the open type's rows are such that the action can be done to them
 --     Acted         the reader after an event is as the action says
 use Prim.Native.Nat.{ℕ, suc, _-_, _≤_}
 use mathlib.Core.Path.{_≡_}
 use mathlib.Core.List.{List, [], _∷_, _++_}
-use mathlib.Core.Bool.{Bool, true, false, _&&_}
+use mathlib.Core.Bool.{Bool, true, false, not, _&&_, _||_}
 use lib.Dec.{eqb, leb}
 use Rattle.text.specs.Text.{Text, if_then_else_}
 use Rattle.sheet.specs.Rows.{Row, row}
@@ -39,7 +40,7 @@ contentTag (ComplexContentBuilder.any n) = anyTag
 
 unfoldable pub headTag : Context → ℕ
 headTag Context.noContext = 0
-headTag Context.inSchema = 0
+headTag (Context.inSchema n) = 0
 headTag (Context.inSimpleType t) = simpleTypeTag
 headTag (Context.inComplexType t) = contentTag (t .content)
 
@@ -84,29 +85,42 @@ flagAfter (Action.add r) context flag = flag
 flagAfter (Action.content tag more a) context flag = false
 flagAfter (Action.base v) context flag = eqb context complexTypeContext
 
--- "each start raises nesting", in the contexts 2 and 3
-unfoldable pub tagMode : Bool → Action → Mode → Mode
-tagMode start a m =
+unfoldable pub opensType : Action → Bool
+opensType Action.keep = false
+opensType (Action.root n) = false
+opensType (Action.openSimple n) = true
+opensType (Action.openComplex n) = true
+opensType (Action.add r) = false
+opensType (Action.content tag more a) = false
+opensType (Action.base v) = false
+
+-- "each start raises nesting", in the contexts 2 and 3; order 3: with choice 1 "nesting in context 1 counts the open tags below the schema", and
+-- a direct child that opens a type leads to another context
+unfoldable pub raises : Bool → Action → ℕ → Bool
+raises byStandard a context = leb simpleTypeContext context || (eqb context schemaContext && not (opensType a) && byStandard)
+
+unfoldable pub tagMode : Bool → Bool → Action → Mode → Mode
+tagMode byStandard start a m =
     record {
       context = contextAfter start a (m .context);
-      nesting = if start && leb simpleTypeContext (m .context) then suc (m .nesting) else m .nesting;
+      nesting = if start && raises byStandard a (m .context) then suc (m .nesting) else m .nesting;
       «root_seen» = rootAfter a (m .«root_seen»);
       extension = flagAfter a (m .context) (m .extension);
     }
 
--- "A close lowers nesting, or at 0 finishes the type, flag 0, and returns to context 1." "Any close leads to context 0."
+-- "A close lowers nesting, or at 0 finishes the type, flag 0, and returns to context 1." Order 3: in context 1 "a close at 0 ends it"
 unfoldable pub closeMode : Mode → Mode
 closeMode m =
-    if leb (m .context) schemaContext
-    then record { context = noneContext; nesting = m .nesting; «root_seen» = m .«root_seen»; extension = m .extension }
-    else if eqb (m .nesting) 0
-    then record { context = schemaContext; nesting = 0; «root_seen» = m .«root_seen»; extension = false }
+    if eqb (m .nesting) 0
+    then if leb (m .context) schemaContext
+    then record { context = noneContext; nesting = 0; «root_seen» = m .«root_seen»; extension = m .extension }
+    else record { context = schemaContext; nesting = 0; «root_seen» = m .«root_seen»; extension = false }
     else record { context = m .context; nesting = m .nesting - 1; «root_seen» = m .«root_seen»; extension = m .extension }
 
-unfoldable pub modeAfter : Event → Action → Mode → Mode
-modeAfter (Event.start t) a m = tagMode true a m
-modeAfter (Event.empty t) a m = tagMode false a m
-modeAfter Event.close a m = closeMode m
+unfoldable pub modeAfter : Bool → Event → Action → Mode → Mode
+modeAfter byStandard (Event.start t) a m = tagMode byStandard true a m
+modeAfter byStandard (Event.empty t) a m = tagMode byStandard false a m
+modeAfter byStandard Event.close a m = closeMode m
 
 unfoldable pub namespaceAfter : Action → Text → Text
 namespaceAfter Action.keep namespace = namespace
@@ -177,8 +191,8 @@ Fitting (Action.add r) last = Unit
 Fitting (Action.content tag more a) last = NamedHead last
 Fitting (Action.base v) last = BasedHead last
 
-pub record Acted (e : Event) (r : Reader) (a : Action) (r′ : Reader) : Type 0 where
-  pub mode : modeOf r′ ≡ modeAfter e a (modeOf r)
+pub record Acted (byStandard : Bool) (e : Event) (r : Reader) (a : Action) (r′ : Reader) : Type 0 where
+  pub mode : modeOf r′ ≡ modeAfter byStandard e a (modeOf r)
   pub namespace : r′ .schema .targetNamespace ≡ namespaceAfter a (r .schema .targetNamespace)
   pub rows : behind r′ ≡ rowsAfter a (itemsRows (r .schema .items)) (contextRows (r .context))
   pub items : simpleTypeContext ≤ contextNumber (r′ .context) → r′ .schema .items ≡ r .schema .items

@@ -63,11 +63,15 @@ attributeInside t flag =
 
 -- ---- on_start
 
-unfoldable pub startInSchema : Tag → Outcome Action
-startInSchema t =
+unfoldable pub directChild : Tag → Outcome Action
+directChild t =
     if tagIs t "simpleType" then requireName t Action.openSimple else
     if tagIs t "complexType" then requireName t Action.openComplex else
     if tagIs t "element" then ok (topElement t) else ok Action.keep
+
+-- order 3: "only its direct children become elements or types"; with choice 0 nesting is 0 in context 1
+unfoldable pub startInSchema : Tag → ℕ → Outcome Action
+startInSchema t depth = if eqb depth 0 then directChild t else ok Action.keep
 
 unfoldable pub startInSimpleType : Tag → ℕ → Action
 startInSimpleType t depth = if eqb depth 1 && tagIs t "restriction" then baseSet t else Action.keep
@@ -95,7 +99,7 @@ startInComplexType t depth head =
 unfoldable pub decidedStart : Tag → Mode → ℕ → Outcome Action
 decidedStart t m head =
     if eqb (m .context) noneContext then ok (rootFound t) else
-    if eqb (m .context) schemaContext then startInSchema t else
+    if eqb (m .context) schemaContext then startInSchema t (m .nesting) else
     if eqb (m .context) simpleTypeContext then ok (startInSimpleType t (suc (m .nesting))) else startInComplexType t (suc (m .nesting)) head
 
 -- ---- on_empty
@@ -129,7 +133,7 @@ emptyInComplexType t flag head =
 unfoldable pub decidedEmpty : Tag → Mode → ℕ → Outcome Action
 decidedEmpty t m head =
     if eqb (m .context) noneContext then ok (rootFound t) else
-    if eqb (m .context) schemaContext then ok (if tagIs t "element" then topElement t else Action.keep) else
+    if eqb (m .context) schemaContext then ok (if eqb (m .nesting) 0 && tagIs t "element" then topElement t else Action.keep) else
     if eqb (m .context) simpleTypeContext then emptyInSimpleType t else emptyInComplexType t (m .extension) head
 
 -- ---- on_end
@@ -143,6 +147,6 @@ decided (Event.start t) m head = decidedStart t m head
 decided (Event.empty t) m head = decidedEmpty t m head
 decided Event.close m head = ok (decidedClose m head)
 
-pub data Decides (e : Event) (r : Reader) : Outcome Action → Type 0 where
-  acts : (a : Action) (r′ : Reader) → handled e r ≡ ok r′ → Acted e r a r′ → Decides e r (ok a)
-  refuses : (n : ℕ) → handled e r ≡ refuse n → Decides e r (refuse n)
+pub data Decides (byStandard : Bool) (e : Event) (r : Reader) : Outcome Action → Type 0 where
+  acts : (a : Action) (r′ : Reader) → handled byStandard e r ≡ ok r′ → Acted byStandard e r a r′ → Decides byStandard e r (ok a)
+  refuses : (n : ℕ) → handled byStandard e r ≡ refuse n → Decides byStandard e r (refuse n)

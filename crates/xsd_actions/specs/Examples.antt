@@ -2,6 +2,7 @@
 --     tag           a tag with the name and the attributes
 --     at            the mode in a context, at a nesting, with the extension flag
 --     occurs        an element with name and type, and an occurrence that is no number
+--     nameless      the start of a complex type without a name
 --     attribute     a required attribute with name and type
 --     done, head, child    the rows of a finished element, of an open simple content with a base, of its attribute
 --     after         these rows after an action, the base being empty before
@@ -20,7 +21,7 @@ use Rattle.xsd_parser.specs.Event.{Tag, Event}
 use Rattle.xsd_parser.specs.Handlers.{ok, refuse}
 use Rattle.xsd_parser.specs.Unfold.{computes as readings}
 use Rattle.xsd_actions.specs.declared.Mode.{Mode}
-use Rattle.xsd_actions.specs.Actions.{Action, rowsAfter}
+use Rattle.xsd_actions.specs.Actions.{Action, modeAfter, rowsAfter}
 use Rattle.xsd_actions.specs.Decided.{decided}
 use Rattle.xsd_actions.specs.Unfold.{computes as actions}
 
@@ -72,6 +73,28 @@ close-finishes = refl
 close-lowers : decided Event.close (at 3 1 false) 16 ≡ ok Action.keep
 unfolding at texts actions
 close-lowers = refl
+
+-- order 3: "only its direct children become elements or types"; a nameless one is refused, one below it is passed over
+unfoldable nameless : Event
+nameless = Event.start (tag "complexType" [])
+
+nameless-by-nesting : map (λ nesting. decided nameless (at 1 nesting false) 0) (0 ∷ 1 ∷ []) ≡ refuse 9 ∷ ok Action.keep ∷ []
+unfolding nameless tag at texts schemas readings actions
+nameless-by-nesting = refl
+
+-- with choice 1 "nesting in context 1 counts the open tags below the schema"; a type opened leads to its own nesting
+start-by-choice : map (λ byStandard. modeAfter byStandard (Event.start (tag "annotation" [])) Action.keep (at 1 0 false)) (false ∷ true ∷ []) ≡ at 1 0 false ∷ at 1 1 false ∷ []
+unfolding tag at texts schemas actions
+start-by-choice = refl
+
+type-by-choice : map (λ byStandard. modeAfter byStandard nameless (Action.openComplex (bytes "C")) (at 1 0 false)) (false ∷ true ∷ []) ≡ at 3 0 false ∷ at 3 0 false ∷ []
+unfolding nameless tag at texts schemas actions
+type-by-choice = refl
+
+-- "a close at 0 ends it"
+close-by-nesting : map (λ nesting. modeAfter true Event.close Action.keep (at 1 nesting false)) (0 ∷ 1 ∷ []) ≡ at 0 0 false ∷ at 1 0 false ∷ []
+unfolding at texts schemas actions
+close-by-nesting = refl
 
 -- each action on the rows behind row 1
 unfoldable done : Row

@@ -12,7 +12,7 @@ ghost use Rattle.text.specs.Text.{Text};
 ghost use Rattle.xsd_parser.specs.Handlers.{ok, requireName};
 ghost use Rattle.tape.specs.Pairs.{TagInside, tagAt};
 ghost use Rattle.xsd_actions.specs.Answers.{decision};
-ghost use Rattle.xsd_actions.specs.Decided.{rootFound, startInSchema, decidedStart, decidedEmpty, decidedClose};
+ghost use Rattle.xsd_actions.specs.Decided.{rootFound, directChild, startInSchema, decidedStart, decidedEmpty, decidedClose};
 ghost use Rattle.xsd_decide.specs.Reads.{recordTag};
 ghost use Rattle.xsd_decide.specs.Schema.{openedAs, emptyInSchema};
 use crate::complex::empty_in_complex_type;
@@ -59,11 +59,11 @@ fn open_type(text: &[u8], marks: &[u32], t: TagRecord, simple: bool) -> Decision
     Decision::OpenComplex(i)
 }
 
-// A start at the top level opens a type or is an element.
-fn start_in_schema(text: &[u8], marks: &[u32], t: TagRecord, name: &[u8]) -> Decision
+// A started direct child of the schema opens a type or is an element.
+fn direct_child(text: &[u8], marks: &[u32], t: TagRecord, name: &[u8]) -> Decision
     requires { ⌜ now name ≡ recordTag (now text) (now marks) t .name ⌝ }
     requires { ⌜ TagInside (now text) (now marks) (t .pairs) (t .count) ⌝ }
-    ensures { λ r. ⌜ decision (now (text .entry)) (now (marks .entry)) r ≡ startInSchema (recordTag (now (text .entry)) (now (marks .entry)) t) ⌝ }
+    ensures { λ r. ⌜ decision (now (text .entry)) (now (marks .entry)) r ≡ directChild (recordTag (now (text .entry)) (now (marks .entry)) t) ⌝ }
 {
     if local_is(name, b"simpleType") {
         return open_type(text, marks, t, true);
@@ -77,12 +77,27 @@ fn start_in_schema(text: &[u8], marks: &[u32], t: TagRecord, name: &[u8]) -> Dec
     Decision::Keep
 }
 
-// An empty tag at the top level: only an element counts.
-fn empty_in_schema(text: &[u8], marks: &[u32], t: TagRecord, name: &[u8]) -> Decision
+// A start below the schema: deeper ones are passed over.
+fn start_in_schema(text: &[u8], marks: &[u32], t: TagRecord, name: &[u8], nesting: u32) -> Decision
     requires { ⌜ now name ≡ recordTag (now text) (now marks) t .name ⌝ }
     requires { ⌜ TagInside (now text) (now marks) (t .pairs) (t .count) ⌝ }
-    ensures { λ r. ⌜ decision (now (text .entry)) (now (marks .entry)) r ≡ ok (emptyInSchema (recordTag (now (text .entry)) (now (marks .entry)) t)) ⌝ }
+    ensures { λ r. ⌜ decision (now (text .entry)) (now (marks .entry)) r ≡ startInSchema (recordTag (now (text .entry)) (now (marks .entry)) t) nesting ⌝ }
 {
+    if nesting != 0 {
+        return Decision::Keep;
+    }
+    direct_child(text, marks, t, name)
+}
+
+// An empty tag below the schema: only an element that is a direct child counts.
+fn empty_in_schema(text: &[u8], marks: &[u32], t: TagRecord, name: &[u8], nesting: u32) -> Decision
+    requires { ⌜ now name ≡ recordTag (now text) (now marks) t .name ⌝ }
+    requires { ⌜ TagInside (now text) (now marks) (t .pairs) (t .count) ⌝ }
+    ensures { λ r. ⌜ decision (now (text .entry)) (now (marks .entry)) r ≡ ok (emptyInSchema (recordTag (now (text .entry)) (now (marks .entry)) t) nesting) ⌝ }
+{
+    if nesting != 0 {
+        return Decision::Keep;
+    }
     if local_is(name, b"element") {
         return top_element(text, marks, t);
     }
@@ -99,7 +114,7 @@ pub fn on_start(text: &[u8], marks: &[u32], t: TagRecord, m: Mode, head: u32) ->
         return root_found(text, marks, t, name);
     }
     if m.context == contexts::SCHEMA {
-        return start_in_schema(text, marks, t, name);
+        return start_in_schema(text, marks, t, name, m.nesting);
     }
     if m.context == contexts::SIMPLE_TYPE {
         return start_in_simple_type(text, marks, t, name, m.nesting);
@@ -117,7 +132,7 @@ pub fn on_empty(text: &[u8], marks: &[u32], t: TagRecord, m: Mode, head: u32) ->
         return root_found(text, marks, t, name);
     }
     if m.context == contexts::SCHEMA {
-        return empty_in_schema(text, marks, t, name);
+        return empty_in_schema(text, marks, t, name, m.nesting);
     }
     if m.context == contexts::SIMPLE_TYPE {
         return empty_in_simple_type(text, marks, t, name);

@@ -20,7 +20,7 @@ asRow0 z =
       events = z .events;
       openTags = z .«open_tags»;
       extension = z .extension;
-      last = z .last;
+      choice = z .choice;
     }
 
 -- `usedParts` of the crate `sheet`, of row 0 and two lengths

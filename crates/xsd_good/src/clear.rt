@@ -6,7 +6,9 @@ use sheet::returned;
 use xsd_rows::row;
 use xsd_types::contexts;
 use xsd_types::tags;
+ghost use Prim.Native.Nat.{_≤_};
 ghost use mathlib.Core.Path.{_≡_};
+ghost use lib.Dec.{eqb};
 ghost use Rattle.sheet.specs.Lengths.{sheetLengths};
 ghost use Rattle.sheet.specs.Calls.{sheet, answered};
 ghost use Rattle.xsd_types.specs.State.{firstState};
@@ -30,8 +32,9 @@ pub struct Answer {
 }
 
 // Row 0 of a cleared sheet: two rows are used, and nothing was read.
-fn cleared_row0() -> Row0
-    ensures { λ r. ⌜ asRow0 r ≡ row0 firstState ⌝ }
+fn cleared_row0(choice: u32) -> Row0
+    requires { ⌜ choice ≤ 1 ⌝ }
+    ensures { λ r. ⌜ asRow0 r ≡ row0 (firstState (eqb choice 1)) ⌝ }
 {
     Row0 {
         first: 0,
@@ -43,15 +46,15 @@ fn cleared_row0() -> Row0
         events: 0,
         open_tags: 0,
         extension: 0,
-        last: 0,
+        choice,
     }
 }
 
-// Clears a sheet: two rows, tag 1 in row 1, all else zero. Under 1 nothing is changed.
-pub fn clear(rows: &mut [u32], names: &mut [u8]) -> Answer
-    ensures { λ r. ⌜ ClearIs (sheet (now (rows .entry)) (now (names .entry))) (answered (r .number) (r .place)) (sheet (now (rows .exit)) (now (names .exit))) ⌝ }
+// Clears a sheet: two rows, tag 1 in row 1, the choice in row 0, all else zero. Under 1 nothing is changed.
+pub fn clear(rows: &mut [u32], names: &mut [u8], choice: u32) -> Answer
+    ensures { λ r. ⌜ ClearIs choice (sheet (now (rows .entry)) (now (names .entry))) (answered (r .number) (r .place)) (sheet (now (rows .exit)) (now (names .exit))) ⌝ }
 {
-    if !sheet_lengths(rows.len(), names.len()) {
+    if !(sheet_lengths(rows.len(), names.len()) & (choice <= 1)) {
         return Answer {
             number: returned::BAD_LENGTH,
             place: 0,
@@ -61,7 +64,7 @@ pub fn clear(rows: &mut [u32], names: &mut [u8]) -> Answer
     let m = names.len();
     buffer::zero_rows(rows, 0, n);
     buffer::zero_names(names, 0, m);
-    row::put_row(rows, 0, row0::row0_numbers(cleared_row0()));
+    row::put_row(rows, 0, row0::row0_numbers(cleared_row0(choice)));
     rows[limits::ROW] = tags::NAMESPACE;
     Answer {
         number: returned::ACCEPTED,

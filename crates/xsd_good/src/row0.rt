@@ -10,7 +10,7 @@ ghost use Rattle.sheet.specs.Rows.{ten, numbers};
 ghost use Rattle.xsd_types.specs.Row0.{row0From, row0Ten};
 ghost use Rattle.xsd_good.specs.Row0.{asRow0};
 
-// "Row 0 instead: 0, rows used, names used, context .., nesting, root seen, events done, open tags, extension flag, 0."
+// "Row 0 instead: 0, rows used, names used, context .., nesting, root seen, events done, open tags, extension flag", and order 3's choice.
 pub struct Row0 {
     pub first: u32,
     pub rows_used: u32,
@@ -21,7 +21,7 @@ pub struct Row0 {
     pub events: u32,
     pub open_tags: u32,
     pub extension: u32,
-    pub last: u32,
+    pub choice: u32,
 }
 
 // Row 0 of a sheet's rows.
@@ -40,7 +40,7 @@ pub fn row0_at(rows: &[u32]) -> Row0
         events: t.len2,
         open_tags: t.a,
         extension: t.b,
-        last: t.c,
+        choice: t.c,
     }
 }
 
@@ -58,6 +58,6 @@ pub fn row0_numbers(z: Row0) -> [u32; 10]
         z.events,
         z.open_tags,
         z.extension,
-        z.last,
+        z.choice,
     ]
 }

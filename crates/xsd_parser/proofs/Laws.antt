@@ -20,3 +20,6 @@ pub mod Pieces
 pub mod Room
 pub mod CloseRoom
 pub mod Occurs
+pub mod Children
+pub mod ChildrenRead
+pub mod Choices

@@ -1,5 +1,6 @@
 -- Past the first refused event the cut counts: a close with no tag open is refused, and the start behind it is dropped or read, as the tape is cut.
 use mathlib.Core.Path.{_≡_, refl}
+use mathlib.Core.Bool.{false}
 use mathlib.Core.List.{List, [], _∷_, _++_}
 use Prim.Native.Nat.{ℕ}
 use Rattle.sheet.specs.Lengths.{Lengths}
@@ -23,19 +24,19 @@ startMarks = 1 ∷ 0 ∷ 0 ∷ 6 ∷ []
 
 -- the tape uncut, and its two pieces
 pub uncut : Reading
-uncut = readState lent firstState (bytes "schema") (closeMarks ++ startMarks)
+uncut = readState lent (firstState false) (bytes "schema") (closeMarks ++ startMarks)
 
 pub piece1 : Reading
-piece1 = readState lent firstState (bytes "schema") closeMarks
+piece1 = readState lent (firstState false) (bytes "schema") closeMarks
 
 pub piece2 : Reading
 piece2 = readState lent (piece1 .state) (bytes "schema") startMarks
 
-pub uncut-refused : uncut ≡ record { answer = record { number = 6; place = 0 }; state = firstState }
+pub uncut-refused : uncut ≡ record { answer = record { number = 6; place = 0 }; state = firstState false }
 unfolding lent closeMarks startMarks uncut texts numbers sheets schemas readings
 uncut-refused = refl
 
-pub piece1-refused : piece1 ≡ record { answer = record { number = 6; place = 0 }; state = firstState }
+pub piece1-refused : piece1 ≡ record { answer = record { number = 6; place = 0 }; state = firstState false }
 unfolding lent closeMarks piece1 texts numbers sheets schemas readings
 piece1-refused = refl
 
@@ -55,10 +56,10 @@ cut-opened = refl
 pub halfMarks : List ℕ
 halfMarks = 1 ∷ 0 ∷ []
 
-pub within-record : readState lent firstState (bytes "schema") halfMarks .answer ≡ record { number = 3; place = 0 }
+pub within-record : readState lent (firstState false) (bytes "schema") halfMarks .answer ≡ record { number = 3; place = 0 }
 unfolding lent halfMarks texts numbers sheets schemas readings
 within-record = refl
 
-pub within-record-uncut : readState lent firstState (bytes "schema") (halfMarks ++ 0 ∷ 6 ∷ []) .answer ≡ record { number = 0; place = 1 }
+pub within-record-uncut : readState lent (firstState false) (bytes "schema") (halfMarks ++ 0 ∷ 6 ∷ []) .answer ≡ record { number = 0; place = 1 }
 unfolding lent halfMarks texts numbers sheets schemas readings
 within-record-uncut = refl

@@ -1,6 +1,6 @@
 -- Small tapes through the definitions, by computation. Here the printed specimen. Below: Tapes writes tapes as tags; Lengths has the numbers 0, 1
 -- and 2, Records 3, 4 and 5, Counts 6, 7 and 8 and the order of refusals, Attributes 9 and 10, Room 11; Schemas, SimpleTypes, ComplexTypes and
--- SimpleContents say what an event does.
+-- SimpleContents say what an event does; Annotations has order 3, Children the direct children of a schema.
 use Prim.Native.Nat.{ℕ}
 use mathlib.Core.Path.{_≡_, refl}
 use mathlib.Core.List.{List, [], _∷_}
@@ -18,6 +18,8 @@ mod Schemas
 mod SimpleTypes
 mod ComplexTypes
 mod SimpleContents
+mod Annotations
+mod Children
 
 -- the printed specimen
 specimenMarks : List ℕ

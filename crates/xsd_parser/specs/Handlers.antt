@@ -1,5 +1,6 @@
 -- What an event does: 000 (parser.rs), `on_start`, `on_empty`, `on_end` and their sub-handlers, clause by clause.
 --     Outcome       a value, or a refusal with its number
+--     byStandard    the choice of order 3; false gives 000's clauses. It is handed down to `belowSchema` and asked there alone
 --     9             `MissingAttribute`
 --     10            `InvalidAttributeValue`
 use Prim.Native.Nat.{ℕ, zero, suc, _+_}
@@ -143,11 +144,20 @@ openSimpleType name = Context.inSimpleType (record { name = name; base = []; fac
 unfoldable pub openComplexType : Text → Context
 openComplexType name = Context.inComplexType (record { name = name; content = ComplexContentBuilder.empty; nestingDepth = 0 })
 
-unfoldable pub onStartInSchema : Tag → Reader → Outcome Reader
-onStartInSchema t r =
+-- order 3: "In 1, nesting in context 1 counts the open tags below the schema"
+unfoldable pub belowSchema : Bool → ℕ → Reader → Reader
+belowSchema false n r = r
+belowSchema true n r = inContext (Context.inSchema (suc n)) r
+
+unfoldable pub onDirectChild : Bool → Tag → Reader → Outcome Reader
+onDirectChild byStandard t r =
     if tagIs t "simpleType" then requireName t (λ name. inContext (openSimpleType name) r) else
     if tagIs t "complexType" then requireName t (λ name. inContext (openComplexType name) r) else
-    if tagIs t "element" then ok (onTopLevelElement t r) else ok r
+    if tagIs t "element" then ok (belowSchema byStandard 0 (onTopLevelElement t r)) else ok (belowSchema byStandard 0 r)
+
+-- order 3: "only its direct children become elements or types, and a nameless type under an element is passed over without 9"
+unfoldable pub onStartInSchema : Bool → Tag → ℕ → Reader → Outcome Reader
+onStartInSchema byStandard t n r = if eqb n 0 then onDirectChild byStandard t r else ok (belowSchema byStandard n r)
 
 -- "Simple type: each start raises nesting; `restriction` at nesting 1 .. sets the base"
 unfoldable pub raisedSimple : SimpleTypeBuilder → SimpleTypeBuilder
@@ -178,11 +188,11 @@ onStartInComplexType t b =
     if eqb (b .nestingDepth) 1 then ok (contentStarted t (b .content)) else
     if eqb (b .nestingDepth) 2 then contentAtTwo t (b .content) else ok (b .content)
 
-unfoldable pub onStart : Tag → Reader → Context → Outcome Reader
-onStart t r Context.noContext = ok (if tagIs t "schema" then inContext Context.inSchema (foundRoot t r) else r)
-onStart t r Context.inSchema = onStartInSchema t r
-onStart t r (Context.inSimpleType b) = ok (inContext (Context.inSimpleType (onStartInSimpleType t (raisedSimple b))) r)
-onStart t r (Context.inComplexType b) =
+unfoldable pub onStart : Bool → Tag → Reader → Context → Outcome Reader
+onStart byStandard t r Context.noContext = ok (if tagIs t "schema" then inContext (Context.inSchema 0) (foundRoot t r) else r)
+onStart byStandard t r (Context.inSchema n) = onStartInSchema byStandard t n r
+onStart byStandard t r (Context.inSimpleType b) = ok (inContext (Context.inSimpleType (onStartInSimpleType t (raisedSimple b))) r)
+onStart byStandard t r (Context.inComplexType b) =
     onStartInComplexType t (raisedComplex b) andThen λ content.
     ok (inContext (Context.inComplexType (withContent (raisedComplex b) content)) r)
 
@@ -214,7 +224,7 @@ onEmptyInComplexType t content =
 
 unfoldable pub onEmpty : Tag → Reader → Context → Outcome Reader
 onEmpty t r Context.noContext = ok (if tagIs t "schema" then foundRoot t r else r)
-onEmpty t r Context.inSchema = ok (if tagIs t "element" then onTopLevelElement t r else r)
+onEmpty t r (Context.inSchema n) = ok (if eqb n 0 && tagIs t "element" then onTopLevelElement t r else r)
 onEmpty t r (Context.inSimpleType b) =
     onEmptyInSimpleType t b andThen λ next. ok (inContext (Context.inSimpleType next) r)
 onEmpty t r (Context.inComplexType b) =
@@ -225,22 +235,23 @@ onEmpty t r (Context.inComplexType b) =
 -- "A close lowers nesting, or at 0 finishes the type, flag 0, and returns to context 1."
 unfoldable pub closeSimpleType : SimpleTypeBuilder → ℕ → Reader → Reader
 closeSimpleType b zero r =
-    inContext Context.inSchema (withItem (Item.simpleType (record { name = b .name; base = b .base; facets = b .facets })) r)
+    inContext (Context.inSchema 0) (withItem (Item.simpleType (record { name = b .name; base = b .base; facets = b .facets })) r)
 closeSimpleType b (suc n) r =
     inContext (Context.inSimpleType (record { name = b .name; base = b .base; facets = b .facets; nestingDepth = n })) r
 
 unfoldable pub closeComplexType : ComplexTypeBuilder → ℕ → Reader → Reader
 closeComplexType b zero r =
-    inContext Context.inSchema (withItem (Item.complexType (record { name = b .name; content = finish (b .content) })) r)
+    inContext (Context.inSchema 0) (withItem (Item.complexType (record { name = b .name; content = finish (b .content) })) r)
 closeComplexType b (suc n) r =
     inContext (Context.inComplexType (record { name = b .name; content = b .content; nestingDepth = n })) r
 
--- "Any close leads to context 0." 000: `Some(Context::Schema)` pops the context
-unfoldable pub closeInSchema : Reader → Reader
-closeInSchema r = inContext Context.noContext r
+-- "Any close leads to context 0." 000: `Some(Context::Schema)` pops the context. Order 3: "a close at 0 ends it"; with choice 0 nesting is 0 there
+unfoldable pub closeInSchema : ℕ → Reader → Reader
+closeInSchema zero r = inContext Context.noContext r
+closeInSchema (suc n) r = inContext (Context.inSchema n) r
 
 unfoldable pub onEnd : Reader → Context → Reader
 onEnd r Context.noContext = r
-onEnd r Context.inSchema = closeInSchema r
+onEnd r (Context.inSchema n) = closeInSchema n r
 onEnd r (Context.inSimpleType b) = closeSimpleType b (b .nestingDepth) r
 onEnd r (Context.inComplexType b) = closeComplexType b (b .nestingDepth) r

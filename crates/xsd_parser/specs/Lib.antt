@@ -1,6 +1,6 @@
 -- The definitions of the crate `xsd_parser`: Event is the abstract event, Tape the records that stand for events, Handlers 000's handlers,
 -- Step one event with its refusals, Read the reading call, EventText events that are texts, Accepted records that are accepted, Whole where a tape
--- may be cut, Pieces a tape read in pieces.
+-- may be cut, Pieces a tape read in pieces, Children the direct children of a schema.
 pub mod Kinds
 pub mod Event
 pub mod Tape
@@ -11,6 +11,7 @@ pub mod EventText
 pub mod Accepted
 pub mod Whole
 pub mod Pieces
+pub mod Children
 pub mod Unfold
 pub mod CutExample
 pub mod Examples

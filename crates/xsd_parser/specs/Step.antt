@@ -1,10 +1,11 @@
 -- One event on a state, with the refusals 6 to 11 in the paper's order. "Reading: .. event by event 3, 4, 5, 8, then 6 or 7, 9, 10, 11"
---     handled       the handlers of 000 on the reader
+--     handled       the handlers of 000 on the reader, by the choice of order 3
 --     tagsAfter     the open tags after an event; 6 "close with no tag open", 7 "start with 255 open"
---     counted       the state with one event more done
+--     counted       the state with one event more done, its choice kept
 --     roomFor       the state where it has room; 11 "the state after the event needs more rows or names than lent"
 --     step          the state after the event, or the refusal
 use Prim.Native.Nat.{ℕ, zero, suc}
+use mathlib.Core.Bool.{Bool}
 use lib.Dec.{ltb}
 use Rattle.text.specs.Text.{if_then_else_}
 use Rattle.sheet.specs.Limits.{eventsLimit, openTagsLimit}
@@ -15,10 +16,10 @@ use Rattle.xsd_types.specs.Sheet.{stateFits}
 use Rattle.xsd_parser.specs.Event.{Event}
 use Rattle.xsd_parser.specs.Handlers.{Outcome, ok, refuse, _andThen_, onStart, onEmpty, onEnd}
 
-unfoldable pub handled : Event → Reader → Outcome Reader
-handled (Event.start t) r = onStart t r (r .context)
-handled (Event.empty t) r = onEmpty t r (r .context)
-handled Event.close r = ok (onEnd r (r .context))
+unfoldable pub handled : Bool → Event → Reader → Outcome Reader
+handled byStandard (Event.start t) r = onStart byStandard t r (r .context)
+handled byStandard (Event.empty t) r = onEmpty t r (r .context)
+handled byStandard Event.close r = ok (onEnd r (r .context))
 
 unfoldable pub closed : ℕ → Outcome ℕ
 closed zero = refuse noTagOpen
@@ -30,7 +31,7 @@ tagsAfter (Event.empty t) n = ok n
 tagsAfter Event.close n = closed n
 
 unfoldable pub counted : State → ℕ → Reader → State
-counted s openTags r = record { reader = r; events = suc (s .events); openTags = openTags }
+counted s openTags r = record { reader = r; events = suc (s .events); openTags = openTags; byStandard = s .byStandard }
 
 unfoldable pub roomFor : Lengths → State → Outcome State
 roomFor lent s = if stateFits (lent .rows) (lent .names) s then ok s else refuse noRoom
@@ -40,6 +41,6 @@ unfoldable pub step : Lengths → State → Event → Outcome State
 step lent s e =
     if ltb (s .events) eventsLimit
     then tagsAfter e (s .openTags) andThen (λ openTags.
-    handled e (s .reader) andThen (λ r.
+    handled (s .byStandard) e (s .reader) andThen (λ r.
     roomFor lent (counted s openTags r)))
     else refuse tooManyEvents

@@ -23,17 +23,17 @@ use Rattle.xsd_progress.specs.declared.open_tags.Arrived.{Arrived}
 unfoldable pub modeWith : Bool → OpenTags → Mode
 modeWith seen o = record { context = o .context; nesting = o .nesting; «root_seen» = seen; extension = o .extension }
 
-pub record ModeAfter (kind : ℕ) (d : Decision) (m m′ : Mode) : Type 0 where
-  pub is : (t : Tag) (text : Text) (marks : List ℕ) (a : Action) → decision text marks d ≡ ok a → m′ ≡ modeAfter (eventAs kind t) a m
+pub record ModeAfter (byStandard : Bool) (kind : ℕ) (d : Decision) (m m′ : Mode) : Type 0 where
+  pub is : (t : Tag) (text : Text) (marks : List ℕ) (a : Action) → decision text marks d ≡ ok a → m′ ≡ modeAfter byStandard (eventAs kind t) a m
 
 pub record SeenAfter (kind : ℕ) (d : Decision) (seen seen′ : Bool) : Type 0 where
-  pub is : (t : Tag) (text : Text) (marks : List ℕ) (a : Action) → decision text marks d ≡ ok a → (m : Mode) → m .«root_seen» ≡ seen → seen′ ≡ modeAfter (eventAs kind t) a m .«root_seen»
+  pub is : (t : Tag) (text : Text) (marks : List ℕ) (a : Action) → decision text marks d ≡ ok a → (byStandard : Bool) (m : Mode) → m .«root_seen» ≡ seen → seen′ ≡ modeAfter byStandard (eventAs kind t) a m .«root_seen»
 
 pub record Changed (x : Arrival) (o o′ : OpenTags) : Type 0 where
   pub opened : o′ .«open_tags» ≡ x .«open_tags»
   pub modeIs : (seen : Bool) (t : Tag) (text : Text) (marks : List ℕ) (a : Action) → decision text marks (x .decision) ≡ ok a
-      → modeWith (modeAfter (eventAs (x .kind) t) a (modeWith seen o) .«root_seen») o′ ≡ modeAfter (eventAs (x .kind) t) a (modeWith seen o)
+      → modeWith (modeAfter (x .«by_standard») (eventAs (x .kind) t) a (modeWith seen o) .«root_seen») o′ ≡ modeAfter (x .«by_standard») (eventAs (x .kind) t) a (modeWith seen o)
 
 pub record EventAfter (x : Arrival) (m : Mode) (r : Arrived) : Type 0 where
   pub opened : r .«open_tags» ≡ x .«open_tags»
-  pub modeIs : (t : Tag) (text : Text) (marks : List ℕ) (a : Action) → decision text marks (x .decision) ≡ ok a → r .mode ≡ modeAfter (eventAs (x .kind) t) a m
+  pub modeIs : (t : Tag) (text : Text) (marks : List ℕ) (a : Action) → decision text marks (x .decision) ≡ ok a → r .mode ≡ modeAfter (x .«by_standard») (eventAs (x .kind) t) a m

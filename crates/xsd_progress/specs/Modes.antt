@@ -1,8 +1,8 @@
 -- What the private functions compute: the parts of the mode after a decision of the code. No contract of a public function cites it.
---     contextOf, nestingOf, rootOf, flagOf    the parts
+--     contextOf, nestingOf (raisesOf, opensOf), rootOf, flagOf    the parts
 --     decidedMode   the mode of these parts
 use Prim.Native.Nat.{ℕ, suc}
-use mathlib.Core.Bool.{Bool, true, false, _&&_}
+use mathlib.Core.Bool.{Bool, true, false, not, _&&_, _||_}
 use lib.Dec.{eqb, leb}
 use Rattle.text.specs.Text.{if_then_else_}
 use Rattle.xsd_types.specs.Contexts.{schemaContext, simpleTypeContext, complexTypeContext}
@@ -21,8 +21,23 @@ contextOf start (Decision.Digits f) context = context
 contextOf start (Decision.Content n) context = context
 contextOf start (Decision.Base at) context = context
 
-unfoldable pub nestingOf : Bool → ℕ → ℕ → ℕ
-nestingOf start context nesting = if start && leb simpleTypeContext context then suc nesting else nesting
+abbrev pub opensOf : Decision → Bool
+opensOf (Decision.Refuse r) = false
+opensOf Decision.Keep = false
+opensOf (Decision.Root at) = false
+opensOf (Decision.OpenSimple at) = true
+opensOf (Decision.OpenComplex at) = true
+opensOf (Decision.Add n) = false
+opensOf (Decision.Characters f) = false
+opensOf (Decision.Digits f) = false
+opensOf (Decision.Content n) = false
+opensOf (Decision.Base at) = false
+
+unfoldable pub raisesOf : Bool → Decision → ℕ → Bool
+raisesOf byStandard d context = leb simpleTypeContext context || (eqb context schemaContext && not (opensOf d) && byStandard)
+
+unfoldable pub nestingOf : Bool → ℕ → ℕ
+nestingOf raised nesting = if raised then suc nesting else nesting
 
 abbrev pub rootOf : Decision → Bool → Bool
 rootOf (Decision.Refuse r) seen = seen
@@ -48,11 +63,11 @@ flagOf (Decision.Digits f) complex flag = flag
 flagOf (Decision.Content n) complex flag = false
 flagOf (Decision.Base at) complex flag = complex
 
-unfoldable pub decidedMode : Bool → Decision → Mode → Mode
-decidedMode start d m =
+unfoldable pub decidedMode : Bool → Bool → Decision → Mode → Mode
+decidedMode byStandard start d m =
     record {
       context = contextOf start d (m .context);
-      nesting = nestingOf start (m .context) (m .nesting);
+      nesting = nestingOf (start && raisesOf byStandard d (m .context)) (m .nesting);
       «root_seen» = rootOf d (m .«root_seen»);
       extension = flagOf d (eqb (m .context) complexTypeContext) (m .extension);
     }

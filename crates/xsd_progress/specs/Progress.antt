@@ -18,7 +18,7 @@ use Rattle.sheet.specs.Lengths.{Lengths}
 use Rattle.xsd_types.specs.Contexts.{simpleTypeContext}
 use Rattle.xsd_types.specs.State.{State, proper}
 use Rattle.xsd_types.specs.Row0.{Row0, row0From, row0Ten}
-use Rattle.xsd_types.specs.Rows.{rowsOf, itemsRows, contextNumber, row0Last}
+use Rattle.xsd_types.specs.Rows.{rowsOf, itemsRows, contextNumber}
 use Rattle.xsd_good.specs.Heads.{headRow}
 use Rattle.xsd_rows.specs.Packing.{Holds}
 use Rattle.xsd_actions.specs.Actions.{modeOf}
@@ -30,6 +30,7 @@ progressOf z head =
       mode = record { context = z .context; nesting = z .nesting; «root_seen» = eqb (z .rootSeen) 1; extension = eqb (z .extension) 1 };
       events = z .events;
       «open_tags» = z .openTags;
+      «by_standard» = eqb (z .choice) 1;
       used = record { rows = z .rowsUsed; names = z .namesUsed };
       head = head;
     }
@@ -49,7 +50,7 @@ progressRow0 p =
       events = p .events;
       openTags = p .«open_tags»;
       extension = bit (p .mode .extension);
-      last = row0Last;
+      choice = bit (p .«by_standard»);
     }
 
 unfoldable pub row0Numbers : Progress → List ℕ
@@ -59,6 +60,7 @@ pub record At (s : State) (rows names : List ℕ) (p : Progress) : Type 0 where
   pub mode : p .mode ≡ modeOf (s .reader)
   pub events : p .events ≡ s .events
   pub tags : p .«open_tags» ≡ s .openTags
+  pub choice : p .«by_standard» ≡ s .byStandard
   pub z : List ℕ
   pub holds : Holds rows names (p .used) z (rowsOf s)
   pub head : simpleTypeContext ≤ contextNumber (s .reader .context) → p .head ≡ 2 + length (itemsRows (s .reader .schema .items))

@@ -22,6 +22,7 @@ pub struct Progress {
     pub mode: Mode,
     pub events: u32,
     pub open_tags: u32,
+    pub by_standard: bool,
     pub used: Used,
     pub head: usize,
 }
@@ -45,6 +46,7 @@ pub fn progress_of(rows: &[u32]) -> Progress
         },
         events: z.events,
         open_tags: z.open_tags,
+        by_standard: z.choice == 1,
         used: Used {
             rows: n,
             names: z.names_used as usize,
@@ -74,6 +76,6 @@ pub fn row0_of(p: Progress) -> [u32; 10]
         events: p.events,
         open_tags: p.open_tags,
         extension: flag(p.mode.extension),
-        last: 0,
+        choice: flag(p.by_standard),
     })
 }

@@ -15,7 +15,7 @@ ghost use Rattle.xsd_parser.specs.Handlers.{ok};
 ghost use Rattle.xsd_parser.specs.Step.{tagsAfter};
 ghost use Rattle.xsd_actions.specs.Actions.{Action, tagMode, closeMode};
 ghost use Rattle.xsd_actions.specs.Answers.{decision};
-ghost use Rattle.xsd_progress.specs.Modes.{contextOf, nestingOf, rootOf, flagOf};
+ghost use Rattle.xsd_progress.specs.Modes.{contextOf, opensOf, raisesOf, nestingOf, rootOf, flagOf};
 ghost use Rattle.xsd_progress.specs.Answers.{tags, eventAs};
 
 // How many tags are open, or the refusal.
@@ -42,16 +42,38 @@ fn context_after(start: bool, d: Decision, context: u32) -> u32
     }
 }
 
-// A start raises the nesting where a type was open before it.
-fn nesting_after(start: bool, context: u32, nesting: u32) -> u32
-    requires { ⌜ nesting ≤ openTagsLimit ⌝ }
-    ensures { λ r. ⌜ r ≡ nestingOf start context nesting ⌝ }
+// Whether the decision opens a type.
+fn opens_type(d: Decision) -> bool
+    ensures { λ r. ⌜ r ≡ opensOf d ⌝ }
 {
-    if start & (contexts::SIMPLE_TYPE <= context) {
-        nesting + 1
-    } else {
-        nesting
+    match d {
+        Decision::OpenSimple(_) => true,
+        Decision::OpenComplex(_) => true,
+        Decision::Refuse(_) => false,
+        Decision::Keep => false,
+        Decision::Root(_) => false,
+        Decision::Add(_) => false,
+        Decision::Characters(_) => false,
+        Decision::Digits(_) => false,
+        Decision::Content(_) => false,
+        Decision::Base(_) => false,
     }
+}
+
+// A start raises the nesting where a type was open before it, and by the standard in the schema too, unless it opens a type there.
+fn raises(by_standard: bool, d: Decision, context: u32) -> bool
+    ensures { λ r. ⌜ r ≡ raisesOf «by_standard» d context ⌝ }
+{
+    (contexts::SIMPLE_TYPE <= context)
+        | ((context == contexts::SCHEMA) & !opens_type(d) & by_standard)
+}
+
+// One tag deeper where the start raises the nesting.
+fn nesting_after(raised: bool, nesting: u32) -> u32
+    requires { ⌜ nesting ≤ openTagsLimit ⌝ }
+    ensures { λ r. ⌜ r ≡ nestingOf raised nesting ⌝ }
+{
+    if raised { nesting + 1 } else { nesting }
 }
 
 // Whether the root was seen, after a start or an empty tag.
@@ -91,13 +113,14 @@ fn flag_after(d: Decision, complex: bool, flag: bool) -> bool
 }
 
 // The mode after a start (start is true) or an empty tag.
-pub fn tag_mode(start: bool, d: Decision, m: Mode) -> Mode
+pub fn tag_mode(by_standard: bool, start: bool, d: Decision, m: Mode) -> Mode
     requires { ⌜ m .nesting ≤ openTagsLimit ⌝ }
-    ensures { λ r. ⌜ ((text : Text) (marks : List ℕ) (a : Action) → decision text marks d ≡ ok a → r ≡ tagMode start a m) ⌝ }
+    ensures { λ r. ⌜ ((text : Text) (marks : List ℕ) (a : Action) → decision text marks d ≡ ok a → r ≡ tagMode «by_standard» start a m) ⌝ }
 {
+    let raised = start & raises(by_standard, d, m.context);
     Mode {
         context: context_after(start, d, m.context),
-        nesting: nesting_after(start, m.context, m.nesting),
+        nesting: nesting_after(raised, m.nesting),
         root_seen: root_after(d, m.root_seen),
         extension: flag_after(d, m.context == contexts::COMPLEX_TYPE, m.extension),
     }
@@ -107,27 +130,27 @@ pub fn tag_mode(start: bool, d: Decision, m: Mode) -> Mode
 pub fn close_mode(m: Mode) -> Mode
     ensures { λ r. ⌜ r ≡ closeMode m ⌝ }
 {
-    if m.context <= contexts::SCHEMA {
+    if m.nesting != 0 {
         return Mode {
-            context: contexts::NONE,
-            nesting: m.nesting,
+            context: m.context,
+            nesting: m.nesting - 1,
             root_seen: m.root_seen,
             extension: m.extension,
         };
     }
-    if m.nesting == 0 {
+    if m.context <= contexts::SCHEMA {
         return Mode {
-            context: contexts::SCHEMA,
+            context: contexts::NONE,
             nesting: 0,
             root_seen: m.root_seen,
-            extension: false,
+            extension: m.extension,
         };
     }
     Mode {
-        context: m.context,
-        nesting: m.nesting - 1,
+        context: contexts::SCHEMA,
+        nesting: 0,
         root_seen: m.root_seen,
-        extension: m.extension,
+        extension: false,
     }
 }
 

@@ -18,11 +18,12 @@ pub struct OpenTags {
     pub extension: bool,
 }
 
-// An event that is counted and decided: its kind, what was decided, and the open tags after it.
+// An event that is counted and decided: its kind, what was decided, the open tags after it, and the sheet's choice.
 pub struct Arrival {
     pub kind: u32,
     pub decision: Decision,
     pub open_tags: u32,
+    pub by_standard: bool,
 }
 
 // The mode and the open tags after an event.
@@ -32,14 +33,14 @@ pub struct Arrived {
 }
 
 // The mode after an event of a kind.
-fn mode_after(kind: u32, d: Decision, m: Mode) -> Mode
+fn mode_after(by_standard: bool, kind: u32, d: Decision, m: Mode) -> Mode
     requires { ⌜ m .nesting ≤ openTagsLimit ⌝ }
-    ensures { λ r. ⌜ ModeAfter kind d m r ⌝ }
+    ensures { λ r. ⌜ ModeAfter «by_standard» kind d m r ⌝ }
 {
     if kind == kinds::CLOSE {
         return close_mode(m);
     }
-    tag_mode(kind == kinds::START, d, m)
+    tag_mode(by_standard, kind == kinds::START, d, m)
 }
 
 // The mode of a record, root seen given.
@@ -60,7 +61,7 @@ pub fn by_value(o: OpenTags, a: Arrival) -> OpenTags
     ensures { λ r. ⌜ Changed a o r ⌝ }
 {
     let d = a.decision;
-    let m = mode_after(a.kind, d, mode_of(o, false));
+    let m = mode_after(a.by_standard, a.kind, d, mode_of(o, false));
     OpenTags {
         context: m.context,
         nesting: m.nesting,

@@ -1,6 +1,7 @@
 -- An event on a sheet that holds a state's rows.
 --     headAfter     the row of the open type's head after an event
---     Due           an event that arrives is due on a state: the handlers accept it and do what was decided, and the state after it is proper
+--     Due           an event that arrives is due on a state: it brings the state's choice, the handlers accept it and do what was decided, and the state
+--                   after it is proper
 --     DueRoom       there is such an event and state, and the buffers are no longer than the paper has it
 --     Refuses, Accepts    the outcome is a refusal, and the sheet is left; it is a state, and the sheet holds its rows
 --     Ended         what an answer says of an outcome
@@ -36,7 +37,8 @@ pub record Due (rows names : List ℕ) (text : Text) (marks : List ℕ) (p : Pro
   pub eventIs : e ≡ eventAs (x .kind) tag
   pub action : Action
   pub decided : decision text marks (x .decision) ≡ ok action
-  pub acted : Acted e (s .reader) action r
+  pub choice : x .«by_standard» ≡ s .byStandard
+  pub acted : Acted (s .byStandard) e (s .reader) action r
   pub properAfter : proper (counted s (x .«open_tags») r) ≡ true
 
 pub record DueRoom (rows names : List ℕ) (text : Text) (marks : List ℕ) (p : Progress) (x : Arrival) : Type 0 where

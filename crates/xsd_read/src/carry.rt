@@ -51,6 +51,7 @@ pub fn carry_out(
         mode,
         events: p.events + 1,
         open_tags: after.open_tags,
+        by_standard: p.by_standard,
         used,
         head,
     })

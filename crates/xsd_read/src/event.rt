@@ -64,6 +64,7 @@ pub fn on_event(
                         kind,
                         decision,
                         open_tags,
+                        by_standard: p.by_standard,
                     };
                     carry_out(rows, names, text, marks, p, a)
                 }

@@ -112,7 +112,7 @@ unfoldable pub contextOf : Row0 → List Group → Context
 contextOf z gs =
     let g = lastGroup noGroup gs in
     if eqb (z .context) noneContext then Context.noContext else
-    if eqb (z .context) schemaContext then Context.inSchema else
+    if eqb (z .context) schemaContext then Context.inSchema (z .nesting) else
     if eqb (z .context) simpleTypeContext
     then Context.inSimpleType (record { name = text0 (g .head); base = text1 (g .head); facets = map facetOf (g .children); nestingDepth = z .nesting })
     else Context.inComplexType (record { name = text0 (g .head); content = contentOf (eqb (z .extension) 1) g; nestingDepth = z .nesting })
@@ -137,6 +137,7 @@ stateOfRows z rs =
           };
       events = z .events;
       openTags = z .openTags;
+      byStandard = eqb (z .choice) 1;
     }
 
 unfoldable pub stateOf : Sheet → State

@@ -48,6 +48,7 @@ sampleState =
           };
       events = 12;
       openTags = 3;
+      byStandard = true;
     }
 
 sample-good : good (sheetOf sampleState 130 60) ≡ true

@@ -17,7 +17,7 @@ use Rattle.text.specs.Text.{if_then_else_, every, isText, between}
 use Rattle.sheet.specs.Rows.{Ten, Sheet}
 use Rattle.sheet.specs.Form.{isFlag, covers, covered, namesUsedOf, tensOf, usedParts, zerosBehind}
 use Rattle.xsd_types.specs.Tags.{namespaceTag, elementTag, simpleTypeTag, minLengthTag, maxLengthTag, totalDigitsTag, fractionDigitsTag, sequenceTag, simpleContentTag, anyTag, noContentTag, boundElementTag, unboundedElementTag, attributeTag}
-use Rattle.xsd_types.specs.Contexts.{complexTypeContext}
+use Rattle.xsd_types.specs.Contexts.{schemaContext, complexTypeContext}
 use Rattle.xsd_types.specs.Row0.{Row0, row0In}
 
 -- none for the facets of numbers; of an any the second where a is 1; two where name and type or base stand; one for the others
@@ -60,8 +60,9 @@ lastHead head [] = head
 lastHead head (tag ∷ tags) = lastHead (headAfter head tag) tags
 
 -- "Row 0 instead: 0, rows used, names used, context (0 none, 1 schema, 2 simple type, 3 complex type), nesting, root seen, events done, open tags, extension flag, 0."
+-- Order 3: the choice is "the last number of row 0 ..; a good sheet has one of the two there"
 unfoldable pub row0Form : Row0 → Bool
-row0Form z = eqb (z .first) 0 && leb (z .context) 3 && isFlag (z .rootSeen) && isFlag (z .extension) && eqb (z .last) 0
+row0Form z = eqb (z .first) 0 && leb (z .context) 3 && isFlag (z .rootSeen) && isFlag (z .extension) && isFlag (z .choice)
 
 unfoldable pub tenForm : Ten → Bool
 tenForm t = rowForm (t .tag) (t .a) (t .b) (t .c)
@@ -87,13 +88,17 @@ limits z = leb (z .events) 1000000 && leb (z .openTags) 255
 unfoldable pub rootTest : Row0 → Bool
 rootTest z = eqb (z .rootSeen) 1 || (eqb (z .context) 0 && eqb (z .rowsUsed) 2 && eqb (z .namesUsed) 0)
 
--- "context 1 has an open tag; contexts 2 and 3 have at least nesting + 2"
+-- "context 1 has an open tag; contexts 2 and 3 have at least nesting + 2". Order 3: in context 1 "open tags of at least nesting + 1"
 unfoldable pub openTagsTest : Row0 → Bool
-openTagsTest z = if leb 2 (z .context) then leb (z .nesting + 2) (z .openTags) else leb (z .context) (z .openTags)
+openTagsTest z =
+    if leb 2 (z .context) then leb (z .nesting + 2) (z .openTags) else
+    if eqb (z .context) schemaContext then leb (z .nesting + 1) (z .openTags) else true
 
--- "nesting is 0 in contexts 0 and 1"
+-- "nesting is 0 in contexts 0 and 1". Order 3: "With choice 1 .. any nesting" in context 1, "with 0, nesting there stays 0"
 unfoldable pub nestingZero : Row0 → Bool
-nestingZero z = if leb 2 (z .context) then true else eqb (z .nesting) 0
+nestingZero z =
+    if leb 2 (z .context) then true else
+    if eqb (z .context) schemaContext then eqb (z .choice) 1 || eqb (z .nesting) 0 else eqb (z .nesting) 0
 
 unfoldable pub nestingTest : Row0 → Bool
 nestingTest z = nestingZero z && openTagsTest z

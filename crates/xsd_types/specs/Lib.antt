@@ -1,6 +1,6 @@
 -- The definitions of the crate `xsd_types`: Types has 002's values, State the reader's state, Row0 the numbers of row 0 by name, Rows the
 -- state as rows, Sheet the sheet of a state,
--- Good the test of a good sheet, Back the way back, Clear the clearing call.
+-- Good the test of a good sheet, Back the way back, Clear the clearing call, Choice what order 3 chooses between.
 pub mod Tags
 pub mod Contexts
 pub mod Types
@@ -11,5 +11,6 @@ pub mod Sheet
 pub mod Good
 pub mod Back
 pub mod Clear
+pub mod Choice
 pub mod Unfold
 pub mod Examples

@@ -1,6 +1,7 @@
 -- Row 0 of a schema sheet. Paper 01, "Schema sheet": "Row 0 instead: 0, rows used, names used, context (0 none, 1 schema, 2 simple type,
--- 3 complex type), nesting, root seen, events done, open tags, extension flag, 0."
---     Row0          its ten numbers by name, in the sentence's order; `first` and `last` are its zeros
+-- 3 complex type), nesting, root seen, events done, open tags, extension flag, 0." Order 3: "Clearing gets a choice, kept as the last number of
+-- row 0".
+--     Row0          its ten numbers by name, in the sentence's order; `first` is its zero
 --     row0From      row 0 made from ten numbers
 --     row0Ten       row 0 as ten numbers: the way back, with nothing lost
 --     row0In        row 0 of a sheet
@@ -18,7 +19,7 @@ pub record Row0 : Type 0 where
   pub events : ℕ
   pub openTags : ℕ
   pub extension : ℕ
-  pub last : ℕ
+  pub choice : ℕ
 
 abbrev pub row0From : Ten → Row0
 row0From t =
@@ -32,7 +33,7 @@ row0From t =
       events = t .len2;
       openTags = t .a;
       extension = t .b;
-      last = t .c;
+      choice = t .c;
     }
 
 abbrev pub row0Ten : Row0 → Ten
@@ -47,7 +48,7 @@ row0Ten z =
       len2 = z .events;
       a = z .openTags;
       b = z .extension;
-      c = z .last;
+      c = z .choice;
     }
 
 abbrev pub row0In : Sheet → Row0

@@ -1,5 +1,5 @@
 -- The state as rows. Paper 01, "Schema sheet", Tags.
---     headC, namespaceA, row0Last    unused numbers: c of a head, a of row 1, the last of row 0
+--     headC, namespaceA    unused numbers: c of a head, a of row 1
 --     namespaceRow  row 1
 --     facetRow, elementRow (occursRow), variantRow, attributeRow    the rows of children
 --     simpleTypeRows, complexTypeRows    a type's rows: its head, its children behind it
@@ -26,10 +26,6 @@ headC = 0
 -- a of row 1 is unused
 unfoldable pub namespaceA : ℕ
 namespaceA = 0
-
--- the last number of row 0 is unused
-unfoldable pub row0Last : ℕ
-row0Last = 0
 
 -- "1 target namespace (always row 1)"
 unfoldable pub namespaceRow : Text → Row
@@ -88,7 +84,7 @@ itemsRows (i ∷ is) = itemRows i ++ itemsRows is
 
 unfoldable pub contextRows : Context → List Row
 contextRows Context.noContext = []
-contextRows Context.inSchema = []
+contextRows (Context.inSchema n) = []
 contextRows (Context.inSimpleType t) = simpleTypeRows (t .name) (t .base) (t .facets)
 contextRows (Context.inComplexType t) = complexTypeRows (t .name) (t .content)
 
@@ -101,13 +97,14 @@ rowsOf s =
 -- "context (0 none, 1 schema, 2 simple type, 3 complex type)"
 unfoldable pub contextNumber : Context → ℕ
 contextNumber Context.noContext = 0
-contextNumber Context.inSchema = 1
+contextNumber (Context.inSchema n) = 1
 contextNumber (Context.inSimpleType t) = 2
 contextNumber (Context.inComplexType t) = 3
 
+-- order 3: "nesting in context 1 counts the open tags below the schema"
 unfoldable pub nesting : Context → ℕ
 nesting Context.noContext = 0
-nesting Context.inSchema = 0
+nesting (Context.inSchema n) = n
 nesting (Context.inSimpleType t) = t .nestingDepth
 nesting (Context.inComplexType t) = t .nestingDepth
 
@@ -120,7 +117,7 @@ contentFlag (ComplexContentBuilder.any n) = 0
 
 unfoldable pub extensionFlag : Context → ℕ
 extensionFlag Context.noContext = 0
-extensionFlag Context.inSchema = 0
+extensionFlag (Context.inSchema n) = 0
 extensionFlag (Context.inSimpleType t) = 0
 extensionFlag (Context.inComplexType t) = contentFlag (t .content)
 
@@ -130,7 +127,7 @@ rowsUsed s = 1 + length (rowsOf s)
 unfoldable pub namesUsed : State → ℕ
 namesUsed s = length (namesOf (rowsOf s))
 
--- "Row 0 instead: 0, rows used, names used, context, nesting, root seen, events done, open tags, extension flag, 0."
+-- "Row 0 instead: 0, rows used, names used, context, nesting, root seen, events done, open tags, extension flag", then order 3's choice
 unfoldable pub row0 : State → Row0
 row0 s =
     record {
@@ -143,5 +140,5 @@ row0 s =
       events = s .events;
       openTags = s .openTags;
       extension = extensionFlag (s .reader .context);
-      last = row0Last;
+      choice = bit (s .byStandard);
     }

@@ -1,14 +1,14 @@
 -- The reader's state: 000 (parser.rs), "Internal state machine types", and the counters of paper 01's row 0.
 --     SimpleTypeBuilder, ComplexContentBuilder, ComplexTypeBuilder, Context    as in 000; noContext is 000's empty stack
 --     Reader        what 000's handlers change: the schema, found_schema_root and the context
---     State         the reader with the events done and the open tags
---     firstState    the state of a cleared sheet
+--     State         the reader with the events done, the open tags and the choice of order 3
+--     firstState    the state of a cleared sheet, by its choice
 --     proper        what "A sheet is good if" asks of a state, sentence by sentence
 use Prim.Native.Nat.{ℕ, _+_, _^_}
 use mathlib.Core.List.{List, [], _∷_}
 use mathlib.Core.Bool.{Bool, true, false, _&&_, _||_}
 use mathlib.Core.Option.{Option, some, none}
-use lib.Dec.{leb, ltb}
+use lib.Dec.{eqb, leb, ltb}
 use Rattle.text.specs.Text.{Text, every, isText}
 use Rattle.xsd_types.specs.Types.{Element, Facet, MaxOccurs, SequenceElement, ChoiceVariant, Attribute, ComplexContent, Item, Schema}
 
@@ -32,7 +32,7 @@ pub record ComplexTypeBuilder : Type 0 where
 
 pub data Context : Type 0 where
   noContext : Context
-  inSchema : Context
+  inSchema : ℕ → Context
   inSimpleType : SimpleTypeBuilder → Context
   inComplexType : ComplexTypeBuilder → Context
 
@@ -41,17 +41,20 @@ pub record Reader : Type 0 where
   pub rootSeen : Bool
   pub context : Context
 
+-- order 3: "Clearing gets a choice ..: 0 as before, 1 by the standard"
 pub record State : Type 0 where
   pub reader : Reader
   pub events : ℕ
   pub openTags : ℕ
+  pub byStandard : Bool
 
-unfoldable pub firstState : State
-firstState =
+unfoldable pub firstState : Bool → State
+firstState byStandard =
     record {
       reader = record { schema = record { targetNamespace = []; items = [] }; rootSeen = false; context = noContext };
       events = 0;
       openTags = 0;
+      byStandard = byStandard;
     }
 
 -- "all names are bytes below 128", and each number within its width in 002
@@ -115,19 +118,23 @@ itemOk (Item.complexType t) = isText (t .name) && contentOk (started (t .content
 unfoldable pub schemaOk : Schema → Bool
 schemaOk s = isText (s .targetNamespace) && every itemOk (s .items)
 
+-- order 3: "With choice 1, a good sheet in context 1 has open tags of at least nesting + 1, and any nesting; with 0, nesting there stays 0."
+unfoldable pub schemaNestingOk : Bool → ℕ → Bool
+schemaNestingOk byStandard n = byStandard || eqb n 0
+
 -- "context 1 has an open tag; contexts 2 and 3 have at least nesting + 2"
-unfoldable pub contextOk : Context → ℕ → Bool
-contextOk Context.noContext openTags = true
-contextOk Context.inSchema openTags = leb 1 openTags
-contextOk (Context.inSimpleType t) openTags =
+unfoldable pub contextOk : Bool → Context → ℕ → Bool
+contextOk byStandard Context.noContext openTags = true
+contextOk byStandard (Context.inSchema n) openTags = schemaNestingOk byStandard n && leb (n + 1) openTags
+contextOk byStandard (Context.inSimpleType t) openTags =
     leb (t .nestingDepth + 2) openTags && isText (t .name) && isText (t .base) && every facetOk (t .facets)
-contextOk (Context.inComplexType t) openTags =
+contextOk byStandard (Context.inComplexType t) openTags =
     leb (t .nestingDepth + 2) openTags && isText (t .name) && contentOk (t .content)
 
 -- "context above 0 has root seen; no root seen means two rows and no names"
 unfoldable pub isNoContext : Context → Bool
 isNoContext Context.noContext = true
-isNoContext Context.inSchema = false
+isNoContext (Context.inSchema n) = false
 isNoContext (Context.inSimpleType t) = false
 isNoContext (Context.inComplexType t) = false
 
@@ -143,4 +150,4 @@ unfoldable pub countersOk : State → Bool
 countersOk s = leb (s .events) 1000000 && leb (s .openTags) 255
 
 unfoldable pub proper : State → Bool
-proper s = countersOk s && rootOk (s .reader) && contextOk (s .reader .context) (s .openTags) && schemaOk (s .reader .schema)
+proper s = countersOk s && rootOk (s .reader) && contextOk (s .byStandard) (s .reader .context) (s .openTags) && schemaOk (s .reader .schema)

@@ -13,7 +13,7 @@
 use std::error::Error;
 use std::fs;
 
-use lubiksan::{Graph, Label, SchemaSheet, Tape, TypeDef};
+use lubiksan::{Graph, Label, ReadAs, SchemaSheet, Tape, TypeDef};
 
 const WORDS: &[u8] = b"String\nbool\nDecimal\nDate\nDateTime\n";
 
@@ -29,7 +29,7 @@ const SMALL: &str = "<schema>
 ";
 
 fn main() -> Result<(), Box<dyn Error>> {
-    let mut sheet = SchemaSheet::new();
+    let mut sheet = SchemaSheet::cleared(ReadAs::Standard);
     let files: Vec<String> = std::env::args().skip(1).collect();
     if files.is_empty() {
         sheet.read(&Tape::of_text(SMALL.into())?)?;

@@ -36,7 +36,7 @@ not-zero n graph scratch l h e z = let q = unchanged-number n graph scratch l e 
 
 proper-schema : (s : State) → proper s ≡ true → schemaOk (s .reader .schema) ≡ true
 unfolding proper
-proper-schema s h = and-true-right (countersOk s && rootOk (s .reader) && contextOk (s .reader .context) (s .openTags)) (schemaOk (s .reader .schema)) h
+proper-schema s h = and-true-right (countersOk s && rootOk (s .reader) && contextOk (s .byStandard) (s .reader .context) (s .openTags)) (schemaOk (s .reader .schema)) h
 
 outcome-form : (s : State) (graph : Sheet) (scratch : List ℕ) (l : Lowered) → schemaOk (s .reader .schema) ≡ true → Outcome s graph scratch l → l .answer .number ≡ 0 → graphForm (l .graph) ≡ true
 outcome-form s graph scratch l h (Outcome.short a e) z = let n = unchanged-number 14 graph scratch l e in absurd (omega arith)

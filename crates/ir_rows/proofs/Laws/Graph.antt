@@ -59,7 +59,7 @@ module _ (rows names z : List ℕ) (rs : List Row) (p : Packs rows names z rs) w
 no-open : (c : Context) → contextNumber c < 2 → contextRows c ≡ []
 unfolding contextNumber contextRows
 no-open Context.noContext h = refl
-no-open Context.inSchema h = refl
+no-open (Context.inSchema n) h = refl
 no-open (Context.inSimpleType t) h = absurd (omega arith)
 no-open (Context.inComplexType t) h = absurd (omega arith)
 

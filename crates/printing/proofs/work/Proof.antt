@@ -22,7 +22,7 @@ use Rattle.printing.proofs.work.Statement.{statement}
 use Rattle.printing.proofs.work.Tie as tie
 
 -- a clearing, a reading and a lowering, one after the other, are the work
-work-is : (x graph : Sheet) (text : Text) (marks scratch : List ℕ) {x₁ x₂ : Sheet} {first read : Answer} {lowered : Lowered} → ClearIs x first x₁ → ReadIs x₁ text marks read x₂ → LowerIs x₂ graph scratch lowered → words (x₁ .rows) ≡ true → WorkIs x text marks graph scratch read lowered x₂
+work-is : (x graph : Sheet) (text : Text) (marks scratch : List ℕ) {x₁ x₂ : Sheet} {first read : Answer} {lowered : Lowered} → ClearIs 0 x first x₁ → ReadIs x₁ text marks read x₂ → LowerIs x₂ graph scratch lowered → words (x₁ .rows) ≡ true → WorkIs x text marks graph scratch read lowered x₂
 work-is x graph text marks scratch {x₁} {x₂} {first} {read} {lowered} cleared is is′ w =
     subst (λ (y : Sheet). _≡_ {A = Ran} (record { answers = readAnswered y read ∷ Answered.loweredAs lowered ∷ []; last = x₂ }) (run y (workCalls text marks graph scratch)))
     (ap (λ (k : Cleared). k .sheet) cleared) (runs w (Trace.readNext is (Trace.lowerNext is′ Trace.done)))

@@ -54,6 +54,7 @@ agree-name {A} {B} {R} t f g h = go (attrValue t "name")
     go (some v) = values (h v)
 
 -- the handlers' outcome agrees with the decision
-pub agree-decides : (e : Event) (r : Reader) (o : Outcome Reader) {p : Outcome Action} → handled e r ≡ o → Agree (λ r′ a. Acted e r a r′) o p → Decides e r p
-agree-decides e r o q (values {x = r′} {y = a} h) = acts a r′ q h
-agree-decides e r o q (refusals {n = n}) = refuses n q
+pub agree-decides : (byStandard : Bool) (e : Event) (r : Reader) (o : Outcome Reader) {p : Outcome Action} → handled byStandard e r ≡ o
+    → Agree (λ r′ a. Acted byStandard e r a r′) o p → Decides byStandard e r p
+agree-decides b e r o q (values {x = r′} {y = a} h) = acts a r′ q h
+agree-decides b e r o q (refusals {n = n}) = refuses n q

@@ -5,14 +5,14 @@ use mathlib.Core.Path.{_≡_, refl, sym, ap, _∙_}
 use mathlib.Core.Bool.{Bool, true, false, _&&_}
 use mathlib.Core.List.{List, [], _∷_, _++_, map, append-assoc, map-append}
 use Prim.Native.Nat.{ℕ, suc}
-use lib.Dec.{eqb, leb}
+use lib.Dec.{eqb}
 use Rattle.text.specs.Text.{Text, if_then_else_}
 use Rattle.sheet.specs.Rows.{Row, row}
 use Rattle.xsd_types.specs.State.{Context, Reader}
 use Rattle.xsd_types.specs.Rows.{itemsRows, contextRows, contextNumber, nesting, extensionFlag}
 use Rattle.xsd_parser.specs.Event.{Tag, Event}
 use Rattle.xsd_parser.specs.Handlers.{inContext}
-use Rattle.xsd_actions.specs.Actions.{Action, modeOf, behind, contextAfter, rootAfter, flagAfter, tagMode, modeAfter, namespaceAfter, firstText, baseWith, rowsAfter, Fitting, Acted}
+use Rattle.xsd_actions.specs.Actions.{Action, modeOf, behind, contextAfter, rootAfter, flagAfter, raises, tagMode, modeAfter, namespaceAfter, firstText, baseWith, rowsAfter, Fitting, Acted}
 
 pub data Inner : Action → Type 0 where
   keep : Inner Action.keep
@@ -49,21 +49,21 @@ pub record Changed (x : Context) (a : Action) (y : Context) : Type 0 where
   pub fitting : Fitting a (contextRows x)
 
 -- the nesting after a start, and after an empty tag
-abbrev pub nestingAfter : Bool → Context → ℕ
-nestingAfter start x = if start && leb 2 (contextNumber x) then suc (nesting x) else nesting x
+abbrev pub nestingAfter : Bool → Bool → Action → Context → ℕ
+nestingAfter byStandard start a x = if start && raises byStandard a (contextNumber x) then suc (nesting x) else nesting x
 
-pub changed-mode : (start : Bool) (r : Reader) {x y : Context} {a : Action} → nesting y ≡ nestingAfter start x → Changed x a y
-    → modeOf (inContext y r) ≡ tagMode start a (modeOf (inContext x r))
+pub changed-mode : (byStandard start : Bool) (r : Reader) {x y : Context} {a : Action} → nesting y ≡ nestingAfter byStandard start a x → Changed x a y
+    → modeOf (inContext y r) ≡ tagMode byStandard start a (modeOf (inContext x r))
 unfolding modeOf inContext tagMode
-changed-mode start r {x} {y} {a} n c =
+changed-mode b start r {x} {y} {a} n c =
     let k = c .context ∙ sym (inner-context start (contextNumber x) (c .inner)) in
     let s = sym (inner-root (r .rootSeen) (c .inner)) in
     let f = c .flag in λ i. record { context = k i; nesting = n i; «root_seen» = s i; extension = f i }
 
-pub changed-acted : (e : Event) (r : Reader) {x y : Context} {a : Action} → modeOf (inContext y r) ≡ modeAfter e a (modeOf (inContext x r)) → Changed x a y
-    → Acted e (inContext x r) a (inContext y r)
+pub changed-acted : (byStandard : Bool) (e : Event) (r : Reader) {x y : Context} {a : Action}
+    → modeOf (inContext y r) ≡ modeAfter byStandard e a (modeOf (inContext x r)) → Changed x a y → Acted byStandard e (inContext x r) a (inContext y r)
 unfolding inContext behind
-changed-acted e r m c =
+changed-acted b e r m c =
     record {
       mode = m;
       namespace = sym (inner-namespace (r .schema .targetNamespace) (c .inner));
@@ -72,15 +72,15 @@ changed-acted e r m c =
       fitting = c .fitting;
     }
 
-pub changed-start : (t : Tag) (r : Reader) {x y : Context} {a : Action} → nesting y ≡ nestingAfter true x → Changed x a y
-    → Acted (Event.start t) (inContext x r) a (inContext y r)
+pub changed-start : (byStandard : Bool) (t : Tag) (r : Reader) {x y : Context} {a : Action} → nesting y ≡ nestingAfter byStandard true a x → Changed x a y
+    → Acted byStandard (Event.start t) (inContext x r) a (inContext y r)
 unfolding modeAfter
-changed-start t r n c = changed-acted (Event.start t) r (changed-mode true r n c) c
+changed-start b t r n c = changed-acted b (Event.start t) r (changed-mode b true r n c) c
 
-pub changed-empty : (t : Tag) (r : Reader) {x y : Context} {a : Action} → nesting y ≡ nestingAfter false x → Changed x a y
-    → Acted (Event.empty t) (inContext x r) a (inContext y r)
+pub changed-empty : (byStandard : Bool) (t : Tag) (r : Reader) {x y : Context} {a : Action} → nesting y ≡ nesting x → Changed x a y
+    → Acted byStandard (Event.empty t) (inContext x r) a (inContext y r)
 unfolding modeAfter
-changed-empty t r n c = changed-acted (Event.empty t) r (changed-mode false r n c) c
+changed-empty b t r n c = changed-acted b (Event.empty t) r (changed-mode b false r n c) c
 
 -- nothing changed but the nesting; one row more
 module _ {x y : Context} (k : contextNumber y ≡ contextNumber x) (f : extensionFlag y ≡ extensionFlag x) where

@@ -4,7 +4,7 @@ use mathlib.Core.Bool.{Bool, false, and-false}
 use mathlib.Core.List.{List, _++_}
 use Prim.Native.Nat.{ℕ, zero, suc, _-_}
 use native.Mathlib.Omega.{arith}
-use lib.Dec.{eqb, leb, eqb·suc-zero}
+use lib.Dec.{eqb, eqb·suc-zero}
 use Rattle.text.specs.Text.{Text}
 use Rattle.sheet.specs.Rows.{Row, row}
 use Rattle.xsd_types.specs.Types.{Facet, Item}
@@ -20,11 +20,11 @@ use Rattle.xsd_actions.proofs.Laws.Contents.{complexOf, head-named}
 use Rattle.xsd_actions.proofs.Laws.Tops.{top, items-behind, no-type}
 
 -- above 0 the nesting is lowered
-pub mode-lowered : (k n : ℕ) (seen flag : Bool) → leb k 1 ≡ false
+pub mode-lowered : (k n : ℕ) (seen flag : Bool)
     → record { context = k; nesting = n; «root_seen» = seen; extension = flag }
     ≡ closeMode (record { context = k; nesting = suc n; «root_seen» = seen; extension = flag })
 unfolding closeMode
-mode-lowered k n seen flag h = let p : suc n - 1 ≡ n = omega arith in rw (h, eqb·suc-zero n, p)
+mode-lowered k n seen flag = let p : suc n - 1 ≡ n = omega arith in rw (eqb·suc-zero n, p)
 
 pub decided-lowered : (n head : ℕ) (m : Mode) → m .nesting ≡ suc n → decidedClose m head ≡ Action.keep
 unfolding decidedClose
@@ -34,20 +34,21 @@ decided-lowered n head m q = rw (q, eqb·suc-zero n, and-false (eqb head 16))
 abbrev pub simpleOf : Text → Text → List Facet → ℕ → Context
 simpleOf name base facets d = Context.inSimpleType (record { name = name; base = base; facets = facets; nestingDepth = d })
 
-module _ (r : Reader) where
+module _ (byStandard : Bool) (r : Reader) where
   -- outside the schema, and in it
-  pub close-outside : Acted Event.close (inContext Context.noContext r) Action.keep (inContext Context.noContext r)
-  unfolding inContext modeOf modeAfter closeMode contextNumber
-  close-outside = changed-acted Event.close r refl (changed-keep refl refl refl)
+  pub close-outside : Acted byStandard Event.close (inContext Context.noContext r) Action.keep (inContext Context.noContext r)
+  unfolding inContext modeOf modeAfter closeMode contextNumber nesting
+  close-outside = changed-acted byStandard Event.close r refl (changed-keep refl refl refl)
 
-  pub close-schema : Acted Event.close (top r) Action.keep (closeInSchema (top r))
+  pub close-schema : (n : ℕ) → Acted byStandard Event.close (top n r) Action.keep (closeInSchema n (top n r))
   unfolding inContext closeInSchema modeOf modeAfter closeMode behind contextRows contextNumber nesting extensionFlag namespaceAfter rowsAfter Fitting
-  close-schema = record { mode = refl; namespace = refl; rows = refl; items = λ h. refl; fitting = tt }
+  close-schema zero = record { mode = refl; namespace = refl; rows = refl; items = λ h. refl; fitting = tt }
+  close-schema (suc n) = changed-acted byStandard Event.close r (mode-lowered 1 n (r .rootSeen) false) (changed-keep refl refl refl)
 
   -- at 0: the item's rows stand where the open type's stood
-  pub close-finished : (x : Context) (i : Item) {a : Action} → Inner a → modeOf (top r) ≡ closeMode (modeOf (inContext x r))
+  pub close-finished : (x : Context) (i : Item) {a : Action} → Inner a → modeOf (top 0 r) ≡ closeMode (modeOf (inContext x r))
       → ((done : List Row) → done ++ itemRows i ≡ rowsAfter a done (contextRows x)) → Fitting a (contextRows x)
-      → Acted Event.close (inContext x r) a (inContext Context.inSchema (withItem i (inContext x r)))
+      → Acted byStandard Event.close (inContext x r) a (top 0 (withItem i (inContext x r)))
   unfolding inContext withItem modeOf modeAfter behind contextRows contextNumber
   close-finished x i q m h f =
       record {
@@ -60,16 +61,16 @@ module _ (r : Reader) where
 
   -- a simple type, at 0 and above
   pub closeSimple-acted : (name base : Text) (facets : List Facet) (d : ℕ)
-      → Acted Event.close (inContext (simpleOf name base facets d) r) Action.keep
+      → Acted byStandard Event.close (inContext (simpleOf name base facets d) r) Action.keep
       (closeSimpleType (record { name = name; base = base; facets = facets; nestingDepth = d }) d (inContext (simpleOf name base facets d) r))
   unfolding closeSimpleType inContext itemRows contextRows contextNumber nesting extensionFlag modeOf modeAfter closeMode rowsAfter Fitting
   closeSimple-acted name base facets zero =
       close-finished (simpleOf name base facets 0) (Item.simpleType (record { name = name; base = base; facets = facets })) Inner.keep refl (λ done. refl) tt
-  closeSimple-acted name base facets (suc n) = changed-acted Event.close r (mode-lowered 2 n (r .rootSeen) false refl) (changed-keep refl refl refl)
+  closeSimple-acted name base facets (suc n) = changed-acted byStandard Event.close r (mode-lowered 2 n (r .rootSeen) false) (changed-keep refl refl refl)
 
   -- "Content still absent at the close becomes 15 with a = 0."
   pub finished-acted : (name : Text) (c : ComplexContentBuilder)
-      → Acted Event.close (inContext (complexOf name c 0) r) (decidedClose (modeOf (inContext (complexOf name c 0) r)) (contentTag c))
+      → Acted byStandard Event.close (inContext (complexOf name c 0) r) (decidedClose (modeOf (inContext (complexOf name c 0) r)) (contentTag c))
       (closeComplexType (record { name = name; content = c; nestingDepth = 0 }) 0 (inContext (complexOf name c 0) r))
   unfolding closeComplexType decidedClose contentTag started finish inContext itemRows contextRows contextNumber nesting extensionFlag modeOf closeMode rowsAfter Fitting complexTypeRows headWith firstText row
   finished-acted name ComplexContentBuilder.empty = close-finished _ _ Inner.content refl (λ done. refl) (head-named name ComplexContentBuilder.empty)
@@ -80,20 +81,20 @@ module _ (r : Reader) where
 
   -- a complex type above 0, at any nesting, and any context
   pub complex-lowered : (name : Text) (c : ComplexContentBuilder) (n : ℕ)
-      → Acted Event.close (inContext (complexOf name c (suc n)) r) Action.keep (inContext (complexOf name c n) r)
+      → Acted byStandard Event.close (inContext (complexOf name c (suc n)) r) Action.keep (inContext (complexOf name c n) r)
   unfolding inContext modeOf modeAfter contextRows contextNumber nesting extensionFlag
-  complex-lowered name c n = changed-acted Event.close r (mode-lowered 3 n (r .rootSeen) (eqb (contentFlag c) 1) refl) (changed-keep refl refl refl)
+  complex-lowered name c n = changed-acted byStandard Event.close r (mode-lowered 3 n (r .rootSeen) (eqb (contentFlag c) 1)) (changed-keep refl refl refl)
 
   pub closeComplex-acted : (name : Text) (c : ComplexContentBuilder) (d : ℕ)
-      → Acted Event.close (inContext (complexOf name c d) r) (decidedClose (modeOf (inContext (complexOf name c d) r)) (contentTag c))
+      → Acted byStandard Event.close (inContext (complexOf name c d) r) (decidedClose (modeOf (inContext (complexOf name c d) r)) (contentTag c))
       (closeComplexType (record { name = name; content = c; nestingDepth = d }) d (inContext (complexOf name c d) r))
   unfolding closeComplexType inContext modeOf nesting
   closeComplex-acted name c zero = finished-acted name c
   closeComplex-acted name c (suc n) = rw (decided-lowered n (contentTag c) (modeOf (inContext (complexOf name c (suc n)) r)) refl) (complex-lowered name c n)
 
-  pub close-acted : (x : Context) → Acted Event.close (inContext x r) (decidedClose (modeOf (inContext x r)) (headTag x)) (onEnd (inContext x r) x)
+  pub close-acted : (x : Context) → Acted byStandard Event.close (inContext x r) (decidedClose (modeOf (inContext x r)) (headTag x)) (onEnd (inContext x r) x)
   unfolding onEnd headTag decidedClose
   close-acted Context.noContext = close-outside
-  close-acted Context.inSchema = close-schema
+  close-acted (Context.inSchema n) = close-schema n
   close-acted (Context.inSimpleType b) = closeSimple-acted (b .name) (b .base) (b .facets) (b .nestingDepth)
   close-acted (Context.inComplexType b) = closeComplex-acted (b .name) (b .content) (b .nestingDepth)

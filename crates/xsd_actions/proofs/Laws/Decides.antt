@@ -1,5 +1,6 @@
 -- What the handlers do to a reader is what was decided by its mode and the tag of its open head. Assumes nothing.
 use mathlib.Core.Path.{refl}
+use mathlib.Core.Bool.{Bool}
 use Rattle.xsd_types.specs.State.{Reader}
 use Rattle.xsd_parser.specs.Event.{Event}
 use Rattle.xsd_parser.specs.Handlers.{inContext}
@@ -11,8 +12,8 @@ use Rattle.xsd_actions.proofs.Laws.Starts.{start-agrees}
 use Rattle.xsd_actions.proofs.Laws.Empties.{empty-agrees}
 use Rattle.xsd_actions.proofs.Laws.Closes.{close-acted}
 
-pub decides : (e : Event) (r : Reader) → Decides e r (decided e (modeOf r) (headTag (r .context)))
+pub decides : (byStandard : Bool) (e : Event) (r : Reader) → Decides byStandard e r (decided e (modeOf r) (headTag (r .context)))
 unfolding decided handled inContext
-decides (Event.start t) r = agree-decides (Event.start t) r _ refl (start-agrees t r (r .context))
-decides (Event.empty t) r = agree-decides (Event.empty t) r _ refl (empty-agrees t r (r .context))
-decides Event.close r = acts _ _ refl (close-acted r (r .context))
+decides b (Event.start t) r = agree-decides b (Event.start t) r _ refl (start-agrees b t r (r .context))
+decides b (Event.empty t) r = agree-decides b (Event.empty t) r _ refl (empty-agrees b t r (r .context))
+decides b Event.close r = acts _ _ refl (close-acted b r (r .context))

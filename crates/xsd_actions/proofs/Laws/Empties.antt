@@ -1,6 +1,8 @@
 -- What an empty tag does is what was decided, context by context. Assumes nothing.
 use mathlib.Core.Path.{refl}
-use mathlib.Core.Bool.{false}
+use mathlib.Core.Bool.{Bool, _&&_}
+use Prim.Native.Nat.{ℕ, zero, suc}
+use lib.Dec.{eqb, eqb·suc-zero}
 use Rattle.text.specs.Text.{if_then_else_}
 use Rattle.xsd_types.specs.State.{Context, Reader}
 use Rattle.xsd_types.specs.Rows.{contextNumber, nesting, extensionFlag}
@@ -14,26 +16,31 @@ use Rattle.xsd_actions.proofs.Laws.Inside.{emptyInComplex-agrees}
 use Rattle.xsd_actions.proofs.Laws.Simples.{emptyInSimple-agrees}
 use Rattle.xsd_actions.proofs.Laws.Tops.{top, mode-still, top-acted, root-empty}
 
-module _ (t : Tag) (r : Reader) where
+module _ (byStandard : Bool) (t : Tag) (r : Reader) where
   -- the reader after an empty tag in a context, and the action
   abbrev pub Passed : Context → Reader → Action → Type 0
-  Passed x r′ a = Acted (Event.empty t) (inContext x r) a r′
+  Passed x r′ a = Acted byStandard (Event.empty t) (inContext x r) a r′
 
   pub empty-kept : (x : Context) → Passed x (inContext x r) Action.keep
-  empty-kept x = changed-empty t r refl (changed-keep refl refl refl)
+  empty-kept x = changed-empty byStandard t r refl (changed-keep refl refl refl)
 
   pub emptyOutside-agrees : Passed Context.noContext (if tagIs t "schema" then foundRoot t (inContext Context.noContext r) else inContext Context.noContext r) (rootFound t)
   unfolding rootFound
-  emptyOutside-agrees = if-both (Passed Context.noContext) (tagIs t "schema") (root-empty t r) (empty-kept Context.noContext)
+  emptyOutside-agrees = if-both (Passed Context.noContext) (tagIs t "schema") (root-empty byStandard t r) (empty-kept Context.noContext)
 
-  pub empty-element : Passed Context.inSchema (onTopLevelElement t (top r)) (topElement t)
+  pub empty-element : Passed (Context.inSchema 0) (onTopLevelElement t (top 0 r)) (topElement t)
   unfolding modeAfter
-  empty-element = top-acted (Event.empty t) r (empty-kept Context.inSchema) (mode-still false r) t
+  empty-element = top-acted byStandard (Event.empty t) r 0 (λ q. q) (λ q. refl) (empty-kept (Context.inSchema 0)) (mode-still byStandard r) t
+
+  pub emptyInSchema-agrees : (n : ℕ) → Passed (Context.inSchema n) (if eqb n 0 && tagIs t "element" then onTopLevelElement t (top n r) else top n r)
+      (if eqb n 0 && tagIs t "element" then topElement t else Action.keep)
+  emptyInSchema-agrees zero = if-both (Passed (Context.inSchema 0)) (tagIs t "element") empty-element (empty-kept (Context.inSchema 0))
+  emptyInSchema-agrees (suc n) = rw (eqb·suc-zero n) (empty-kept (Context.inSchema (suc n)))
 
   pub empty-agrees : (x : Context) → Agree (Passed x) (onEmpty t (inContext x r) x) (decidedEmpty t (modeOf (inContext x r)) (headTag x))
   unfolding onEmpty decidedEmpty modeOf inContext headTag contextNumber nesting extensionFlag withContent
   empty-agrees Context.noContext = values emptyOutside-agrees
-  empty-agrees Context.inSchema = values (if-both (Passed Context.inSchema) (tagIs t "element") empty-element (empty-kept Context.inSchema))
-  empty-agrees (Context.inSimpleType b) = agree-then _ (λ b′ a h. changed-empty t r (h .nesting) (h .changed)) (emptyInSimple-agrees t b)
+  empty-agrees (Context.inSchema n) = values (emptyInSchema-agrees n)
+  empty-agrees (Context.inSimpleType b) = agree-then _ (λ b′ a h. changed-empty byStandard t r (h .nesting) (h .changed)) (emptyInSimple-agrees t b)
   empty-agrees (Context.inComplexType b) =
-      agree-then _ (λ c a h. changed-empty t r refl h) (emptyInComplex-agrees (b .name) (b .nestingDepth) (b .nestingDepth) t (b .content))
+      agree-then _ (λ c a h. changed-empty byStandard t r refl h) (emptyInComplex-agrees (b .name) (b .nestingDepth) (b .nestingDepth) t (b .content))

@@ -1,84 +1,20 @@
--- `xsd_decide::start_in_schema` meets its contract: the words are compared in the order of the definition. Assumes nothing.
+-- `xsd_decide::start_in_schema` meets its contract: only a direct child is looked at. Assumes nothing.
 use mathlib.Core.Path.{refl}
-use Rattle.text.specs.Text.{bytes, contains}
+use borrow.Author.Tests.{eq-eqb, ne-eqb}
 use Rattle.xsd_actions.specs.Answers.{decision}
 use Rattle.xsd_actions.specs.Decided.{startInSchema}
-use Rattle.xsd_decide.specs.Reads.{recordTag}
-use Rattle.xsd_decide.proofs.Laws.Values.{tagIs-told}
 use Rattle.xsd_decide.proofs.Laws.Chains.{if-true, if-false, whole}
-use Rattle.xsd_decide.specs.Schema.{openedAs}
 use borrow.Author.Needs.{needs}
 use Rattle.xsd_decide.proofs.start_in_schema.Statement.{statement}
 use Rattle.xsd_decide.proofs.start_in_schema.Tie as tie
 
-local-is-requires : tie.Need-local-is-requires
-unfolding contains
-local-is-requires c κs = search needs
-
 returns : tie.Need-returns
-unfolding bytes startInSchema openedAs
-returns c =
-    let first = c .before .before in
-    let start = first .before .before .before .before .before in
-    let t = recordTag (start .args .text .now) (start .args .marks .now) (start .args .t) in
-    if-true whole _ _ (tagIs-told t "simpleType" (start .pre .0) (first .local-is .ensures) (c .before .if1 .taken)) (c .open-type .ensures)
-
-local-is-requires-2 : tie.Need-local-is-requires-2
-unfolding contains
-local-is-requires-2 c κs = search needs
+unfolding decision startInSchema
+returns c = if-false whole _ _ (ne-eqb _ 0 (c .if1 .taken)) refl
 
 returns-2 : tie.Need-returns-2
-unfolding bytes startInSchema openedAs
-returns-2 c =
-    let second = c .before .before in
-    let first = second .before .before .before in
-    let start = first .before .before .before .before .before in
-    let t = recordTag (start .args .text .now) (start .args .marks .now) (start .args .t) in
-    if-false whole _ _ (tagIs-told t "simpleType" (start .pre .0) (first .local-is .ensures) (second .before .before .if1 .left))
-    (if-true whole _ _ (tagIs-told t "complexType" (start .pre .0) (second .local-is2 .ensures) (c .before .if2 .taken)) (c .open-type2 .ensures))
-
-local-is-requires-3 : tie.Need-local-is-requires-3
-unfolding contains
-local-is-requires-3 c κs = search needs
-
-returns-3 : tie.Need-returns-3
-unfolding bytes startInSchema
-returns-3 c =
-    let third = c .before .before in
-    let second = third .before .before .before in
-    let first = second .before .before .before in
-    let start = first .before .before .before .before .before in
-    let t = recordTag (start .args .text .now) (start .args .marks .now) (start .args .t) in
-    if-false whole _ _ (tagIs-told t "simpleType" (start .pre .0) (first .local-is .ensures) (second .before .before .if1 .left))
-    (if-false whole _ _ (tagIs-told t "complexType" (start .pre .0) (second .local-is2 .ensures) (third .before .before .if2 .left))
-    (if-true whole _ _ (tagIs-told t "element" (start .pre .0) (third .local-is3 .ensures) (c .before .if3 .taken)) (c .top-element .ensures)))
-
-returns-4 : tie.Need-returns-4
-unfolding bytes decision startInSchema
-returns-4 c =
-    let third = c .before in
-    let second = third .before .before .before in
-    let first = second .before .before .before in
-    let start = first .before .before .before .before .before in
-    let t = recordTag (start .args .text .now) (start .args .marks .now) (start .args .t) in
-    if-false whole _ _ (tagIs-told t "simpleType" (start .pre .0) (first .local-is .ensures) (second .before .before .if1 .left))
-    (if-false whole _ _ (tagIs-told t "complexType" (start .pre .0) (second .local-is2 .ensures) (third .before .before .if2 .left))
-    (if-false whole _ _ (tagIs-told t "element" (start .pre .0) (third .local-is3 .ensures) (c .if3 .left)) refl))
+unfolding startInSchema
+returns-2 c = if-true whole _ _ (eq-eqb _ 0 (c .before .if1 .left)) (c .direct-child .ensures)
 
 pub start-in-schema-spec : {M : Type 1} → statement M
-start-in-schema-spec =
-    tie.close
-    (tie.spec
-    (λ c. search needs)
-    local-is-requires
-    (λ c κs. search needs)
-    returns
-    (λ c. search needs)
-    local-is-requires-2
-    (λ c κs. search needs)
-    returns-2
-    (λ c. search needs)
-    local-is-requires-3
-    (λ c κs. search needs)
-    returns-3
-    returns-4)
+start-in-schema-spec = tie.close (tie.spec returns (λ c κs. search needs) returns-2)

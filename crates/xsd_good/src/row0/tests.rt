@@ -24,7 +24,7 @@ pub fn row0_form(z: Row0) -> bool
         & (z.context <= contexts::COMPLEX_TYPE)
         & row::is_flag(z.root_seen)
         & row::is_flag(z.extension)
-        & (z.last == 0)
+        & row::is_flag(z.choice)
 }
 
 pub fn limits(z: Row0) -> bool
@@ -44,8 +44,10 @@ pub fn nesting_test(z: Row0) -> bool
 {
     if contexts::SIMPLE_TYPE <= z.context {
         row::wide(z.nesting) + 2 <= row::wide(z.open_tags)
+    } else if z.context == contexts::SCHEMA {
+        ((z.choice == 1) | (z.nesting == 0)) & (z.nesting < z.open_tags)
     } else {
-        (z.nesting == 0) & (z.context <= z.open_tags)
+        z.nesting == 0
     }
 }
 

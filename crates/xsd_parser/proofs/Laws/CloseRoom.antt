@@ -77,10 +77,15 @@ unfolding closeComplexType inContext withItem contextRows itemRows
 closeComplex-texts b zero r = finished-texts (r .schema .items) _ (contextRows (Context.inComplexType b)) (finish-texts (b .name) (b .content))
 closeComplex-texts b (suc d) r = refl
 
+pub closeSchema-texts : (n : ℕ) (r : Reader) → readerTexts (closeInSchema n r) ≡ restTexts (r .schema .items) []
+unfolding closeInSchema inContext contextRows
+closeSchema-texts zero r = refl
+closeSchema-texts (suc n) r = refl
+
 pub close-texts : (r : Reader) (x : Context) → r .context ≡ x → readerTexts (onEnd r x) ≡ restTexts (r .schema .items) (contextRows x)
-unfolding onEnd closeInSchema inContext contextRows
+unfolding onEnd contextRows
 close-texts r Context.noContext q = ap (λ x. restTexts (r .schema .items) (contextRows x)) q
-close-texts r Context.inSchema q = refl
+close-texts r (Context.inSchema n) q = closeSchema-texts n r
 close-texts r (Context.inSimpleType b) q = closeSimple-texts b (b .nestingDepth) r
 close-texts r (Context.inComplexType b) q = closeComplex-texts b (b .nestingDepth) r
 
@@ -95,10 +100,15 @@ unfolding closeComplexType inContext withItem
 closeComplex-namespace b zero r = refl
 closeComplex-namespace b (suc d) r = refl
 
+pub closeSchema-namespace : (n : ℕ) (r : Reader) → closeInSchema n r .schema .targetNamespace ≡ r .schema .targetNamespace
+unfolding closeInSchema inContext
+closeSchema-namespace zero r = refl
+closeSchema-namespace (suc n) r = refl
+
 pub close-namespace : (r : Reader) (x : Context) → onEnd r x .schema .targetNamespace ≡ r .schema .targetNamespace
-unfolding onEnd closeInSchema inContext
+unfolding onEnd
 close-namespace r Context.noContext = refl
-close-namespace r Context.inSchema = refl
+close-namespace r (Context.inSchema n) = closeSchema-namespace n r
 close-namespace r (Context.inSimpleType b) = closeSimple-namespace b (b .nestingDepth) r
 close-namespace r (Context.inComplexType b) = closeComplex-namespace b (b .nestingDepth) r
 

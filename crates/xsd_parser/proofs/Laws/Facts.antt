@@ -1,19 +1,29 @@
--- Facts of paper 01, "What an event does": a close in the schema, and tags that are not known. Assumes nothing.
+-- Facts of paper 01, "What an event does": nesting and a close in the schema, and tags that are not known. Assumes nothing.
 use mathlib.Core.Path.{_≡_, refl, sym, ap, _∙_}
-use mathlib.Core.Bool.{false}
+use mathlib.Core.Bool.{true, false}
+use Prim.Native.Nat.{ℕ}
+use borrow.Author.Tests.{eqb-true}
 use Rattle.sheet.specs.Lengths.{Lengths}
-use Rattle.xsd_types.specs.State.{Context, Reader, State}
+use Rattle.xsd_types.specs.State.{Context, Reader, State, schemaNestingOk, proper}
 use Rattle.xsd_parser.specs.Event.{Tag, Event, tagIs}
 use Rattle.xsd_parser.specs.Handlers.{ok, inContext, closeInSchema, onStart, onEmpty, onEnd}
 use Rattle.xsd_parser.specs.Step.{handled, step}
-use Rattle.xsd_parser.proofs.Laws.Steps.{step-reader}
+use Rattle.xsd_parser.proofs.Laws.Readers.{schema-parts}
+use Rattle.xsd_parser.proofs.Laws.Steps.{step-reader, proper-parts}
 
--- "Any close leads to context 0."
-pub end-in-schema : (r : Reader) → onEnd r Context.inSchema ≡ inContext Context.noContext r
+-- order 3: "with 0, nesting there stays 0"
+pub schema-original : (s : State) (n : ℕ) → proper s ≡ true → s .byStandard ≡ false → s .reader .context ≡ Context.inSchema n → n ≡ 0
+unfolding schemaNestingOk
+schema-original s n p b c =
+    let o = proper-parts s p .reader .context in
+    eqb-true n 0 (schema-parts false n (s .openTags) (rw (b, c) at o) .nested)
+
+-- "Any close leads to context 0." Order 3: with choice 1 "a close at 0 ends it"; with choice 0 nesting is 0 there, by `schema-original`
+pub end-in-schema : (r : Reader) → onEnd r (Context.inSchema 0) ≡ inContext Context.noContext r
 unfolding onEnd closeInSchema
 end-in-schema r = refl
 
-pub close-in-schema : (lent : Lengths) (s s′ : State) → s .reader .context ≡ Context.inSchema → step lent s Event.close ≡ ok s′
+pub close-in-schema : (lent : Lengths) (s s′ : State) → s .reader .context ≡ Context.inSchema 0 → step lent s Event.close ≡ ok s′
     → s′ .reader ≡ inContext Context.noContext (s .reader)
 unfolding handled
 close-in-schema lent s s′ c h =
@@ -26,7 +36,7 @@ pub start-unknown : (lent : Lengths) (s s′ : State) (t : Tag) → s .reader .c
     → step lent s (Event.start t) ≡ ok s′ → s′ .reader ≡ s .reader
 unfolding handled onStart
 start-unknown lent s s′ t c u h =
-    let p : onStart t (s .reader) Context.noContext ≡ ok (s′ .reader) = sym (ap (onStart t (s .reader)) c) ∙ step-reader lent s (Event.start t) s′ h in
+    let p : onStart (s .byStandard) t (s .reader) Context.noContext ≡ ok (s′ .reader) = sym (ap (onStart (s .byStandard) t (s .reader)) c) ∙ step-reader lent s (Event.start t) s′ h in
     let q : ok (s .reader) ≡ ok (s′ .reader) = rw u at p in
     cc
 

@@ -17,7 +17,7 @@ use Rattle.xsd_types.specs.State.{SimpleTypeBuilder, ComplexContentBuilder, Com
 use Rattle.xsd_types.specs.Sheet.{stateFits}
 use Rattle.xsd_parser.specs.Event.{Tag, Event, tagIs, attrValue}
 use Rattle.xsd_parser.specs.Tape.{Pair, allInside, allAscii, Recorded, finished, bad, formTest, pairCount, pairsOf, tagRecord, record1}
-use Rattle.xsd_parser.specs.Handlers.{Outcome, refuse, onParsed, parseMinOccurs, parseMaxOccurs, isUnbounded, sequenceElement, onElementInsideComplex, contentAtTwo, onStartInSchema, onStartInComplexType, raisedComplex, onStart, facetValue, onEmptyInSimpleType, onEmptyInComplexType, onEmpty}
+use Rattle.xsd_parser.specs.Handlers.{Outcome, refuse, onParsed, parseMinOccurs, parseMaxOccurs, isUnbounded, sequenceElement, onElementInsideComplex, contentAtTwo, onDirectChild, onStartInSchema, onStartInComplexType, raisedComplex, onStart, facetValue, onEmptyInSimpleType, onEmptyInComplexType, onEmpty}
 use Rattle.xsd_parser.specs.Step.{handled, closed, tagsAfter, counted, roomFor, step}
 use Rattle.xsd_parser.proofs.Laws.Outcomes.{Gives, value, refusal, Any, gives-if, gives-andThen, gives-parsed, gives-name, gives-refusal, gives-wider}
 use Rattle.text.proofs.Laws.Tests.{if-either}
@@ -78,12 +78,16 @@ elementInside-refusal t (ComplexContentBuilder.choice vs) = value tt
 elementInside-refusal t (ComplexContentBuilder.simpleContent base xs flag) = value tt
 elementInside-refusal t (ComplexContentBuilder.any n) = value tt
 
-pub startInSchema-refusal : (t : Tag) (r : Reader) → HandlerRefusal (onStartInSchema t r)
-unfolding onStartInSchema
-startInSchema-refusal t r =
+pub directChild-refusal : (byStandard : Bool) (t : Tag) (r : Reader) → HandlerRefusal (onDirectChild byStandard t r)
+unfolding onDirectChild
+directChild-refusal b t r =
     gives-if (tagIs t "simpleType") (gives-name t _ (λ v q. tt) (omega arith))
     (gives-if (tagIs t "complexType") (gives-name t _ (λ v q. tt) (omega arith))
     (gives-if (tagIs t "element") (value tt) (value tt)))
+
+pub startInSchema-refusal : (byStandard : Bool) (t : Tag) (n : ℕ) (r : Reader) → HandlerRefusal (onStartInSchema byStandard t n r)
+unfolding onStartInSchema
+startInSchema-refusal b t n r = gives-if (eqb n 0) (directChild-refusal b t r) (value tt)
 
 pub startInComplex-refusal : (t : Tag) (b : ComplexTypeBuilder) → HandlerRefusal (onStartInComplexType t b)
 unfolding onStartInComplexType contentAtTwo
@@ -93,12 +97,12 @@ startInComplex-refusal t b =
     (gives-if (tagIs t "extension") (value tt) (gives-if (tagIs t "element") (elementInside-refusal t (b .content)) (value tt)))
     (value tt))
 
-pub start-refusal : (t : Tag) (r : Reader) (x : Context) → HandlerRefusal (onStart t r x)
+pub start-refusal : (byStandard : Bool) (t : Tag) (r : Reader) (x : Context) → HandlerRefusal (onStart byStandard t r x)
 unfolding onStart
-start-refusal t r Context.noContext = value tt
-start-refusal t r Context.inSchema = startInSchema-refusal t r
-start-refusal t r (Context.inSimpleType b) = value tt
-start-refusal t r (Context.inComplexType b) = gives-andThen (startInComplex-refusal t (raisedComplex b)) λ c p. value tt
+start-refusal s t r Context.noContext = value tt
+start-refusal s t r (Context.inSchema n) = startInSchema-refusal s t n r
+start-refusal s t r (Context.inSimpleType b) = value tt
+start-refusal s t r (Context.inComplexType b) = gives-andThen (startInComplex-refusal t (raisedComplex b)) λ c p. value tt
 
 pub emptyInSimple-refusal : (t : Tag) (b : SimpleTypeBuilder) → HandlerRefusal (onEmptyInSimpleType t b)
 unfolding onEmptyInSimpleType
@@ -122,15 +126,15 @@ emptyInComplex-refusal t c =
 pub empty-refusal : (t : Tag) (r : Reader) (x : Context) → HandlerRefusal (onEmpty t r x)
 unfolding onEmpty
 empty-refusal t r Context.noContext = value tt
-empty-refusal t r Context.inSchema = value tt
+empty-refusal t r (Context.inSchema n) = value tt
 empty-refusal t r (Context.inSimpleType b) = gives-andThen (emptyInSimple-refusal t b) λ c p. value tt
 empty-refusal t r (Context.inComplexType b) = gives-andThen (emptyInComplex-refusal t (b .content)) λ c p. value tt
 
-pub handled-refusal : (e : Event) (r : Reader) → HandlerRefusal (handled e r)
+pub handled-refusal : (byStandard : Bool) (e : Event) (r : Reader) → HandlerRefusal (handled byStandard e r)
 unfolding handled
-handled-refusal (Event.start t) r = start-refusal t r (r .context)
-handled-refusal (Event.empty t) r = empty-refusal t r (r .context)
-handled-refusal Event.close r = value tt
+handled-refusal b (Event.start t) r = start-refusal b t r (r .context)
+handled-refusal b (Event.empty t) r = empty-refusal t r (r .context)
+handled-refusal b Event.close r = value tt
 
 -- 6 and 7 are the open tags'
 pub closed-refusal : (n : ℕ) → Gives Any (Within 6 11) (closed n)
@@ -154,7 +158,7 @@ unfolding step
 step-gives lent s e =
     gives-if (ltb (s .events) 1000000)
     (gives-andThen (tags-refusal e (s .openTags)) λ n p.
-    gives-andThen (gives-wider (λ r q. omega arith) (handled-refusal e (s .reader))) λ r q. room-refusal lent (counted s n r))
+    gives-andThen (gives-wider (λ r q. omega arith) (handled-refusal (s .byStandard) e (s .reader))) λ r q. room-refusal lent (counted s n r))
     (refusal (omega arith))
 
 pub step-refusal : (lent : Lengths) (s : State) (e : Event) (k : ℕ) → step lent s e ≡ refuse k → Within 6 11 k

@@ -1,20 +1,20 @@
 -- A start tag keeps a proper reader proper, with one open tag more. Assumes nothing.
-use mathlib.Core.Path.{_≡_, refl}
-use mathlib.Core.Bool.{true, _&&_}
+use mathlib.Core.Path.{_≡_, refl, _∙_}
+use mathlib.Core.Bool.{Bool, true, false, _&&_}
 use mathlib.Core.Option.{Option, some, none}
-use Prim.Native.Nat.{ℕ, suc, _≤_}
+use Prim.Native.Nat.{ℕ, suc, _+_, _≤_}
 use native.Mathlib.Omega.{arith}
 use lib.Dec.{eqb}
 use Rattle.text.specs.Text.{Text, every, isText}
 use Rattle.xsd_types.specs.Types.{Item}
-use Rattle.xsd_types.specs.State.{SimpleTypeBuilder, ComplexContentBuilder, ComplexTypeBuilder, Context, Reader, contentOk, namespaceOk, elementOk, itemOk, schemaOk, contextOk, isNoContext}
+use Rattle.xsd_types.specs.State.{SimpleTypeBuilder, ComplexContentBuilder, ComplexTypeBuilder, Context, Reader, contentOk, namespaceOk, elementOk, itemOk, schemaOk, schemaNestingOk, contextOk, isNoContext}
 use Rattle.xsd_parser.specs.Event.{Tag, tagIs, attrValue}
 use Rattle.xsd_parser.specs.EventText.{tagOk}
-use Rattle.xsd_parser.specs.Handlers.{withItem, foundRoot, keptElement, onTopLevelElement, withBase, withContent, openSimpleType, openComplexType, onStartInSchema, raisedSimple, onStartInSimpleType, raisedComplex, onStart}
+use Rattle.xsd_parser.specs.Handlers.{withItem, foundRoot, keptElement, onTopLevelElement, withBase, withContent, openSimpleType, openComplexType, belowSchema, onDirectChild, onStartInSchema, raisedSimple, onStartInSimpleType, raisedComplex, onStart}
 use Rattle.xsd_parser.proofs.Laws.EventTexts.{value-text, value-or-empty-text}
 use Rattle.xsd_parser.proofs.Laws.Outcomes.{Gives, value, Any, gives-if, gives-andThen, gives-name}
 use Rattle.xsd_parser.proofs.Laws.Contents.{startInComplex-kept}
-use Rattle.xsd_parser.proofs.Laws.Readers.{ReaderOk, root-seen, seen-root, context-set, item-added, SimpleOk, simple-parts, simple-whole, ComplexOk, complex-parts, complex-whole, schema-tags, schema-whole, one-tag-more}
+use Rattle.xsd_parser.proofs.Laws.Readers.{ReaderOk, root-seen, seen-root, context-set, item-added, SimpleOk, simple-parts, simple-whole, ComplexOk, complex-parts, complex-whole, schema-parts, schema-whole, schema-first, one-tag-more}
 use Rattle.text.proofs.Laws.Tests.{and-true, two, if-either}
 
 -- the namespace set anew
@@ -28,41 +28,46 @@ unfolding namespaceOk
 found-text t v e q = let h : namespaceOk (some v) ≡ true = rw q at (value-text t "name" e) in h
 
 -- an element at the top
-pub keptElement-kept : (name typeName : Option Text) (r : Reader) (n : ℕ) → namespaceOk name ≡ true → namespaceOk typeName ≡ true → r .rootSeen ≡ true
-    → ReaderOk r n → ReaderOk (keptElement name typeName r) n
-unfolding keptElement namespaceOk withItem elementOk itemOk
-keptElement-kept none typeName r n p q h o = o
-keptElement-kept (some name) none r n p q h o = o
-keptElement-kept (some name) (some typeName) r n p q h o =
-    let i = Item.element (record { name = name; typeName = typeName }) in
-    record { root = seen-root (withItem i r) h; context = o .context; schema = item-added r i (and-true p q) (o .schema) }
+pub keptElement-root : (name typeName : Option Text) (r : Reader) → keptElement name typeName r .rootSeen ≡ r .rootSeen
+unfolding keptElement withItem
+keptElement-root none typeName r = refl
+keptElement-root (some name) none r = refl
+keptElement-root (some name) (some typeName) r = refl
 
-pub topLevel-kept : (t : Tag) (r : Reader) (n : ℕ) → tagOk t ≡ true → r .rootSeen ≡ true → ReaderOk r n → ReaderOk (onTopLevelElement t r) n
-unfolding onTopLevelElement
-topLevel-kept t r n e h o = keptElement-kept (attrValue t "name") (attrValue t "type") r n (value-text t "name" e) (value-text t "type" e) h o
+module _ (byStandard : Bool) where
+  pub keptElement-kept : (name typeName : Option Text) (r : Reader) (n : ℕ) → namespaceOk name ≡ true → namespaceOk typeName ≡ true → r .rootSeen ≡ true
+      → ReaderOk byStandard r n → ReaderOk byStandard (keptElement name typeName r) n
+  unfolding keptElement namespaceOk withItem elementOk itemOk
+  keptElement-kept none typeName r n p q h o = o
+  keptElement-kept (some name) none r n p q h o = o
+  keptElement-kept (some name) (some typeName) r n p q h o =
+      let i = Item.element (record { name = name; typeName = typeName }) in
+      record { root = seen-root (withItem i r) h; context = o .context; schema = item-added r i (and-true p q) (o .schema) }
 
--- a reader that stays as it is, with one open tag more
-pub unchanged-kept : (r : Reader) (n : ℕ) → ReaderOk r n → ReaderOk r (suc n)
-unchanged-kept r n o = record { root = o .root; context = one-tag-more (r .context) n (o .context); schema = o .schema }
+  pub topLevel-kept : (t : Tag) (r : Reader) (n : ℕ) → tagOk t ≡ true → r .rootSeen ≡ true → ReaderOk byStandard r n → ReaderOk byStandard (onTopLevelElement t r) n
+  unfolding onTopLevelElement
+  topLevel-kept t r n e h o = keptElement-kept (attrValue t "name") (attrValue t "type") r n (value-text t "name" e) (value-text t "type" e) h o
 
--- a type opened in the schema has nesting 0, and the schema and the type are open
-pub openSimple-kept : (name : Text) (n : ℕ) → 1 ≤ n → isText name ≡ true → contextOk (openSimpleType name) (suc n) ≡ true
-unfolding openSimpleType every isText
-openSimple-kept name n h e = simple-whole _ (suc n) (record { tags = omega arith; name = e; base = refl; facets = refl })
+  -- a reader that stays as it is, with one open tag more
+  pub unchanged-kept : (r : Reader) (n : ℕ) → ReaderOk byStandard r n → ReaderOk byStandard r (suc n)
+  unchanged-kept r n o = record { root = o .root; context = one-tag-more byStandard (r .context) n (o .context); schema = o .schema }
 
-pub openComplex-kept : (name : Text) (n : ℕ) → 1 ≤ n → isText name ≡ true → contextOk (openComplexType name) (suc n) ≡ true
-unfolding openComplexType contentOk
-openComplex-kept name n h e = complex-whole _ (suc n) (record { tags = omega arith; name = e; content = refl })
+  -- a type opened in the schema has nesting 0, and the schema and the type are open
+  pub openSimple-kept : (name : Text) (n : ℕ) → 1 ≤ n → isText name ≡ true → contextOk byStandard (openSimpleType name) (suc n) ≡ true
+  unfolding openSimpleType every isText
+  openSimple-kept name n h e = simple-whole byStandard _ (suc n) (record { tags = omega arith; name = e; base = refl; facets = refl })
 
-pub startInSchema-kept : (t : Tag) (r : Reader) (n : ℕ) → tagOk t ≡ true → r .rootSeen ≡ true → 1 ≤ n → ReaderOk r n
-    → Gives (λ x. ReaderOk x (suc n)) Any (onStartInSchema t r)
-unfolding onStartInSchema
-startInSchema-kept t r n e h k o =
-    gives-if (tagIs t "simpleType")
-    (gives-name t _ (λ v q. context-set r _ (suc n) h (openSimple-kept v n k (found-text t v e q)) (o .schema)) tt)
-    (gives-if (tagIs t "complexType")
-    (gives-name t _ (λ v q. context-set r _ (suc n) h (openComplex-kept v n k (found-text t v e q)) (o .schema)) tt)
-    (gives-if (tagIs t "element") (value (unchanged-kept _ n (topLevel-kept t r n e h o))) (value (unchanged-kept r n o))))
+  pub openComplex-kept : (name : Text) (n : ℕ) → 1 ≤ n → isText name ≡ true → contextOk byStandard (openComplexType name) (suc n) ≡ true
+  unfolding openComplexType contentOk
+  openComplex-kept name n h e = complex-whole byStandard _ (suc n) (record { tags = omega arith; name = e; content = refl })
+
+-- order 3: with choice 1 a start below the schema raises nesting, with choice 0 the reader stays as it is
+pub belowSchema-kept : (byStandard : Bool) (depth : ℕ) (r : Reader) (n : ℕ) → r .rootSeen ≡ true → depth + 1 ≤ n → ReaderOk byStandard r n
+    → ReaderOk byStandard (belowSchema byStandard depth r) (suc n)
+unfolding belowSchema schemaNestingOk
+belowSchema-kept false depth r n h k o = unchanged-kept false r n o
+belowSchema-kept true depth r n h k o =
+    context-set true r (Context.inSchema (suc depth)) (suc n) h (schema-whole true (suc depth) (suc n) (record { tags = omega arith; nested = refl })) (o .schema)
 
 -- a start in a simple type
 pub startInSimple-kept : (t : Tag) (b : SimpleTypeBuilder) (n : ℕ) → tagOk t ≡ true → SimpleOk b n → SimpleOk (onStartInSimpleType t (raisedSimple b)) (suc n)
@@ -81,33 +86,52 @@ pub raised-kept : (b : ComplexTypeBuilder) (n : ℕ) → ComplexOk b n → Compl
 unfolding raisedComplex
 raised-kept b n o = record { tags = omega arith; name = o .name; content = o .content }
 
--- a start outside the schema, in a simple type, in a complex type
-pub startOutside-kept : (t : Tag) (r : Reader) (n : ℕ) → tagOk t ≡ true → ReaderOk r n → Gives (λ x. ReaderOk x (suc n)) Any (onStart t r Context.noContext)
-unfolding onStart foundRoot
-startOutside-kept t r n e o =
-    value (if-either (λ x. ReaderOk x (suc n)) (tagIs t "schema")
-    (context-set (foundRoot t r) Context.inSchema (suc n) refl (schema-whole (suc n) (omega arith)) (namespace-set t r e (o .schema)))
-    (unchanged-kept r n o))
+module _ (byStandard : Bool) where
+  pub directChild-kept : (t : Tag) (r : Reader) (n : ℕ) → tagOk t ≡ true → r .rootSeen ≡ true → 1 ≤ n → ReaderOk byStandard r n
+      → Gives (λ x. ReaderOk byStandard x (suc n)) Any (onDirectChild byStandard t r)
+  unfolding onDirectChild onTopLevelElement
+  directChild-kept t r n e h k o =
+      gives-if (tagIs t "simpleType")
+      (gives-name t _ (λ v q. context-set byStandard r _ (suc n) h (openSimple-kept byStandard v n k (found-text t v e q)) (o .schema)) tt)
+      (gives-if (tagIs t "complexType")
+      (gives-name t _ (λ v q. context-set byStandard r _ (suc n) h (openComplex-kept byStandard v n k (found-text t v e q)) (o .schema)) tt)
+      (gives-if (tagIs t "element")
+      (value (belowSchema-kept byStandard 0 (onTopLevelElement t r) n (keptElement-root (attrValue t "name") (attrValue t "type") r ∙ h) k (topLevel-kept byStandard t r n e h o)))
+      (value (belowSchema-kept byStandard 0 r n h k o))))
 
-pub startInSimpleType-kept : (t : Tag) (r : Reader) (n : ℕ) (b : SimpleTypeBuilder) → tagOk t ≡ true → r .rootSeen ≡ true → SimpleOk b n → schemaOk (r .schema) ≡ true
-    → Gives (λ x. ReaderOk x (suc n)) Any (onStart t r (Context.inSimpleType b))
-unfolding onStart
-startInSimpleType-kept t r n b e h p k = value (context-set r _ (suc n) h (simple-whole _ (suc n) (startInSimple-kept t b n e p)) k)
+  pub startInSchema-kept : (t : Tag) (depth : ℕ) (r : Reader) (n : ℕ) → tagOk t ≡ true → r .rootSeen ≡ true → depth + 1 ≤ n → ReaderOk byStandard r n
+      → Gives (λ x. ReaderOk byStandard x (suc n)) Any (onStartInSchema byStandard t depth r)
+  unfolding onStartInSchema
+  startInSchema-kept t depth r n e h k o =
+      gives-if (eqb depth 0) (directChild-kept t r n e h (omega arith) o) (value (belowSchema-kept byStandard depth r n h k o))
 
-pub startInComplexType-kept : (t : Tag) (r : Reader) (n : ℕ) (b : ComplexTypeBuilder) → tagOk t ≡ true → r .rootSeen ≡ true → ComplexOk b n → schemaOk (r .schema) ≡ true
-    → Gives (λ x. ReaderOk x (suc n)) Any (onStart t r (Context.inComplexType b))
-unfolding onStart
-startInComplexType-kept t r n b e h p k =
-    let o = raised-kept b n p in
-    gives-andThen (startInComplex-kept t (raisedComplex b) e (o .content)) λ c q.
-    value (context-set r _ (suc n) h (complex-whole _ (suc n) (content-set _ c (suc n) o q)) k)
+  -- a start outside the schema, in a simple type, in a complex type
+  pub startOutside-kept : (t : Tag) (r : Reader) (n : ℕ) → tagOk t ≡ true → ReaderOk byStandard r n → Gives (λ x. ReaderOk byStandard x (suc n)) Any (onStart byStandard t r Context.noContext)
+  unfolding onStart foundRoot
+  startOutside-kept t r n e o =
+      value (if-either (λ x. ReaderOk byStandard x (suc n)) (tagIs t "schema")
+      (context-set byStandard (foundRoot t r) (Context.inSchema 0) (suc n) refl (schema-first byStandard (suc n) (omega arith)) (namespace-set t r e (o .schema)))
+      (unchanged-kept byStandard r n o))
 
-pub start-kept : (t : Tag) (r : Reader) (n : ℕ) (x : Context) → r .context ≡ x → tagOk t ≡ true → ReaderOk r n → Gives (λ x. ReaderOk x (suc n)) Any (onStart t r x)
-unfolding onStart isNoContext
-start-kept t r n Context.noContext q e o = startOutside-kept t r n e o
-start-kept t r n Context.inSchema q e o =
-    startInSchema-kept t r n e (root-seen r Context.inSchema q refl (o .root)) (schema-tags n (rw q at (o .context))) o
-start-kept t r n (Context.inSimpleType b) q e o =
-    startInSimpleType-kept t r n b e (root-seen r (Context.inSimpleType b) q refl (o .root)) (simple-parts b n (rw q at (o .context))) (o .schema)
-start-kept t r n (Context.inComplexType b) q e o =
-    startInComplexType-kept t r n b e (root-seen r (Context.inComplexType b) q refl (o .root)) (complex-parts b n (rw q at (o .context))) (o .schema)
+  pub startInSimpleType-kept : (t : Tag) (r : Reader) (n : ℕ) (b : SimpleTypeBuilder) → tagOk t ≡ true → r .rootSeen ≡ true → SimpleOk b n → schemaOk (r .schema) ≡ true
+      → Gives (λ x. ReaderOk byStandard x (suc n)) Any (onStart byStandard t r (Context.inSimpleType b))
+  unfolding onStart
+  startInSimpleType-kept t r n b e h p k = value (context-set byStandard r _ (suc n) h (simple-whole byStandard _ (suc n) (startInSimple-kept t b n e p)) k)
+
+  pub startInComplexType-kept : (t : Tag) (r : Reader) (n : ℕ) (b : ComplexTypeBuilder) → tagOk t ≡ true → r .rootSeen ≡ true → ComplexOk b n → schemaOk (r .schema) ≡ true
+      → Gives (λ x. ReaderOk byStandard x (suc n)) Any (onStart byStandard t r (Context.inComplexType b))
+  unfolding onStart
+  startInComplexType-kept t r n b e h p k =
+      let o = raised-kept b n p in
+      gives-andThen (startInComplex-kept t (raisedComplex b) e (o .content)) λ c q.
+      value (context-set byStandard r _ (suc n) h (complex-whole byStandard _ (suc n) (content-set _ c (suc n) o q)) k)
+
+  pub start-kept : (t : Tag) (r : Reader) (n : ℕ) (x : Context) → r .context ≡ x → tagOk t ≡ true → ReaderOk byStandard r n → Gives (λ x. ReaderOk byStandard x (suc n)) Any (onStart byStandard t r x)
+  unfolding onStart isNoContext
+  start-kept t r n Context.noContext q e o = startOutside-kept t r n e o
+  start-kept t r n (Context.inSchema depth) q e o =
+      startInSchema-kept t depth r n e (root-seen r (Context.inSchema depth) q refl (o .root)) (schema-parts byStandard depth n (rw q at (o .context)) .tags) o
+  start-kept t r n (Context.inSimpleType b) q e o =
+      startInSimpleType-kept t r n b e (root-seen r (Context.inSimpleType b) q refl (o .root)) (simple-parts byStandard b n (rw q at (o .context))) (o .schema)
+  start-kept t r n (Context.inComplexType b) q e o =
+      startInComplexType-kept t r n b e (root-seen r (Context.inComplexType b) q refl (o .root)) (complex-parts byStandard b n (rw q at (o .context))) (o .schema)

@@ -7,12 +7,13 @@ use mathlib.Core.List.{List, [], _∷_}
 use lib.ListN.{length, replicate, length-replicate}
 use borrow.Author.Tests.{leb-true}
 use Rattle.text.specs.Text.{bytes, join}
+use Rattle.text.proofs.Laws.Tests.{and-true}
 use Rattle.sheet.specs.Rows.{Sheet}
 use Rattle.sheet.specs.Lengths.{sheetLengths, tapeLengths, lengthsOf, goodLengths}
 use Rattle.sheet.proofs.Laws.Numbers.{length-filled}
 use Rattle.xsd_types.specs.State.{firstState}
 use Rattle.xsd_types.specs.Clear.{clear}
-use Rattle.xsd_types.specs.Examples.Sheets.{line, noNamespace, sheet, junk, blank, answer}
+use Rattle.xsd_types.specs.Examples.Sheets.{line, noNamespace, sheet, junk, blank, blankBy, answer}
 use Rattle.xsd_types.proofs.Laws.Clear.{clear-sheet, good-clear, first-fits}
 use Rattle.xsd_types.proofs.Laws.SheetOf.{length-sheetOf}
 use Rattle.xsd_parser.specs.Read.{read, refusedAt, sheetOfReading, readState, readRecords}
@@ -32,16 +33,17 @@ unfolding read refusedAt gives answer
 text-refused x n e = rw (length-replicate {A = ℕ} n 0, e, and-false (goodLengths (lengthsOf x)))
 
 -- a cleared sheet of r numbers and n bytes, where neither is above its limit
-cleared-read : (x : Sheet) → sheetLengths (length (x .rows)) (length (x .names)) ≡ true → read (clear x .sheet) [] [] .answer ≡ answer 0 0
+cleared-read : (x : Sheet) → sheetLengths (length (x .rows)) (length (x .names)) ≡ true → read (clear 0 x .sheet) [] [] .answer ≡ answer 0 0
 unfolding read goodLengths lengthsOf tapeLengths sheetOfReading readState records recordsFrom readRecords answer
 cleared-read x e =
-    let made = length-sheetOf firstState (length (x .rows)) (length (x .names)) (first-fits (length (x .rows)) (length (x .names)) e) in
-    let rows = ap (λ (s : Sheet). length (s .rows)) (clear-sheet x e) ∙ made .0 in
-    let names = ap (λ (s : Sheet). length (s .names)) (clear-sheet x e) ∙ made .1 in
-    rw (rows, names, e, good-clear x e)
+    let c = and-true e refl in
+    let made = length-sheetOf (firstState false) (length (x .rows)) (length (x .names)) (first-fits false (length (x .rows)) (length (x .names)) e) in
+    let rows = ap (λ (s : Sheet). length (s .rows)) (clear-sheet 0 x c) ∙ made .0 in
+    let names = ap (λ (s : Sheet). length (s .names)) (clear-sheet 0 x c) ∙ made .1 in
+    rw (rows, names, e, good-clear 0 x c)
 
 blank-read : (r n : ℕ) → sheetLengths r n ≡ true → read (blank r n) [] [] .answer ≡ answer 0 0
-unfolding blank junk
+unfolding blank blankBy junk
 blank-read r n e = cleared-read (junk r n) (rw (length-replicate {A = ℕ} r 7, length-replicate {A = ℕ} n 7) e)
 
 -- a sheet of r numbers and n bytes, where one is above its limit

@@ -21,20 +21,22 @@ use Rattle.xsd_progress.specs.declared.open_tags.Arrival.{Arrival}
 use Rattle.xsd_progress.specs.Change.{modeWith, ModeAfter, Changed, SeenAfter, EventAfter}
 
 -- the mode after a close, and after a tag
-after-close : (kind : ℕ) (t : Tag) (a : Action) (m : Mode) → kind ≡ 3 → modeAfter (eventAs kind t) a m ≡ closeMode m
+after-close : (byStandard : Bool) (kind : ℕ) (t : Tag) (a : Action) (m : Mode) → kind ≡ 3 → modeAfter byStandard (eventAs kind t) a m ≡ closeMode m
 unfolding modeAfter
-after-close kind t a m k = rw (as-close kind t k)
+after-close s kind t a m k = rw (as-close kind t k)
 
-after-tag : (kind : ℕ) (t : Tag) (a : Action) (m : Mode) → (b : Bool) → eqb kind 1 ≡ b → (kind ≡ 3 → ⊥) → modeAfter (eventAs kind t) a m ≡ tagMode b a m
+after-tag : (byStandard : Bool) (kind : ℕ) (t : Tag) (a : Action) (m : Mode) → (b : Bool) → eqb kind 1 ≡ b → (kind ≡ 3 → ⊥)
+    → modeAfter byStandard (eventAs kind t) a m ≡ tagMode byStandard b a m
 unfolding modeAfter
-after-tag kind t a m true e k = rw (as-start kind t (eqb-true kind 1 e))
-after-tag kind t a m false e k = rw (as-empty kind t (eqb-false kind 1 e) k)
+after-tag s kind t a m true e k = rw (as-start kind t (eqb-true kind 1 e))
+after-tag s kind t a m false e k = rw (as-empty kind t (eqb-false kind 1 e) k)
 
-pub mode-close : {kind : ℕ} {d : Decision} {m m′ : Mode} → kind ≡ 3 → m′ ≡ closeMode m → ModeAfter kind d m m′
-mode-close {kind} {d} {m} {m′} k f = record { is = λ t text marks a q. f ∙ sym (after-close kind t a m k) }
+pub mode-close : {byStandard : Bool} {kind : ℕ} {d : Decision} {m m′ : Mode} → kind ≡ 3 → m′ ≡ closeMode m → ModeAfter byStandard kind d m m′
+mode-close {byStandard} {kind} {d} {m} {m′} k f = record { is = λ t text marks a q. f ∙ sym (after-close byStandard kind t a m k) }
 
-pub mode-tag : {kind : ℕ} {d : Decision} {m m′ : Mode} → (kind ≡ 3 → ⊥) → ((text : Text) (marks : List ℕ) (a : Action) → decision text marks d ≡ ok a → m′ ≡ tagMode (eqb kind 1) a m) → ModeAfter kind d m m′
-mode-tag {kind} {d} {m} {m′} k f = record { is = λ t text marks a q. f text marks a q ∙ sym (after-tag kind t a m (eqb kind 1) refl k) }
+pub mode-tag : {byStandard : Bool} {kind : ℕ} {d : Decision} {m m′ : Mode} → (kind ≡ 3 → ⊥)
+    → ((text : Text) (marks : List ℕ) (a : Action) → decision text marks d ≡ ok a → m′ ≡ tagMode byStandard (eqb kind 1) a m) → ModeAfter byStandard kind d m m′
+mode-tag {byStandard} {kind} {d} {m} {m′} k f = record { is = λ t text marks a q. f text marks a q ∙ sym (after-tag byStandard kind t a m (eqb kind 1) refl k) }
 
 -- root seen stands beside the other three: it changes none of them
 abbrev beside : Mode → Mode → Mode
@@ -42,40 +44,41 @@ beside x y = record { context = y .context; nesting = y .nesting; «root_seen» 
 
 close-beside : (o : OpenTags) (seen : Bool) (b c : Bool) → leb (o .context) 1 ≡ b → eqb (o .nesting) 0 ≡ c → beside (closeMode (modeWith seen o)) (closeMode (modeWith false o)) ≡ closeMode (modeWith seen o)
 unfolding closeMode modeWith
-close-beside o seen true c e f = rw (e)
-close-beside o seen false true e f = rw (e, f)
-close-beside o seen false false e f = rw (e, f)
+close-beside o seen true true e f = rw (f, e)
+close-beside o seen false true e f = rw (f, e)
+close-beside o seen b false e f = rw f
 
-mode-beside : (e : Event) (a : Action) (o : OpenTags) (seen : Bool) → beside (modeAfter e a (modeWith seen o)) (modeAfter e a (modeWith false o)) ≡ modeAfter e a (modeWith seen o)
+mode-beside : (byStandard : Bool) (e : Event) (a : Action) (o : OpenTags) (seen : Bool)
+    → beside (modeAfter byStandard e a (modeWith seen o)) (modeAfter byStandard e a (modeWith false o)) ≡ modeAfter byStandard e a (modeWith seen o)
 unfolding modeAfter tagMode modeWith
-mode-beside (Event.start t) a o seen = refl
-mode-beside (Event.empty t) a o seen = refl
-mode-beside Event.close a o seen = close-beside o seen (leb (o .context) 1) (eqb (o .nesting) 0) refl refl
+mode-beside s (Event.start t) a o seen = refl
+mode-beside s (Event.empty t) a o seen = refl
+mode-beside s Event.close a o seen = close-beside o seen (leb (o .context) 1) (eqb (o .nesting) 0) refl refl
 
-pub changed : {x : Arrival} {o : OpenTags} {m : Mode} → ModeAfter (x .kind) (x .decision) (modeWith false o) m
+pub changed : {x : Arrival} {o : OpenTags} {m : Mode} → ModeAfter (x .«by_standard») (x .kind) (x .decision) (modeWith false o) m
     → Changed x o (record { context = m .context; nesting = m .nesting; «open_tags» = x .«open_tags»; extension = m .extension })
 unfolding modeWith
 changed {x} {o} {m} g =
     record {
       opened = refl;
-      modeIs = λ seen t text marks a q. let e = eventAs (x .kind) t in ap (beside (modeAfter e a (modeWith seen o))) (g .is t text marks a q) ∙ mode-beside e a o seen;
+      modeIs = λ seen t text marks a q. let e = eventAs (x .kind) t in ap (beside (modeAfter (x .«by_standard») e a (modeWith seen o))) (g .is t text marks a q) ∙ mode-beside (x .«by_standard») e a o seen;
     }
 
 -- a close leaves root seen
 close-seen : (m : Mode) (b c : Bool) → leb (m .context) 1 ≡ b → eqb (m .nesting) 0 ≡ c → m .«root_seen» ≡ closeMode m .«root_seen»
 unfolding closeMode
-close-seen m true c e f = rw (e)
-close-seen m false true e f = rw (e, f)
-close-seen m false false e f = rw (e, f)
+close-seen m true true e f = rw (f, e)
+close-seen m false true e f = rw (f, e)
+close-seen m b false e f = rw f
 
 pub seen-close : {kind : ℕ} {d : Decision} {seen : Bool} → kind ≡ 3 → SeenAfter kind d seen seen
 seen-close {kind} {d} {seen} k =
-    record { is = λ t text marks a q m s. sym s ∙ close-seen m (leb (m .context) 1) (eqb (m .nesting) 0) refl refl ∙ sym (ap (λ (x : Mode). x .«root_seen») (after-close kind t a m k)) }
+    record { is = λ t text marks a q b m s. sym s ∙ close-seen m (leb (m .context) 1) (eqb (m .nesting) 0) refl refl ∙ sym (ap (λ (x : Mode). x .«root_seen») (after-close b kind t a m k)) }
 
 pub seen-tag : {kind : ℕ} {d : Decision} {seen seen′ : Bool} → (kind ≡ 3 → ⊥) → seen′ ≡ rootOf d seen → SeenAfter kind d seen seen′
 unfolding decidedMode
 seen-tag {kind} {d} {seen} {seen′} k f =
-    record { is = λ t text marks a q m s. f ∙ ap (rootOf d) (sym s) ∙ ap (λ (x : Mode). x .«root_seen») (decided-mode (eqb kind 1) m text marks d a q ∙ sym (after-tag kind t a m (eqb kind 1) refl k)) }
+    record { is = λ t text marks a q b m s. f ∙ ap (rootOf d) (sym s) ∙ ap (λ (x : Mode). x .«root_seen») (decided-mode b (eqb kind 1) m text marks d a q ∙ sym (after-tag b kind t a m (eqb kind 1) refl k)) }
 
 -- the record and root seen together
 pub event-after : {x : Arrival} {m : Mode} {n : ℕ} {next : OpenTags} {seen : Bool} {m′ : Mode}
@@ -85,5 +88,5 @@ unfolding modeWith
 event-after {x} {m} {n} {next} {seen} {m′} c s f =
     record {
       opened = c .opened;
-      modeIs = λ t text marks a q. f ∙ ap (λ (b : Bool). modeWith b next) (s .is t text marks a q m refl) ∙ c .modeIs (m .«root_seen») t text marks a q;
+      modeIs = λ t text marks a q. f ∙ ap (λ (b : Bool). modeWith b next) (s .is t text marks a q (x .«by_standard») m refl) ∙ c .modeIs (m .«root_seen») t text marks a q;
     }

@@ -30,7 +30,7 @@ use Rattle.xsd_rows.proofs.Laws.Write.{length-more}
 pub head-none-open : (c : Context) → contextNumber c < 2 → 0 ≡ headTag c
 unfolding contextNumber headTag
 head-none-open Context.noContext h = refl
-head-none-open Context.inSchema h = refl
+head-none-open (Context.inSchema n) h = refl
 head-none-open (Context.inSimpleType t) h = absurd (omega arith)
 head-none-open (Context.inComplexType t) h = absurd (omega arith)
 
@@ -38,7 +38,7 @@ head-none-open (Context.inComplexType t) h = absurd (omega arith)
 pub context-group : (c : Context) → 2 ≤ contextNumber c → isGroup (contextRows c) ≡ true
 unfolding contextNumber contextRows
 context-group Context.noContext h = absurd (omega arith)
-context-group Context.inSchema h = absurd (omega arith)
+context-group (Context.inSchema n) h = absurd (omega arith)
 context-group (Context.inSimpleType t) h = group-simple (t .name) (t .base) (t .facets)
 context-group (Context.inComplexType t) h = group-complex (t .name) (t .content)
 
@@ -55,7 +55,7 @@ content-tag name (ComplexContentBuilder.any (some n)) = refl
 pub head-tag : (c : Context) → firstTag (contextRows c) ≡ headTag c
 unfolding firstTag contextRows simpleTypeRows row headTag
 head-tag Context.noContext = refl
-head-tag Context.inSchema = refl
+head-tag (Context.inSchema n) = refl
 head-tag (Context.inSimpleType t) = refl
 head-tag (Context.inComplexType t) = content-tag (t .name) (t .content)
 

@@ -83,7 +83,7 @@ paired-items (i ∷ is) = paired-append (paired-item i) (paired-items is)
 pub paired-context : (c : Context) → Paired (contextRows c)
 unfolding contextRows
 paired-context Context.noContext = Paired.none
-paired-context Context.inSchema = Paired.none
+paired-context (Context.inSchema n) = Paired.none
 paired-context (Context.inSimpleType t) = paired-simple (t .name) (t .base) (t .facets)
 paired-context (Context.inComplexType t) = paired-complex (t .name) (t .content)
 

@@ -52,6 +52,7 @@ at-state rows names s p k =
       };
       events = refl;
       tags = refl;
+      choice = bit-back (s .byStandard);
       z = numbers (row0Ten (row0 s) ∷ []);
       holds = h;
       head = open-head-is rows names _ _ s h;

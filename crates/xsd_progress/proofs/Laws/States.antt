@@ -5,7 +5,7 @@ use mathlib.Core.List.{List}
 use lib.ListN.{length}
 use Rattle.sheet.specs.Rows.{bit}
 use Rattle.xsd_types.specs.State.{State}
-use Rattle.xsd_types.specs.Rows.{extensionFlag, row0, row0Last, rowsUsed, namesUsed, nesting}
+use Rattle.xsd_types.specs.Rows.{extensionFlag, row0, rowsUsed, namesUsed, nesting}
 use Rattle.xsd_types.proofs.Laws.Rows.{bit-again}
 use Rattle.xsd_types.proofs.Laws.Made.{flag-context}
 use Rattle.xsd_rows.proofs.Laws.Middle.{rows-fit, names-fit}
@@ -28,7 +28,7 @@ row0-at {s} at =
       events = at .events i;
       openTags = at .tags i;
       extension = flag i;
-      last = row0Last;
+      choice = bit (at .choice i);
     }
 
 -- what is used lies inside the buffers

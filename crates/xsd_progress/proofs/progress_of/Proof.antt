@@ -23,7 +23,7 @@ progress-read rows z head e f = ap (progressOf z) f ∙ ap (λ (y : Row0). progr
 returns : tie.Need-returns
 unfolding progressOf
 returns c =
-    let h = c .before .before .before in
+    let h = c .before .before .before .before in
     let z = h .before .before in
     let rows = z .before .before .args .rows .now in
     (progress-read rows (asRow0 (z .row0-at .result)) (h .open-head .result) (z .row0-at .ensures) (h .open-head .ensures), words-each rows (λ i. z .before .shared-slice-known .given i .fits))

@@ -1,7 +1,7 @@
 -- The sheet after an action is that of the state after the event. Assumes nothing.
 use Prim.Native.Nat.{ℕ, _+_, _<_}
 use mathlib.Core.Path.{_≡_, refl, sym, ap, ap₂, subst, _∙_}
-use mathlib.Core.Bool.{true, false}
+use mathlib.Core.Bool.{Bool, true, false}
 use mathlib.Core.List.{List, [], _∷_, _++_, append-nil}
 use native.Mathlib.Omega.{arith}
 use lib.Dec.{ltb}
@@ -41,7 +41,7 @@ use Rattle.xsd_read.proofs.Laws.Ready.{ready-at}
 abbrev pub allAfter : Action → State → List Row
 allAfter a s = rowsAfterAll a (s .reader .schema .targetNamespace) (itemsRows (s .reader .schema .items)) (contextRows (s .reader .context))
 
-pub rows-after : (s : State) {e : Event} {a : Action} {r : Reader} (tags : ℕ) → Acted e (s .reader) a r → rowsOf (counted s tags r) ≡ allAfter a s
+pub rows-after : (s : State) {byStandard : Bool} {e : Event} {a : Action} {r : Reader} (tags : ℕ) → Acted byStandard e (s .reader) a r → rowsOf (counted s tags r) ≡ allAfter a s
 unfolding rowsOf counted rowsAfterAll behind
 rows-after s tags x = ap₂ (λ (n : Text) (rs : List Row). namespaceRow n ∷ rs) (x .namespace) (x .rows)
 
@@ -49,7 +49,7 @@ rows-after s tags x = ap₂ (λ (n : Text) (rs : List Row). namespaceRow n ∷ r
 pub none-open : (c : Context) → contextNumber c < 2 → contextRows c ≡ []
 unfolding contextRows contextNumber
 none-open Context.noContext h = refl
-none-open Context.inSchema h = refl
+none-open (Context.inSchema n) h = refl
 none-open (Context.inSimpleType t) h = absurd (omega arith)
 none-open (Context.inComplexType t) h = absurd (omega arith)
 
@@ -78,11 +78,12 @@ pub mode-due : {rows names : List ℕ} {text : Text} {marks : List ℕ} {p : Pro
     → Due rows names text marks p x s e r → EventAfter x (p .mode) after → after .mode ≡ modeOf r
 mode-due {rows} {names} {text} {marks} {p} {x} {s} {e} due w =
     w .modeIs (due .tag) text marks (due .action) (due .decided)
-    ∙ ap (λ (ev : Event). modeAfter ev (due .action) (p .mode)) (sym (due .eventIs)) ∙ ap (modeAfter e (due .action)) (due .at .mode) ∙ sym (due .acted .mode)
+    ∙ ap₂ (λ (b : Bool) (ev : Event). modeAfter b ev (due .action) (p .mode)) (due .choice) (sym (due .eventIs))
+    ∙ ap (modeAfter (s .byStandard) e (due .action)) (due .at .mode) ∙ sym (due .acted .mode)
 
 -- where a reading stands after an event
 abbrev standsAt : Progress → Arrived → Used → ℕ → Progress
-standsAt p after used head = record { mode = after .mode; events = p .events + 1; «open_tags» = after .«open_tags»; used = used; head = head }
+standsAt p after used head = record { mode = after .mode; events = p .events + 1; «open_tags» = after .«open_tags»; «by_standard» = p .«by_standard»; used = used; head = head }
 
 -- the sheet after the action holds the state after the event
 pub at-after : {rows names rows′ names′ : List ℕ} {text : Text} {marks : List ℕ} {p : Progress} {x : Arrival} {s : State} {e : Event} {r : Reader} {used : Used} {after : Arrived}
@@ -95,6 +96,7 @@ at-after {rows} {names} {rows′} {names′} {text} {marks} {p} {x} {s} {e} {r} 
       mode = mode-due due w;
       events = omega (arith, at .events);
       tags = w .opened;
+      choice = at .choice;
       z = at .z;
       holds = subst (Holds rows′ names′ used (at .z)) (sym (rows-after s (x .«open_tags») (due .acted))) (y .holds (at .z) _ _ _ (due .action) (ready-at at) (due .decided) (due .acted .fitting));
       head = λ h. head-after (r .schema .items) at (due .acted .items h);

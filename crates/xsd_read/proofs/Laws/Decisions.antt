@@ -2,6 +2,7 @@
 --     Told          what was decided, before any state is named
 --     Handled       the reader after an action
 use Prim.Native.Nat.{ℕ}
+use mathlib.Core.Bool.{Bool}
 use mathlib.Core.Path.{_≡_, refl, sym, ap, ap₂, subst, _∙_}
 use mathlib.Core.List.{List}
 use Rattle.text.specs.Text.{Text}
@@ -49,34 +50,34 @@ head-at {s} {rows} {names} {p} at h =
     h .is names (p .used) (at .z) (s .reader .schema .targetNamespace) (s .reader) (at .holds) context (λ k. at .head (rw context at k))
 
 -- what `Decides` says of each outcome
-pub record Handled (e : Event) (r : Reader) (a : Action) : Type 0 where
+pub record Handled (byStandard : Bool) (e : Event) (r : Reader) (a : Action) : Type 0 where
   pub r′ : Reader
-  pub handles : handled e r ≡ ok r′
-  pub acted : Acted e r a r′
+  pub handles : handled byStandard e r ≡ ok r′
+  pub acted : Acted byStandard e r a r′
 
-abbrev HandledOr : Event → Reader → Outcome Action → Type 0
-HandledOr e r (ok a) = Handled e r a
-HandledOr e r (refuse n) = handled e r ≡ refuse n
+abbrev HandledOr : Bool → Event → Reader → Outcome Action → Type 0
+HandledOr byStandard e r (ok a) = Handled byStandard e r a
+HandledOr byStandard e r (refuse n) = handled byStandard e r ≡ refuse n
 
-handled-or : {e : Event} {r : Reader} {o : Outcome Action} → Decides e r o → HandledOr e r o
+handled-or : {byStandard : Bool} {e : Event} {r : Reader} {o : Outcome Action} → Decides byStandard e r o → HandledOr byStandard e r o
 handled-or (acts a r′ h x) = record { r′ = r′; handles = h; acted = x }
 handled-or (refuses n h) = h
 
 told-at : {rows names : List ℕ} {text : Text} {marks : List ℕ} {p : Progress} {e : Event} {d : Decision} {s : State} (o : Outcome Action)
-    → Told rows text marks p e d → At s rows names p → decision text marks d ≡ o → HandledOr e (s .reader) o
+    → Told rows text marks p e d → At s rows names p → decision text marks d ≡ o → HandledOr (s .byStandard) e (s .reader) o
 told-at {rows} {names} {text} {marks} {p} {e} {d} {s} o w at q =
     let same = sym q ∙ w .decidedIs ∙ ap₂ (decided e) (at .mode) (head-at at (w .headIs)) in
-    handled-or (subst (Decides e (s .reader)) (sym same) (decides e (s .reader)))
+    handled-or (subst (Decides (s .byStandard) e (s .reader)) (sym same) (decides (s .byStandard) e (s .reader)))
 
 -- a refused decision is the handlers' refusal
 pub told-refused : {rows names : List ℕ} {text : Text} {marks : List ℕ} {p : Progress} {e : Event} {d : Decision} {s : State} (r : Refusal)
-    → Told rows text marks p e d → At s rows names p → d ≡ Decision.Refuse r → handled e (s .reader) ≡ refuse (refusalNumber r)
+    → Told rows text marks p e d → At s rows names p → d ≡ Decision.Refuse r → handled (s .byStandard) e (s .reader) ≡ refuse (refusalNumber r)
 unfolding decision
 told-refused {text = text} {marks = marks} r w at q = told-at (refuse (refusalNumber r)) w at (ap (decision text marks) q)
 
 -- an accepted one is what they do
 pub told-accepted : {rows names : List ℕ} {text : Text} {marks : List ℕ} {p : Progress} {e : Event} {d : Decision} {s : State} (a : Action)
-    → Told rows text marks p e d → At s rows names p → decision text marks d ≡ ok a → Handled e (s .reader) a
+    → Told rows text marks p e d → At s rows names p → decision text marks d ≡ ok a → Handled (s .byStandard) e (s .reader) a
 told-accepted a w at q = told-at (ok a) w at q
 
 -- a decision that is no refusal is an action

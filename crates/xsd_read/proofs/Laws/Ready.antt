@@ -27,7 +27,7 @@ use Rattle.xsd_read.specs.Due.{DueRoom}
 pub open-number : (c : Context) (r : Row) (kids : List Row) → contextRows c ≡ r ∷ kids → 2 ≤ contextNumber c
 unfolding contextRows contextNumber
 open-number Context.noContext r kids e = omega (arith, ap (length {A = Row}) e)
-open-number Context.inSchema r kids e = omega (arith, ap (length {A = Row}) e)
+open-number (Context.inSchema n) r kids e = omega (arith, ap (length {A = Row}) e)
 open-number (Context.inSimpleType t) r kids e = omega arith
 open-number (Context.inComplexType t) r kids e = omega arith
 

@@ -17,7 +17,7 @@ itemGroup i = asGroup (itemRows i)
 
 unfoldable pub openGroups : Context → List Group
 openGroups Context.noContext = []
-openGroups Context.inSchema = []
+openGroups (Context.inSchema n) = []
 openGroups (Context.inSimpleType t) = asGroup (simpleTypeRows (t .name) (t .base) (t .facets)) ∷ []
 openGroups (Context.inComplexType t) = asGroup (complexTypeRows (t .name) (t .content)) ∷ []
 
@@ -28,7 +28,7 @@ grouped-one rs g = ap grouped (sym (append-nil rs)) ∙ grouped-group rs [] g re
 pub grouped-context : (c : Context) → grouped (contextRows c) ≡ record { loose = []; groups = openGroups c }
 unfolding grouped contextRows openGroups
 grouped-context Context.noContext = refl
-grouped-context Context.inSchema = refl
+grouped-context (Context.inSchema n) = refl
 grouped-context (Context.inSimpleType t) = grouped-one (simpleTypeRows (t .name) (t .base) (t .facets)) (group-simple (t .name) (t .base) (t .facets))
 grouped-context (Context.inComplexType t) = grouped-one (complexTypeRows (t .name) (t .content)) (group-complex (t .name) (t .content))
 
@@ -53,7 +53,7 @@ open-back (i ∷ j ∷ is) g = rw (item-back i, open-back (j ∷ is) g)
 pub items-back : (is : List Item) (c : Context) → itemsOf (leb 2 (contextNumber c)) (map itemGroup is ++ openGroups c) ≡ is
 unfolding contextNumber openGroups
 items-back is Context.noContext = closed-back is
-items-back is Context.inSchema = closed-back is
+items-back is (Context.inSchema n) = closed-back is
 items-back is (Context.inSimpleType t) = open-back is (asGroup (simpleTypeRows (t .name) (t .base) (t .facets)))
 items-back is (Context.inComplexType t) = open-back is (asGroup (complexTypeRows (t .name) (t .content)))
 
@@ -90,7 +90,7 @@ complex-open t =
 pub context-back : (s : State) (is : List Item) (c : Context) → s .reader .context ≡ c → contextOf (row0 s) (map itemGroup is ++ openGroups c) ≡ c
 unfolding contextOf row0 openGroups contextNumber nesting extensionFlag openSimple openComplex
 context-back s is Context.noContext e = rw e
-context-back s is Context.inSchema e = rw e
+context-back s is (Context.inSchema n) e = rw e
 context-back s is (Context.inSimpleType t) e = rw (e, last-back noGroup (asGroup (simpleTypeRows (t .name) (t .base) (t .facets))) is) (simple-open t)
 context-back s is (Context.inComplexType t) e = rw (e, last-back noGroup (asGroup (complexTypeRows (t .name) (t .content))) is) (complex-open t)
 
@@ -101,4 +101,4 @@ state-back s =
     let c = s .reader .context in
     let items = ap (λ (g : Grouped). itemsOf (leb 2 (contextNumber c)) (g .groups)) (grouped-body is c) ∙ items-back is c in
     let context = ap (λ (g : Grouped). contextOf (row0 s) (g .groups)) (grouped-body is c) ∙ context-back s is c refl in
-    λ i. record { reader = record { schema = record { targetNamespace = s .reader .schema .targetNamespace; items = items i }; rootSeen = bit-back (s .reader .rootSeen) i; context = context i }; events = s .events; openTags = s .openTags }
+    λ i. record { reader = record { schema = record { targetNamespace = s .reader .schema .targetNamespace; items = items i }; rootSeen = bit-back (s .reader .rootSeen) i; context = context i }; events = s .events; openTags = s .openTags; byStandard = bit-back (s .byStandard) i }

@@ -4,8 +4,8 @@ use mathlib.Core.Bool.{Bool, true, false, not, _&&_, _||_, false≢true}
 use mathlib.Core.List.{List, [], _∷_, _++_, map, append-nil}
 use mathlib.Core.Option.{some, none}
 use Prim.Native.Nat.{ℕ, _+_}
-use lib.Dec.{eqb, leb, leb·zero}
-use Rattle.text.specs.Text.{Text, every, isText, between, join, if_then_else_}
+use lib.Dec.{eqb, leb}
+use Rattle.text.specs.Text.{Text, every, isText, between, join}
 use Rattle.text.proofs.Laws.Tests.{three, four, or-right, and-true-left, and-true-right, and-true}
 use Rattle.sheet.specs.Rows.{Ten, Row, row, bit, packRow, pack, namesOf}
 use Rattle.sheet.specs.Form.{isFlag}
@@ -13,6 +13,7 @@ use Rattle.xsd_types.specs.Types.{Item}
 use Rattle.xsd_types.specs.State.{ComplexContentBuilder, facetOk, contentOk, Context, State, contextOk, isNoContext, isEmpty}
 use Rattle.xsd_types.specs.Rows.{namespaceRow, simpleTypeRows, complexTypeRows, itemRows, itemsRows, contextRows, rowsOf, contextNumber, nesting, contentFlag, extensionFlag, rowsUsed, namesUsed, row0}
 use Rattle.xsd_types.specs.Good.{inOrder, lastHead, tenForm, rootTest, contextTest}
+use Rattle.xsd_types.proofs.Laws.Row0.{nestedOk}
 use Rattle.xsd_types.proofs.Laws.Order.{tags, tags-append, inOrder-append, lastHead-append}
 use Rattle.xsd_types.proofs.Laws.Groups.{isGroup, headTag, inOrder-group, lastHead-group}
 use Rattle.xsd_types.proofs.Laws.Sound.{formedRow, bodyRows}
@@ -41,7 +42,7 @@ order-items n (i ∷ is) o =
 pub order-context : (n : ℕ) (c : Context) → not (eqb n 16) ≡ true → inOrder n (tags (contextRows c)) ≡ true
 unfolding contextRows inOrder
 order-context n Context.noContext o = refl
-order-context n Context.inSchema o = refl
+order-context n (Context.inSchema depth) o = refl
 order-context n (Context.inSimpleType t) o = inOrder-group n (simpleTypeRows (t .name) (t .base) (t .facets)) o (group-simple (t .name) (t .base) (t .facets))
 order-context n (Context.inComplexType t) o = inOrder-group n (complexTypeRows (t .name) (t .content)) o (group-complex (t .name) (t .content))
 
@@ -71,7 +72,7 @@ head-complex name (ComplexContentBuilder.any (some n)) = refl
 pub test-context : (n : ℕ) (is : List Item) (c : Context) → not (eqb n 16) ≡ true → contextTest (contextNumber c) (lastHead n (tags (itemsRows is ++ contextRows c))) ≡ true
 unfolding contextTest contextNumber contextRows headTag simpleTypeRows row
 test-context n is Context.noContext o = rw (append-nil (itemsRows is)) (and-true-right (inOrder n (tags (itemsRows is))) _ (order-items n is o))
-test-context n is Context.inSchema o = rw (append-nil (itemsRows is)) (and-true-right (inOrder n (tags (itemsRows is))) _ (order-items n is o))
+test-context n is (Context.inSchema depth) o = rw (append-nil (itemsRows is)) (and-true-right (inOrder n (tags (itemsRows is))) _ (order-items n is o))
 test-context n is (Context.inSimpleType t) o = rw (head-behind n (itemsRows is) (simpleTypeRows (t .name) (t .base) (t .facets)) (group-simple (t .name) (t .base) (t .facets)))
 test-context n is (Context.inComplexType t) o = rw (head-behind n (itemsRows is) (complexTypeRows (t .name) (t .content)) (group-complex (t .name) (t .content))) (head-complex (t .name) (t .content))
 
@@ -86,21 +87,21 @@ flag-complex name (ComplexContentBuilder.any n) = refl
 pub test-extension : (n : ℕ) (is : List Item) (c : Context) → eqb (extensionFlag c) 0 || (eqb (contextNumber c) 3 && eqb (lastHead n (tags (itemsRows is ++ contextRows c))) 14) ≡ true
 unfolding extensionFlag contextNumber contextRows
 test-extension n is Context.noContext = refl
-test-extension n is Context.inSchema = refl
+test-extension n is (Context.inSchema depth) = refl
 test-extension n is (Context.inSimpleType t) = refl
 test-extension n is (Context.inComplexType t) = rw (head-behind n (itemsRows is) (complexTypeRows (t .name) (t .content)) (group-complex (t .name) (t .content))) (flag-complex (t .name) (t .content))
 
-pub test-nesting : (c : Context) (openTags : ℕ) → contextOk c openTags ≡ true → (if leb 2 (contextNumber c) then leb (nesting c + 2) openTags else (eqb (nesting c) 0 && leb (contextNumber c) openTags)) ≡ true
-unfolding contextOk contextNumber nesting
-test-nesting Context.noContext n ok = leb·zero n
-test-nesting Context.inSchema n ok = ok
-test-nesting (Context.inSimpleType t) n ok = four (leb (t .nestingDepth + 2) n) (isText (t .name)) (isText (t .base)) (every facetOk (t .facets)) ok .0
-test-nesting (Context.inComplexType t) n ok = three (leb (t .nestingDepth + 2) n) (isText (t .name)) (contentOk (t .content)) ok .0
+pub test-nesting : (byStandard : Bool) (c : Context) (openTags : ℕ) → contextOk byStandard c openTags ≡ true → nestedOk byStandard (contextNumber c) (nesting c) openTags ≡ true
+unfolding contextOk contextNumber nesting nestedOk
+test-nesting b Context.noContext n ok = refl
+test-nesting b (Context.inSchema depth) n ok = ok
+test-nesting b (Context.inSimpleType t) n ok = four (leb (t .nestingDepth + 2) n) (isText (t .name)) (isText (t .base)) (every facetOk (t .facets)) ok .0
+test-nesting b (Context.inComplexType t) n ok = three (leb (t .nestingDepth + 2) n) (isText (t .name)) (contentOk (t .content)) ok .0
 
 pub small-context : (c : Context) → leb (contextNumber c) 3 ≡ true
 unfolding contextNumber
 small-context Context.noContext = refl
-small-context Context.inSchema = refl
+small-context (Context.inSchema n) = refl
 small-context (Context.inSimpleType t) = refl
 small-context (Context.inComplexType t) = refl
 
@@ -120,19 +121,19 @@ flag-content (ComplexContentBuilder.any n) = flag-bit false
 pub flag-context : (c : Context) → isFlag (extensionFlag c) ≡ true
 unfolding extensionFlag bit
 flag-context Context.noContext = flag-bit false
-flag-context Context.inSchema = flag-bit false
+flag-context (Context.inSchema n) = flag-bit false
 flag-context (Context.inSimpleType t) = flag-bit false
 flag-context (Context.inComplexType t) = flag-content (t .content)
 
 -- without a root there are two rows and no names
-pub test-root : (ns : Text) (is : List Item) (root : Bool) (c : Context) (events openTags : ℕ)
+pub test-root : (ns : Text) (is : List Item) (root : Bool) (c : Context) (events openTags : ℕ) (byStandard : Bool)
     → root || (isNoContext c && isEmpty is && isEmpty ns) ≡ true
-    → rootTest (row0 (record { reader = record { schema = record { targetNamespace = ns; items = is }; rootSeen = root; context = c }; events = events; openTags = openTags })) ≡ true
+    → rootTest (row0 (record { reader = record { schema = record { targetNamespace = ns; items = is }; rootSeen = root; context = c }; events = events; openTags = openTags; byStandard = byStandard })) ≡ true
 unfolding rootTest row0 bit contextNumber rowsUsed namesUsed rowsOf contextRows itemsRows namespaceRow row namesOf join isNoContext isEmpty
-test-root ns is true c events openTags ok = refl
-test-root [] [] false Context.noContext events openTags ok = refl
-test-root (b ∷ ns) [] false Context.noContext events openTags ok = absurd (false≢true ok)
-test-root ns (i ∷ is) false Context.noContext events openTags ok = absurd (false≢true ok)
-test-root ns is false Context.inSchema events openTags ok = absurd (false≢true ok)
-test-root ns is false (Context.inSimpleType t) events openTags ok = absurd (false≢true ok)
-test-root ns is false (Context.inComplexType t) events openTags ok = absurd (false≢true ok)
+test-root ns is true c events openTags b ok = refl
+test-root [] [] false Context.noContext events openTags b ok = refl
+test-root (x ∷ ns) [] false Context.noContext events openTags b ok = absurd (false≢true ok)
+test-root ns (i ∷ is) false Context.noContext events openTags b ok = absurd (false≢true ok)
+test-root ns is false (Context.inSchema n) events openTags b ok = absurd (false≢true ok)
+test-root ns is false (Context.inSimpleType t) events openTags b ok = absurd (false≢true ok)
+test-root ns is false (Context.inComplexType t) events openTags b ok = absurd (false≢true ok)

@@ -7,15 +7,16 @@ use Prim.Native.Nat.{ℕ, zero, suc, _+_, _≤_}
 use native.Mathlib.Omega.{arith}
 use lib.Dec.{eqb, leb}
 use borrow.Author.Tests.{eqb-true}
-use Rattle.text.specs.Text.{Text, every, isText, between, if_then_else_}
+use Rattle.text.specs.Text.{Text, every, isText, between}
 use Rattle.text.proofs.Laws.Texts.{between-low}
 use Rattle.text.proofs.Laws.Tests.{three, and-true-left, and-true-right, and-true}
 use Rattle.sheet.specs.Rows.{Row, row}
 use Rattle.sheet.specs.Form.{isFlag}
 use Rattle.xsd_types.specs.Types.{SimpleType, ComplexContent, Item}
-use Rattle.xsd_types.specs.State.{ComplexContentBuilder, Context, facetOk, namespaceOk, contentOk, started, itemOk, contextOk}
+use Rattle.xsd_types.specs.State.{ComplexContentBuilder, Context, facetOk, namespaceOk, contentOk, started, itemOk, schemaNestingOk, contextOk}
 use Rattle.xsd_types.specs.Rows.{simpleTypeRows, complexTypeRows, itemRows, itemsRows, contextRows, contextNumber, nesting, contentFlag, extensionFlag}
 use Rattle.xsd_types.specs.Good.{lastHead, contextTest}
+use Rattle.xsd_types.proofs.Laws.Row0.{nestedOk}
 use Rattle.xsd_types.proofs.Laws.Order.{tags}
 use Rattle.xsd_types.proofs.Laws.Groups.{headTag}
 use Rattle.xsd_types.proofs.Laws.Items.{group-item, group-complex}
@@ -24,13 +25,13 @@ use Rattle.xsd_types.proofs.Laws.Rows.{bit-again}
 use Rattle.xsd_types.proofs.Laws.Parse.{stillRows}
 use Rattle.text.proofs.Laws.Every.{every-append}
 
--- the items and the context of rows, for row 0's context, nesting, open tags and extension flag
-pub record Opened (n depth openTags flag : ℕ) (rs : List Row) : Type 0 where
+-- the items and the context of rows, for the choice and row 0's context, nesting, open tags and extension flag
+pub record Opened (byStandard : Bool) (n depth openTags flag : ℕ) (rs : List Row) : Type 0 where
   pub items : List Item
   pub context : Context
   pub same : rs ≡ itemsRows items ++ contextRows context
   pub itemsOk : every itemOk items ≡ true
-  pub contextIsOk : contextOk context openTags ≡ true
+  pub contextIsOk : contextOk byStandard context openTags ≡ true
   pub numberIs : contextNumber context ≡ n
   pub depthIs : nesting context ≡ depth
   pub flagIs : extensionFlag context ≡ flag
@@ -99,23 +100,23 @@ unfolding stillRows
 none-open is none e = refl
 none-open is (some name) e = absurd (false≢true (rw (head-still is name) at e))
 
-module _ (depth openTags flag : ℕ) (rs : List Row) (is : List Item) (ok : every itemOk is ≡ true) where
-  pub open-none : rs ≡ itemsRows is ++ [] → 0 ≡ depth → 0 ≡ flag → Opened 0 depth openTags flag rs
+module _ (byStandard : Bool) (depth openTags flag : ℕ) (rs : List Row) (is : List Item) (ok : every itemOk is ≡ true) where
+  pub open-none : rs ≡ itemsRows is ++ [] → 0 ≡ depth → 0 ≡ flag → Opened byStandard 0 depth openTags flag rs
   unfolding contextRows contextOk contextNumber nesting extensionFlag
   open-none e d f = record { items = is; context = Context.noContext; same = e; itemsOk = ok; contextIsOk = refl; numberIs = refl; depthIs = d; flagIs = f }
 
-  pub open-schema : rs ≡ itemsRows is ++ [] → 0 ≡ depth → 0 ≡ flag → leb 1 openTags ≡ true → Opened 1 depth openTags flag rs
+  pub open-schema : rs ≡ itemsRows is ++ [] → 0 ≡ flag → schemaNestingOk byStandard depth && leb (depth + 1) openTags ≡ true → Opened byStandard 1 depth openTags flag rs
   unfolding contextRows contextOk contextNumber nesting extensionFlag
-  open-schema e d f l = record { items = is; context = Context.inSchema; same = e; itemsOk = ok; contextIsOk = l; numberIs = refl; depthIs = d; flagIs = f }
+  open-schema e f l = record { items = is; context = Context.inSchema depth; same = e; itemsOk = ok; contextIsOk = l; numberIs = refl; depthIs = refl; flagIs = f }
 
-  pub open-simpleType : (t : SimpleType) → itemOk (Item.simpleType t) ≡ true → leb (depth + 2) openTags ≡ true → 0 ≡ flag → rs ≡ itemsRows is ++ itemRows (Item.simpleType t) → Opened 2 depth openTags flag rs
+  pub open-simpleType : (t : SimpleType) → itemOk (Item.simpleType t) ≡ true → leb (depth + 2) openTags ≡ true → 0 ≡ flag → rs ≡ itemsRows is ++ itemRows (Item.simpleType t) → Opened byStandard 2 depth openTags flag rs
   unfolding itemRows contextRows contextOk contextNumber nesting extensionFlag itemOk
   open-simpleType t o l f e =
       let v = three (isText (t .name)) (isText (t .base)) (every facetOk (t .facets)) o in
       let c = Context.inSimpleType (record { name = t .name; base = t .base; facets = t .facets; nestingDepth = depth }) in
       record { items = is; context = c; same = e; itemsOk = ok; contextIsOk = and-true (and-true (and-true l (v .0)) (v .1)) (v .2); numberIs = refl; depthIs = refl; flagIs = f }
 
-  pub open-simple : (i : Item) → itemOk i ≡ true → eqb (headTag (itemRows i)) 3 ≡ true → leb (depth + 2) openTags ≡ true → 0 ≡ flag → rs ≡ itemsRows is ++ itemRows i → Opened 2 depth openTags flag rs
+  pub open-simple : (i : Item) → itemOk i ≡ true → eqb (headTag (itemRows i)) 3 ≡ true → leb (depth + 2) openTags ≡ true → 0 ≡ flag → rs ≡ itemsRows is ++ itemRows i → Opened byStandard 2 depth openTags flag rs
   unfolding itemRows headTag row
   open-simple (Item.element t) o h l f e = absurd (false≢true h)
   open-simple (Item.simpleType t) o h l f e = open-simpleType t o l f e
@@ -123,17 +124,17 @@ module _ (depth openTags flag : ℕ) (rs : List Row) (is : List Item) (ok : ever
       let k = headTag (complexTypeRows (t .name) (started (t .content))) in
       absurd (omega (arith, eqb-true k 3 h, between-low 12 16 k (head-complex (t .name) (started (t .content)))))
 
-  pub open-content : (name : Text) (c : ComplexContentBuilder) → isText name ≡ true → contentOk c ≡ true → leb (depth + 2) openTags ≡ true → contentFlag c ≡ flag → rs ≡ itemsRows is ++ complexTypeRows name c → Opened 3 depth openTags flag rs
+  pub open-content : (name : Text) (c : ComplexContentBuilder) → isText name ≡ true → contentOk c ≡ true → leb (depth + 2) openTags ≡ true → contentFlag c ≡ flag → rs ≡ itemsRows is ++ complexTypeRows name c → Opened byStandard 3 depth openTags flag rs
   unfolding contextRows contextOk contextNumber nesting extensionFlag
   open-content name c o p l f e =
       let d = Context.inComplexType (record { name = name; content = c; nestingDepth = depth }) in
       record { items = is; context = d; same = e; itemsOk = ok; contextIsOk = and-true (and-true l o) p; numberIs = refl; depthIs = refl; flagIs = f }
 
-  pub open-empty : (name : Text) → isText name ≡ true → leb (depth + 2) openTags ≡ true → 0 ≡ flag → rs ≡ itemsRows is ++ complexTypeRows name ComplexContentBuilder.empty → Opened 3 depth openTags flag rs
+  pub open-empty : (name : Text) → isText name ≡ true → leb (depth + 2) openTags ≡ true → 0 ≡ flag → rs ≡ itemsRows is ++ complexTypeRows name ComplexContentBuilder.empty → Opened byStandard 3 depth openTags flag rs
   unfolding contentOk contentFlag
   open-empty name o l f e = open-content name ComplexContentBuilder.empty o refl l f e
 
-  pub open-complex : (i : Item) → itemOk i ≡ true → between 12 16 (headTag (itemRows i)) ≡ true → leb (depth + 2) openTags ≡ true → isFlag flag ≡ true → eqb flag 0 || eqb (headTag (itemRows i)) 14 ≡ true → rs ≡ itemsRows is ++ itemRows i → Opened 3 depth openTags flag rs
+  pub open-complex : (i : Item) → itemOk i ≡ true → between 12 16 (headTag (itemRows i)) ≡ true → leb (depth + 2) openTags ≡ true → isFlag flag ≡ true → eqb flag 0 || eqb (headTag (itemRows i)) 14 ≡ true → rs ≡ itemsRows is ++ itemRows i → Opened byStandard 3 depth openTags flag rs
   unfolding itemRows simpleTypeRows headTag row between itemOk
   open-complex (Item.element t) o h l f x e = absurd (false≢true h)
   open-complex (Item.simpleType t) o h l f x e = absurd (false≢true h)
@@ -163,30 +164,30 @@ module _ (rs : List Row) where
   ends is ok (some name) o e = Ends.absent is name ok o e (rw e (head-still is name))
 
 -- contexts 2 and 3: the last type is open
-module _ (depth openTags flag : ℕ) (rs : List Row) (l : leb (depth + 2) openTags ≡ true) where
-  pub open-two : Ends rs → eqb (lastHead 0 (tags rs)) 3 ≡ true → 0 ≡ flag → Opened 2 depth openTags flag rs
+module _ (byStandard : Bool) (depth openTags flag : ℕ) (rs : List Row) (l : leb (depth + 2) openTags ≡ true) where
+  pub open-two : Ends rs → eqb (lastHead 0 (tags rs)) 3 ≡ true → 0 ≡ flag → Opened byStandard 2 depth openTags flag rs
   open-two (nowhere n) h f = absurd (false≢true (rw n at h))
-  open-two (finished is i ok o e n) h f = open-simple depth openTags flag rs is ok i o (rw n at h) l f e
+  open-two (finished is i ok o e n) h f = open-simple byStandard depth openTags flag rs is ok i o (rw n at h) l f e
   open-two (absent is name ok o e n) h f = absurd (false≢true (rw n at h))
 
-  pub open-three : Ends rs → between 12 16 (lastHead 0 (tags rs)) ≡ true → isFlag flag ≡ true → eqb flag 0 || eqb (lastHead 0 (tags rs)) 14 ≡ true → Opened 3 depth openTags flag rs
+  pub open-three : Ends rs → between 12 16 (lastHead 0 (tags rs)) ≡ true → isFlag flag ≡ true → eqb flag 0 || eqb (lastHead 0 (tags rs)) 14 ≡ true → Opened byStandard 3 depth openTags flag rs
   unfolding between
   open-three (nowhere n) h f x = absurd (false≢true (rw n at h))
-  open-three (finished is i ok o e n) h f x = open-complex depth openTags flag rs is ok i o (rw n at h) l f (rw n at x) e
-  open-three (absent is name ok o e n) h f x = open-empty depth openTags flag rs is ok name o l (zero-flag flag (rw n at x)) e
+  open-three (finished is i ok o e n) h f x = open-complex byStandard depth openTags flag rs is ok i o (rw n at h) l f (rw n at x) e
+  open-three (absent is name ok o e n) h f x = open-empty byStandard depth openTags flag rs is ok name o l (zero-flag flag (rw n at x)) e
 
 -- the tests of row 0
-module _ (depth openTags flag : ℕ) (rs : List Row) (is : List Item) (ok : every itemOk is ≡ true) (st : Option Text) (stOk : namespaceOk st ≡ true) (same : rs ≡ itemsRows is ++ stillRows st) (f : isFlag flag ≡ true) where
+module _ (byStandard : Bool) (depth openTags flag : ℕ) (rs : List Row) (is : List Item) (ok : every itemOk is ≡ true) (st : Option Text) (stOk : namespaceOk st ≡ true) (same : rs ≡ itemsRows is ++ stillRows st) (f : isFlag flag ≡ true) where
   pub shut : not (eqb (lastHead 0 (tags rs)) 16) ≡ true → rs ≡ itemsRows is ++ []
   shut c = same ∙ ap (λ (l : List Row). itemsRows is ++ l) (none-open is st (rw same at c))
 
   pub opened : (n : ℕ) → n ≤ 3
-      → (if leb 2 n then leb (depth + 2) openTags else (eqb depth 0 && leb n openTags)) ≡ true
+      → nestedOk byStandard n depth openTags ≡ true
       → contextTest n (lastHead 0 (tags rs)) ≡ true
-      → eqb flag 0 || (eqb n 3 && eqb (lastHead 0 (tags rs)) 14) ≡ true → Opened n depth openTags flag rs
-  unfolding contextTest
-  opened zero h d c x = open-none depth openTags flag rs is ok (shut c) (sym (eqb-true depth 0 (and-true-left _ _ d))) (zero-flag flag x)
-  opened (suc zero) h d c x = open-schema depth openTags flag rs is ok (shut c) (sym (eqb-true depth 0 (and-true-left _ _ d))) (zero-flag flag x) (and-true-right (eqb depth 0) _ d)
-  opened (suc (suc zero)) h d c x = open-two depth openTags flag rs d (ends rs is ok st stOk same) c (zero-flag flag x)
-  opened (suc (suc (suc zero))) h d c x = open-three depth openTags flag rs d (ends rs is ok st stOk same) c f x
+      → eqb flag 0 || (eqb n 3 && eqb (lastHead 0 (tags rs)) 14) ≡ true → Opened byStandard n depth openTags flag rs
+  unfolding contextTest nestedOk
+  opened zero h d c x = open-none byStandard depth openTags flag rs is ok (shut c) (sym (eqb-true depth 0 d)) (zero-flag flag x)
+  opened (suc zero) h d c x = open-schema byStandard depth openTags flag rs is ok (shut c) (zero-flag flag x) d
+  opened (suc (suc zero)) h d c x = open-two byStandard depth openTags flag rs d (ends rs is ok st stOk same) c (zero-flag flag x)
+  opened (suc (suc (suc zero))) h d c x = open-three byStandard depth openTags flag rs d (ends rs is ok st stOk same) c f x
   opened (suc (suc (suc (suc n)))) h d c x = absurd (omega arith)

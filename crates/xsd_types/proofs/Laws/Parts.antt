@@ -1,6 +1,6 @@
 -- What a good sheet says, part by part, of its numbers. Assumes nothing.
 use mathlib.Core.Path.{_≡_, refl}
-use mathlib.Core.Bool.{Bool, true, false, _&&_, _||_, false≢true}
+use mathlib.Core.Bool.{Bool, true, false, _||_, false≢true}
 use mathlib.Core.List.{List, [], _∷_, map}
 use Prim.Native.Nat.{ℕ, _+_, _*_, _≤_}
 use native.Mathlib.Omega.{arith}
@@ -8,21 +8,16 @@ use lib.Dec.{eqb, leb}
 use lib.ListN.{length, drop}
 use borrow.Author.Tests.{eqb-true, leb-true, le-leb}
 use Rattle.text.specs.Text.{every, between, if_then_else_}
-use Rattle.text.proofs.Laws.Tests.{six, eleven, and-true-left, and-true-right, and-true, bool-cases}
+use Rattle.text.proofs.Laws.Tests.{six, eleven, and-true-left, and-true-right, and-true}
 use Rattle.sheet.specs.Rows.{Ten, Sheet, allZero}
 use Rattle.sheet.specs.Form.{isFlag, covers, covered, rowsUsedOf, namesUsedOf, tensOf, usedParts, zerosBehind}
 use Rattle.sheet.specs.Lengths.{fits}
 use Rattle.sheet.proofs.Laws.Unpacks.{few}
 use Rattle.xsd_types.specs.Row0.{Row0, row0In}
-use Rattle.xsd_types.specs.Good.{usedPairs, rowForm, inOrder, row0Form, tenForm, rowsForm, namesForm, namesTest, limits, rootTest, openTagsTest, nestingZero, nestingTest, contextTest, extensionTest, headOf, good}
+use Rattle.xsd_types.specs.Good.{usedPairs, rowForm, inOrder, row0Form, tenForm, rowsForm, namesForm, namesTest, limits, rootTest, nestingTest, contextTest, extensionTest, headOf, good}
 use Rattle.xsd_types.proofs.Laws.Shapes.{form-parts}
 use Rattle.xsd_types.proofs.Laws.Rows.{flag-of}
 use Rattle.text.proofs.Laws.Every.{every-weaken}
-
--- the two tests of nesting and open tags by context
-pub nesting-both : (z : Row0) → nestingTest z ≡ (if leb 2 (z .context) then leb (z .nesting + 2) (z .openTags) else (eqb (z .nesting) 0 && leb (z .context) (z .openTags)))
-unfolding nestingTest nestingZero openTagsTest
-nesting-both z = bool-cases (leb 2 (z .context)) (λ e. rw e) (λ e. rw e)
 
 -- the parts of `good`
 pub record Parts (x : Sheet) : Type 0 where
@@ -126,10 +121,10 @@ pub record First (z : Row0) : Type 0 where
   pub contextIs : z .context ≤ 3
   pub rootIs : isFlag (z .rootSeen) ≡ true
   pub flagIs : isFlag (z .extension) ≡ true
-  pub lastIs : z .last ≡ 0
+  pub choiceIs : isFlag (z .choice) ≡ true
 
 pub first-of : (z : Row0) → row0Form z ≡ true → First z
 unfolding row0Form
 first-of z e =
-    let w = six (eqb (z .first) 0) (leb (z .context) 3) (isFlag (z .rootSeen)) (isFlag (z .extension)) (eqb (z .last) 0) true (and-true e refl) in
-    record { firstIs = eqb-true (z .first) 0 (w .0); contextIs = leb-true (z .context) 3 (w .1); rootIs = w .2; flagIs = w .3; lastIs = eqb-true (z .last) 0 (w .4) }
+    let w = six (eqb (z .first) 0) (leb (z .context) 3) (isFlag (z .rootSeen)) (isFlag (z .extension)) (isFlag (z .choice)) true (and-true e refl) in
+    record { firstIs = eqb-true (z .first) 0 (w .0); contextIs = leb-true (z .context) 3 (w .1); rootIs = w .2; flagIs = w .3; choiceIs = w .4 }

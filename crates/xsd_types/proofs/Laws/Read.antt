@@ -4,7 +4,7 @@ use mathlib.Core.Bool.{Bool, true, _&&_}
 use mathlib.Core.List.{List, [], _∷_, _++_, map}
 use Prim.Native.Nat.{ℕ, _+_, _-_, _*_, _^_}
 use native.Mathlib.Omega.{arith}
-use lib.Dec.{ltb}
+use lib.Dec.{eqb, ltb}
 use lib.ListN.{length, take, drop, length-map}
 use lib.Seq.{take-at}
 use Rattle.text.specs.Text.{Text, every, isText, between}
@@ -24,7 +24,8 @@ use Rattle.xsd_types.proofs.Laws.Rows.{wordRow}
 use Rattle.xsd_types.proofs.Laws.Heads.{fullRow, no-loose}
 use Rattle.xsd_types.proofs.Laws.Parse.{parse, stillRows}
 use Rattle.xsd_types.proofs.Laws.Open.{Opened, opened}
-use Rattle.xsd_types.proofs.Laws.Parts.{Parts, behind, few-rows, rows-two, rows-room, names-room, pairs-cover, names-end, zero-rows, zero-names, first-of, nesting-both}
+use Rattle.xsd_types.proofs.Laws.Parts.{Parts, behind, few-rows, rows-two, rows-room, names-room, pairs-cover, names-end, zero-rows, zero-names, first-of}
+use Rattle.xsd_types.proofs.Laws.Row0.{nesting-both}
 use Rattle.text.proofs.Laws.Tests.{and-true}
 use Rattle.text.proofs.Laws.Every.{every-map, every-both, every-tail, every-drop}
 
@@ -115,11 +116,11 @@ module _ (x : Sheet) (p : Parts x) where
   unfolding headOf rowsIn lastHead headAfter isHead between namespaceRow row
   body-head = ap (lastHead 0) (sym (tags-unpack (x .names) (tensOf x))) ∙ ap (λ (rs : List Row). lastHead 0 (tags rs)) rows-split
 
-  pub body-opened : words (x .rows) ≡ true → Opened (row0In x .context) (row0In x .nesting) (row0In x .openTags) (row0In x .extension) (bodyIn x p)
+  pub body-opened : words (x .rows) ≡ true → Opened (eqb (row0In x .choice) 1) (row0In x .context) (row0In x .nesting) (row0In x .openTags) (row0In x .extension) (bodyIn x p)
   unfolding extensionTest isChild
   body-opened w =
       let z = row0In x in
       let q = parse 1 (bodyIn x p) (body-full w) body-order in
       let f = first-of z (p .row0) in
       let same : bodyIn x p ≡ itemsRows (q .items) ++ stillRows (q .still) = q .same ∙ ap (λ (l : List Row). l ++ (itemsRows (q .items) ++ stillRows (q .still))) (no-loose 1 (λ n. refl) (q .loose) (q .looseOk)) in
-      opened (z .nesting) (z .openTags) (z .extension) (bodyIn x p) (q .items) (q .itemsOk) (q .still) (q .stillOk) same (f .flagIs) (z .context) (f .contextIs) (sym (nesting-both z) ∙ p .nest) (rw body-head at (p .context)) (rw body-head at (p .extension))
+      opened (eqb (z .choice) 1) (z .nesting) (z .openTags) (z .extension) (bodyIn x p) (q .items) (q .itemsOk) (q .still) (q .stillOk) same (f .flagIs) (z .context) (f .contextIs) (sym (nesting-both z) ∙ p .nest) (rw body-head at (p .context)) (rw body-head at (p .extension))

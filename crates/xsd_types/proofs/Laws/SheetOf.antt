@@ -13,12 +13,13 @@ use Rattle.sheet.specs.Lengths.{fits}
 use Rattle.sheet.proofs.Laws.Packs.{covers-pack, covered-pack, isText-namesOf}
 use Rattle.sheet.proofs.Laws.Sheets.{first-ten, tens-behind, length-rows, length-names, zeros-rows, zeros-names, used-names, rows-read}
 use Rattle.xsd_types.specs.State.{State, rootOk, countersOk, proper}
-use Rattle.xsd_types.specs.Rows.{namespaceRow, namespaceA, row0Last, itemsRows, contextRows, rowsOf, rowsUsed, namesUsed, row0}
+use Rattle.xsd_types.specs.Rows.{namespaceRow, namespaceA, itemsRows, contextRows, rowsOf, rowsUsed, namesUsed, row0}
 use Rattle.xsd_types.specs.Row0.{row0Ten, row0In}
 use Rattle.xsd_types.specs.Sheet.{stateFits, sheetOf}
 use Rattle.xsd_types.specs.Good.{usedPairs, isHead, headAfter, lastHead, row0Form, rowsForm, namesForm, namesTest, limits, rootTest, nestingTest, contextTest, extensionTest, headOf, good}
 use Rattle.xsd_types.specs.Back.{rowsIn, stateOf}
-use Rattle.xsd_types.proofs.Laws.Parts.{nesting-both}
+use Rattle.xsd_types.proofs.Laws.Row0.{nesting-both}
+use Rattle.xsd_types.proofs.Laws.Items.{bit-back}
 use Rattle.xsd_types.proofs.Laws.Order.{tags}
 use Rattle.xsd_types.proofs.Laws.Sound.{formedRow, textRow, soundRow, sound-formed, bodyRows, sound-body, proper-parts, counted-rows, text-rows}
 use Rattle.xsd_types.proofs.Laws.Back.{state-back}
@@ -71,8 +72,8 @@ module _ (s : State) (r n : ℕ) (ok : proper s ≡ true) (fit : stateFits r n s
       rw (row0-made s r n, l .0, l .1) (and-true (le-leb 2 (rowsUsed s) (rowsUsed-two s)) fit)
 
   pub made-row0 : row0Form (row0In (sheetOf s r n)) ≡ true
-  unfolding row0Form row0 row0Last
-  made-row0 = rw (row0-made s r n) (and-true (and-true (and-true (small-context (s .reader .context)) (flag-bit (s .reader .rootSeen))) (flag-context (s .reader .context))) refl)
+  unfolding row0Form row0
+  made-row0 = rw (row0-made s r n) (and-true (and-true (and-true (small-context (s .reader .context)) (flag-bit (s .reader .rootSeen))) (flag-context (s .reader .context))) (flag-bit (s .byStandard)))
 
   pub made-rows : rowsForm (tensOf (sheetOf s r n)) ≡ true
   unfolding rowsForm rowsOf bodyRows pack packRow namespaceRow namespaceA row
@@ -99,11 +100,11 @@ module _ (s : State) (r n : ℕ) (ok : proper s ≡ true) (fit : stateFits r n s
 
   pub made-root : rootTest (row0In (sheetOf s r n)) ≡ true
   unfolding rootOk
-  made-root = rw (row0-made s r n) (test-root (s .reader .schema .targetNamespace) (s .reader .schema .items) (s .reader .rootSeen) (s .reader .context) (s .events) (s .openTags) (proper-parts s ok .1))
+  made-root = rw (row0-made s r n) (test-root (s .reader .schema .targetNamespace) (s .reader .schema .items) (s .reader .rootSeen) (s .reader .context) (s .events) (s .openTags) (s .byStandard) (proper-parts s ok .1))
 
   pub made-nesting : nestingTest (row0In (sheetOf s r n)) ≡ true
   unfolding row0
-  made-nesting = rw (row0-made s r n) (nesting-both _ ∙ test-nesting (s .reader .context) (s .openTags) (proper-parts s ok .2))
+  made-nesting = rw (row0-made s r n, nesting-both (row0 s), bit-back (s .byStandard)) (test-nesting (s .byStandard) (s .reader .context) (s .openTags) (proper-parts s ok .2))
 
   pub made-head : headOf (tensOf (sheetOf s r n)) ≡ lastHead 0 (tags (itemsRows (s .reader .schema .items) ++ contextRows (s .reader .context)))
   unfolding headOf rowsOf lastHead headAfter isHead between namespaceRow row

@@ -93,14 +93,14 @@ sound-items [] ok = refl
 sound-items (i ∷ is) ok =
     every-append soundRow (itemRows i) (itemsRows is) ∙ and-true (sound-item i (every-head itemOk i is ok)) (sound-items is (every-tail itemOk i is ok))
 
-pub sound-context : (c : Context) (openTags : ℕ) → contextOk c openTags ≡ true → every soundRow (contextRows c) ≡ true
+pub sound-context : (byStandard : Bool) (c : Context) (openTags : ℕ) → contextOk byStandard c openTags ≡ true → every soundRow (contextRows c) ≡ true
 unfolding contextRows contextOk every
-sound-context Context.noContext n ok = refl
-sound-context Context.inSchema n ok = refl
-sound-context (Context.inSimpleType t) n ok =
+sound-context b Context.noContext n ok = refl
+sound-context b (Context.inSchema depth) n ok = refl
+sound-context b (Context.inSimpleType t) n ok =
     let w = four (leb (t .nestingDepth + 2) n) (isText (t .name)) (isText (t .base)) (every facetOk (t .facets)) ok in
     sound-simple (t .name) (t .base) (t .facets) (w .1) (w .2) (w .3)
-sound-context (Context.inComplexType t) n ok =
+sound-context b (Context.inComplexType t) n ok =
     let w = three (leb (t .nestingDepth + 2) n) (isText (t .name)) (contentOk (t .content)) ok in
     sound-complex (t .name) (t .content) (w .1) (w .2)
 
@@ -122,9 +122,9 @@ unfoldable pub bodyRows : State → List Row
 bodyRows s = itemsRows (s .reader .schema .items) ++ contextRows (s .reader .context)
 
 module _ (s : State) (ok : proper s ≡ true) where
-  pub proper-parts : (countersOk s ≡ true) × (rootOk (s .reader) ≡ true) × (contextOk (s .reader .context) (s .openTags) ≡ true) × (schemaOk (s .reader .schema) ≡ true)
+  pub proper-parts : (countersOk s ≡ true) × (rootOk (s .reader) ≡ true) × (contextOk (s .byStandard) (s .reader .context) (s .openTags) ≡ true) × (schemaOk (s .reader .schema) ≡ true)
   unfolding proper
-  proper-parts = four (countersOk s) (rootOk (s .reader)) (contextOk (s .reader .context) (s .openTags)) (schemaOk (s .reader .schema)) ok
+  proper-parts = four (countersOk s) (rootOk (s .reader)) (contextOk (s .byStandard) (s .reader .context) (s .openTags)) (schemaOk (s .reader .schema)) ok
 
   pub proper-namespace : isText (s .reader .schema .targetNamespace) ≡ true
   unfolding schemaOk
@@ -134,7 +134,7 @@ module _ (s : State) (ok : proper s ≡ true) where
   unfolding bodyRows schemaOk
   sound-body =
       let items = sound-items (s .reader .schema .items) (and-true-right (isText (s .reader .schema .targetNamespace)) _ (proper-parts .3)) in
-      every-append soundRow (itemsRows (s .reader .schema .items)) (contextRows (s .reader .context)) ∙ and-true items (sound-context (s .reader .context) (s .openTags) (proper-parts .2))
+      every-append soundRow (itemsRows (s .reader .schema .items)) (contextRows (s .reader .context)) ∙ and-true items (sound-context (s .byStandard) (s .reader .context) (s .openTags) (proper-parts .2))
 
   pub counted-rows : every (counted usedPairs) (rowsOf s) ≡ true
   unfolding rowsOf namespaceRow row every counted usedPairs between bodyRows

@@ -13,7 +13,7 @@ use Rattle.text.proofs.Laws.Tests.{three, or-left, or-right, or-cases, and-true
 use Rattle.sheet.specs.Rows.{Row, Sheet, row, namesOf}
 use Rattle.xsd_types.specs.Types.{Item}
 use Rattle.xsd_types.specs.State.{Context, State, schemaOk, isNoContext, isEmpty, rootOk, countersOk, proper}
-use Rattle.xsd_types.specs.Rows.{namespaceRow, row0Last, itemRows, itemsRows, contextRows, rowsOf, contextNumber, rowsUsed, namesUsed, row0}
+use Rattle.xsd_types.specs.Rows.{namespaceRow, itemRows, itemsRows, contextRows, rowsOf, contextNumber, rowsUsed, namesUsed, row0}
 use Rattle.xsd_types.specs.Row0.{Row0, row0In}
 use Rattle.xsd_types.specs.Sheet.{stateFits, sheetOf}
 use Rattle.xsd_types.specs.Good.{limits, rootTest, good}
@@ -35,6 +35,7 @@ stateWith z ns is c =
       reader = record { schema = record { targetNamespace = ns; items = is }; rootSeen = eqb (z .rootSeen) 1; context = c };
       events = z .events;
       openTags = z .openTags;
+      byStandard = eqb (z .choice) 1;
     }
 
 pub group-length : (rs : List Row) → isGroup rs ≡ true → 1 ≤ length rs
@@ -57,7 +58,7 @@ no-name (b ∷ ns) rest e = absurd (omega arith)
 pub no-context : (c : Context) → contextNumber c ≡ 0 → isNoContext c ≡ true
 unfolding isNoContext contextNumber
 no-context Context.noContext e = refl
-no-context Context.inSchema e = absurd (omega arith)
+no-context (Context.inSchema n) e = absurd (omega arith)
 no-context (Context.inSimpleType t) e = absurd (omega arith)
 no-context (Context.inComplexType t) e = absurd (omega arith)
 
@@ -78,11 +79,11 @@ module _ (x : Sheet) (p : Parts x) (w : words (x .rows) ≡ true) where
   held-namesUsed = ap (λ (l : List Row). length (namesOf l)) held-rows ∙ names-length x p
 
   pub held-row0 : row0 held ≡ row0In x
-  unfolding held stateWith row0 row0Last
+  unfolding held stateWith row0
   held-row0 =
       let o = body-opened x p w in
       let f = first-of (row0In x) (p .row0) in
-      λ i. record { first = sym (f .firstIs) i; rowsUsed = held-rowsUsed i; namesUsed = held-namesUsed i; context = o .numberIs i; nesting = o .depthIs i; rootSeen = bit-again (row0In x .rootSeen) (f .rootIs) i; events = row0In x .events; openTags = row0In x .openTags; extension = o .flagIs i; last = sym (f .lastIs) i }
+      λ i. record { first = sym (f .firstIs) i; rowsUsed = held-rowsUsed i; namesUsed = held-namesUsed i; context = o .numberIs i; nesting = o .depthIs i; rootSeen = bit-again (row0In x .rootSeen) (f .rootIs) i; events = row0In x .events; openTags = row0In x .openTags; extension = o .flagIs i; choice = bit-again (row0In x .choice) (f .choiceIs) i }
 
   pub held-sheet : sheetOf held (length (x .rows)) (length (x .names)) ≡ x
   unfolding sheetOf

@@ -58,6 +58,39 @@ nesting-in-1 : verdict (sheet 20 0 (line 0 2 0 1 1 1 5 9 0 0 ∷ noNamespace ∷
 unfolding judged
 nesting-in-1 = refl
 
+-- order 3: "With choice 1, a good sheet in context 1 has open tags of at least nesting + 1"
+standard-one-less : verdict (sheet 20 0 (line 0 2 0 1 1 1 0 1 0 1 ∷ noNamespace ∷ []) "") ≡ badBy Part.nesting
+unfolding judged
+standard-one-less = refl
+
+standard-255 : verdict (sheet 20 0 (line 0 2 0 1 255 1 0 255 0 1 ∷ noNamespace ∷ []) "") ≡ badBy Part.nesting
+unfolding judged
+standard-255 = refl
+
+-- nesting 2^32 - 1: the sum is of natural numbers
+standard-huge : verdict (sheet 20 0 (line 0 2 0 1 4294967295 1 0 0 0 1 ∷ noNamespace ∷ []) "") ≡ badBy Part.nesting
+unfolding judged
+standard-huge = refl
+
+standard-huge-255 : verdict (sheet 20 0 (line 0 2 0 1 4294967295 1 0 255 0 1 ∷ noNamespace ∷ []) "") ≡ badBy Part.nesting
+unfolding judged
+standard-huge-255 = refl
+
+-- "with 0, nesting there stays 0"
+nesting-original : verdict (sheet 20 0 (line 0 2 0 1 3 1 0 4 0 0 ∷ noNamespace ∷ []) "") ≡ badBy Part.nesting
+unfolding judged
+nesting-original = refl
+
+-- context 0 is not loosened by choice 1
+standard-nesting-in-0 : verdict (sheet 20 0 (line 0 2 0 0 1 1 5 9 0 1 ∷ noNamespace ∷ []) "") ≡ badBy Part.nesting
+unfolding judged
+standard-nesting-in-0 = refl
+
+-- contexts 2 and 3 have at least nesting + 2 with choice 1 too
+standard-simple-type-one-less : verdict (sheet 30 1 (line 0 3 1 2 1 1 5 2 0 1 ∷ noNamespace ∷ line 3 0 1 1 0 0 0 0 0 0 ∷ []) "S") ≡ badBy Part.nesting
+unfolding judged
+standard-simple-type-one-less = refl
+
 -- ---- "the open type (3 in context 2, 12 to 16 in 3) last"
 
 -- no type at all

@@ -6,7 +6,7 @@ use Rattle.xsd_types.specs.Good.{good}
 use Rattle.xsd_types.specs.Examples.Sheets.{line, noNamespace, sheet}
 use Rattle.xsd_types.specs.Examples.Judging.{Part, verdict, badBy, badByBoth, judged}
 
--- ---- row 0: "0, rows used, names used, context, nesting, root seen, events done, open tags, extension flag, 0"
+-- ---- row 0: "0, rows used, names used, context, nesting, root seen, events done, open tags, extension flag", and order 3's choice
 
 -- the first number
 row0-first : verdict (sheet 20 0 (line 1 2 0 0 0 1 0 0 0 0 ∷ noNamespace ∷ []) "") ≡ badBy Part.row0
@@ -28,10 +28,14 @@ row0-flag : verdict (sheet 30 2 (line 0 3 2 3 0 1 0 2 2 0 ∷ noNamespace ∷ li
 unfolding judged
 row0-flag = refl
 
--- "other unused numbers .. are zero": the last (S10)
-row0-last : verdict (sheet 20 0 (line 0 2 0 0 0 1 0 0 0 1 ∷ noNamespace ∷ []) "") ≡ badBy Part.row0
+-- order 3: "a good sheet has one of the two there"
+row0-choice : verdict (sheet 20 0 (line 0 2 0 0 0 1 0 0 0 2 ∷ noNamespace ∷ []) "") ≡ badBy Part.row0
 unfolding judged
-row0-last = refl
+row0-choice = refl
+
+row0-choice-in-1 : verdict (sheet 20 0 (line 0 2 0 1 0 1 0 1 0 2 ∷ noNamespace ∷ []) "") ≡ badBy Part.row0
+unfolding judged
+row0-choice-in-1 = refl
 
 -- ---- the used parts lie in the buffers
 

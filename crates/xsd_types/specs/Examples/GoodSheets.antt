@@ -102,6 +102,40 @@ simple-type-more-tags : verdict (sheet 30 1 (line 0 3 1 2 1 1 0 200 0 0 ∷ noNa
 unfolding judged
 simple-type-more-tags = refl
 
+-- ---- order 3: "a good sheet has one of the two there"
+
+-- cleared with choice 1, and with root seen
+standard-two-rows : verdict (sheet 20 0 (line 0 2 0 0 0 0 0 0 0 1 ∷ noNamespace ∷ []) "") ≡ fine
+unfolding judged
+standard-two-rows = refl
+
+-- "a good sheet in context 1 has open tags of at least nesting + 1, and any nesting"
+standard-direct : verdict (sheet 20 0 (line 0 2 0 1 0 1 0 1 0 1 ∷ noNamespace ∷ []) "") ≡ fine
+unfolding judged
+standard-direct = refl
+
+standard-nested : verdict (sheet 20 0 (line 0 2 0 1 3 1 0 4 0 1 ∷ noNamespace ∷ []) "") ≡ fine
+unfolding judged
+standard-nested = refl
+
+standard-deepest : verdict (sheet 20 0 (line 0 2 0 1 254 1 0 255 0 1 ∷ noNamespace ∷ []) "") ≡ fine
+unfolding judged
+standard-deepest = refl
+
+standard-more-tags : verdict (sheet 20 0 (line 0 2 0 1 0 1 0 255 0 1 ∷ noNamespace ∷ []) "") ≡ fine
+unfolding judged
+standard-more-tags = refl
+
+-- "with 0, nesting there stays 0", with any open tags
+original-more-tags : verdict (sheet 20 0 (line 0 2 0 1 0 1 0 255 0 0 ∷ noNamespace ∷ []) "") ≡ fine
+unfolding judged
+original-more-tags = refl
+
+-- in context 2
+standard-simple-type : verdict (sheet 30 1 (line 0 3 1 2 0 1 0 2 0 1 ∷ noNamespace ∷ line 3 0 1 1 0 0 0 0 0 0 ∷ []) "S") ≡ fine
+unfolding judged
+standard-simple-type = refl
+
 -- ---- the open type
 
 -- "3 in context 2", with its facets last

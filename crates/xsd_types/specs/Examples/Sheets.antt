@@ -1,10 +1,10 @@
 -- Sheets written out by hand, for the examples.
 --     line          a row: tag, three pairs, a, b, c; of row 0: 0, rows used, names used, context, nesting, root seen, events done, open tags,
---                   extension flag, 0
+--                   extension flag, choice
 --     noNamespace   row 1 with the empty namespace
 --     sheet r n rows names    buffers of r numbers and n bytes: the rows and the names, zeros behind
 --     junk r n      buffers of r numbers and n bytes with something in them
---     blank r n     the same, cleared
+--     blankBy choice r n    the same, cleared; blank r n: with choice 0
 --     answer        a call's number and place
 --     written       one name that unfolds them
 use Prim.Native.Nat.{ℕ}
@@ -28,12 +28,15 @@ sheet r n rows names = record { rows = filled r (join rows); names = filled n (b
 unfoldable pub junk : ℕ → ℕ → Sheet
 junk r n = record { rows = replicate r 7; names = replicate n 7 }
 
+unfoldable pub blankBy : ℕ → ℕ → ℕ → Sheet
+blankBy choice r n = clear choice (junk r n) .sheet
+
 unfoldable pub blank : ℕ → ℕ → Sheet
-blank r n = clear (junk r n) .sheet
+blank r n = blankBy 0 r n
 
 unfoldable pub answer : ℕ → ℕ → Answer
 answer n p = record { number = n; place = p }
 
 unfoldable pub written : Unit {0}
-unfolding line noNamespace sheet junk blank answer
+unfolding line noNamespace sheet junk blankBy blank answer
 written = tt

@@ -15,7 +15,7 @@ mode-after-requires c κs = omega (arith, ap (λ (m : Mode). m .nesting) (c .mod
 returns : tie.Need-returns
 returns c =
     let a = c .before .before .args .a in
-    changed (subst (λ (m : Mode). ModeAfter (a .kind) (a .decision) m (c .mode-after .result)) (c .before .mode-of .ensures) (c .mode-after .ensures))
+    changed (subst (λ (m : Mode). ModeAfter (a .«by_standard») (a .kind) (a .decision) m (c .mode-after .result)) (c .before .mode-of .ensures) (c .mode-after .ensures))
 
 pub by-value-spec : {M : Type 1} → statement M
 by-value-spec = tie.close (tie.spec (λ c κs. search needs) mode-after-requires returns)

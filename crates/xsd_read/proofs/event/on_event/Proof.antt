@@ -1,6 +1,6 @@
 -- `xsd_read::event::on_event` meets its contract: the refusals stand in the order of the definition's, and an event that meets none of them is due. Assumes nothing.
 use Prim.Native.Nat.{ℕ}
-use mathlib.Core.Path.{_≡_, ap, subst}
+use mathlib.Core.Path.{_≡_, refl, ap, subst}
 use mathlib.Core.List.{List, [], _∷_}
 use native.Mathlib.Omega.{arith}
 use types.Run.{OneOf, miss}
@@ -19,7 +19,9 @@ use Rattle.xsd_read.proofs.event.on_event.Tie as tie
 
 -- the event with what was decided for it
 abbrev arrival : tie.After-decide-event → Arrival
-arrival c = record { kind = c .before .before .before .before .before .before .before .before .before .before .before .before .before .args .t .kind; decision = c .decide-event .result; «open_tags» = c .before .before .before .before .tags2 .given .0 .0 }
+arrival c =
+    let a = c .before .before .before .before .before .before .before .before .before .before .before .before .before .args in
+    record { kind = a .t .kind; decision = c .decide-event .result; «open_tags» = c .before .before .before .before .tags2 .given .0 .0; «by_standard» = a .p .«by_standard» }
 
 arrives : (c : tie.After-decide-event) → let a = c .before .before .before .before .before .before .before .before .before .before .before .before .before .args in Arrives (a .rows .now) (a .text .now) (a .marks .now) (a .p) (recordEvent (a .text .now) (a .marks .now) (a .t)) (arrival c)
 unfolding tags
@@ -30,6 +32,7 @@ arrives c =
       tagged = counted-as (a .text .now) (a .marks .now) (a .t) (a .p .«open_tags») _ (c .before .before .before .before .before .before .tags-after .ensures) (c .before .before .before .before .tags2 .given .1);
       tag = _;
       eventIs = record-as (a .text .now) (a .marks .now) (a .t);
+      choice = refl;
       told = record { head = _; headIs = c .before .head-tag .ensures; decidedIs = c .decide-event .ensures };
     }
 

@@ -1,0 +1,73 @@
+//! Order 3 anew, over the tree of the tags and not over the nesting of row 0: under choice 1 a document's heads are the direct children
+//! of its outermost `schema` tags.
+
+use crate::leaves::local_name;
+use crate::tape::{Event, Tag};
+
+/// What a head declares.
+#[derive(Clone, Copy, Debug, PartialEq, Eq)]
+pub enum Kind {
+    Element,
+    SimpleType,
+    ComplexType,
+}
+
+/// A tag of the document, the path of the tags around it, from the outermost on.
+struct Placed<'e> {
+    path: Vec<&'e str>,
+    tag: &'e Tag,
+    started: bool,
+}
+
+/// The heads that the document declares: its elements with name and type and its named types, in order.
+pub fn declared(events: &[Event]) -> Vec<(Kind, String)> {
+    let found = placed(events);
+    let heads = found.iter().filter(|it| is_direct_child(&it.path));
+    heads.filter_map(head).collect()
+}
+
+/// Every tag with its path.
+fn placed(events: &[Event]) -> Vec<Placed<'_>> {
+    let mut path: Vec<&str> = Vec::new();
+    let mut all = Vec::new();
+    for event in events {
+        let (tag, started) = match event {
+            Event::Start(tag) => (tag, true),
+            Event::Empty(tag) => (tag, false),
+            Event::Close => {
+                path.pop();
+                continue;
+            }
+        };
+        all.push(Placed {
+            path: path.clone(),
+            tag,
+            started,
+        });
+        if started {
+            path.push(local_name(&tag.name));
+        }
+    }
+    all
+}
+
+/// The first `schema` on the path is its last tag.
+fn is_direct_child(path: &[&str]) -> bool {
+    let outermost = path.iter().position(|&name| name == "schema");
+    outermost.is_some_and(|at| at + 1 == path.len())
+}
+
+/// The head that a direct child becomes.
+fn head(it: &Placed<'_>) -> Option<(Kind, String)> {
+    let value = |word: &str| {
+        let mut keyed = it.tag.attributes.iter();
+        let found = keyed.find(|(key, _)| local_name(key) == word);
+        found.map(|(_, value)| value.clone())
+    };
+    match local_name(&it.tag.name) {
+        "element" => value("type").and(value("name")).map(|n| (Kind::Element, n)),
+        "simpleType" if it.started => value("name").map(|n| (Kind::SimpleType, n)),
+        "complexType" if it.started => value("name").map(|n| (Kind::ComplexType, n)),
+        _ => None,
+    }
+}

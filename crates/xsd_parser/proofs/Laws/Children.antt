@@ -1,0 +1,205 @@
+-- With choice 1 a reader's heads are the direct children of the outermost `schema` tags: each event adds the head that the walk over the tags adds, since
+-- the walk's depth is told by the context. Assumes nothing.
+--     depthIn       the walk's depth in a context
+--     Walked        an event that the reader and the walk answer alike
+use mathlib.Core.Path.{_≡_, refl, sym, ap, _∙_}
+use mathlib.Core.Bool.{Bool, true, false, _&&_}
+use mathlib.Core.List.{List, [], _∷_, _++_, map, append-nil, append-assoc, map-append}
+use mathlib.Core.Option.{Option, some, none}
+use Prim.Native.Nat.{ℕ, zero, suc}
+use lib.Dec.{eqb, eqb·suc-zero, eqb·suc-suc}
+use Rattle.text.specs.Text.{Text, if_then_else_}
+use Rattle.text.proofs.Laws.Tests.{if-cases, if-either}
+use Rattle.number.specs.Number.{number}
+use Rattle.xsd_types.specs.Types.{Item, Facet, Schema}
+use Rattle.xsd_types.specs.State.{SimpleTypeBuilder, ComplexTypeBuilder, Context, Reader}
+use Rattle.xsd_parser.specs.Event.{Tag, Event, tagIs, attrValue, orEmpty}
+use Rattle.xsd_parser.specs.Handlers.{Outcome, ok, refuse, onParsed, inContext, withItem, foundRoot, keptElement, onTopLevelElement, withBase, withFacet, withContent, openSimpleType, openComplexType, belowSchema, onDirectChild, onStartInSchema, raisedSimple, onStartInSimpleType, raisedComplex, onStartInComplexType, onStart, facetValue, onEmptyInSimpleType, onEmptyInComplexType, onEmpty, closeSimpleType, closeComplexType, closeInSchema, onEnd}
+use Rattle.xsd_parser.specs.Step.{handled}
+use Rattle.xsd_parser.specs.Children.{Head, depthAfter, namedHead, elementHead, childHead, headAt, itemHead, openHead, heads}
+use Rattle.xsd_parser.proofs.Laws.Outcomes.{Gives, value, refusal, Any, gives-if, gives-andThen, gives-parsed, gives-name}
+
+abbrev pub depthIn : Context → ℕ
+depthIn Context.noContext = 0
+depthIn (Context.inSchema n) = suc n
+depthIn (Context.inSimpleType t) = suc (suc (t .nestingDepth))
+depthIn (Context.inComplexType t) = suc (suc (t .nestingDepth))
+
+pub record Walked (e : Event) (r r′ : Reader) : Type 0 where
+  pub depth : depthIn (r′ .context) ≡ depthAfter e (depthIn (r .context))
+  pub headsAre : heads r′ ≡ heads r ++ headAt (depthIn (r .context)) e
+
+-- deeper tags give no head, and a close gives none
+pub deeper-none : (n : ℕ) (e : Event) → headAt (suc (suc n)) e ≡ []
+unfolding headAt
+deeper-none n e = rw (eqb·suc-suc (suc n) 0, eqb·suc-zero n)
+
+pub close-none : (depth : ℕ) → headAt depth Event.close ≡ []
+unfolding headAt childHead
+close-none depth = if-either (λ (hs : List Head). hs ≡ []) (eqb depth 1) refl refl
+
+-- nothing is added
+pub same-heads : (hs gs : List Head) → gs ≡ [] → hs ≡ hs ++ gs
+same-heads hs gs e = rw e (sym (append-nil hs))
+
+-- one more finished item
+pub item-head : (is : List Item) (i : Item) → map itemHead (is ++ i ∷ []) ≡ map itemHead is ++ (itemHead i ∷ [])
+item-head is i = map-append itemHead is (i ∷ [])
+
+pub kept-head : (name typeName : Option Text) (r : Reader) → map itemHead (keptElement name typeName r .schema .items) ≡ map itemHead (r .schema .items) ++ elementHead name typeName
+unfolding keptElement elementHead withItem itemHead
+kept-head none typeName r = sym (append-nil (map itemHead (r .schema .items)))
+kept-head (some name) none r = sym (append-nil (map itemHead (r .schema .items)))
+kept-head (some name) (some typeName) r = item-head (r .schema .items) (Item.element (record { name = name; typeName = typeName }))
+
+pub kept-context : (name typeName : Option Text) (r : Reader) → keptElement name typeName r .context ≡ r .context
+unfolding keptElement withItem
+kept-context none typeName r = refl
+kept-context (some name) none r = refl
+kept-context (some name) (some typeName) r = refl
+
+-- whatever an outcome is
+pub gives-any : {A : Type 0} (o : Outcome A) → Gives Any Any o
+gives-any (ok x) = value tt
+gives-any (refuse r) = refusal tt
+
+-- a reader by its parts
+abbrev pub at : Schema → Bool → Context → Reader
+at s seen x = record { schema = s; rootSeen = seen; context = x }
+
+module _ (s : Schema) (seen : Bool) where
+  -- ---- a start
+
+  pub startOutside-walked : (t : Tag) → Walked (Event.start t) (at s seen Context.noContext) (if tagIs t "schema" then inContext (Context.inSchema 0) (foundRoot t (at s seen Context.noContext)) else at s seen Context.noContext)
+  unfolding inContext foundRoot depthAfter headAt heads openHead
+  startOutside-walked t =
+      if-cases (Walked (Event.start t) (at s seen Context.noContext)) (tagIs t "schema")
+      {x = inContext (Context.inSchema 0) (foundRoot t (at s seen Context.noContext))} {y = at s seen Context.noContext}
+      (λ e. record { depth = rw e; headsAre = same-heads _ [] refl })
+      (λ e. record { depth = rw e; headsAre = same-heads _ [] refl })
+
+  pub child-walked : (t : Tag) → Gives (Walked (Event.start t) (at s seen (Context.inSchema 0))) Any (onDirectChild true t (at s seen (Context.inSchema 0)))
+  unfolding onDirectChild inContext openSimpleType openComplexType belowSchema onTopLevelElement depthAfter headAt childHead namedHead heads openHead
+  child-walked t =
+      let r = at s seen (Context.inSchema 0) in
+      let P = Gives (Walked (Event.start t) r) Any in
+      if-cases P (tagIs t "simpleType")
+      (λ e. gives-name t _ (λ v q. record { depth = refl; headsAre = rw (e, q) (rw (append-nil (map itemHead (s .items)))) }) tt)
+      (λ e. if-cases P (tagIs t "complexType")
+      (λ f. gives-name t _ (λ v q. record { depth = refl; headsAre = rw (e, f, q) (rw (append-nil (map itemHead (s .items)))) }) tt)
+      (λ f. if-cases P (tagIs t "element")
+      (λ g. value (record { depth = refl; headsAre = rw (e, f, g) (rw (append-nil (map itemHead (s .items)), kept-head (attrValue t "name") (attrValue t "type") r) (append-nil _)) }))
+      (λ g. value (record { depth = refl; headsAre = rw (e, f, g) (same-heads _ [] refl) }))))
+
+  pub startInSchema-walked : (t : Tag) (n : ℕ) → Gives (Walked (Event.start t) (at s seen (Context.inSchema n))) Any (onStartInSchema true t n (at s seen (Context.inSchema n)))
+  unfolding onStartInSchema belowSchema inContext depthAfter heads openHead
+  startInSchema-walked t zero = child-walked t
+  startInSchema-walked t (suc n) = rw (eqb·suc-zero n) (value (record { depth = refl; headsAre = same-heads _ _ (deeper-none n (Event.start t)) }))
+
+  pub started-simple : (t : Tag) (b : SimpleTypeBuilder) → (onStartInSimpleType t b .nestingDepth ≡ b .nestingDepth) × (onStartInSimpleType t b .name ≡ b .name)
+  unfolding onStartInSimpleType withBase
+  started-simple t b = if-either (λ (x : SimpleTypeBuilder). (x .nestingDepth ≡ b .nestingDepth) × (x .name ≡ b .name)) (eqb (b .nestingDepth) 1 && tagIs t "restriction") (refl, refl) (refl, refl)
+
+  pub startInSimple-walked : (t : Tag) (b : SimpleTypeBuilder) → Walked (Event.start t) (at s seen (Context.inSimpleType b)) (at s seen (Context.inSimpleType (onStartInSimpleType t (raisedSimple b))))
+  unfolding raisedSimple depthAfter heads openHead
+  startInSimple-walked t b =
+      let k = started-simple t (raisedSimple b) in
+      record { depth = ap (λ n. suc (suc n)) (k .0); headsAre = rw (k .1) (same-heads _ _ (deeper-none (b .nestingDepth) (Event.start t))) }
+
+  pub startInComplex-walked : (t : Tag) (b : ComplexTypeBuilder) → Gives (Walked (Event.start t) (at s seen (Context.inComplexType b))) Any (onStart true t (at s seen (Context.inComplexType b)) (Context.inComplexType b))
+  unfolding onStart inContext raisedComplex withContent depthAfter heads openHead
+  startInComplex-walked t b =
+      gives-andThen (gives-any (onStartInComplexType t (raisedComplex b))) λ content q.
+      value (record { depth = refl; headsAre = same-heads _ _ (deeper-none (b .nestingDepth) (Event.start t)) })
+
+  pub start-walked : (t : Tag) (x : Context) → Gives (Walked (Event.start t) (at s seen x)) Any (onStart true t (at s seen x) x)
+  unfolding onStart inContext
+  start-walked t Context.noContext = value (startOutside-walked t)
+  start-walked t (Context.inSchema n) = startInSchema-walked t n
+  start-walked t (Context.inSimpleType b) = value (startInSimple-walked t b)
+  start-walked t (Context.inComplexType b) = startInComplex-walked t b
+
+  -- ---- an empty tag
+
+  pub emptyInSchema-walked : (t : Tag) (n : ℕ) → Walked (Event.empty t) (at s seen (Context.inSchema n)) (if eqb n 0 && tagIs t "element" then onTopLevelElement t (at s seen (Context.inSchema n)) else at s seen (Context.inSchema n))
+  unfolding onTopLevelElement depthAfter headAt childHead heads openHead
+  emptyInSchema-walked t zero =
+      let r = at s seen (Context.inSchema 0) in
+      if-cases (Walked (Event.empty t) r) (tagIs t "element")
+      (λ e. record { depth = ap depthIn (kept-context (attrValue t "name") (attrValue t "type") r); headsAre = rw (e, kept-context (attrValue t "name") (attrValue t "type") r) (rw (append-nil (map itemHead (s .items)), kept-head (attrValue t "name") (attrValue t "type") r) (append-nil _)) })
+      (λ e. record { depth = refl; headsAre = rw e (same-heads _ [] refl) })
+  emptyInSchema-walked t (suc n) = rw (eqb·suc-zero n) (record { depth = refl; headsAre = same-heads _ _ (deeper-none n (Event.empty t)) })
+
+  -- an empty tag in a simple type keeps its name and nesting
+  abbrev pub Alike : SimpleTypeBuilder → SimpleTypeBuilder → Type 0
+  Alike b x = (x .nestingDepth ≡ b .nestingDepth) × (x .name ≡ b .name)
+
+  pub numberFacet-alike : (b : SimpleTypeBuilder) (w : ℕ) (v : Text) (f : ℕ → Facet) → Gives (Alike b) Any (onParsed (number w v) (λ n. withFacet b (f n)))
+  unfolding withFacet
+  numberFacet-alike b w v f = gives-parsed (number w v) _ (λ n q. (refl, refl)) (λ r q. tt)
+
+  pub emptyInSimple-alike : (t : Tag) (b : SimpleTypeBuilder) → Gives (Alike b) Any (onEmptyInSimpleType t b)
+  unfolding onEmptyInSimpleType withBase withFacet
+  emptyInSimple-alike t b =
+      let v = facetValue t in
+      gives-if (tagIs t "restriction") (value (refl, refl))
+      (gives-if (tagIs t "enumeration") (value (refl, refl))
+      (gives-if (tagIs t "pattern") (value (refl, refl))
+      (gives-if (tagIs t "minLength") (numberFacet-alike b 64 v Facet.minLength)
+      (gives-if (tagIs t "maxLength") (numberFacet-alike b 64 v Facet.maxLength)
+      (gives-if (tagIs t "minInclusive") (value (refl, refl))
+      (gives-if (tagIs t "maxInclusive") (value (refl, refl))
+      (gives-if (tagIs t "totalDigits") (numberFacet-alike b 32 v Facet.totalDigits)
+      (gives-if (tagIs t "fractionDigits") (numberFacet-alike b 32 v Facet.fractionDigits) (value (refl, refl))))))))))
+
+  pub empty-walked : (t : Tag) (x : Context) → Gives (Walked (Event.empty t) (at s seen x)) Any (onEmpty t (at s seen x) x)
+  unfolding onEmpty inContext foundRoot withContent depthAfter headAt heads openHead
+  empty-walked t Context.noContext =
+      value (if-either (Walked (Event.empty t) (at s seen Context.noContext)) (tagIs t "schema")
+      (record { depth = refl; headsAre = same-heads _ [] refl }) (record { depth = refl; headsAre = same-heads _ [] refl }))
+  empty-walked t (Context.inSchema n) = value (emptyInSchema-walked t n)
+  empty-walked t (Context.inSimpleType b) =
+      gives-andThen (emptyInSimple-alike t b) λ c q.
+      value (record { depth = ap (λ n. suc (suc n)) (q .0); headsAre = rw (q .1) (same-heads _ _ (deeper-none (b .nestingDepth) (Event.empty t))) })
+  empty-walked t (Context.inComplexType b) =
+      gives-andThen (gives-any (onEmptyInComplexType t (b .content))) λ content q.
+      value (record { depth = refl; headsAre = same-heads _ _ (deeper-none (b .nestingDepth) (Event.empty t)) })
+
+  -- ---- a close
+
+  pub closeSimple-walked : (b : SimpleTypeBuilder) (d : ℕ) → b .nestingDepth ≡ d → Walked Event.close (at s seen (Context.inSimpleType b)) (closeSimpleType b d (at s seen (Context.inSimpleType b)))
+  unfolding closeSimpleType inContext withItem depthAfter heads itemHead openHead
+  closeSimple-walked b zero q =
+      record {
+        depth = ap suc (sym q);
+        headsAre = rw (close-none (suc (suc (b .nestingDepth))), item-head (s .items) (Item.simpleType (record { name = b .name; base = b .base; facets = b .facets }))) refl;
+      }
+  closeSimple-walked b (suc d) q = record { depth = ap suc (sym q); headsAre = same-heads _ _ (close-none (suc (suc (b .nestingDepth)))) }
+
+  pub closeComplex-walked : (b : ComplexTypeBuilder) (d : ℕ) → b .nestingDepth ≡ d → Walked Event.close (at s seen (Context.inComplexType b)) (closeComplexType b d (at s seen (Context.inComplexType b)))
+  unfolding closeComplexType inContext withItem depthAfter heads itemHead openHead
+  closeComplex-walked b zero q =
+      record {
+        depth = ap suc (sym q);
+        headsAre = rw (close-none (suc (suc (b .nestingDepth))), item-head (s .items) (Item.complexType _)) refl;
+      }
+  closeComplex-walked b (suc d) q = record { depth = ap suc (sym q); headsAre = same-heads _ _ (close-none (suc (suc (b .nestingDepth)))) }
+
+  pub closeInSchema-walked : (n : ℕ) → Walked Event.close (at s seen (Context.inSchema n)) (closeInSchema n (at s seen (Context.inSchema n)))
+  unfolding closeInSchema inContext depthAfter heads openHead
+  closeInSchema-walked zero = record { depth = refl; headsAre = same-heads _ _ (close-none 1) }
+  closeInSchema-walked (suc n) = record { depth = refl; headsAre = same-heads _ _ (close-none (suc (suc n))) }
+
+  pub close-walked : (x : Context) → Walked Event.close (at s seen x) (onEnd (at s seen x) x)
+  unfolding onEnd depthAfter
+  close-walked Context.noContext = record { depth = refl; headsAre = same-heads _ _ (close-none 0) }
+  close-walked (Context.inSchema n) = closeInSchema-walked n
+  close-walked (Context.inSimpleType b) = closeSimple-walked b (b .nestingDepth) refl
+  close-walked (Context.inComplexType b) = closeComplex-walked b (b .nestingDepth) refl
+
+-- with choice 1 each event that the handlers take is the walk's
+pub handled-walked : (e : Event) (r : Reader) → Gives (Walked e r) Any (handled true e r)
+unfolding handled
+handled-walked (Event.start t) r = start-walked (r .schema) (r .rootSeen) t (r .context)
+handled-walked (Event.empty t) r = empty-walked (r .schema) (r .rootSeen) t (r .context)
+handled-walked Event.close r = value (close-walked (r .schema) (r .rootSeen) (r .context))

@@ -1,0 +1,182 @@
+-- The two choices beside each other. No reading changes the choice. Where directly below the schema only types are started, both choices read alike: nesting
+-- in context 1 stays 0, and the handlers give the same. Assumes nothing.
+--     Flat x        nesting is 0 where the context x is the schema's
+--     readingChosen the reading with its state under choice 1
+use mathlib.Core.Path.{_≡_, refl, sym, ap, _∙_}
+use mathlib.Core.Bool.{Bool, true, false, not, _&&_, _||_}
+use mathlib.Core.List.{List, [], _∷_}
+use Prim.Native.Nat.{ℕ, zero, suc}
+use native.Mathlib.Omega.{arith}
+use lib.Dec.{eqb, ltb}
+use Rattle.text.specs.Text.{Text, if_then_else_}
+use Rattle.text.proofs.Laws.Tests.{two, bool-cases, if-either}
+use Rattle.sheet.specs.Lengths.{Lengths}
+use Rattle.xsd_types.specs.Types.{Schema}
+use Rattle.xsd_types.specs.State.{SimpleTypeBuilder, ComplexTypeBuilder, Context, Reader, State}
+use Rattle.xsd_types.specs.Sheet.{stateFits}
+use Rattle.xsd_types.specs.Choice.{chosen}
+use Rattle.xsd_types.proofs.Laws.Choice.{fits-chosen}
+use Rattle.xsd_parser.specs.Event.{Tag, Event, tagIs, attrValue}
+use Rattle.xsd_parser.specs.Tape.{Judged, event, refused, records}
+use Rattle.xsd_parser.specs.Handlers.{Outcome, ok, refuse, _andThen_, inContext, withItem, foundRoot, onTopLevelElement, openSimpleType, openComplexType, belowSchema, onDirectChild, onStartInSchema, raisedComplex, onStartInComplexType, onStart, onEmptyInSimpleType, onEmptyInComplexType, onEmpty, closeSimpleType, closeComplexType, closeInSchema, onEnd}
+use Rattle.xsd_parser.specs.Step.{handled, tagsAfter, counted, roomFor, step}
+use Rattle.xsd_parser.specs.Read.{Reading, readRecords, readState}
+use Rattle.xsd_parser.specs.Children.{depthAfter, startsNoOther, onlyTypesFrom}
+use Rattle.xsd_parser.proofs.Laws.Outcomes.{Gives, value, Any, gives-if, gives-andThen, gives-name, gives-value, outcome-cases}
+use Rattle.xsd_parser.proofs.Laws.EventTexts.{events-are-text}
+use Rattle.xsd_parser.proofs.Laws.Steps.{step-reader}
+use Rattle.xsd_parser.proofs.Laws.Reads.{read-ok, read-refuse, reads-keep}
+use Rattle.xsd_parser.proofs.Laws.Children.{depthIn, at, gives-any, kept-context, handled-walked}
+use Rattle.xsd_parser.proofs.Laws.ChildrenRead.{step-choice}
+
+-- "kept as the last number of row 0"
+pub readState-choice : (lent : Lengths) (s : State) (text : Text) (marks : List ℕ) → readState lent s text marks .state .byStandard ≡ s .byStandard
+unfolding readState
+readState-choice lent s text marks =
+    reads-keep (λ x. x .byStandard ≡ s .byStandard) lent (λ x e y h p q. step-choice lent x e y q ∙ p) 0 s (records text marks) (events-are-text text marks) refl
+
+-- ---- one event under both choices
+
+abbrev pub Flat : Context → Type 0
+Flat Context.noContext = Unit {0}
+Flat (Context.inSchema n) = n ≡ 0
+Flat (Context.inSimpleType t) = Unit {0}
+Flat (Context.inComplexType t) = Unit {0}
+
+-- what is asked of an event at a depth
+abbrev pub NoOther : ℕ → Event → Type 0
+NoOther depth e = not (eqb depth 1) || startsNoOther e ≡ true
+
+pub child-same : (t : Tag) (r : Reader) → tagIs t "simpleType" || tagIs t "complexType" ≡ true → onDirectChild true t r ≡ onDirectChild false t r
+unfolding onDirectChild
+child-same t r e =
+    bool-cases (tagIs t "simpleType") (λ h. rw h) (λ h. let c : tagIs t "complexType" ≡ true = rw h at e in rw (h, c))
+
+pub start-same : (t : Tag) (r : Reader) (x : Context) → Flat x → NoOther (depthIn x) (Event.start t) → onStart true t r x ≡ onStart false t r x
+unfolding onStart onStartInSchema startsNoOther
+start-same t r Context.noContext f c = refl
+start-same t r (Context.inSchema zero) f c = child-same t r c
+start-same t r (Context.inSchema (suc n)) f c = absurd (omega arith)
+start-same t r (Context.inSimpleType b) f c = refl
+start-same t r (Context.inComplexType b) f c = refl
+
+pub handled-same : (e : Event) (r : Reader) → Flat (r .context) → NoOther (depthIn (r .context)) e → handled true e r ≡ handled false e r
+unfolding handled
+handled-same (Event.start t) r f c = start-same t r (r .context) f c
+handled-same (Event.empty t) r f c = refl
+handled-same Event.close r f c = refl
+
+-- with choice 0 nesting in context 1 stays 0
+abbrev pub FlatIn : Reader → Type 0
+FlatIn r = Flat (r .context)
+
+module _ (s : Schema) (seen : Bool) where
+  pub child-flat : (t : Tag) → Gives FlatIn Any (onDirectChild false t (at s seen (Context.inSchema 0)))
+  unfolding onDirectChild inContext openSimpleType openComplexType belowSchema onTopLevelElement
+  child-flat t =
+      gives-if (tagIs t "simpleType") (gives-name t _ (λ v q. tt) tt)
+      (gives-if (tagIs t "complexType") (gives-name t _ (λ v q. tt) tt)
+      (gives-if (tagIs t "element") (value (rw (kept-context (attrValue t "name") (attrValue t "type") (at s seen (Context.inSchema 0))) refl)) (value refl)))
+
+  pub start-flat : (t : Tag) (x : Context) → Flat x → Gives FlatIn Any (onStart false t (at s seen x) x)
+  unfolding onStart onStartInSchema inContext foundRoot
+  start-flat t Context.noContext f = value (if-either FlatIn (tagIs t "schema") refl tt)
+  start-flat t (Context.inSchema zero) f = child-flat t
+  start-flat t (Context.inSchema (suc n)) f = absurd (omega arith)
+  start-flat t (Context.inSimpleType b) f = value tt
+  start-flat t (Context.inComplexType b) f = gives-andThen (gives-any (onStartInComplexType t (raisedComplex b))) λ c q. value tt
+
+  pub empty-flat : (t : Tag) (x : Context) → Flat x → Gives FlatIn Any (onEmpty t (at s seen x) x)
+  unfolding onEmpty onTopLevelElement inContext foundRoot
+  empty-flat t Context.noContext f = value (if-either FlatIn (tagIs t "schema") tt tt)
+  empty-flat t (Context.inSchema n) f =
+      let r = at s seen (Context.inSchema n) in
+      value (if-either FlatIn (eqb n 0 && tagIs t "element") {x = onTopLevelElement t r} {y = r} (rw (kept-context (attrValue t "name") (attrValue t "type") r) f) f)
+  empty-flat t (Context.inSimpleType b) f = gives-andThen (gives-any (onEmptyInSimpleType t b)) λ c q. value tt
+  empty-flat t (Context.inComplexType b) f = gives-andThen (gives-any (onEmptyInComplexType t (b .content))) λ c q. value tt
+
+  pub closeSimple-flat : (b : SimpleTypeBuilder) (d : ℕ) → FlatIn (closeSimpleType b d (at s seen (Context.inSimpleType b)))
+  unfolding closeSimpleType inContext
+  closeSimple-flat b zero = refl
+  closeSimple-flat b (suc d) = tt
+
+  pub closeComplex-flat : (b : ComplexTypeBuilder) (d : ℕ) → FlatIn (closeComplexType b d (at s seen (Context.inComplexType b)))
+  unfolding closeComplexType inContext
+  closeComplex-flat b zero = refl
+  closeComplex-flat b (suc d) = tt
+
+  pub close-flat : (x : Context) → Flat x → FlatIn (onEnd (at s seen x) x)
+  unfolding onEnd closeInSchema inContext
+  close-flat Context.noContext f = tt
+  close-flat (Context.inSchema zero) f = tt
+  close-flat (Context.inSchema (suc n)) f = absurd (omega arith)
+  close-flat (Context.inSimpleType b) f = closeSimple-flat b (b .nestingDepth)
+  close-flat (Context.inComplexType b) f = closeComplex-flat b (b .nestingDepth)
+
+pub handled-flat : (e : Event) (r : Reader) → FlatIn r → Gives FlatIn Any (handled false e r)
+unfolding handled
+handled-flat (Event.start t) r f = start-flat (r .schema) (r .rootSeen) t (r .context) f
+handled-flat (Event.empty t) r f = empty-flat (r .schema) (r .rootSeen) t (r .context) f
+handled-flat Event.close r f = value (close-flat (r .schema) (r .rootSeen) (r .context) f)
+
+-- ---- one step under both choices
+
+abbrev pub standardly : State → Outcome State
+standardly x = ok (chosen true x)
+
+pub then-maps : {A B C : Type 0} (o : Outcome A) (f : A → Outcome C) (g : A → Outcome B) (h : B → Outcome C)
+    → ((x : A) → f x ≡ g x andThen h) → o andThen f ≡ (o andThen g) andThen h
+unfolding _andThen_
+then-maps (ok x) f g h k = k x
+then-maps (refuse r) f g h k = refl
+
+pub room-chosen : (lent : Lengths) (s : State) → roomFor lent (chosen true s) ≡ roomFor lent (chosen false s) andThen standardly
+unfolding roomFor _andThen_ chosen
+room-chosen lent s =
+    let r = lent .rows in
+    let n = lent .names in
+    bool-cases (stateFits r n s)
+    (λ h. rw (fits-chosen true s r n ∙ h, fits-chosen false s r n ∙ h))
+    (λ h. rw (fits-chosen true s r n ∙ h, fits-chosen false s r n ∙ h))
+
+pub step-chosen : (lent : Lengths) (s : State) (e : Event) → FlatIn (s .reader) → NoOther (depthIn (s .reader .context)) e
+    → step lent (chosen true s) e ≡ step lent (chosen false s) e andThen standardly
+unfolding step counted chosen _andThen_
+step-chosen lent s e f c =
+    bool-cases (ltb (s .events) 1000000)
+    (λ h. rw h (then-maps (tagsAfter e (s .openTags)) _ _ standardly (λ o.
+    rw (handled-same e (s .reader) f c) (then-maps (handled false e (s .reader)) _ _ standardly (λ r. room-chosen lent (counted s o r))))))
+    (λ h. rw h)
+
+-- ---- a reading under both choices
+
+abbrev pub readingChosen : Reading → Reading
+readingChosen r = record { answer = r .answer; state = chosen true (r .state) }
+
+pub chosen-same : (s : State) → s .byStandard ≡ false → chosen false s ≡ s
+unfolding chosen
+chosen-same s e = λ i. record { reader = s .reader; events = s .events; openTags = s .openTags; byStandard = sym e i }
+
+pub reads-chosen : (lent : Lengths) (n : ℕ) (s : State) (js : List Judged) → FlatIn (s .reader) → onlyTypesFrom (depthIn (s .reader .context)) js ≡ true
+    → readRecords lent n (chosen true s) js ≡ readingChosen (readRecords lent n (chosen false s) js)
+unfolding readRecords onlyTypesFrom chosen _andThen_
+reads-chosen lent n s [] f k = refl
+reads-chosen lent n s (refused r ∷ js) f k = refl
+reads-chosen lent n s (event e ∷ js) f k =
+    let w = two (not (eqb (depthIn (s .reader .context)) 1) || startsNoOther e) (onlyTypesFrom (depthAfter e (depthIn (s .reader .context))) js) k in
+    let both = step-chosen lent s e f (w .0) in
+    outcome-cases (step lent (chosen false s) e)
+    (λ x q.
+    let h = step-reader lent (chosen false s) e x q in
+    let d = gives-value (handled-walked e (s .reader)) (handled-same e (s .reader) f (w .0) ∙ h) .depth in
+    let i = reads-chosen lent (suc n) x js (gives-value (handled-flat e (s .reader) f) h) (rw d (w .1)) in
+    read-ok lent n (chosen true s) (chosen true x) e js (both ∙ ap (λ o. o andThen standardly) q)
+    ∙ i ∙ ap readingChosen (ap (λ y. readRecords lent (suc n) y js) (chosen-same x (step-choice lent (chosen false s) e x q)) ∙ sym (read-ok lent n (chosen false s) x e js q)))
+    (λ r q. read-refuse lent n (chosen true s) e js r (both ∙ ap (λ o. o andThen standardly) q) ∙ ap readingChosen (sym (read-refuse lent n (chosen false s) e js r q)))
+
+-- where the schema's own close is the only one in context 1, the choices give the same but for the choice
+pub readState-chosen : (lent : Lengths) (s : State) (text : Text) (marks : List ℕ) → FlatIn (s .reader)
+    → onlyTypesFrom (depthIn (s .reader .context)) (records text marks) ≡ true
+    → readState lent (chosen true s) text marks ≡ readingChosen (readState lent (chosen false s) text marks)
+unfolding readState
+readState-chosen lent s text marks f k = reads-chosen lent 0 s (records text marks) f k
