@@ -83,7 +83,7 @@ pub use graph::{
     Attribute, BadGraph, Builtin, Cardinality, CharacterCount, Choice, Code, CodeList, DigitCount,
     Facet, Field, Graph, Label, Newtype, Opaque, Root, Struct, TypeDef, TypeRef, Value, Variant,
 };
-pub use refusal::{At, Refusal};
+pub use refusal::{At, Refusal, TypeAt};
 pub use sheet::{Context, Declared, Kind, ReadAs, SchemaSheet};
 pub use tape::{Event, Events, PieceFull, Tag, Tape, TapeBuilder};
 pub use text::{tape_of, NoTape};

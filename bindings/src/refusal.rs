@@ -14,8 +14,17 @@ pub struct At {
     pub event: usize,
 }
 
+/// A type of a schema sheet.
+#[derive(Clone, Debug, PartialEq, Eq)]
+pub struct TypeAt {
+    /// Its row, from 0.
+    pub row: usize,
+    /// Its name as in the schema.
+    pub name: String,
+}
+
 /// Why a call was refused, with the library's number ([`Refusal::number`]) and the place.
-#[derive(Clone, Copy, Debug, PartialEq, Eq)]
+#[derive(Clone, Debug, PartialEq, Eq)]
 #[non_exhaustive]
 pub enum Refusal {
     /// 1: a buffer has a length that the library does not take.
@@ -53,6 +62,13 @@ pub enum Refusal {
     GraphRoom,
     /// 16: the row has no label.
     NoLabel,
+    /// 20: two finished types have the same name in the graph.
+    RepeatedName {
+        /// The type whose name came before; its row is the place. Simple types come before complex ones.
+        again: TypeAt,
+        /// The type that has the name already.
+        first: TypeAt,
+    },
     /// A number that this crate does not know.
     Other {
         /// The number returned.
@@ -118,14 +134,16 @@ impl Refusal {
             Refusal::Scratch => 14,
             Refusal::GraphRoom => 15,
             Refusal::NoLabel => 16,
+            Refusal::RepeatedName { .. } => 20,
             Refusal::Other { number, .. } => *number,
         }
     }
 
-    /// The place: the event's number in the piece, the row of 13, else 0.
+    /// The place: the event's number in the piece, the row of 13 and 20, else 0.
     pub fn place(&self) -> usize {
         match self {
             Refusal::UnknownBase { row } => *row,
+            Refusal::RepeatedName { again, .. } => again.row,
             Refusal::Other { place, .. } => *place,
             _ => self.at().map_or(0, |at| at.place),
         }
@@ -168,6 +186,7 @@ impl Refusal {
             Refusal::Scratch => "the scratch is shorter than the number of types",
             Refusal::GraphRoom => "the graph has no room for the schema",
             Refusal::NoLabel => "the row has no label",
+            Refusal::RepeatedName { .. } => "two types have the same name in the graph",
             Refusal::Other { .. } => "a number that is not known",
         }
     }
@@ -175,10 +194,17 @@ impl Refusal {
 
 impl fmt::Display for Refusal {
     fn fmt(&self, f: &mut fmt::Formatter<'_>) -> fmt::Result {
-        write!(f, "{} (refused with {}", self.sentence(), self.number())?;
+        write!(f, "{}", self.sentence())?;
+        if let Refusal::RepeatedName { again, first } = self {
+            write!(f, ": {:?} and {:?}", first.name, again.name)?;
+        }
+        write!(f, " (refused with {}", self.number())?;
         match (self.event(), self) {
             (Some(event), _) => write!(f, ", event {event})"),
             (None, Refusal::UnknownBase { row }) => write!(f, ", row {row})"),
+            (None, Refusal::RepeatedName { again, first }) => {
+                write!(f, ", rows {} and {})", first.row, again.row)
+            }
             _ => write!(f, ")"),
         }
     }

@@ -4,7 +4,8 @@ use crate::buffer::Buffer;
 use crate::calls::{self, Answer};
 use crate::graph::Graph;
 use crate::limits::{NAMES, ROW, ROW_NUMBERS};
-use crate::refusal::Refusal;
+use crate::names::same_normalized;
+use crate::refusal::{Refusal, TypeAt};
 use crate::tape::Tape;
 
 /// The schema sheet: what the events read so far say, in rows of ten numbers and a names buffer. Both can be stored
@@ -114,6 +115,15 @@ pub struct Declared<'s> {
     pub second: &'s str,
 }
 
+impl Declared<'_> {
+    fn at(&self) -> TypeAt {
+        TypeAt {
+            row: self.row,
+            name: self.name.to_owned(),
+        }
+    }
+}
+
 impl Default for SchemaSheet<'static> {
     fn default() -> Self {
         SchemaSheet::new()
@@ -212,11 +222,61 @@ impl<'a> SchemaSheet<'a> {
     /// # Errors
     ///
     /// The [`Refusal`] of the call; the graph is empty then, or as it was where a length was refused.
+    ///
+    /// ```
+    /// use lubiksan::{Graph, Refusal, SchemaSheet, TapeBuilder};
+    ///
+    /// let mut piece = TapeBuilder::new();
+    /// piece.start("schema", &[])?;
+    /// for name in ["Amount_SimpleType", "AmountSimpleType"] {
+    ///     piece.start("complexType", &[("name", name)])?;
+    ///     piece.close()?;
+    /// }
+    /// let mut sheet = SchemaSheet::new();
+    /// sheet.read(&piece.finish())?;
+    /// let Err(Refusal::RepeatedName { again, first }) = sheet.lower(&mut Graph::new()) else {
+    ///     return Err("two types of one name are refused".into());
+    /// };
+    /// assert_eq!((first.name.as_str(), first.row), ("Amount_SimpleType", 2));
+    /// assert_eq!((again.name.as_str(), again.row), ("AmountSimpleType", 3));
+    /// # Ok::<(), Box<dyn std::error::Error>>(())
+    /// ```
     pub fn lower(&self, graph: &mut Graph<'_>) -> Result<usize, Refusal> {
         let answer = graph.fill(|rows, names, scratch| {
             calls::lower(&self.rows, &self.names, rows, names, scratch)
         });
-        accepted(answer, 0)
+        match answer.number {
+            20 => Err(self.repeated_name(answer)),
+            _ => accepted(answer, 0),
+        }
+    }
+
+    /// 20 with both types: the one of the place, and the first one in lowering's order that has its name.
+    fn repeated_name(&self, answer: Answer) -> Refusal {
+        let types = self.finished_types();
+        let again = types.iter().find(|found| found.row == answer.place);
+        let first = again.and_then(|again| {
+            let mut before = types.iter().take_while(|found| found.row != again.row);
+            before.find(|found| same_normalized(found.name, again.name))
+        });
+        match again.zip(first) {
+            Some((again, first)) => Refusal::RepeatedName {
+                again: again.at(),
+                first: first.at(),
+            },
+            None => Refusal::of(answer, 0),
+        }
+    }
+
+    /// The finished types in lowering's order: simple ones before complex.
+    fn finished_types(&self) -> Vec<Declared<'_>> {
+        let mut heads: Vec<Declared<'_>> = self.declared().collect();
+        if matches!(self.context(), Context::SimpleType | Context::ComplexType) {
+            heads.pop();
+        }
+        heads.retain(|head| head.kind != Kind::Element);
+        heads.sort_by_key(|head| head.kind);
+        heads
     }
 
     /// The rows, ten numbers each.

@@ -101,6 +101,85 @@ fn lowering_refuses_by_number() -> Tried {
     Ok(())
 }
 
+/// Tag and name of types, whether the last is open, row and name of the type that is refused and of the one before it.
+type Repeated<'n> = (
+    &'n [(&'n str, &'n str)],
+    bool,
+    (usize, &'n str),
+    (usize, &'n str),
+);
+
+/// The sheet of these types: their tags and names, all finished but the last where `open`.
+fn of_types(
+    types: &[(&str, &str)],
+    open: bool,
+) -> Result<SchemaSheet<'static>, Box<dyn std::error::Error>> {
+    let mut piece = TapeBuilder::new();
+    piece.start("schema", &[])?;
+    piece.empty("element", &[("name", "AB"), ("type", "AB")])?;
+    for (index, (tag, name)) in types.iter().enumerate() {
+        piece.start(tag, &[("name", name)])?;
+        piece.empty("restriction", &[("base", "string")])?;
+        if !open || index + 1 < types.len() {
+            piece.close()?;
+        }
+    }
+    let mut sheet = SchemaSheet::new();
+    sheet.read(&piece.finish())?;
+    Ok(sheet)
+}
+
+#[test]
+fn types_of_one_name_are_both_named() -> Tried {
+    let (simple, complex) = ("simpleType", "complexType");
+    let lists: [Repeated<'_>; 5] = [
+        (
+            &[(simple, "a_b"), (complex, "AB")],
+            false,
+            (4, "AB"),
+            (3, "a_b"),
+        ),
+        (
+            &[(complex, "AB"), (simple, "a_b")],
+            false,
+            (3, "AB"),
+            (4, "a_b"),
+        ),
+        (
+            &[(simple, "A"), (simple, "B"), (simple, "b_"), (simple, "A")],
+            false,
+            (5, "b_"),
+            (4, "B"),
+        ),
+        (
+            &[(complex, "AB"), (complex, "a_b"), (simple, "A_B")],
+            true,
+            (4, "a_b"),
+            (3, "AB"),
+        ),
+        (
+            &[(complex, "T"), (complex, "T"), (complex, "T")],
+            false,
+            (4, "T"),
+            (3, "T"),
+        ),
+    ];
+    for (types, open, again, first) in lists {
+        let sheet = of_types(types, open)?;
+        let refusal = sheet.lower(&mut Graph::new()).err().ok_or("refused")?;
+        assert_eq!((refusal.number(), refusal.place()), (20, again.0));
+        assert_eq!(refusal.event(), None);
+        let words = format!(
+            "two types have the same name in the graph: {:?} and {:?} (refused with 20, rows {} and {})",
+            first.1, again.1, first.0, again.0
+        );
+        assert_eq!(refusal.to_string(), words);
+    }
+    let sheet = of_types(&[(complex, "AB"), (simple, "a_b")], true)?;
+    assert_eq!(sheet.lower(&mut Graph::new())?, 4);
+    Ok(())
+}
+
 fn unknown_base() -> Result<SchemaSheet<'static>, Box<dyn std::error::Error>> {
     let mut piece = TapeBuilder::new();
     piece.start("schema", &[])?;

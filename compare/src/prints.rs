@@ -179,6 +179,10 @@ fn refusals() -> Vec<Input> {
             "lower 13 in front of an accepted type",
             "<schema><simpleType name=A></><complexType name=A></></>",
         ),
+        (
+            "lower 20",
+            "<schema><complexType name=AB></><simpleType name=a_b><restriction base=string/></></>",
+        ),
         ("read 6", "<schema></></>"),
         (
             "read 9 where lowering would refuse too",
@@ -327,7 +331,8 @@ fn table_tapes() -> Vec<(&'static str, Tape)> {
         ("the paper's specimen", of(SPECIMEN)),
         ("lower 12", of("<x></>")),
         ("lower 13", of("<schema><element name=D type=T/><simpleType name=A><restriction base=QName/></></>")),
-        ("lower 13 for a type that is replaced", of("<schema><simpleType name=A></><complexType name=A></></>")),
+        ("lower 13 where 20 would follow", of("<schema><simpleType name=A></><complexType name=A></></>")),
+        ("lower 20", of("<schema><complexType name=a_b></><complexType name=AB></></>")),
         ("lower 15", variants(33, &"v".repeat(1_000))),
         ("read 3", tape(b"", &[1, 0, 0, 0, 4])),
         ("read 4", tape(b"abc", &[1, 0, 2, 2])),

@@ -12,6 +12,7 @@ pub struct Tally {
     group: &'static str,
     cases: u64,
     differences: u64,
+    left_out: u64,
     shown: Vec<String>,
     numbers: BTreeMap<u32, u64>,
 }
@@ -23,6 +24,7 @@ impl Tally {
             group,
             cases: 0,
             differences: 0,
+            left_out: 0,
             shown: Vec::new(),
             numbers: BTreeMap::new(),
         }
@@ -63,6 +65,11 @@ impl Tally {
         }
     }
 
+    /// Counts one case that is left out of the comparison.
+    pub fn leave_out(&mut self) {
+        self.left_out += 1;
+    }
+
     /// Counts a number that a call gave, to show which ones the cases meet.
     pub fn given(&mut self, number: u32) {
         *self.numbers.entry(number).or_default() += 1;
@@ -86,6 +93,9 @@ impl Display for Tally {
             "{}: {} cases, {} differences",
             self.group, self.cases, self.differences
         )?;
+        if self.left_out > 0 {
+            write!(f, ", {} left out", self.left_out)?;
+        }
         if !self.numbers.is_empty() {
             let given = self.numbers.iter().map(|(n, k)| format!("{n} x{k}"));
             write!(

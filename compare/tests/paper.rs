@@ -1,6 +1,7 @@
 //! The model of paper 01 against the Rust on many tapes and states, and on the paper's specimens.
 
 use judge::cases::{each_spelling, numbers};
+use judge::definitions::repeated;
 use judge::definitions::standard::{examples, header, heads, HEADERS};
 use judge::leaves::{parse_u32, parse_u64};
 use judge::paper::agree;
@@ -132,6 +133,44 @@ fn by_the_standard_the_heads_are_the_direct_children_of_the_schema() {
         }
     }
     assert!(compared > 20_000, "only {compared} tapes are accepted");
+}
+
+#[test]
+fn types_of_one_name_as_worked_out_by_hand() {
+    for example in repeated::examples() {
+        let lowered = lowering(&example.sheet, &example.graph, &example.scratch);
+        assert_eq!(lowered.answer, example.answer, "{}", example.shows);
+        if example.answer.number == 20 {
+            let numbers = lowered.graph.rows.iter().chain(&lowered.scratch);
+            assert!(numbers.copied().all(|n| n == 0), "{}", example.shows);
+            assert!(lowered.graph.names.iter().all(|&n| n == 0));
+        }
+    }
+}
+
+/// The rule by pairs: the first type in lowering's order for which there is one before it.
+fn repeated_by_pairs(names: &[(u32, String)]) -> Option<u32> {
+    let before = |at: usize| names[..at].iter().any(|(_, name)| *name == names[at].1);
+    (0..names.len())
+        .find(|&at| before(at))
+        .map(|at| names[at].0)
+}
+
+#[test]
+fn a_name_comes_again_where_a_pair_of_types_has_it() {
+    let mut random = Random::new(14);
+    let mut pairs = 0;
+    for _ in 0..20_000 {
+        let state = match agree::run(&document(&mut random)) {
+            Ok(state) => state,
+            Err(_) => continue,
+        };
+        let found = state.first_repeated();
+        assert_eq!(found, repeated_by_pairs(&state.type_names()));
+        assert_eq!(state.without_repeated().first_repeated(), None);
+        pairs += usize::from(found.is_some());
+    }
+    assert!(pairs > 1_000, "only {pairs} states have a pair");
 }
 
 #[test]

@@ -3,7 +3,7 @@
 use std::path::Path;
 
 use lubiksan::names::parse_u32;
-use lubiksan::{limits, Declared, Kind, Refusal, SchemaSheet};
+use lubiksan::{limits, Declared, Kind, Refusal, SchemaSheet, TypeAt};
 
 use crate::document::Document;
 use crate::failure::{quoted, Failure};
@@ -122,6 +122,7 @@ pub fn lowering(
             "{name}: the graph needs more than 4,096 rows or 65,536 bytes of names (refused with {number})"
         ),
         Refusal::UnknownBase { row } => unknown_base(file, source, sheet, *row),
+        Refusal::RepeatedName { again, first } => repeated_name(file, source, sheet, again, first),
         other => format!("{name}: {other}"),
     };
     Failure::Answered { lines, words }
@@ -134,7 +135,7 @@ fn unknown_base(
     sheet: &SchemaSheet<'_>,
     row: usize,
 ) -> String {
-    let found = sheet.declared().find(|declared| declared.row == row);
+    let found = declared_in(sheet, row);
     let (name, base) = found.map_or(("", ""), |declared| (declared.name, declared.second));
     let words = match base {
         "" => format!("simpleType {} has no base (refused with 13)", quoted(name)),
@@ -144,25 +145,58 @@ fn unknown_base(
             quoted(base)
         ),
     };
-    let at = source.zip(found).and_then(|(source, declared)| {
-        let new = SchemaSheet::cleared(sheet.read_as());
-        Some((source, opened_at(source, new, &declared)?))
-    });
-    match at {
+    match located(source, sheet, row) {
         Some((source, at)) => source.at(at, &words),
         None => format!("{}: {words}", file.display()),
     }
 }
 
-/// Where the tag stands that opened the simple type of a row: of the tags of that name the last one that, read in its
-/// turn into a new sheet, made that row the last.
+/// 20 names both types, and their lines where the file is at hand.
+fn repeated_name(
+    file: &Path,
+    source: Option<&Source>,
+    sheet: &SchemaSheet<'_>,
+    again: &TypeAt,
+    first: &TypeAt,
+) -> String {
+    let line = located(source, sheet, first.row).map_or(String::new(), |(source, at)| {
+        format!(" in line {}", source.line(at))
+    });
+    let words = format!(
+        "type {} has the same Rust name as {}{line} (refused with 20)",
+        quoted(&again.name),
+        quoted(&first.name)
+    );
+    match located(source, sheet, again.row) {
+        Some((source, at)) => source.at(at, &words),
+        None => format!("{}: {words}", file.display()),
+    }
+}
+
+/// The element or type of a row.
+fn declared_in<'s>(sheet: &'s SchemaSheet<'_>, row: usize) -> Option<Declared<'s>> {
+    sheet.declared().find(|declared| declared.row == row)
+}
+
+/// The source, where it is at hand, and where in it the tag stands that opened the type of a row.
+fn located<'s>(
+    source: Option<&'s Source>,
+    sheet: &SchemaSheet<'_>,
+    row: usize,
+) -> Option<(&'s Source, usize)> {
+    let (source, declared) = (source?, declared_in(sheet, row)?);
+    let new = SchemaSheet::cleared(sheet.read_as());
+    Some((source, opened_at(source, new, &declared)?))
+}
+
+/// Where the tag stands that opened a type: the first of the tags of its kind and name that, read in its turn into a new
+/// sheet, made its row the last.
 fn opened_at(
     source: &Source,
     mut sheet: SchemaSheet<'_>,
     declared: &Declared<'_>,
 ) -> Option<usize> {
     let document = source.document();
-    let mut found = None;
     for (index, event) in document.events().iter().enumerate() {
         if !opens(document, event, declared) {
             continue;
@@ -170,18 +204,24 @@ fn opened_at(
         let most = (index + 1).checked_sub(sheet.events_done())?;
         crate::reading::read_on(source, &mut sheet, most, |_| Ok(())).ok()?;
         let last = sheet.declared().last();
-        if last.is_some_and(|last| last.row == declared.row && last.kind == Kind::SimpleType) {
-            found = Some(event.at);
+        if last.is_some_and(|last| last.row == declared.row) {
+            return Some(event.at);
         }
     }
-    found
+    None
 }
 
+/// The tag may have opened the type.
 fn opens(document: &Document, event: &Event, declared: &Declared<'_>) -> bool {
+    let tag = match declared.kind {
+        Kind::Element => return false,
+        Kind::SimpleType => "simpleType",
+        Kind::ComplexType => "complexType",
+    };
     let named = || {
         document
             .attribute(event, "name")
             .is_some_and(|(name, _)| name == declared.name)
     };
-    event.kind == EventKind::Start && document.local(event) == "simpleType" && named()
+    event.kind == EventKind::Start && document.local(event) == tag && named()
 }

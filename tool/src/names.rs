@@ -104,7 +104,7 @@ impl Names {
         }
     }
 
-    /// The types as the schema spells them; two of one Rust name are one too many.
+    /// The types as the schema spells them. Lowering has refused two of one name; two may still have one Rust name.
     fn put_types(&mut self, finished: &[Declared<'_>]) {
         let types = finished
             .iter()
@@ -238,15 +238,14 @@ fn finished<'s>(sheet: &'s SchemaSheet<'_>) -> Vec<Declared<'s>> {
     finished
 }
 
-/// The rows of the types' heads by normalised name: simple types before complex ones, the last one of a name.
+/// The rows of the types' heads by normalised name, which no two of them share.
 fn heads(finished: &[Declared<'_>]) -> HashMap<String, usize> {
-    let mut heads = HashMap::new();
-    for kind in [Kind::SimpleType, Kind::ComplexType] {
-        for declared in finished.iter().filter(|declared| declared.kind == kind) {
-            heads.insert(normalize_type_name(declared.name), declared.row);
-        }
-    }
-    heads
+    let types = finished
+        .iter()
+        .filter(|declared| declared.kind != Kind::Element);
+    types
+        .map(|declared| (normalize_type_name(declared.name), declared.row))
+        .collect()
 }
 
 /// What a type is called here.

@@ -103,6 +103,11 @@ impl Source {
         format!("{}{words}", placed(&self.path, self.document.text(), at))
     }
 
+    /// The line of a byte, from 1.
+    pub fn line(&self, at: usize) -> usize {
+        line_and_column(self.document.text(), at).0
+    }
+
     /// A tag that fits into no piece.
     pub fn too_long(&self, fault: &Fault) -> Failure {
         Failure::Answered {

@@ -84,12 +84,18 @@ fn attributes_meet() {
 }
 
 #[test]
-fn types_meet_also_where_the_graph_has_one_left() {
-    let text = "<schema><complexType name='a_b'><choice/></complexType>@<complexType name='AB'><choice/></complexType></schema>";
-    meet(
-        text,
-        "two types have the Rust name \"AB\": \"a_b\" and \"AB\"",
-    );
+fn types_of_one_name_are_refused_by_both() {
+    let text = "<schema><complexType name='a_b'><choice/></complexType><complexType name='AB'><choice/></complexType></schema>";
+    let (names, rust) = names(text);
+    let words =
+        "a.xsd:1:56: type \"AB\" has the same Rust name as \"a_b\" in line 1 (refused with 20)\n";
+    assert_eq!((names.status, names.err.as_str()), (Some(1), words));
+    assert_eq!((rust.status, rust.err.as_str()), (Some(1), words));
+    assert_eq!((names.out.as_str(), rust.out.as_str()), ("", ""));
+}
+
+#[test]
+fn types_meet_by_their_identifiers() {
     let text = "<schema><complexType name='a.b'><choice/></complexType>@<complexType name='a-b'><choice/></complexType></schema>";
     meet(
         text,

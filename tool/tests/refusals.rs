@@ -171,6 +171,78 @@ fn thirteen_from_a_stored_sheet_names_the_type() {
     );
 }
 
+/// Two types, a simple and a complex one, on lines 2 and 4 of a file, or 4 and 2.
+fn two_types(first: (&str, &str), second: (&str, &str)) -> String {
+    let one = |(tag, name): (&str, &str)| {
+        format!("  <{tag} name='{name}'>\n<restriction base='string'/></{tag}>\n")
+    };
+    format!("<schema>\n{}{}</schema>", one(first), one(second))
+}
+
+#[test]
+fn types_of_one_name_are_refused_with_both_places() {
+    let (simple, complex) = ("simpleType", "complexType");
+    let (words, line) = refused(two_types(
+        (simple, "Amount_SimpleType"),
+        (simple, "AmountSimpleType"),
+    ));
+    assert_eq!(
+        words,
+        r#"a.xsd:4:3: type "AmountSimpleType" has the same Rust name as "Amount_SimpleType" in line 2 (refused with 20)"#
+    );
+    assert_eq!(line, "read 0 8\nlower 20 3");
+    let (words, line) = refused(two_types((complex, "AB"), (simple, "a_b")));
+    assert_eq!(
+        words,
+        r#"a.xsd:2:3: type "AB" has the same Rust name as "a_b" in line 4 (refused with 20)"#
+    );
+    assert_eq!(line, "read 0 8\nlower 20 2");
+    let (words, _) = refused(two_types((complex, "T"), (complex, "T")));
+    assert_eq!(
+        words,
+        r#"a.xsd:4:3: type "T" has the same Rust name as "T" in line 2 (refused with 20)"#
+    );
+    let nested = "<schema><complexType name='T'>\n<complexType name='T'></complexType></complexType>\n<complexType name='_T'></complexType></schema>";
+    assert_eq!(
+        refused(nested).0,
+        r#"a.xsd:3:1: type "_T" has the same Rust name as "T" in line 1 (refused with 20)"#
+    );
+    let other = "<schema><element name='T' type='T'/><complexType name='T'><choice/></complexType><element name='T' type='T'/></schema>";
+    assert_eq!(graph(other, &[]).status, Some(0));
+}
+
+#[test]
+fn thirteen_comes_before_twenty() {
+    let twice = two_types(("simpleType", "A"), ("simpleType", "A"));
+    let text = twice.replace(
+        "</schema>",
+        "<simpleType name='Q'><list/></simpleType></schema>",
+    );
+    assert_eq!(
+        refused(text).0,
+        r#"a.xsd:6:1: simpleType "Q" has no base (refused with 13)"#
+    );
+}
+
+#[test]
+fn types_of_one_name_in_a_stored_sheet_are_read_on_and_named() {
+    let folder = Folder::new();
+    let file = folder.put(
+        "a.xsd",
+        two_types(("complexType", "AB"), ("simpleType", "a_b")),
+    );
+    let sheet = folder.path("a.sheet");
+    let (file, sheet) = (file.to_str().unwrap(), sheet.to_str().unwrap());
+    let part = lubiksan(["read", file, "--sheet", sheet, "--events", "7"]);
+    assert_eq!(part.status, Some(0), "{}", part.err);
+    assert_eq!(lubiksan(["read", file, "--sheet", sheet]).status, Some(0));
+    assert_eq!(lubiksan(["check", sheet]).status, Some(0));
+    let ran = lubiksan(["graph", sheet]);
+    assert_eq!(ran.status, Some(1));
+    let words = "a.sheet: type \"AB\" has the same Rust name as \"a_b\" (refused with 20)\n";
+    assert!(ran.err.ends_with(words), "{}", ran.err);
+}
+
 /// Texts that are no XML, and why. Those of ASCII are refused by the library, with 17.
 const BAD: [(&[u8], &str); 29] = [
     (

@@ -1,5 +1,6 @@
 //! Benchmark of the lowering call: the unchanged `lower` of the Rust and `lubiksan_lower` on the same schema, in one run, medians; with buffers as long as
-//! needed and, for information, of the largest lengths. Then the time for a type in a schema of 4,094 types against one of 100.
+//! needed and, for information, of the largest lengths. Then the time for a type in a schema of 4,094 types against one of 100, and that of a schema that
+//! is refused because its last type has the name of its first.
 //! Made by `rt staticlib lubiksan`; run by
 //! `cargo run --release --features ours --bin lowering -- SCHEMA..`.
 
@@ -25,18 +26,20 @@ fn main() {
     for file in env::args().skip(1) {
         let text = fs::read_to_string(&file).expect("the schema can be read");
         let name = file.rsplit('/').next().unwrap_or(&file);
-        compare(name, &read(&text));
+        compare(name, &read(&text), 0);
     }
     let made = |count: usize| {
         compare(
             &format!("{count} types of one row"),
             &one_row_types(count, count),
+            0,
         )
     };
     let [few, _, many] = [100, 1_000, 4_094].map(made);
     compare(
-        "4,094 types of one row, 2,047 names twice",
-        &one_row_types(4_094, 2_047),
+        "4,094 types of one row, the last with the name of the first, refused with 20",
+        &one_row_types(4_094, 4_093),
+        20,
     );
     let each = |time: Duration, count: u32| time.as_secs_f64() * 1e9 / f64::from(count);
     let (few, many) = (each(few, 100), each(many, 4_094));
@@ -100,8 +103,8 @@ impl Lendings {
     }
 }
 
-/// Prints the three medians of one schema; gives ours with buffers as long as needed.
-fn compare(name: &str, state: &State) -> Duration {
+/// Prints the three medians of one schema, to which ours gives `number`; gives ours with buffers as long as needed.
+fn compare(name: &str, state: &State, number: u32) -> Duration {
     let needed = Lent {
         rows: 10 * rows_used(&state.rows),
         names: names_used(&state.rows),
@@ -113,7 +116,7 @@ fn compare(name: &str, state: &State) -> Duration {
     };
     let mut exact = Lendings::new(state, needed, Room::exact(state));
     let mut large = Lendings::new(state, ROOMY, largest);
-    assert_eq!([exact.lower(), large.lower()], [0, 0], "{name} is accepted");
+    assert_eq!([exact.lower(), large.lower()], [number; 2], "{name}");
     let [rust, ours, ours_large] = medians(&state.schema(), &mut exact, &mut large);
     let ratio = |time: Duration| time.as_secs_f64() / rust.as_secs_f64();
     println!(

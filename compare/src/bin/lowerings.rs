@@ -8,14 +8,16 @@ use std::path::{Path, PathBuf};
 use std::process::ExitCode;
 use std::thread;
 
-use judge::lowerings::{limits, longer, runs, small, written};
+use judge::lowerings::{limits, longer, repeated, runs, small, written};
 use judge::tally::Tally;
 
 type Group = fn() -> Vec<Tally>;
 
 fn main() -> ExitCode {
-    let groups: [Group; 8] = [
+    let groups: [Group; 10] = [
         small::compare,
+        repeated::examples,
+        repeated::compare,
         longer::schemas,
         longer::documents,
         longer::sheets,

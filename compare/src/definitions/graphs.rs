@@ -228,7 +228,7 @@ fn refusals() -> Vec<Case> {
     let unknown = sheet_after(&events(
         "<schema><simpleType name=A><restriction base=QName/></></>",
     ));
-    let replaced = sheet_after(&events("<schema><complexType name=a_b><sequence><element name=longname type=longtype/></></><complexType name=AB></>"));
+    let one = sheet_after(&events("<schema><complexType name=a_b></>"));
     let cleared = sheet_after(&[]);
     let mut bad = unknown.clone();
     bad.rows[9] = 2;
@@ -265,14 +265,13 @@ fn refusals() -> Vec<Case> {
         ("2 on a bad sheet", bad.clone(), room(40, 5, 1)),
         ("2 before 14", bad.clone(), room(40, 5, 0)),
         ("1 before 2", bad, room(45, 5, 1)),
-        ("14 counts replaced types", replaced.clone(), room(30, 2, 1)),
         (
-            "15 is about the graph that is left",
-            replaced.clone(),
-            room(30, 2, 2),
+            "15 is about the graph, not the sheet",
+            one.clone(),
+            room(30, 2, 1),
         ),
-        ("15 by a row", replaced.clone(), room(20, 2, 2)),
-        ("15 by a byte", replaced, room(30, 1, 2)),
+        ("15 by a row", one.clone(), room(20, 2, 1)),
+        ("15 by a byte", one, room(30, 1, 1)),
         ("much scratch", unknown, room(40, 5, 70)),
     ];
     let case = |(shows, sheet, lent): (&str, Sheet, Room)| {

@@ -9,12 +9,14 @@
 //! | `sheets` | good sheets that no reading reaches, and bad sheets |
 //! | `standard` | sheets cleared with each choice of order 3 |
 //! | `graphs` | lowering and label calls |
+//! | `repeated` | types of one name, with the answers worked out by hand |
 //! | `runs` | lists of readings and lowerings |
 
 pub mod call;
 pub(crate) mod graphs;
 pub mod print;
 pub(crate) mod readings;
+pub mod repeated;
 pub(crate) mod runs;
 pub(crate) mod sheets;
 pub mod standard;
@@ -40,6 +42,7 @@ pub fn cases(seed: u64) -> Vec<Case> {
         sheets::cases(seed),
         standard::cases(seed),
         graphs::cases(seed),
+        repeated::cases(),
         runs::cases(seed),
     ];
     all.into_iter()

@@ -38,10 +38,14 @@ fn run_case(random: &mut Random, index: usize) -> Case {
     }
 }
 
-/// The first sheet: cleared; damaged in row 0 or 1; of a length that 1 refuses; or with little room.
+/// The first sheet: cleared with 0 or with 1; damaged in row 0 or 1; of a length that 1 refuses; or with little room.
 fn first_sheet(cleared: Sheet, random: &mut Random, index: usize) -> (&'static str, Sheet) {
     let mut sheet = cleared;
     match index % 8 {
+        2 | 3 => {
+            sheet.rows[9] = 1;
+            ("a sheet cleared with 1", sheet)
+        }
         5 => {
             damage_one(&mut sheet.rows[..20], random);
             ("a damaged sheet", sheet)

@@ -66,6 +66,14 @@ impl Room {
     }
 }
 
+/// The sheet of a state with a little room left.
+pub fn sheet_of(state: &State) -> Sheet {
+    state.sheet(Lent {
+        rows: 10 * rows_used(&state.rows) + 20,
+        names: names_used(&state.rows) + 3,
+    })
+}
+
 /// The counts of one group of cases.
 pub struct Checks {
     calls: Tally,
@@ -88,11 +96,7 @@ impl Checks {
 
     /// The sheet of `state` lowered in each of its rooms.
     pub fn in_rooms(&mut self, state: &State) {
-        let lent = Lent {
-            rows: 10 * rows_used(&state.rows) + 20,
-            names: names_used(&state.rows) + 3,
-        };
-        self.sheet_in_rooms(&state.sheet(lent), state);
+        self.sheet_in_rooms(&sheet_of(state), state);
     }
 
     /// The sheet, which is that of `state`, lowered in each of its rooms.
@@ -124,9 +128,10 @@ impl Checks {
             .and_then(|()| changed(&kept, sheet))
             .map_err(|difference| format!("{}: {difference}", shown()));
         self.calls.count(agreed);
-        if let Some(state) = State::of_lent(sheet) {
-            self.graphs
-                .count_some(with_rust(&state, sheet, &ours), shown);
+        match State::of_lent(sheet).map(|state| with_rust(&state, sheet, &ours)) {
+            Some(WithRust::Compared(agreed)) => self.graphs.count_some(Some(agreed), shown),
+            Some(WithRust::LeftOut) => self.graphs.leave_out(),
+            Some(WithRust::NotKnown) | None => {}
         }
     }
 }
@@ -168,14 +173,26 @@ fn first_difference<A: PartialEq + Copy>(model: &[A], ours: &[A]) -> Option<(usi
         .find(|(_, a, b)| a != b)
 }
 
-/// A lowering of a good sheet gave what `lower` gives for the schema in it. None where it was refused for what the Rust does not know.
-fn with_rust(state: &State, sheet: &Sheet, ours: &Lowered) -> Option<Result<(), String>> {
+/// A lowering beside the Rust's.
+enum WithRust {
+    /// It was refused for what the Rust does not know.
+    NotKnown,
+    /// Two types have one name, and no base is refused before: "runs against the Rust leave these inputs out".
+    LeftOut,
+    Compared(Result<(), String>),
+}
+
+/// A lowering of a good sheet gave what `lower` gives for the schema in it.
+fn with_rust(state: &State, sheet: &Sheet, ours: &Lowered) -> WithRust {
     let number = ours.answer.number;
-    if !matches!(number, 0 | 13 | 15) {
-        return None;
+    if !matches!(number, 0 | 13 | 15 | 20) {
+        return WithRust::NotKnown;
     }
     let rust = lower(&state.schema());
-    Some(match (number, rust) {
+    if rust.is_ok() && state.first_repeated().is_some() {
+        return WithRust::LeftOut;
+    }
+    WithRust::Compared(match (number, rust) {
         (0, Ok(graph)) => same_graph(&Graph::from(graph), graph_of(&ours.graph)),
         (13, Err(error)) => same_type(&error, sheet, ours.answer.place as usize),
         (15, Ok(_)) => Ok(()),

@@ -97,10 +97,13 @@ fn numbered(index: usize) -> String {
 }
 
 /// As many types of one row as a sheet holds: all names different; each name twice, once with an underscore; one name for all; names of the same length
-/// that differ in the last byte only; and in each case a refused type at the end.
+/// that differ in the last byte only; all names different but one, which is that of the type halfway; and in each case a refused type at the end.
 fn many_types(checks: &mut Checks) {
-    let names: [fn(usize) -> String; 4] = [
+    let names: [fn(usize) -> String; 7] = [
         numbered,
+        |index| numbered(if index == 99 { 50 } else { index }),
+        |index| numbered(if index == 4_092 { 2_046 } else { index }),
+        |index| numbered(if index == 4_093 { 0 } else { index }),
         |index| match index % 2 {
             0 => numbered(index / 2),
             _ => format!("_{}", numbered(index / 2)),

@@ -19,17 +19,31 @@ const SCHEMAS: usize = 72_000;
 const DOCUMENTS: usize = 30_000;
 const SHEETS: usize = 60_000;
 
-/// Random schemas of up to 14 types.
+/// Random schemas of up to 14 types, under both choices, every other one without the types whose name came before.
 pub fn schemas() -> Vec<Tally> {
     let mut checks = Checks::new(
         "random schemas, in seven rooms",
         "their graphs with the Rust's lower",
     );
     let mut random = Random::new(SEED);
-    for _ in 0..SCHEMAS {
-        checks.in_rooms(&schema(&mut random, 14));
+    for index in 0..SCHEMAS {
+        let mut state = schema(&mut random, 14);
+        choose(&mut state, index);
+        match index % 2 {
+            0 => checks.in_rooms(&state),
+            _ => checks.in_rooms(&state.without_repeated()),
+        }
     }
     checks.tallies()
+}
+
+/// Every third state by the standard, in context 1 with any nesting. Lowering looks at neither.
+fn choose(state: &mut State, index: usize) {
+    state.by_standard = index.is_multiple_of(3);
+    if state.by_standard && state.context == 1 {
+        state.nesting = index as u32 % 5;
+        state.open_tags += state.nesting;
+    }
 }
 
 /// Random documents, read by the model.

@@ -7,6 +7,7 @@
 //! | `generate` | random schemas with types of every kind whose names meet by normalising |
 //! | `small` | every list of a few types |
 //! | `longer` | random schemas, documents, sheets that no reading reaches, damaged ones |
+//! | `repeated` | types of one name |
 //! | `limits` | lengths around the limits, the largest graphs |
 //! | `runs` | lists of readings and lowerings |
 //! | `written` | the cases of the definitions, the schemas |
@@ -15,6 +16,7 @@ pub mod check;
 pub mod generate;
 pub mod limits;
 pub mod longer;
+pub mod repeated;
 pub mod runs;
 pub mod small;
 pub mod written;

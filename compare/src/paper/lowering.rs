@@ -38,12 +38,13 @@ pub fn lowering(sheet: &Sheet, graph: &Sheet, scratch: &[u32]) -> Lowered {
 impl State {
     /// The rows of the finished types and the elements, each head with its children, and where
     /// the head's row stands in the sheet.
-    fn finished(&self) -> Vec<(usize, &[Row])> {
-        let is_child = |row: &Row| matches!(row.tag, 4..=11 | 17..=20);
+    pub(super) fn finished(&self) -> Vec<(usize, &[Row])> {
         let mut heads: Vec<(usize, &[Row])> = Vec::new();
         let mut from = 1;
         while from < self.rows.len() {
-            let children = self.rows[from + 1..].iter().take_while(|row| is_child(row));
+            let children = self.rows[from + 1..]
+                .iter()
+                .take_while(|row| row.is_child());
             let to = from + 1 + children.count();
             heads.push((1 + from, &self.rows[from..to]));
             from = to;
@@ -78,7 +79,7 @@ impl State {
         schema
     }
 
-    /// From 12 on: on 0 the graph, on 12, 13 and 15 zeros; the scratch is zero.
+    /// From 12 on: on 0 the graph, on 12, 13, 20 and 15 zeros; the scratch is zero.
     fn lowered(&self, lent: &Sheet, scratch: usize) -> Lowered {
         let scratch = vec![0; scratch];
         match self.lowered_graph(lent) {
@@ -100,6 +101,9 @@ impl State {
             return Err(answer(12, 0));
         }
         let graph = lower(&self.schema()).map_err(|_| answer(13, self.first_unknown()))?;
+        if let Some(row) = self.first_repeated() {
+            return Err(answer(20, row));
+        }
         let rows = graph_rows(&graph);
         if !fits(&rows, lent.lent()) {
             return Err(answer(15, 0));

@@ -10,6 +10,7 @@
 //! | `reading` | the tape, clearing, the reading call |
 //! | `graph`, `back` | the graph sheet of a type graph, and the type graph that a sheet says |
 //! | `lowering` | the lowering call; the Rust's `lower` gives the graph |
+//! | `repeated` | types of one name, which order 4 refuses |
 //! | `label` | the label call |
 //! | `tree` | order 3's choice 1 anew, over the tree of the tags |
 //! | `xml` | order 1: the tape of a text |
@@ -23,6 +24,7 @@ pub mod label;
 pub mod lowering;
 pub mod number;
 pub mod reading;
+pub mod repeated;
 pub mod sheet;
 pub mod state;
 pub mod tree;

@@ -39,6 +39,11 @@ impl Row {
         Row { a, b, ..self }
     }
 
+    /// The row stands behind a head of its own.
+    pub fn is_child(&self) -> bool {
+        matches!(self.tag, 4..=11 | 17..=20)
+    }
+
     /// The ten numbers of the row, its first pair starting at `end`; `end` moves on.
     fn packed(&self, end: &mut u32) -> [u32; 10] {
         let mut ten = [0; 10];

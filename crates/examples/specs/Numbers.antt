@@ -1,4 +1,4 @@
--- Lowering's numbers by computation. "Lowering: 1, 2, 14, 12, 13, 15." Where a buffer is long its length is computed by a law, and not by
+-- Lowering's numbers by computation, but for 20. "Lowering: 1, 2, 14, 12, 13, 15." Where a buffer is long its length is computed by a law, and not by
 -- counting.
 use Prim.Native.Nat.{ℕ, _≤_}
 use Prim.Native.String.{String}
@@ -235,11 +235,3 @@ one-field-less :
     ≡ compiled 6 (lowered 15 0 (zeroed 40 3) 1)
 unfolding called
 one-field-less = refl
-
--- only the last definition of a name needs room (G9)
-last-definition :
-    compiles (schema ∷ complexType "C" ∷ start "sequence" [] ∷ empty "element" (typed "e" "t") ∷ close ∷ close ∷ complexType "C"
-    ∷ close ∷ []) 30 1 2
-    ≡ compiled 8 (lowered 0 3 (sheet 30 1 (line 0 3 1 0 1 0 0 0 0 0 ∷ noNamespace ∷ line 8 0 1 0 0 0 0 0 0 0 ∷ []) "C") 2)
-unfolding called
-last-definition = refl

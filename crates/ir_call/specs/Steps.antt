@@ -23,10 +23,11 @@ use Rattle.ir_types.specs.Rows.{rowsOf, rowsUsed}
 use Rattle.ir_types.specs.Sheet.{graphFits, graphSheet}
 use Rattle.xsd_types.specs.State.{State}
 use Rattle.ir_lower.specs.Lower.{lower, unknownRow}
+use Rattle.ir_lower.specs.Repeated.{firstRepeated, repeatedRow}
 use Rattle.ir_lower.specs.Call.{Lowered, zeros}
 use Rattle.ir_rows.specs.Places.{rowsFrom}
 use Rattle.ir_rows.specs.Lowered.{rootRows, unknownPlace}
-use Rattle.ir_rows.specs.Types.{typePlaces, keptPlaces, graphRows}
+use Rattle.ir_rows.specs.Types.{finishedPlaces, headsAt, graphRows}
 use Rattle.ir_append.specs.declared.Grown.{Grown}
 use Rattle.ir_call.specs.declared.GraphRow0.{GraphRow0 as Numbers}
 
@@ -42,7 +43,7 @@ pub record Finished (rows names : List ℕ) (end : ℕ) (scratch : List ℕ) : T
   pub atLeast : 2 ≤ end
   pub inside : 10 * end ≤ length rows
   pub few : length rows ≤ rowsLimit
-  pub enough : length (typePlaces 2 (rowsFrom rows names 2 end)) ≤ length scratch
+  pub enough : length (finishedPlaces rows names end) ≤ length scratch
 
 pub record Cleared (rows names : List ℕ) : Type 0 where
   pub rowsZero : rows ≡ zeros rows
@@ -50,9 +51,9 @@ pub record Cleared (rows names : List ℕ) : Type 0 where
   pub sized : Sized rows names
 
 pub record GraphOf (rows names : List ℕ) (end : ℕ) (g : TypeGraph) : Type 0 where
-  pub rowsAre : graphRows rows names end (keptPlaces rows names end) ≡ rowsOf g
+  pub rowsAre : graphRows rows names end (finishedPlaces rows names end) ≡ rowsOf g
   pub roots : length (rootRows (rowsFrom rows names 2 end)) ≡ length (g .rootElements)
-  pub types : length (keptPlaces rows names end) ≡ length (g .types)
+  pub types : length (finishedPlaces rows names end) ≡ length (g .types)
 
 abbrev pub asRow0 : Numbers → GraphRow0
 asRow0 z = graphRow0Of (z .«rows_used») (z .«names_used») (z .«root_elements») (z .types)
@@ -65,6 +66,7 @@ pub record Lowers (rows names : List ℕ) (end : ℕ) (rootSeen : Bool) (s : Sta
   pub root : rootSeen ≡ s .reader .rootSeen
   pub place : unknownPlace 2 (rowsFrom rows names 2 end) ≡ unknownRow 2 (s .reader .schema .items)
   pub refuses : lower (s .reader .schema) ≡ none → 1 ≤ unknownPlace 2 (rowsFrom rows names 2 end)
+  pub repeated : firstRepeated [] (headsAt rows names end) ≡ repeatedRow (s .reader .schema)
   pub lowers : (g : TypeGraph) → lower (s .reader .schema) ≡ some g → (unknownPlace 2 (rowsFrom rows names 2 end) ≡ 0) × GraphOf rows names end g
 
 pub record GraphStands (g : TypeGraph) (rows names rows′ names′ : List ℕ) (used : Used) : Type 0 where

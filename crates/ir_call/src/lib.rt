@@ -3,6 +3,7 @@ use ir_append::Grown;
 use ir_checks::count_roots;
 use ir_checks::count_types;
 use ir_checks::first_unknown;
+use ir_index::Indexed;
 use ir_index::index_types;
 use ir_write::put_graph;
 use sheet::returned;
@@ -14,11 +15,8 @@ use xsd_rows::row;
 use xsd_types::contexts;
 ghost use mathlib.Core.Bool.{true, _&&_};
 ghost use mathlib.Core.Path.{_≡_};
-ghost use mathlib.Core.List.{List, [], _∷_};
-ghost use Prim.Native.Nat.{ℕ, _+_, _*_, _≤_, _<_};
-ghost use lib.ListN.{length, replicate};
-ghost use lib.Dec.{ltb};
-ghost use Rattle.text.specs.Text.{every};
+ghost use mathlib.Core.List.{[], _∷_};
+ghost use Prim.Native.Nat.{_≤_, _<_};
 ghost use Rattle.sheet.specs.Rows.{numbers};
 ghost use Rattle.sheet.specs.Lengths.{sheetLengths};
 ghost use Rattle.sheet.specs.Calls.{sheet, answered};
@@ -27,12 +25,11 @@ ghost use Rattle.xsd_types.specs.Good.{good};
 ghost use Rattle.xsd_types.specs.Back.{stateOf};
 ghost use Rattle.ir_types.specs.Types.{TypeGraph};
 ghost use Rattle.ir_types.specs.Row0.{graphRow0Ten};
-ghost use Rattle.ir_lower.specs.Call.{LowerIs, zeros, written, lowerFinished, lowerState};
-ghost use Rattle.ir_rows.specs.Places.{rowsFrom};
-ghost use Rattle.ir_rows.specs.Lowered.{rootRows, unknownPlace};
-ghost use Rattle.ir_rows.specs.Types.{typePlaces, keptPlaces, placesIn, graphRows};
+ghost use Rattle.ir_lower.specs.Repeated.{firstRepeated};
+ghost use Rattle.ir_lower.specs.Call.{LowerIs, zeros, written, repeatedOrWritten, lowerFinished, lowerState};
+ghost use Rattle.ir_rows.specs.Types.{finishedPlaces, headsAt, entryPlaces};
 ghost use Rattle.ir_rows.specs.End.{finishedEnd};
-ghost use Rattle.ir_append.specs.Grows.{Room, Grows};
+ghost use Rattle.ir_index.specs.Index.{AllIn};
 ghost use Rattle.ir_call.specs.Steps.{Sized, lowered, Finished, Cleared, Lowers, GraphOf, asRow0, row0Of, GraphWritten};
 
 fn answer(number: u32, place: usize) -> Answer
@@ -118,23 +115,45 @@ fn write_graph(
     end: usize,
     graph_rows: &mut [u32],
     graph_names: &mut [u8],
-    scratch: &mut [u32],
+    entries: &[u32],
 ) -> Grown
-    requires { ⌜ Finished (now rows) (now names) end (now scratch) × Cleared (now «graph_rows») (now «graph_names») ⌝ }
+    requires { ⌜ Finished (now rows) (now names) end (now entries) × Cleared (now «graph_rows») (now «graph_names») × (entryPlaces (now entries) ≡ finishedPlaces (now rows) (now names) end) ⌝ }
     ensures { λ r. ⌜ ((g : TypeGraph) → GraphOf (now (rows .entry)) (now (names .entry)) end g → GraphWritten g (now («graph_rows» .entry)) (now («graph_names» .entry)) r (now («graph_rows» .exit)) (now («graph_names» .exit))) ⌝ }
 {
-    let types = index_types(rows, names, end, scratch);
     let first = Used { rows: 1, names: 0 };
-    let kept = &scratch[..types];
-    let grown = put_graph(graph_rows, graph_names, first, rows, names, end, kept);
+    let grown = put_graph(graph_rows, graph_names, first, rows, names, end, entries);
     let Grown::To(used) = grown else {
         return Grown::Full;
     };
-    let row0 = row0_of(used, count_roots(rows, end), types);
+    let row0 = row0_of(used, count_roots(rows, end), entries.len());
     row::put_row0(graph_rows, row0);
     Grown::To(used)
 }
 
+// From 15 on: the scratch holds an entry for each type.
+fn lower_distinct(
+    rows: &[u32],
+    names: &[u8],
+    end: usize,
+    types: usize,
+    graph_rows: &mut [u32],
+    graph_names: &mut [u8],
+    scratch: &mut [u32],
+) -> Answer
+    requires { ⌜ Finished (now rows) (now names) end (now scratch) × Cleared (now «graph_rows») (now «graph_names») × AllIn (now rows) (now names) end (now scratch) types ⌝ }
+    ensures { λ r. ⌜ ((g : TypeGraph) → GraphOf (now (rows .entry)) (now (names .entry)) end g → lowered (r .number) (r .place) (now («graph_rows» .exit)) (now («graph_names» .exit)) (now (scratch .exit)) ≡ written g (sheet (now («graph_rows» .entry)) (now («graph_names» .entry))) (now (scratch .entry))) ⌝ }
+{
+    let entries = &scratch[..types];
+    let grown = write_graph(rows, names, end, graph_rows, graph_names, entries);
+    zero_scratch(scratch);
+    let Grown::To(used) = grown else {
+        zero_graph(graph_rows, graph_names);
+        return answer(returned::NO_ROOM_IN_GRAPH, 0);
+    };
+    answer(returned::ACCEPTED, used.rows)
+}
+
+// From 20 on: nothing is written before every name is seen to be new.
 fn lower_known(
     rows: &[u32],
     names: &[u8],
@@ -144,15 +163,24 @@ fn lower_known(
     scratch: &mut [u32],
 ) -> Answer
     requires { ⌜ Finished (now rows) (now names) end (now scratch) × Cleared (now «graph_rows») (now «graph_names») ⌝ }
-    ensures { λ r. ⌜ ((g : TypeGraph) → GraphOf (now (rows .entry)) (now (names .entry)) end g → lowered (r .number) (r .place) (now («graph_rows» .exit)) (now («graph_names» .exit)) (now (scratch .exit)) ≡ written g (sheet (now («graph_rows» .entry)) (now («graph_names» .entry))) (now (scratch .entry))) ⌝ }
+    ensures { λ r. ⌜ ((g : TypeGraph) → GraphOf (now (rows .entry)) (now (names .entry)) end g → lowered (r .number) (r .place) (now («graph_rows» .exit)) (now («graph_names» .exit)) (now (scratch .exit)) ≡ repeatedOrWritten (firstRepeated [] (headsAt (now (rows .entry)) (now (names .entry)) end)) g (sheet (now («graph_rows» .entry)) (now («graph_names» .entry))) (now (scratch .entry))) ⌝ }
 {
-    let grown = write_graph(rows, names, end, graph_rows, graph_names, scratch);
-    zero_scratch(scratch);
-    let Grown::To(used) = grown else {
-        zero_graph(graph_rows, graph_names);
-        return answer(returned::NO_ROOM_IN_GRAPH, 0);
-    };
-    answer(returned::ACCEPTED, used.rows)
+    let indexed = index_types(rows, names, end, scratch);
+    match indexed {
+        Indexed::All(types) => lower_distinct(
+            rows,
+            names,
+            end,
+            types,
+            graph_rows,
+            graph_names,
+            scratch,
+        ),
+        Indexed::Repeated(place) => {
+            zero_scratch(scratch);
+            answer(returned::REPEATED_NAME, place)
+        }
+    }
 }
 
 // From 12 on graph sheet and scratch are left zero, so they are cleared before the tests.
@@ -207,7 +235,7 @@ fn lower_good(
     )
 }
 
-// Lowers a schema sheet into a graph sheet. Under 1, 2 and 14 nothing is changed; under 12, 13 and 15 graph and scratch are zero.
+// Lowers a schema sheet into a graph sheet. Under 1, 2 and 14 nothing is changed; under 12, 13, 20 and 15 graph and scratch are zero.
 pub fn lower(
     rows: &[u32],
     names: &[u8],

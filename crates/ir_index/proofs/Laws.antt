@@ -1,8 +1,7 @@
 -- Laws of the definitions in specs/: Prints of fingerprints, Heads of the names of heads, Kinds of the places of heads,
--- Insert of a place put in, Entries of the entries stored so far, Walk of the pass over the rows.
+-- Entries of the entries stored so far, Walk of the pass over the rows.
 pub mod Prints
 pub mod Heads
 pub mod Kinds
-pub mod Insert
 pub mod Entries
 pub mod Walk

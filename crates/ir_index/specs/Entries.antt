@@ -2,24 +2,32 @@
 --     isKind        a finished type's head: of a complex type, or of a simple one
 --     kindPlaces    the places of such heads from place p up to place end
 --     headName      the name in a row's first pair
---     firstSame     how many places stand before the first one whose name is that of p
+--     namesIn       the names of the types of the first n entries
 --     hasPrint      an entry has the fingerprint f
 --     HeadAt        a finished type's head stands at place p
 --     EntryOf       an entry's place is a head's, and its fingerprint that of the name there
 --     Entries       the first n numbers are entries
 --     Flagged       there is a flag for each fingerprint, and that of each entry is set
 --     Known         both
---     Entered       the places ps have been put in, and the entries are known
-use Prim.Native.Nat.{ℕ, suc, _+_, _*_, _/_, _%_, _≤_, _<_}
+--     Added         the type at place p is one entry more, and its name is new
+--     Entered       that, or its name came before
+--     repeatedKind  the row of the first head of one kind whose name came before
+--     KindIn        the heads of one kind are entries, and their names are new and no two the same
+--     KindEntered   that, or the row of the first whose name came before
+use Prim.Native.Nat.{ℕ, _+_, _*_, _/_, _%_, _≤_, _<_}
 use mathlib.Core.Path.{_≡_}
-use mathlib.Core.List.{List, [], _∷_}
+use mathlib.Core.List.{List, [], _∷_, _++_, map}
 use mathlib.Core.Bool.{Bool, true, false, _||_}
+use mathlib.Core.Option.{Option, some, none}
 use lib.Dec.{eqb}
 use lib.ListN.{length, getD}
-use Rattle.text.specs.Text.{Text, if_then_else_, same}
+use Rattle.text.specs.Text.{Text, if_then_else_}
 use Rattle.sheet.specs.Rows.{textAt}
+use Rattle.ir_types.specs.Distinct.{among}
+use Rattle.ir_lower.specs.Repeated.{firstRepeated}
 use Rattle.ir_rows.specs.Places.{rowsFrom, nameAt}
-use Rattle.ir_rows.specs.Types.{isSimple, isComplex, isType, placesOf, insertPlaces, placesIn}
+use Rattle.ir_rows.specs.Types.{isSimple, isComplex, isType, placesOf, headAt, placesIn}
+use Rattle.ir_index.specs.declared.Indexed.{Indexed}
 use Rattle.ir_index.specs.Prints.{fingerprint}
 
 unfoldable pub isKind : Bool → ℕ → Bool
@@ -31,9 +39,8 @@ kindPlaces rows names end complex p = placesOf (isKind complex) p (rowsFrom rows
 unfoldable pub headName : List ℕ → List ℕ → ℕ → Text
 headName rows names p = textAt names (getD rows (10 * p + 1) 0) (getD rows (10 * p + 2) 0)
 
-unfoldable pub firstSame : (ℕ → Text) → ℕ → List ℕ → ℕ
-firstSame name p [] = 0
-firstSame name p (q ∷ qs) = if same (name q) (name p) then 0 else suc (firstSame name p qs)
+abbrev pub namesIn : List ℕ → List ℕ → ℕ → List ℕ → List Text
+namesIn rows names n scratch = map (nameAt rows names) (placesIn n scratch)
 
 unfoldable pub hasPrint : ℕ → List ℕ → Bool
 hasPrint f [] = false
@@ -59,7 +66,25 @@ pub record Known (rows names scratch : List ℕ) (n : ℕ) (flags : List ℕ) : 
   pub entries : Entries rows names scratch n
   pub flagged : Flagged scratch n flags
 
-pub record Entered (rows names before : List ℕ) (n : ℕ) (ps after : List ℕ) (m : ℕ) (flags : List ℕ) : Type 0 where
-  pub places : placesIn m after ≡ insertPlaces (nameAt rows names) ps (placesIn n before)
+pub record Added (rows names before : List ℕ) (n p : ℕ) (after flags : List ℕ) : Type 0 where
+  pub new : among (nameAt rows names p) (namesIn rows names n before) ≡ false
+  pub places : placesIn (n + 1) after ≡ placesIn n before ++ (p ∷ [])
+  pub known : Known rows names after (n + 1) flags
+
+abbrev pub Entered : List ℕ → List ℕ → List ℕ → ℕ → ℕ → List ℕ → List ℕ → Bool → Type 0
+Entered rows names before n p after flags true = Added rows names before n p after flags
+Entered rows names before n p after flags false = among (nameAt rows names p) (namesIn rows names n before) ≡ true
+
+-- from place p on: came before with one of the first n entries, or with such a head
+abbrev pub repeatedKind : List ℕ → List ℕ → ℕ → Bool → List ℕ → ℕ → ℕ → Option ℕ
+repeatedKind rows names end complex scratch n p = firstRepeated (namesIn rows names n scratch) (map (headAt rows names) (kindPlaces rows names end complex p))
+
+pub record KindIn (rows names : List ℕ) (end : ℕ) (complex : Bool) (before : List ℕ) (n : ℕ) (after : List ℕ) (m : ℕ) (flags : List ℕ) : Type 0 where
+  pub once : repeatedKind rows names end complex before n 2 ≡ none
+  pub places : placesIn m after ≡ placesIn n before ++ kindPlaces rows names end complex 2
   pub known : Known rows names after m flags
-  pub room : m ≤ n + length ps
+  pub room : m ≤ n + length (kindPlaces rows names end complex 2)
+
+abbrev pub KindEntered : List ℕ → List ℕ → ℕ → Bool → List ℕ → ℕ → List ℕ → List ℕ → Indexed → Type 0
+KindEntered rows names end complex before n after flags (Indexed.All m) = KindIn rows names end complex before n after m flags
+KindEntered rows names end complex before n after flags (Indexed.Repeated p) = repeatedKind rows names end complex before n 2 ≡ some p

@@ -1,17 +1,17 @@
-// Which head holds each name (paper 01: "Each normalised name holds its last definition at the place where it first came."): one
-// number for each name, in the order in which the names came.
+// The finished types in lowering's order, one number for each, up to the first whose name came before (order 4: "Lowering refuses when
+// two finished types normalise to the same name").
 ghost use mathlib.Core.Path.{_≡_};
 ghost use Prim.Native.Nat.{_+_, _*_, _/_, _%_, _≤_, _<_};
-ghost use mathlib.Core.List.{[], _∷_};
 ghost use lib.ListN.{length};
 ghost use Rattle.text.specs.Text.{same};
 ghost use Rattle.names.specs.Names.{normalizeTypeName};
 ghost use Rattle.sheet.specs.Limits.{rowsLimit};
-ghost use Rattle.ir_rows.specs.Places.{rowsFrom, nameAt};
-ghost use Rattle.ir_rows.specs.Types.{typePlaces, keptPlaces, placesIn};
-ghost use Rattle.ir_index.specs.Index.{Indexed};
+ghost use Rattle.ir_types.specs.Distinct.{among};
+ghost use Rattle.ir_rows.specs.Places.{nameAt};
+ghost use Rattle.ir_rows.specs.Types.{finishedPlaces};
+ghost use Rattle.ir_index.specs.Index.{IndexIs};
 ghost use Rattle.ir_index.specs.Prints.{mixed, fingerprint};
-ghost use Rattle.ir_index.specs.Entries.{isKind, kindPlaces, headName, firstSame, hasPrint, HeadAt, EntryOf, Entries, Known, Entered};
+ghost use Rattle.ir_index.specs.Entries.{isKind, kindPlaces, headName, namesIn, hasPrint, HeadAt, EntryOf, Entries, Known, Entered, KindEntered};
 use names::cased;
 use names::same::same_normalized;
 use sheet::limits;
@@ -19,6 +19,12 @@ use tape::pairs::part_of;
 use tape::pairs::wide;
 use text::has_byte;
 use xsd_types::tags;
+
+// How many types there are, or the row of the first whose name came before.
+pub enum Indexed {
+    All(usize),
+    Repeated(usize),
+}
 
 fn mix(h: u32, b: u8) -> u32
     requires { ⌜ h < 65536 ⌝ }
@@ -80,27 +86,20 @@ fn entry_same(rows: &[u32], names: &[u8], entry: u32, place: usize, print: u32) 
     same_normalized(held, asked)
 }
 
-fn find_same(
-    rows: &[u32],
-    names: &[u8],
-    place: usize,
-    print: u32,
-    scratch: &[u32],
-    n: usize,
-) -> usize
+fn has_name(rows: &[u32], names: &[u8], place: usize, print: u32, scratch: &[u32], n: usize) -> bool
     requires { ⌜ Entries (now rows) (now names) (now scratch) n ⌝ }
     requires { ⌜ HeadAt (now rows) place ⌝ }
     requires { ⌜ print ≡ fingerprint (nameAt (now rows) (now names) place) ⌝ }
-    ensures { λ r. ⌜ r ≡ firstSame (nameAt (now (rows .entry)) (now (names .entry))) place (placesIn n (now (scratch .entry))) ⌝ }
+    ensures { λ r. ⌜ r ≡ among (nameAt (now (rows .entry)) (now (names .entry)) place) (namesIn (now (rows .entry)) (now (names .entry)) n (now (scratch .entry))) ⌝ }
 {
     let mut k = 0;
     while k < n {
         if entry_same(rows, names, scratch[k], place, print) {
-            return k;
+            return true;
         }
         k += 1;
     }
-    n
+    false
 }
 
 // No early exit: the compiler makes wide compares of it.
@@ -117,7 +116,7 @@ fn has_print(entries: &[u32], print: u32) -> bool
 }
 
 // A flag that is not set says that there is no entry with its fingerprint.
-fn spot_of(
+fn name_came(
     rows: &[u32],
     names: &[u8],
     place: usize,
@@ -125,22 +124,23 @@ fn spot_of(
     scratch: &[u32],
     n: usize,
     flags: &[u8],
-) -> usize
+) -> bool
     requires { ⌜ Known (now rows) (now names) (now scratch) n (now flags) ⌝ }
     requires { ⌜ HeadAt (now rows) place ⌝ }
     requires { ⌜ print ≡ fingerprint (nameAt (now rows) (now names) place) ⌝ }
-    ensures { λ r. ⌜ r ≡ firstSame (nameAt (now (rows .entry)) (now (names .entry))) place (placesIn n (now (scratch .entry))) ⌝ }
+    ensures { λ r. ⌜ r ≡ among (nameAt (now (rows .entry)) (now (names .entry)) place) (namesIn (now (rows .entry)) (now (names .entry)) n (now (scratch .entry))) ⌝ }
 {
     let f = wide(print);
     if flags[f] == 0 {
-        return n;
+        return false;
     }
     if !has_print(&scratch[..n], print) {
-        return n;
+        return false;
     }
-    find_same(rows, names, place, print, scratch, n)
+    has_name(rows, names, place, print, scratch, n)
 }
 
+// Whether the name is new; only then is there one entry more.
 fn enter(
     rows: &[u32],
     names: &[u8],
@@ -148,18 +148,20 @@ fn enter(
     scratch: &mut [u32],
     n: usize,
     flags: &mut [u8],
-) -> usize
+) -> bool
     requires { ⌜ Known (now rows) (now names) (now scratch) n (now flags) ⌝ }
     requires { ⌜ HeadAt (now rows) place ⌝ }
     requires { ⌜ (length (now rows) ≤ rowsLimit) × (n < length (now scratch)) ⌝ }
-    ensures { λ r. ⌜ Entered (now (rows .entry)) (now (names .entry)) (now (scratch .entry)) n (place ∷ []) (now (scratch .exit)) r (now (flags .exit)) ⌝ }
+    ensures { λ r. ⌜ Entered (now (rows .entry)) (now (names .entry)) (now (scratch .entry)) n place (now (scratch .exit)) (now (flags .exit)) r ⌝ }
 {
     let print = print_of(name_at(rows, names, place));
-    let at = spot_of(rows, names, place, print, scratch, n, flags);
+    if name_came(rows, names, place, print, scratch, n, flags) {
+        return false;
+    }
     let f = wide(print);
-    scratch[at] = place as u32 + 65536 * print;
+    scratch[n] = place as u32 + 65536 * print;
     flags[f] = 1;
-    if at == n { n + 1 } else { n }
+    true
 }
 
 fn enter_kind(
@@ -170,28 +172,34 @@ fn enter_kind(
     scratch: &mut [u32],
     n: usize,
     flags: &mut [u8],
-) -> usize
+) -> Indexed
     requires { ⌜ Known (now rows) (now names) (now scratch) n (now flags) ⌝ }
     requires { ⌜ (10 * end ≤ length (now rows)) × (length (now rows) ≤ rowsLimit) × (n + length (kindPlaces (now rows) (now names) end complex 2) ≤ length (now scratch)) ⌝ }
-    ensures { λ r. ⌜ Entered (now (rows .entry)) (now (names .entry)) (now (scratch .entry)) n (kindPlaces (now (rows .entry)) (now (names .entry)) end complex 2) (now (scratch .exit)) r (now (flags .exit)) ⌝ }
+    ensures { λ r. ⌜ KindEntered (now (rows .entry)) (now (names .entry)) end complex (now (scratch .entry)) n (now (scratch .exit)) (now (flags .exit)) r ⌝ }
 {
     let mut count = n;
     let mut place = 2;
     while place < end {
         if is_kind(complex, rows[limits::ROW * place]) {
-            count = enter(rows, names, place, scratch, count, flags);
+            if !enter(rows, names, place, scratch, count, flags) {
+                return Indexed::Repeated(place);
+            }
+            count += 1;
         }
         place += 1;
     }
-    count
+    Indexed::All(count)
 }
 
 // "Only finished types are lowered, simple ones before complex."
-pub fn index_types(rows: &[u32], names: &[u8], end: usize, scratch: &mut [u32]) -> usize
-    requires { ⌜ (2 ≤ end) × (10 * end ≤ length (now rows)) × (length (now rows) ≤ rowsLimit) × (length (typePlaces 2 (rowsFrom (now rows) (now names) 2 end)) ≤ length (now scratch)) ⌝ }
-    ensures { λ r. ⌜ Indexed (keptPlaces (now (rows .entry)) (now (names .entry)) end) (now (scratch .exit)) r ⌝ }
+pub fn index_types(rows: &[u32], names: &[u8], end: usize, scratch: &mut [u32]) -> Indexed
+    requires { ⌜ (2 ≤ end) × (10 * end ≤ length (now rows)) × (length (now rows) ≤ rowsLimit) × (length (finishedPlaces (now rows) (now names) end) ≤ length (now scratch)) ⌝ }
+    ensures { λ r. ⌜ IndexIs (now (rows .entry)) (now (names .entry)) end (now (scratch .exit)) r ⌝ }
 {
     let mut flags = [0u8; 65536];
     let simple = enter_kind(rows, names, end, false, scratch, 0, &mut flags);
-    enter_kind(rows, names, end, true, scratch, simple, &mut flags)
+    match simple {
+        Indexed::All(n) => enter_kind(rows, names, end, true, scratch, n, &mut flags),
+        Indexed::Repeated(place) => Indexed::Repeated(place),
+    }
 }

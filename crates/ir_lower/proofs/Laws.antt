@@ -2,9 +2,11 @@
 pub mod Cardinality
 pub mod References
 pub mod Types
+pub mod Repeated
 pub mod Refusals
 pub mod GraphOk
 pub mod Left
 pub mod Members
 pub mod Outcome
 pub mod Form
+pub mod Names

@@ -1,10 +1,11 @@
--- The lowering call: paper 01, "Returned numbers". "Lowering: 1, 2, 14, 12, 13, 15."
+-- The lowering call: paper 01, "Returned numbers". "Lowering: 1, 2, 14, 12, 13, 15."; order 4: "20, between 13 and 15".
 --     Lowered           a lowering's answer with the graph sheet and the scratch afterwards
 --     zeros             as many zeros as the list is long
 --     unchanged         a refusal that changes nothing
 --     cleared           a refusal that clears graph and scratch
 --     written           the graph, or 15
---     refusedOrWritten  13, or the graph
+--     repeatedOrWritten 20, or the graph
+--     refusedOrWritten  13, or what follows it
 --     lowerFinished     the call on a state with scratch enough, from 12 on
 --     lowerState        the call on a state, from 14 on
 --     lowering          the call; LowerIs: what it says of itself
@@ -27,6 +28,7 @@ use Rattle.ir_types.specs.Types.{TypeGraph}
 use Rattle.ir_types.specs.Rows.{rowsUsed}
 use Rattle.ir_types.specs.Sheet.{graphFits, graphSheet}
 use Rattle.ir_lower.specs.Lower.{lower, unknownRow, finishedTypes}
+use Rattle.ir_lower.specs.Repeated.{repeatedRow}
 
 pub record Lowered : Type 0 where
   pub answer : Answer
@@ -60,10 +62,15 @@ written g graph scratch =
     }
     else cleared returned.noRoomInGraph 0 graph scratch
 
+-- 20: "the place is the row of the first head, in lowering's order, whose name came before"
+abbrev pub repeatedOrWritten : Option ℕ → TypeGraph → Sheet → List ℕ → Lowered
+repeatedOrWritten (some row) g graph scratch = cleared returned.repeatedName row graph scratch
+repeatedOrWritten none g graph scratch = written g graph scratch
+
 -- 13: "`UnknownBase`; place is the row of the first such simple type"
 abbrev pub refusedOrWritten : Schema → Option TypeGraph → Sheet → List ℕ → Lowered
 refusedOrWritten s none graph scratch = cleared returned.unknownBase (unknownRow 2 (s .items)) graph scratch
-refusedOrWritten s (some g) graph scratch = written g graph scratch
+refusedOrWritten s (some g) graph scratch = repeatedOrWritten (repeatedRow s) g graph scratch
 
 -- 12: "lowering, no root seen"
 unfoldable pub lowerFinished : State → Sheet → List ℕ → Lowered

@@ -13,7 +13,7 @@ use Rattle.names.specs.Unfold.{computes as conversions}
 use Rattle.sheet.specs.Rows.{Sheet}
 use Rattle.sheet.specs.Unfold.{computes as sheets}
 use Rattle.xsd_types.specs.Types.{Facet, MaxOccurs, ComplexContent, Item, Schema}
-use Rattle.xsd_types.specs.State.{Context, State, firstState}
+use Rattle.xsd_types.specs.State.{ComplexContentBuilder, Context, State, firstState}
 use Rattle.xsd_types.specs.Sheet.{sheetOf}
 use Rattle.xsd_types.specs.Unfold.{computes as schemas}
 use Rattle.ir_types.specs.Types.{TypeRef, Cardinality, TypeDef, TypeGraph}
@@ -36,17 +36,11 @@ graph types = some (record { namespace = []; rootElements = []; types = types })
 
 -- ---- the graph
 
--- one definition for the two, at the first place, the last one
-one-name : lower (schema (simple (bytes "Amount_SimpleType") (bytes "xs:decimal") [] ∷ simple (bytes "T") (bytes "xs:date") [] ∷ simple (bytes "AmountSimpleType") (bytes "string") [] ∷ []))
-    ≡ graph (TypeDef.newtype (bytes "AmountSimpleType") RustType.string [] ∷ TypeDef.newtype (bytes "T") RustType.date [] ∷ [])
-unfolding schema simple graph texts builtinNames conversions schemas graphs lowerings
-one-name = refl
-
--- a redefined type is not moved to the end, though a complex type comes behind all simple ones
-redefined : lower (schema (complex (bytes "A") (ComplexContent.any none) ∷ simple (bytes "A") (bytes "string") [] ∷ simple (bytes "B") (bytes "string") [] ∷ []))
-    ≡ graph (TypeDef.opaque (bytes "A") none ∷ TypeDef.newtype (bytes "B") RustType.string [] ∷ [])
+-- all finished types, simple ones before complex, whatever their names: a name that came before is judged by the call
+in-order : lower (schema (complex (bytes "A") (ComplexContent.any none) ∷ simple (bytes "B") (bytes "string") [] ∷ simple (bytes "A") (bytes "date") [] ∷ []))
+    ≡ graph (TypeDef.newtype (bytes "B") RustType.string [] ∷ TypeDef.newtype (bytes "A") RustType.date [] ∷ TypeDef.opaque (bytes "A") none ∷ [])
 unfolding schema simple complex graph texts builtinNames conversions schemas graphs lowerings
-redefined = refl
+in-order = refl
 
 -- a code enum's base is not looked at
 code-enum : lower (schema (simple (bytes "C") (bytes "QName") (Facet.enumeration (bytes "TEST-VALUE") ∷ []) ∷ []))
@@ -69,15 +63,18 @@ cardinalities = (refl, refl, refl, refl, refl, refl)
 
 -- ---- the call
 
+stateIn : Context → ℕ → List Item → State
+stateIn context openTags items =
+    record { reader = record { schema = schema items; rootSeen = true; context = context }; events = 0; openTags = openTags; byStandard = false }
+
 state : List Item → State
-state items =
-    record { reader = record { schema = schema items; rootSeen = true; context = Context.noContext }; events = 0; openTags = 0; byStandard = false }
+state items = stateIn Context.noContext 0 items
 
 sevens : ℕ → ℕ → Sheet
 sevens rows names = record { rows = replicate rows 7; names = replicate names 7 }
 
 call : State → ℕ → ℕ → ℕ → Lowered
-call s rows names scratch = lowering (sheetOf s 100 20) (sevens rows names) (replicate scratch 7)
+call s rows names scratch = lowering (sheetOf s 100 40) (sevens rows names) (replicate scratch 7)
 
 -- the answer, with the graph's buffers and the scratch zero, or as they were
 zeroed : ℕ → ℕ → ℕ → ℕ → ℕ → Lowered
@@ -93,14 +90,10 @@ a = simple (bytes "A") (bytes "string") (Facet.pattern (bytes "p") ∷ [])
 bad : Item
 bad = simple (bytes "A") (bytes "QName") []
 
--- 13: the place is the row of the first refused simple type's head; one that a later type replaces is refused too
+-- 13: the place is the row of the first refused simple type's head
 unknown-base : call (state (Item.element (record { name = bytes "D"; typeName = bytes "A" }) ∷ a ∷ bad ∷ bad ∷ [])) 20 3 3 ≡ zeroed 13 5 20 3 3
-unfolding call sevens zeroed state schema simple a bad texts builtinNames conversions sheets schemas graphs lowerings
+unfolding call sevens zeroed stateIn state schema simple a bad texts builtinNames conversions sheets schemas graphs lowerings
 unknown-base = refl
-
-replaced-unknown : call (state (bad ∷ a ∷ [])) 40 9 2 ≡ zeroed 13 2 40 9 2
-unfolding call sevens zeroed state schema simple a bad texts builtinNames conversions sheets schemas graphs lowerings
-replaced-unknown = refl
 
 -- 12: no root seen
 no-root : call (firstState false) 20 0 1 ≡ zeroed 12 0 20 0 1
@@ -112,13 +105,13 @@ no-root-standard : call (firstState true) 20 0 1 ≡ zeroed 12 0 20 0 1
 unfolding call sevens zeroed texts builtinNames conversions sheets schemas graphs lowerings
 no-root-standard = refl
 
--- 14: two finished types, one number of scratch; two numbers are enough, though one name is left
+-- 14: two finished types, one number of scratch
 scratch-short : call (state (a ∷ a ∷ [])) 40 9 1 ≡ kept 14 40 9 1
-unfolding call sevens kept state schema simple a texts builtinNames conversions sheets schemas graphs lowerings
+unfolding call sevens kept stateIn state schema simple a texts builtinNames conversions sheets schemas graphs lowerings
 scratch-short = refl
 
--- 0 with exact room: four rows and two bytes of names; 15 with one row or one byte less. Only the last definition counts.
-exact-room : call (state (a ∷ a ∷ [])) 40 2 2
+-- 0 with exact room: four rows and two bytes of names; 15 with one row or one byte less
+exact-room : call (state (a ∷ [])) 40 2 2
     ≡ record {
       answer = record { number = 0; place = 4 };
       graph =
@@ -129,16 +122,66 @@ exact-room : call (state (a ∷ a ∷ [])) 40 2 2
           };
       scratch = 0 ∷ 0 ∷ [];
     }
-unfolding call sevens state schema simple a texts builtinNames conversions sheets schemas graphs lowerings
+unfolding call sevens stateIn state schema simple a texts builtinNames conversions sheets schemas graphs lowerings
 exact-room = refl
 
-one-row-less : call (state (a ∷ a ∷ [])) 30 2 2 ≡ zeroed 15 0 30 2 2
-unfolding call sevens zeroed state schema simple a texts builtinNames conversions sheets schemas graphs lowerings
+one-row-less : call (state (a ∷ [])) 30 2 2 ≡ zeroed 15 0 30 2 2
+unfolding call sevens zeroed stateIn state schema simple a texts builtinNames conversions sheets schemas graphs lowerings
 one-row-less = refl
 
-one-byte-less : call (state (a ∷ a ∷ [])) 40 1 2 ≡ zeroed 15 0 40 1 2
-unfolding call sevens zeroed state schema simple a texts builtinNames conversions sheets schemas graphs lowerings
+one-byte-less : call (state (a ∷ [])) 40 1 2 ≡ zeroed 15 0 40 1 2
+unfolding call sevens zeroed stateIn state schema simple a texts builtinNames conversions sheets schemas graphs lowerings
 one-byte-less = refl
+
+-- ---- 20, order 4. A simple type has one row, a complex one two
+
+s : Text → Item
+s name = simple name (bytes "string") []
+
+c : Text → Item
+c name = complex name (ComplexContent.sequence (record { name = bytes "e"; typeName = bytes "t"; minOccurs = 1; maxOccurs = MaxOccurs.bounded 1 } ∷ []))
+
+-- number and place of a lowering with scratch enough and a graph of 20 numbers without names: 20 comes before 15
+judged : List Item → ℕ → ℕ → Type 0
+judged items number place = call (state items) 20 0 4 ≡ zeroed number place 20 0 4
+
+-- the complex one comes behind the simple one, wherever it stands
+simple-first : judged (s (bytes "a_b") ∷ c (bytes "AB") ∷ []) 20 3 × judged (c (bytes "AB") ∷ s (bytes "a_b") ∷ []) 20 2 × judged (c (bytes "AB") ∷ c (bytes "X") ∷ c (bytes "a_b") ∷ []) 20 6
+unfolding judged call sevens zeroed stateIn state schema simple complex s c texts builtinNames conversions sheets schemas graphs lowerings
+simple-first = (refl, refl, refl)
+
+-- the earliest second member, not the partner of the earliest first
+earliest-second : judged (s (bytes "A") ∷ s (bytes "B") ∷ s (bytes "B") ∷ s (bytes "A") ∷ []) 20 4 × judged (c (bytes "B") ∷ c (bytes "B") ∷ s (bytes "A") ∷ s (bytes "A") ∷ []) 20 7
+unfolding judged call sevens zeroed stateIn state schema simple complex s c texts builtinNames conversions sheets schemas graphs lowerings
+earliest-second = (refl, refl)
+
+-- 13 before 20, also where the pair's own member is the bad one; 14 before both
+thirteen-first : judged (s (bytes "AB") ∷ s (bytes "AB") ∷ simple (bytes "Q") (bytes "QName") [] ∷ []) 13 4 × judged (bad ∷ a ∷ []) 13 2 × judged (a ∷ bad ∷ []) 13 4
+unfolding judged call sevens zeroed stateIn state schema simple a bad s texts builtinNames conversions sheets schemas graphs lowerings
+thirteen-first = (refl, refl, refl)
+
+fourteen-first : call (state (s (bytes "AB") ∷ s (bytes "AB") ∷ [])) 20 0 1 ≡ kept 14 20 0 1
+unfolding call sevens kept stateIn state schema simple s texts builtinNames conversions sheets schemas graphs lowerings
+fourteen-first = refl
+
+-- `_` and the empty name are one; `ab`, `Ab` and `aB` are three, and 15 follows
+one-name : judged (s (bytes "_") ∷ s [] ∷ []) 20 3 × judged (s (bytes "ab") ∷ s (bytes "Ab") ∷ s (bytes "aB") ∷ []) 15 0
+unfolding judged call sevens zeroed stateIn state schema simple s texts builtinNames conversions sheets schemas graphs lowerings
+one-name = (refl, refl)
+
+-- an element is no type, and the open type is not finished
+elements-apart : call (state (Item.element (record { name = bytes "AB"; typeName = bytes "AB" }) ∷ s (bytes "AB") ∷ [])) 40 6 1 .answer ≡ record { number = 0; place = 4 }
+unfolding call sevens stateIn state schema simple s texts builtinNames conversions sheets schemas graphs lowerings
+elements-apart = refl
+
+opened : State
+opened = stateIn (Context.inComplexType (record { name = bytes "AB"; content = ComplexContentBuilder.empty; nestingDepth = 0 })) 2 (s (bytes "AB") ∷ [])
+
+open-apart : call opened 30 2 1 .answer ≡ record { number = 0; place = 3 }
+unfolding call sevens opened stateIn schema simple s texts builtinNames conversions sheets schemas graphs lowerings
+open-apart = refl
+
+-- ---- 1 and 2
 
 -- 1: the graph's rows length is no multiple of 10, or below 20; before 2: a sheet of sevens is not good
 bad-lengths : (lowering (sevens 20 0) (sevens 25 0) [] ≡ kept 1 25 0 0) × (lowering (sevens 20 0) (sevens 10 0) [] ≡ kept 1 10 0 0) × (lowering (sevens 10 0) (sevens 20 0) [] ≡ kept 1 20 0 0)

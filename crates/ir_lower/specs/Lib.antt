@@ -1,8 +1,9 @@
--- The definitions of the crate `ir_lower`: Lower is 001's `lower`, Call the lowering call, Finished the finished types in
--- lowering's order, Left what a lowering leaves, Outcome its conditions in their order.
+-- The definitions of the crate `ir_lower`: Lower is 001's `lower`, Finished has the finished types' names in lowering's order, Repeated which of
+-- them came before, Call the lowering call, Left what a lowering leaves, Outcome its conditions in their order.
 pub mod Lower
-pub mod Call
 pub mod Finished
+pub mod Repeated
+pub mod Call
 pub mod Left
 pub mod Outcome
 pub mod Unfold

@@ -1,7 +1,7 @@
 -- Lowering: 001 (lower.rs), `lower` and its helpers, clause by clause.
 use Prim.Native.Nat.{ℕ, _+_}
-use mathlib.Core.List.{List, [], _∷_, map}
-use mathlib.Core.Bool.{Bool, true, false, not, _&&_}
+use mathlib.Core.List.{List, [], _∷_, _++_, map}
+use mathlib.Core.Bool.{Bool, true, false, not, _&&_, _||_}
 use mathlib.Core.Option.{Option, some, none}
 use lib.Dec.{eqb, ltb}
 use lib.ListN.{length}
@@ -11,7 +11,7 @@ use Rattle.names.specs.Names.{normalizeTypeName, xmlToSnakeCase, codeToPascalCa
 use Rattle.xsd_types.specs.Types.{Element, Facet, SimpleType, MaxOccurs, SequenceElement, ChoiceVariant, Attribute, ComplexContent, ComplexType, Item, Schema, elements, simpleTypes, complexTypes}
 use Rattle.xsd_types.specs.State.{isEmpty}
 use Rattle.xsd_types.specs.Rows.{itemRows}
-use Rattle.ir_types.specs.Types.{TypeRef, Cardinality, FieldDef, VariantDef, Constraint, CodeValue, AttrDef, TypeDef, RootElement, TypeGraph, insert}
+use Rattle.ir_types.specs.Types.{TypeRef, Cardinality, FieldDef, VariantDef, Constraint, CodeValue, AttrDef, TypeDef, RootElement, TypeGraph}
 
 -- 001, `resolve_type_ref`: built-in names win
 unfoldable pub resolved : Text → Option RustType → TypeRef
@@ -117,28 +117,38 @@ lowerComplexType t = lowerContent (normalizeTypeName (t .name)) (t .content)
 
 -- ---- lower
 
-unfoldable pub lowerSimpleTypes : List SimpleType → List TypeDef → Option (List TypeDef)
-lowerSimpleTypes [] types = some types
-lowerSimpleTypes (t ∷ ts) types = elim (lowerSimpleType t) [ none ↦ none | some d ↦ lowerSimpleTypes ts (insert d types) ]
+-- a finished simple type that lowering refuses is there
+unfoldable pub anyUnknown : List SimpleType → Bool
+anyUnknown [] = false
+anyUnknown (t ∷ ts) = unknownBase t || anyUnknown ts
 
-unfoldable pub lowerComplexTypes : List ComplexType → List TypeDef → List TypeDef
-lowerComplexTypes [] types = types
-lowerComplexTypes (t ∷ ts) types = lowerComplexTypes ts (insert (lowerComplexType t) types)
+-- the definitions of those that it does not refuse
+unfoldable pub withDefinition : Option TypeDef → List TypeDef → List TypeDef
+withDefinition none ds = ds
+withDefinition (some d) ds = d ∷ ds
+
+unfoldable pub simpleDefinitions : List SimpleType → List TypeDef
+simpleDefinitions [] = []
+simpleDefinitions (t ∷ ts) = withDefinition (lowerSimpleType t) (simpleDefinitions ts)
+
+-- "Only finished types are lowered, simple ones before complex."
+unfoldable pub finishedDefinitions : Schema → List TypeDef
+finishedDefinitions s = simpleDefinitions (simpleTypes (s .items)) ++ map lowerComplexType (complexTypes (s .items))
 
 unfoldable pub rootOf : Element → RootElement
 rootOf e = record { xmlName = e .name; typeName = e .typeName }
 
-unfoldable pub graphOf : Schema → List TypeDef → TypeGraph
-graphOf s types =
+unfoldable pub graphOf : Schema → TypeGraph
+graphOf s =
     record {
       namespace = s .targetNamespace;
       rootElements = map rootOf (elements (s .items));
-      types = lowerComplexTypes (complexTypes (s .items)) types;
+      types = finishedDefinitions s;
     }
 
--- "Only finished types are lowered, simple ones before complex."
+-- none is `UnknownBase`
 unfoldable pub lower : Schema → Option TypeGraph
-lower s = elim (lowerSimpleTypes (simpleTypes (s .items)) []) [ none ↦ none | some types ↦ some (graphOf s types) ]
+lower s = if anyUnknown (simpleTypes (s .items)) then none else some (graphOf s)
 
 -- 13: "place is the row of the first such simple type": row is the first item's row in the schema sheet
 unfoldable pub isUnknown : Item → Bool

@@ -1,9 +1,10 @@
 -- One name that unfolds every definition of this crate, for examples by computation.
 use Rattle.ir_lower.specs.Call.{zeros, unchanged, cleared, written, lowerFinished, lowerState, lowering}
-use Rattle.ir_lower.specs.Finished.{withDefinition, simpleDefinitions, finishedDefinitions, simpleName, complexName, finishedNames, anyUnknown, references, typeNamesIn}
+use Rattle.ir_lower.specs.Finished.{simpleName, complexName, finishedNames, references, typeNamesIn}
 use Rattle.ir_lower.specs.Left.{changesNothing, clearsGraph, clearsScratch, noGraph}
-use Rattle.ir_lower.specs.Lower.{resolved, resolveTypeRef, isEnumeration, allEnums, codes, constraints, lowerNewtype, lowerSimpleType, isNone, unknownBase, lowerCardinality, lowerField, lowerVariant, lowerAttribute, lowerContent, lowerComplexType, lowerSimpleTypes, lowerComplexTypes, rootOf, graphOf, lower, isUnknown, unknownRow, finishedTypes}
+use Rattle.ir_lower.specs.Lower.{resolved, resolveTypeRef, isEnumeration, allEnums, codes, constraints, lowerNewtype, lowerSimpleType, isNone, unknownBase, lowerCardinality, lowerField, lowerVariant, lowerAttribute, lowerContent, lowerComplexType, anyUnknown, withDefinition, simpleDefinitions, finishedDefinitions, rootOf, graphOf, lower, isUnknown, unknownRow, finishedTypes}
+use Rattle.ir_lower.specs.Repeated.{simpleHead, complexHead, headsOf, heads, headNames, firstRepeated, repeatedRow}
 
 unfoldable pub computes : Unit {0}
-unfolding zeros unchanged cleared written lowerFinished lowerState lowering withDefinition simpleDefinitions finishedDefinitions simpleName complexName finishedNames anyUnknown references typeNamesIn changesNothing clearsGraph clearsScratch noGraph resolved resolveTypeRef isEnumeration allEnums codes constraints lowerNewtype lowerSimpleType isNone unknownBase lowerCardinality lowerField lowerVariant lowerAttribute lowerContent lowerComplexType lowerSimpleTypes lowerComplexTypes rootOf graphOf lower isUnknown unknownRow finishedTypes
+unfolding zeros unchanged cleared written lowerFinished lowerState lowering simpleName complexName finishedNames references typeNamesIn changesNothing clearsGraph clearsScratch noGraph resolved resolveTypeRef isEnumeration allEnums codes constraints lowerNewtype lowerSimpleType isNone unknownBase lowerCardinality lowerField lowerVariant lowerAttribute lowerContent lowerComplexType anyUnknown withDefinition simpleDefinitions finishedDefinitions rootOf graphOf lower isUnknown unknownRow finishedTypes simpleHead complexHead headsOf heads headNames firstRepeated repeatedRow
 computes = tt

@@ -1,5 +1,5 @@
--- Small sheets through the definitions, by computation: the rows that lowering makes of a sheet's rows are the graph's rows, redefined types, dropped
--- enumerations and an open type among them.
+-- Small sheets through the definitions, by computation: the rows that lowering makes of a sheet's rows are the graph's rows, dropped enumerations and an
+-- open type among them, and the name that came before is found.
 use Prim.Native.Nat.{ℕ}
 use mathlib.Core.Path.{_≡_, refl}
 use mathlib.Core.Bool.{true, false}
@@ -19,10 +19,11 @@ use Rattle.ir_types.specs.Types.{TypeGraph}
 use Rattle.ir_types.specs.Rows.{rowsOf}
 use Rattle.ir_types.specs.Unfold.{computes as graphs}
 use Rattle.ir_lower.specs.Lower.{lower}
+use Rattle.ir_lower.specs.Repeated.{firstRepeated}
 use Rattle.ir_lower.specs.Unfold.{computes as lowerings}
 use Rattle.ir_rows.specs.Places.{rowsFrom}
 use Rattle.ir_rows.specs.Lowered.{unknownPlace}
-use Rattle.ir_rows.specs.Types.{keptPlaces, graphRows}
+use Rattle.ir_rows.specs.Types.{finishedPlaces, headsAt, graphRows}
 use Rattle.ir_rows.specs.Unfold.{computes as places}
 
 simple : Text → Text → List Facet → Item
@@ -37,15 +38,15 @@ state items context =
 
 -- the rows that a sheet's rows up to a place give
 made : Sheet → ℕ → List Row
-made x end = graphRows (x .rows) (x .names) end (keptPlaces (x .rows) (x .names) end)
+made x end = graphRows (x .rows) (x .names) end (finishedPlaces (x .rows) (x .names) end)
 
 graphOf : Option TypeGraph → List Row
 graphOf none = []
 graphOf (some g) = rowsOf g
 
--- "A" has its last definition at the place where it first came; the enumeration of "B" is dropped, that of "C" is a code
-redefined : List Item
-redefined =
+-- simple types before the complex one, which has the name of the first of them; the enumeration of "B" is dropped, that of "C" is a code
+mixed : List Item
+mixed =
     complex (bytes "A") (ComplexContent.sequence (record { name = bytes "CreDt"; typeName = bytes "B_T"; minOccurs = 0; maxOccurs = MaxOccurs.bounded 1 } ∷ []))
     ∷ Item.element (record { name = bytes "D"; typeName = bytes "A" })
     ∷ simple (bytes "A") (bytes "string") []
@@ -53,10 +54,10 @@ redefined =
     ∷ simple (bytes "C") (bytes "QName") (Facet.enumeration (bytes "f") ∷ [])
     ∷ []
 
-redefined-rows : let x = sheetOf (state redefined Context.noContext) 120 40 in
-    (made x 11 ≡ graphOf (lower (state redefined Context.noContext .reader .schema))) × (keptPlaces (x .rows) (x .names) 11 ≡ 2 ∷ 6 ∷ 9 ∷ [])
-unfolding made graphOf simple complex state redefined texts builtinNames conversions sheets schemas graphs lowerings places
-redefined-rows = (refl, refl)
+mixed-rows : let x = sheetOf (state mixed Context.noContext) 120 40 in
+    (made x 11 ≡ graphOf (lower (state mixed Context.noContext .reader .schema))) × (finishedPlaces (x .rows) (x .names) 11 ≡ 5 ∷ 6 ∷ 9 ∷ 2 ∷ []) × (firstRepeated [] (headsAt (x .rows) (x .names) 11) ≡ some 2)
+unfolding made graphOf simple complex state mixed texts builtinNames conversions sheets schemas graphs lowerings places
+mixed-rows = (refl, refl, refl)
 
 -- the open type, which stands last, is not lowered: the finished items end at its head
 opened : Context

@@ -1,11 +1,9 @@
--- The types of a schema sheet by the places of their heads. Paper 01: "Only finished types are lowered, simple ones before complex." "Each normalised
--- name holds its last definition at the place where it first came."
+-- The types of a schema sheet by the places of their heads. Paper 01: "Only finished types are lowered, simple ones before complex."
 --     isSimple, isComplex, isType    the tag of a finished type's head: of a simple one, of a complex one, of either
 --     placesOf          the places of the rows whose tag passes a test; the list's first row is at place p
 --     typePlaces        the places of the finished types' heads in lowering's order
---     insertPlace       a place put where its name first came, or behind the others; name gives the name at a place
---     insertPlaces      places put so one after the other
---     keptPlaces        the places of the definitions that a sheet's graph keeps
+--     finishedPlaces    those of the rows from row 2 up to a place
+--     headAt            the head at a place, for order 4; headsAt: those of the finished types
 --     entryPlaces       the places that entries hold, each in its low 16 bits
 --     placesIn          those of the first n entries of a scratch
 --     typesRows         the graph's rows for the types at the given places
@@ -15,9 +13,10 @@ use mathlib.Core.List.{List, [], _∷_, _++_, map}
 use mathlib.Core.Bool.{Bool, false, _||_}
 use lib.Dec.{eqb}
 use lib.ListN.{take}
-use Rattle.text.specs.Text.{Text, if_then_else_, same, between}
+use Rattle.text.specs.Text.{if_then_else_, between}
 use Rattle.sheet.specs.Rows.{Row}
 use Rattle.xsd_types.specs.Tags.{simpleTypeTag, sequenceTag, anyTag}
+use Rattle.ir_lower.specs.Repeated.{Head}
 use Rattle.ir_rows.specs.Places.{rowAt, rowsFrom, nameAt}
 use Rattle.ir_rows.specs.Lowered.{loweredRow, typeRowsOf, rootRows}
 
@@ -37,16 +36,14 @@ placesOf test p (r ∷ rs) = if test (r .tag) then p ∷ placesOf test (p + 1) r
 unfoldable pub typePlaces : ℕ → List Row → List ℕ
 typePlaces p rs = placesOf isSimple p rs ++ placesOf isComplex p rs
 
-unfoldable pub insertPlace : (ℕ → Text) → ℕ → List ℕ → List ℕ
-insertPlace name p [] = p ∷ []
-insertPlace name p (q ∷ qs) = if same (name q) (name p) then p ∷ qs else q ∷ insertPlace name p qs
+abbrev pub finishedPlaces : List ℕ → List ℕ → ℕ → List ℕ
+finishedPlaces rows names end = typePlaces 2 (rowsFrom rows names 2 end)
 
-unfoldable pub insertPlaces : (ℕ → Text) → List ℕ → List ℕ → List ℕ
-insertPlaces name [] qs = qs
-insertPlaces name (p ∷ ps) qs = insertPlaces name ps (insertPlace name p qs)
+unfoldable pub headAt : List ℕ → List ℕ → ℕ → Head
+headAt rows names p = record { row = p; name = nameAt rows names p }
 
-unfoldable pub keptPlaces : List ℕ → List ℕ → ℕ → List ℕ
-keptPlaces rows names end = insertPlaces (nameAt rows names) (typePlaces 2 (rowsFrom rows names 2 end)) []
+abbrev pub headsAt : List ℕ → List ℕ → ℕ → List Head
+headsAt rows names end = map (headAt rows names) (finishedPlaces rows names end)
 
 unfoldable pub entryPlaces : List ℕ → List ℕ
 entryPlaces entries = map (λ (e : ℕ). e % 65536) entries

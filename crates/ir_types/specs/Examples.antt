@@ -4,7 +4,6 @@
 use mathlib.Core.Path.{_≡_, refl}
 use mathlib.Core.Bool.{Bool, true, false}
 use mathlib.Core.List.{List, [], _∷_, _++_}
-use mathlib.Core.Option.{some, none}
 use Prim.Native.Nat.{ℕ}
 use Prim.Native.String.{String}
 use Rattle.text.specs.Text.{Text, if_then_else_, bytes}
@@ -13,12 +12,13 @@ use Rattle.builtin.specs.Builtin.{RustType}
 use Rattle.builtin.specs.Unfold.{computes as builtinNames}
 use Rattle.sheet.specs.Rows.{Sheet}
 use Rattle.sheet.specs.Unfold.{computes as sheets}
-use Rattle.ir_types.specs.Types.{TypeRef, Cardinality, Constraint, TypeDef, TypeGraph, insert}
+use Rattle.ir_types.specs.Types.{TypeRef, Cardinality, Constraint, TypeDef, TypeGraph}
 use Rattle.ir_types.specs.Rows.{rowsUsed, namesUsed}
 use Rattle.ir_types.specs.Sheet.{graphFits, graphSheet}
 use Rattle.ir_types.specs.Form.{graphForm}
 use Rattle.ir_types.specs.Label.{Labelled, label}
-use Rattle.ir_types.specs.Distinct.{firsts, find, lastOf}
+use Rattle.ir_types.specs.Distinct.{distinct}
+use Rattle.ir_types.specs.Last.{insert}
 use Rattle.ir_types.specs.Ok.{graphOk}
 use Rattle.ir_types.specs.Unfold.{computes as graphs}
 
@@ -70,7 +70,7 @@ sample-fits : (rowsUsed sample ≡ 9) × (namesUsed sample ≡ 20) × (graphFits
 unfolding sample texts builtinNames sheets graphs
 sample-fits = (refl, refl, refl, refl, refl)
 
--- ---- insert
+-- ---- names that come twice
 
 a : Bool → TypeDef
 a again = TypeDef.newtype (bytes "A") (if again then RustType.date else RustType.bool) []
@@ -78,7 +78,7 @@ a again = TypeDef.newtype (bytes "A") (if again then RustType.date else RustType
 b : Bool → TypeDef
 b again = TypeDef.newtype (bytes "B") (if again then RustType.date else RustType.bool) []
 
--- a redefined type is not moved to the end
+-- paper 01's rule: a redefined type is not moved to the end
 insert-again : insert (a true) (a false ∷ b false ∷ []) ≡ a true ∷ b false ∷ []
 unfolding a b texts graphs
 insert-again = refl
@@ -87,13 +87,9 @@ insert-behind : insert (b false) (a false ∷ []) ≡ a false ∷ b false ∷ []
 unfolding a b texts graphs
 insert-behind = refl
 
-firsts-small : firsts (bytes "A" ∷ bytes "B" ∷ bytes "A" ∷ bytes "C" ∷ bytes "B" ∷ []) ≡ bytes "A" ∷ bytes "B" ∷ bytes "C" ∷ []
-unfolding texts graphs
-firsts-small = refl
-
-last-and-first : (lastOf (bytes "A") (a false ∷ b false ∷ a true ∷ []) ≡ some (a true)) × (find (bytes "A") (a false ∷ b false ∷ a true ∷ []) ≡ some (a false)) × (lastOf (bytes "C") (a false ∷ []) ≡ none)
+distinct-small : (distinct (a false ∷ b false ∷ []) ≡ true) × (distinct (a false ∷ b false ∷ a true ∷ []) ≡ false)
 unfolding a b texts graphs
-last-and-first = (refl, refl, refl)
+distinct-small = (refl, refl)
 
 -- ---- label
 

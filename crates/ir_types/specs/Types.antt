@@ -1,12 +1,11 @@
 -- The type graph: 003 (ir/types.rs), with its names. `RustType` is in the crate `builtin`.
 --     TypeRef, Cardinality, FieldDef, VariantDef, Constraint, CodeValue, AttrDef, TypeDef, RootElement, TypeGraph    as in 003
 --     nameOf        a definition's name (003, `TypeDef::name`)
---     insert        003's IndexMap under the definition's name: "Each normalised name holds its last definition at the place where it first came."
 use Prim.Native.Nat.{ℕ}
-use mathlib.Core.List.{List, [], _∷_}
+use mathlib.Core.List.{List}
 use mathlib.Core.Bool.{Bool}
 use mathlib.Core.Option.{Option}
-use Rattle.text.specs.Text.{Text, if_then_else_, same}
+use Rattle.text.specs.Text.{Text}
 use Rattle.builtin.specs.Builtin.{RustType}
 
 pub data TypeRef : Type 0 where
@@ -70,7 +69,3 @@ nameOf (TypeDef.newtype n i cs) = n
 nameOf (TypeDef.codeEnum n cs) = n
 nameOf (TypeDef.valueWithAttr n v xs) = n
 nameOf (TypeDef.opaque n ns) = n
-
-unfoldable pub insert : TypeDef → List TypeDef → List TypeDef
-insert d [] = d ∷ []
-insert d (e ∷ es) = if same (nameOf e) (nameOf d) then d ∷ es else e ∷ insert d es

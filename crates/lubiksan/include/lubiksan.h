@@ -37,7 +37,8 @@
 #define LUBIKSAN_ATTRIBUTE 9     /* an attribute that must be there is missing */
 #define LUBIKSAN_VALUE 10        /* the value of an attribute is no number of its width; also of lubiksan_parse_u32 and _u64 */
 #define LUBIKSAN_ROOM 11         /* the state after the event needs more rows or names than lent */
-/* 12 to 15: lowering. Under 12, 13 and 15 all of graph and scratch is 0, under 14 nothing is changed. */
+/* 12 to 15 and 20: lowering. Under 12, 13, 15 and 20 all of graph and scratch is 0, under 14 nothing is changed. Of several the first
+   in the order 14, 12, 13, 20, 15 is returned. */
 #define LUBIKSAN_NO_ROOT 12      /* no schema tag was read */
 #define LUBIKSAN_UNKNOWN_BASE 13 /* a simple type's base is not built in; the place is the row of the first such type */
 #define LUBIKSAN_SCRATCH 14      /* the scratch has less than one number for each finished type */
@@ -47,6 +48,8 @@
 #define LUBIKSAN_MALFORMED 17    /* the text is not well formed by XML 1.0 (Fifth Edition), or not whole */
 #define LUBIKSAN_DOCTYPE 18      /* the bytes <!DOCTYPE with only a well-formed prolog, or nothing, before them */
 #define LUBIKSAN_MARKS 19        /* the tape needs more marks than lent */
+#define LUBIKSAN_NAME_TWICE 20   /* lowering: two finished types normalise to the same name; the place is the row of the first head, simple
+                                    types before complex ones, whose name came before */
 
 /* Kinds of events on a tape: kind, count of attributes, then pairs of offset and length into the text: the tag's name, then key
    and value of each attribute. A close is just its kind and 0. */
@@ -189,8 +192,8 @@ uint32_t lubiksan_clear(uint32_t *rows, size_t rows_length, uint8_t *names, size
 uint32_t lubiksan_read(uint32_t *rows, size_t rows_length, uint8_t *names, size_t names_length, const uint8_t *text,
                        size_t text_length, const uint32_t *marks, size_t marks_length, size_t *place);
 
-/* Lowers the finished types of a schema sheet, which is unchanged, to a graph sheet, whatever that held: 0, 1, 2 or 12 to 15, the
-   place in *place. The scratch has at least one number for each finished type, and is 0 afterwards. */
+/* Lowers the finished types of a schema sheet, which is unchanged, to a graph sheet, whatever that held: 0, 1, 2, 12 to 15 or
+   20, the place in *place. The scratch has at least one number for each finished type, and is 0 afterwards. */
 uint32_t lubiksan_lower(const uint32_t *rows, size_t rows_length, const uint8_t *names, size_t names_length,
                         uint32_t *graph_rows, size_t graph_rows_length, uint8_t *graph_names, size_t graph_names_length,
                         uint32_t *scratch, size_t scratch_length, size_t *place);

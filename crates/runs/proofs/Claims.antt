@@ -5,7 +5,6 @@ use mathlib.Core.Path.{_≡_}
 use mathlib.Core.Logic.{_↔_}
 use mathlib.Core.Bool.{true, false}
 use mathlib.Core.List.{List, [], _∷_, _++_}
-use mathlib.Core.Option.{some}
 use lib.ListN.{length, take, drop}
 use Rattle.text.specs.Text.{Text, bytes, every, isText, join}
 use Rattle.text.specs.Trim.{Around}
@@ -15,7 +14,7 @@ use Rattle.sheet.specs.Rows.{Sheet}
 use Rattle.sheet.specs.Form.{words}
 use Rattle.sheet.specs.Returned.{accepted}
 use Rattle.sheet.specs.Lengths.{tapeLengths, Lengths, lengthsOf, goodLengths}
-use Rattle.xsd_types.specs.Types.{Schema, MaxOccurs}
+use Rattle.xsd_types.specs.Types.{MaxOccurs}
 use Rattle.xsd_types.specs.State.{State, proper}
 use Rattle.xsd_types.specs.Row0.{row0In}
 use Rattle.xsd_types.specs.Sheet.{sheetOf, stateFits}
@@ -48,14 +47,15 @@ use Rattle.xml_text.proofs.Laws.Records.{tape-records}
 use Rattle.xml_text.proofs.Laws.Reads.{tape-reads, accepted-tape}
 use Rattle.xml_text.proofs.Laws.Written.{tag-written}
 use Rattle.xml_text.proofs.Laws.Back.{tag-back}
-use Rattle.ir_types.specs.Types.{Cardinality, TypeGraph}
-use Rattle.ir_types.specs.Distinct.{typeNames, distinct, firsts, find, lastOf}
+use Rattle.ir_types.specs.Types.{Cardinality}
+use Rattle.ir_types.specs.Last.{insertAll}
 use Rattle.ir_types.specs.Form.{graphForm}
-use Rattle.ir_lower.specs.Lower.{lower, lowerCardinality}
-use Rattle.ir_lower.specs.Finished.{finishedNames, finishedDefinitions}
+use Rattle.ir_lower.specs.Lower.{lowerCardinality, finishedDefinitions}
+use Rattle.ir_lower.specs.Repeated.{heads as typeHeads, FirstRepeat}
 use Rattle.ir_lower.specs.Call.{lowering}
+use Rattle.ir_lower.specs.Outcome.{Accepted, NameTwice}
 use Rattle.ir_lower.proofs.Laws.Cardinality.{optional-exactly, vec-exactly}
-use Rattle.ir_lower.proofs.Laws.Types.{lower-distinct, lower-order, lower-last}
+use Rattle.ir_lower.proofs.Laws.Names.{lowering-accepted, lowering-last, repeated-exactly, repeated-place}
 use Rattle.ir_lower.proofs.Laws.Form.{lowering-form}
 use Rattle.runs.specs.Runs.{Call, Answered, Ran, run}
 use Rattle.runs.specs.Trace.{Trace}
@@ -198,15 +198,21 @@ claim-optional = optional-exactly
 pub claim-vec : (min : ℕ) (max : MaxOccurs) → (lowerCardinality min max ≡ Cardinality.vec) ↔ (max ≡ MaxOccurs.unbounded)
 claim-vec = vec-exactly
 
--- "Each normalised name holds its last definition at the place where it first came."
-pub claim-once : (s : Schema) (g : TypeGraph) → lower s ≡ some g → distinct (g .types) ≡ true
-claim-once = lower-distinct
+-- order 4, one name for two types: in an accepted lowering the names are distinct, and the types are all finished types in lowering's order
+pub claim-types : (x graph : Sheet) (scratch : List ℕ) → lowering x graph scratch .answer .number ≡ 0 → Accepted (stateOf x .reader .schema) graph (lowering x graph scratch)
+claim-types = lowering-accepted
 
-pub claim-order : (s : Schema) (g : TypeGraph) → lower s ≡ some g → typeNames (g .types) ≡ firsts (finishedNames s)
-claim-order = lower-order
+-- "The last-definition rule then touches no accepted sheet": by paper 01's rule the types would be the same
+pub claim-last : (x graph : Sheet) (scratch : List ℕ) → lowering x graph scratch .answer .number ≡ 0 → insertAll (finishedDefinitions (stateOf x .reader .schema)) [] ≡ finishedDefinitions (stateOf x .reader .schema)
+claim-last = lowering-last
 
-pub claim-last : (s : Schema) (g : TypeGraph) (t : Text) → lower s ≡ some g → find t (g .types) ≡ lastOf t (finishedDefinitions s)
-claim-last = lower-last
+-- 20 exactly where 1, 2, 14, 12 and 13 do not come and "two finished types normalise to the same name"
+pub claim-repeated : (x graph : Sheet) (scratch : List ℕ) → (lowering x graph scratch .answer .number ≡ 20) ↔ NameTwice x graph scratch
+claim-repeated = repeated-exactly
+
+-- "the place is the row of the first head, in lowering's order, whose name came before"
+pub claim-repeated-place : (x graph : Sheet) (scratch : List ℕ) → lowering x graph scratch .answer .number ≡ 20 → FirstRepeat [] (typeHeads 2 (stateOf x .reader .schema .items)) (lowering x graph scratch .answer .place)
+claim-repeated-place = repeated-place
 
 -- what lowering writes has the graph's form
 pub claim-form : (x graph : Sheet) (scratch : List ℕ) → words (x .rows) ≡ true → lowering x graph scratch .answer .number ≡ 0 → graphForm (lowering x graph scratch .graph) ≡ true

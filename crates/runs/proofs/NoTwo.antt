@@ -42,8 +42,9 @@ unfolding unchanged cleared
 outcome-not-two s graph scratch l (Outcome.short a e) z = omega (arith, rw e at z)
 outcome-not-two s graph scratch l (Outcome.rootless a b e) z = omega (arith, rw e at z)
 outcome-not-two s graph scratch l (Outcome.unknown a b c e) z = omega (arith, rw e at z)
-outcome-not-two s graph scratch l (Outcome.tight a b g c f e) z = omega (arith, rw e at z)
-outcome-not-two s graph scratch l (Outcome.fitting a b g c f e) z = omega (arith, rw e at z)
+outcome-not-two s graph scratch l (Outcome.repeated a b g c row r e) z = omega (arith, rw e at z)
+outcome-not-two s graph scratch l (Outcome.tight a b g c r f e) z = omega (arith, rw e at z)
+outcome-not-two s graph scratch l (Outcome.fitting a b g c r f e) z = omega (arith, rw e at z)
 
 lower-not-two : (lent : Lengths) (s : State) (graph : Sheet) (scratch : List ℕ) → lowerHeld (Held.holding lent s) graph scratch .answer .number ≡ 2 → ⊥
 unfolding lowerHeld unchanged

@@ -1,5 +1,5 @@
 -- Paper 01, "Returned numbers": the numbers that the calls return, in the order of the table, and those of an event's refusals.
---     accepted .. badLabel    the numbers 0 to 16; malformed, doctype, shortMarks: 17 to 19, of order 1
+--     accepted .. badLabel    the numbers 0 to 16; malformed, doctype, shortMarks: 17 to 19, of order 1; repeatedName: 20, of order 4
 --     refusalNumber           the number of a refusal that an event can meet
 use Prim.Native.Nat.{ℕ}
 use Rattle.sheet.specs.declared.refusal.Refusal.{Refusal}
@@ -83,6 +83,10 @@ doctype = 18
 -- order 1: "19 marks too short"
 abbrev pub shortMarks : ℕ
 shortMarks = 19
+
+-- order 4: "two finished types normalise to the same name; the place is the row of the first head, in lowering's order, whose name came before"
+abbrev pub repeatedName : ℕ
+repeatedName = 20
 
 -- "event by event 3, 4, 5, 8, then 6 or 7, 9, 10, 11"
 abbrev pub refusalNumber : Refusal → ℕ

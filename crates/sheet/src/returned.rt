@@ -59,3 +59,6 @@ pub const DOCTYPE: u32 = 18;
 
 // order 1: "19 marks too short"
 pub const SHORT_MARKS: u32 = 19;
+
+// Order 4: "two finished types normalise to the same name; the place is the row of the first head, in lowering's order, whose name came before"
+pub const REPEATED_NAME: u32 = 20;

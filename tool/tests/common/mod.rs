@@ -73,8 +73,12 @@ pub fn compiles(source: &Path, edition: &str) {
 
 /// Every line says that names meet or a type is not there.
 pub fn tells_of_names(err: &str) -> bool {
-    let tells =
-        |line: &str| line.contains(" have the Rust name ") || line.contains("which is not there");
+    let ways = [
+        " have the Rust name ",
+        " has the same Rust name as ",
+        "which is not there",
+    ];
+    let tells = |line: &str| ways.iter().any(|words| line.contains(words));
     !err.is_empty() && err.lines().all(tells)
 }
 

@@ -1,10 +1,10 @@
 -- What the steps of a lowering answer and leave is the definition's, number by number: each by the definition's tests, since zeros and room depend on
 -- lengths alone. Assumes nothing.
 use Prim.Native.Nat.{ℕ, _%_, _≤_, _<_}
-use mathlib.Core.Path.{_≡_, refl, sym, ap, _∙_}
+use mathlib.Core.Path.{_≡_, refl, sym, ap, _∙_, subst}
 use mathlib.Core.Bool.{Bool, true, false, _&&_}
 use mathlib.Core.Option.{Option, some, none}
-use mathlib.Core.List.{List}
+use mathlib.Core.List.{List, []}
 use native.Mathlib.Omega.{arith}
 use lib.Dec.{eqb, leb}
 use lib.ListN.{length, replicate}
@@ -24,13 +24,16 @@ use Rattle.xsd_actions.specs.Actions.{modeOf}
 use Rattle.ir_types.specs.Types.{TypeGraph}
 use Rattle.ir_types.specs.Sheet.{graphFits}
 use Rattle.ir_lower.specs.Lower.{lower, finishedTypes}
-use Rattle.ir_lower.specs.Call.{Lowered, zeros, unchanged, cleared, written, refusedOrWritten, lowerFinished, lowerState, lowering}
+use Rattle.ir_lower.specs.Call.{Lowered, zeros, unchanged, cleared, written, repeatedOrWritten, refusedOrWritten, lowerFinished, lowerState, lowering}
+use Rattle.ir_lower.specs.Repeated.{firstRepeated, repeatedRow}
 use Rattle.ir_lower.proofs.Laws.Left.{length-zeros}
 use Rattle.ir_rows.specs.Places.{rowsFrom}
 use Rattle.ir_rows.specs.Lowered.{unknownPlace}
-use Rattle.ir_rows.specs.Types.{typePlaces}
+use Rattle.ir_rows.specs.Types.{finishedPlaces, headsAt}
 use Rattle.ir_rows.specs.End.{finishedEnd}
-use Rattle.ir_rows.proofs.Laws.Graph.{finished-types, unknown-place, unknown-refused, unknown-lowered, root-count, type-count, graph-rows}
+use Rattle.ir_rows.proofs.Laws.Graph.{finished-types, unknown-place, unknown-refused, unknown-lowered, repeated-heads, root-count, type-count, graph-rows}
+use Rattle.ir_index.specs.declared.Indexed.{Indexed}
+use Rattle.ir_index.specs.Index.{AllIn, IndexIs}
 use Rattle.ir_call.specs.Steps.{Sized, Cleared, Lowers, GraphOf, GraphStands}
 
 -- an answer, a graph sheet and a scratch as one value
@@ -73,10 +76,33 @@ unfolding written
 known-stands scratch scratch₁ g st e ls s =
     rw (st .fits) (λ i. record { answer = (e ∙ ap (answered 0) (st .place)) i; graph = st .graph i; scratch = (s ∙ zeros-as scratch₁ scratch ls) i })
 
--- a graph is written by the lengths alone
-written-zeros : (g : TypeGraph) (rows names scratch : List ℕ) → written g (sheet (zeros rows) (zeros names)) (zeros scratch) ≡ written g (sheet rows names) scratch
+-- what is left from 20 on depends on the lengths alone
+written-zeros : (o : Option ℕ) (g : TypeGraph) (rows names scratch : List ℕ) → repeatedOrWritten o g (sheet (zeros rows) (zeros names)) (zeros scratch) ≡ repeatedOrWritten o g (sheet rows names) scratch
 unfolding written cleared
-written-zeros g rows names scratch = rw (length-zeros rows, length-zeros names, ← zeros-twice rows, ← zeros-twice names, ← zeros-twice scratch)
+written-zeros (some row) g rows names scratch = rw (← zeros-twice rows, ← zeros-twice names, ← zeros-twice scratch)
+written-zeros none g rows names scratch = rw (length-zeros rows, length-zeros names, ← zeros-twice rows, ← zeros-twice names, ← zeros-twice scratch)
+
+-- ---- 20: the graph is zeros already
+
+pub known-repeated : {rows names : List ℕ} (scratch scratch₁ : List ℕ) {scratch₂ : List ℕ} {a : Answer} {row : ℕ} (o : Option ℕ) (g : TypeGraph) → o ≡ some row → Cleared rows names → a ≡ answered 20 row
+    → length scratch₁ ≡ length scratch → scratch₂ ≡ zeros scratch₁ → left a rows names scratch₂ ≡ repeatedOrWritten o g (sheet rows names) scratch
+unfolding cleared
+known-repeated {rows} {names} scratch scratch₁ o g q c e ls s =
+    (λ i. left (e i) (c .rowsZero i) (c .namesZero i) ((s ∙ zeros-as scratch₁ scratch ls) i)) ∙ ap (λ (r : Option ℕ). repeatedOrWritten r g (sheet rows names) scratch) (sym q)
+
+-- no name came before: the graph, or 15, by the scratch's length
+pub known-once : (rows names scratch scratch₁ : List ℕ) {x : Lowered} (o : Option ℕ) (g : TypeGraph) → o ≡ none → length scratch₁ ≡ length scratch → x ≡ written g (sheet rows names) scratch₁
+    → x ≡ repeatedOrWritten o g (sheet rows names) scratch
+unfolding written cleared
+known-once rows names scratch scratch₁ o g e ls w = w ∙ rw (zeros-as scratch₁ scratch ls) (ap (λ (r : Option ℕ). repeatedOrWritten r g (sheet rows names) scratch) (sym e))
+
+-- what indexing answers, by its case
+module _ (rows names : List ℕ) (end : ℕ) (scratch : List ℕ) (r : Indexed) (w : IndexIs rows names end scratch r) where
+  pub all-of : (n : ℕ) → r ≡ Indexed.All n → AllIn rows names end scratch n
+  all-of n e = subst (IndexIs rows names end scratch) e w
+
+  pub repeated-of : (p : ℕ) → r ≡ Indexed.Repeated p → firstRepeated [] (headsAt rows names end) ≡ some p
+  repeated-of p e = subst (IndexIs rows names end scratch) e w
 
 -- ---- 12 and 13
 
@@ -104,13 +130,14 @@ module _ {rows names : List ℕ} {end : ℕ} {root : Bool} {s : State} (l : Lowe
       rw seen (refused-place (lower (s .reader .schema)) refl some? u e r n z)
 
   known-graph : {x : Lowered} (o : Option TypeGraph) → lower (s .reader .schema) ≡ o → 0 ≡ unknownPlace 2 (rowsFrom rows names 2 end)
-      → ((g : TypeGraph) → GraphOf rows names end g → x ≡ written g (sheet (zeros gr) (zeros gn)) (zeros scratch))
+      → ((g : TypeGraph) → GraphOf rows names end g → x ≡ repeatedOrWritten (firstRepeated [] (headsAt rows names end)) g (sheet (zeros gr) (zeros gn)) (zeros scratch))
       → x ≡ refusedOrWritten (s .reader .schema) o (sheet gr gn) scratch
   known-graph none q u w = absurd (omega (arith, l .refuses q))
-  known-graph (some g) q u w = w g (l .lowers g q .1) ∙ written-zeros g gr gn scratch
+  known-graph (some g) q u w =
+      w g (l .lowers g q .1) ∙ rw (l .repeated) (written-zeros (repeatedRow (s .reader .schema)) g gr gn scratch)
 
   pub finished-known : {x : Lowered} → root ≡ true → 0 ≡ unknownPlace 2 (rowsFrom rows names 2 end)
-      → ((g : TypeGraph) → GraphOf rows names end g → x ≡ written g (sheet (zeros gr) (zeros gn)) (zeros scratch)) → x ≡ lowerFinished s (sheet gr gn) scratch
+      → ((g : TypeGraph) → GraphOf rows names end g → x ≡ repeatedOrWritten (firstRepeated [] (headsAt rows names end)) g (sheet (zeros gr) (zeros gn)) (zeros scratch)) → x ≡ lowerFinished s (sheet gr gn) scratch
   unfolding lowerFinished
   finished-known t u w =
       let seen = sym (l .root) ∙ t in
@@ -126,17 +153,18 @@ module _ {s : State} {rows names : List ℕ} {p : Progress} (at : At s rows name
         root = ap (λ (m : Mode). m .«root_seen») (at .mode);
         place = unknown-place at;
         refuses = unknown-refused at;
+        repeated = repeated-heads at;
         lowers = λ g q. (unknown-lowered at g q, record { rowsAre = graph-rows at g q; roots = root-count at g q; types = type-count at g q });
       }
 
-  pub state-short : (gr gn scratch : List ℕ) {n : ℕ} {a : Answer} → n ≡ length (typePlaces 2 (rowsFrom rows names 2 (finishedEnd p))) → length scratch < n → a ≡ answered 14 0
+  pub state-short : (gr gn scratch : List ℕ) {n : ℕ} {a : Answer} → n ≡ length (finishedPlaces rows names (finishedEnd p)) → length scratch < n → a ≡ answered 14 0
       → left a gr gn scratch ≡ lowerState s (sheet gr gn) scratch
   unfolding lowerState unchanged
   state-short gr gn scratch e h f =
       let short = lt-leb (finishedTypes (s .reader .schema)) (length scratch) (rw (← finished-types at, ← e) h) in
       rw short (λ i. left (f i) gr gn scratch)
 
-  pub state-enough : (gr gn scratch : List ℕ) {n : ℕ} {x : Lowered} → n ≡ length (typePlaces 2 (rowsFrom rows names 2 (finishedEnd p))) → n ≤ length scratch
+  pub state-enough : (gr gn scratch : List ℕ) {n : ℕ} {x : Lowered} → n ≡ length (finishedPlaces rows names (finishedEnd p)) → n ≤ length scratch
       → x ≡ lowerFinished s (sheet gr gn) scratch → x ≡ lowerState s (sheet gr gn) scratch
   unfolding lowerState
   state-enough gr gn scratch e h f =

@@ -1,22 +1,19 @@
--- There are no more elements than rows, and no more kept types than twice the rows: each row adds one place or row at most. Assumes nothing.
-use Prim.Native.Nat.{ℕ, _+_, _*_, _≤_}
-use mathlib.Core.Path.{_≡_, ap}
+-- There are no more elements than rows, and no more types than twice the rows: each row adds one place or row at most. Assumes nothing.
+use Prim.Native.Nat.{ℕ, _+_, _*_, _%_, _≤_}
+use mathlib.Core.Path.{_≡_, sym, ap, _∙_}
 use mathlib.Core.Bool.{Bool, true, false}
 use mathlib.Core.List.{List, [], _∷_}
 use native.Mathlib.Omega.{arith}
-use lib.Dec.{eqb, leb, ltb}
-use lib.ListN.{length, length-append}
+use lib.Dec.{eqb}
+use lib.ListN.{length, length-append, length-map}
 use borrow.Author.Tests.{eqb-true}
-use Rattle.text.specs.Text.{every}
-use Rattle.text.proofs.Laws.Tests.{if-cases, and-true-right}
-use Rattle.text.proofs.Laws.Every.{every-weaken}
+use Rattle.text.proofs.Laws.Tests.{if-cases}
 use Rattle.sheet.specs.Rows.{Row}
 use Rattle.xsd_types.specs.Back.{text0, text1}
 use Rattle.ir_rows.specs.Places.{rowsFrom}
 use Rattle.ir_rows.specs.Lowered.{loweredAs, loweredRow, rootRows}
-use Rattle.ir_rows.specs.Types.{isSimple, isComplex, placesOf, typePlaces, keptPlaces}
+use Rattle.ir_rows.specs.Types.{isSimple, isComplex, placesOf, typePlaces, finishedPlaces, entryPlaces}
 use Rattle.ir_rows.proofs.Laws.Places.{length-rowsFrom}
-use Rattle.ir_rows.proofs.Laws.Inside.{inside, kept-few, kept-inside}
 
 placesOf-few : (test : ℕ → Bool) (p : ℕ) (rs : List Row) → length (placesOf test p rs) ≤ length rs
 unfolding placesOf
@@ -39,13 +36,13 @@ rootRows-few (r ∷ rs) =
 pub roots-few : (rows names : List ℕ) (end : ℕ) → length (rootRows (rowsFrom rows names 2 end)) ≤ end
 roots-few rows names end = omega (arith, rootRows-few (rowsFrom rows names 2 end), length-rowsFrom rows names 2 end)
 
-pub kept-twice : (rows names : List ℕ) (end : ℕ) → length (keptPlaces rows names end) ≤ 2 * end
+pub types-twice : (rows names : List ℕ) (end : ℕ) → length (finishedPlaces rows names end) ≤ 2 * end
 unfolding typePlaces
-kept-twice rows names end =
+types-twice rows names end =
     let rs = rowsFrom rows names 2 end in
-    omega (arith, kept-few rows names end, length-append (placesOf isSimple 2 rs) (placesOf isComplex 2 rs), placesOf-few isSimple 2 rs, placesOf-few isComplex 2 rs, length-rowsFrom rows names 2 end)
+    omega (arith, length-append (placesOf isSimple 2 rs) (placesOf isComplex 2 rs), placesOf-few isSimple 2 rs, placesOf-few isComplex 2 rs, length-rowsFrom rows names 2 end)
 
--- the kept places lie before the end
-pub kept-below : (rows names : List ℕ) (end : ℕ) → every (λ (p : ℕ). ltb p end) (keptPlaces rows names end) ≡ true
-unfolding inside
-kept-below rows names end = every-weaken (inside 2 end) (λ (p : ℕ). ltb p end) (λ p e. and-true-right (leb 2 p) (ltb p end) e) (keptPlaces rows names end) (kept-inside rows names end)
+-- as many entries as the places that they hold
+pub entries-count : (entries places : List ℕ) → entryPlaces entries ≡ places → length entries ≡ length places
+unfolding entryPlaces
+entries-count entries places e = sym (length-map entries (λ x. x % 65536)) ∙ ap length e

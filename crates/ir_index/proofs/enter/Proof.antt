@@ -1,5 +1,4 @@
--- `ir_index::enter` meets its contract: the entry goes where `spot_of` says, over that of its name or behind the others, and its flag is set.
--- Assumes nothing.
+-- `ir_index::enter` meets its contract: where the name is new, the entry goes behind the others and its flag is set. Assumes nothing.
 use mathlib.Core.Path.{_≡_, sym, ap, _∙_}
 use native.Mathlib.Omega.{arith}
 use Rattle.text.specs.Text.{Text}
@@ -7,7 +6,7 @@ use Rattle.names.specs.Names.{normalizeTypeName}
 use Rattle.ir_rows.specs.Places.{nameAt}
 use Rattle.ir_index.specs.Prints.{fingerprint}
 use Rattle.ir_index.proofs.Laws.Heads.{name-at}
-use Rattle.ir_index.proofs.Laws.Entries.{Putting, put-print, put-place, put-within, put-new, put-over}
+use Rattle.ir_index.proofs.Laws.Entries.{Putting, put-print, put-place, put-new}
 use borrow.Author.Needs.{needs}
 use Rattle.ir_index.proofs.enter.Statement.{statement}
 use Rattle.ir_index.proofs.enter.Tie as tie
@@ -24,14 +23,14 @@ print-is c =
     c .print-of .ensures ∙ ap (λ (s : Text). fingerprint (normalizeTypeName s)) (c .before .name-at .ensures)
     ∙ ap fingerprint (sym (name-at (a .rows .now) (a .names .now) (a .place) (start .pre .1 .0 .isHead)))
 
--- behind the fingerprint, from behind the spot
+-- behind the fingerprint, where the name is new
 abbrev printed : tie.After-wide → tie.After-print-of
-printed c = c .before .before .before .before
+printed c = c .before .before .before .before .before
 
 abbrev PuttingAt : tie.After-wide → Type 0
 PuttingAt c =
     let a = atEntry (printed c) .args in
-    Putting (a .rows .now) (a .names .now) (a .scratch .now) (a .n) (a .flags .now) (a .place) (printed c .print-of .result) (c .before .spot-of .result)
+    Putting (a .rows .now) (a .names .now) (a .scratch .now) (a .n) (a .flags .now) (a .place) (printed c .print-of .result)
 
 putting : (c : tie.After-wide) → PuttingAt c
 putting c =
@@ -42,13 +41,16 @@ putting c =
       small = start .pre .1 .1 .0;
       room = start .pre .1 .1 .1;
       print = print-is (printed c);
-      spot = c .before .spot-of .ensures;
+      new = sym (c .before .before .name-came .ensures) ∙ c .before .if1 .left;
     }
 
-spot-of-requires : tie.Need-spot-of-requires
-spot-of-requires c κs =
+name-came-requires : tie.Need-name-came-requires
+name-came-requires c κs =
     let start = atEntry (c .before .before) in
     (start .pre .0, (start .pre .1 .0, print-is (c .before .before)))
+
+returns : tie.Need-returns
+returns c = sym (c .before .name-came .ensures) ∙ c .if1 .taken
 
 mul-scratch : tie.Need-mul-scratch
 mul-scratch c = omega (arith, put-print (putting c))
@@ -56,20 +58,11 @@ mul-scratch c = omega (arith, put-print (putting c))
 add-scratch : tie.Need-add-scratch
 add-scratch c = omega (arith, put-print (putting c), put-place (putting c))
 
-mul-scratch-2 : tie.Need-mul-scratch-2
-mul-scratch-2 c = omega (arith, put-within (putting c), putting c .room, atEntry (printed c) .good)
-
-slice-write-scratch : tie.Need-slice-write-scratch
-slice-write-scratch c = omega (arith, put-within (putting c), putting c .room)
-
 slice-write-flags : tie.Need-slice-write-flags
 slice-write-flags c = omega (arith, put-print (putting c), putting c .known .flagged .all)
 
-returns : tie.Need-returns
-returns c = rw (c .before .wide .ensures) (put-new (putting (c .before)) (c .if1 .taken))
-
 returns-2 : tie.Need-returns-2
-returns-2 c = rw (c .before .wide .ensures) (put-over (putting (c .before)) (c .if1 .left))
+returns-2 c = rw (c .wide .ensures) (put-new (putting c))
 
 pub enter-spec : {M : Type 1} → statement M
 enter-spec =
@@ -77,18 +70,17 @@ enter-spec =
     (tie.spec
     (λ c κs. search needs)
     (λ c κs. search needs)
-    spot-of-requires
+    name-came-requires
+    (λ c. search needs)
+    (λ c. search needs)
+    returns
     (λ c κs. search needs)
     (λ c. search needs)
     mul-scratch
     add-scratch
-    mul-scratch-2
-    slice-write-scratch
+    (λ c. search needs)
+    (λ c. search needs)
     slice-write-flags
-    (λ c. search needs)
-    (λ c. search needs)
-    (λ c. search needs)
-    returns
     (λ c. search needs)
     (λ c. search needs)
     returns-2)

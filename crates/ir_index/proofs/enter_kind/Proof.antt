@@ -1,14 +1,16 @@
--- `ir_index::enter_kind` meets its contract. The loop's invariant: what is left to put in, put into what is stored, gives what all gives, and has
--- room. The measure is how many rows are left. Assumes nothing.
+-- `ir_index::enter_kind` meets its contract. The loop's invariant: what is stored with what is left is what was stored at the start with all, the first
+-- name that came before is the same, and there is room. The measure is how many rows are left. Assumes nothing.
 use Prim.Native.Nat.{_*_, _-_}
 use mathlib.Core.Path.{_≡_, refl, sym, _∙_}
 use mathlib.Core.Logic.{⊎-elim}
 use native.Mathlib.Omega.{arith}
 use lib.ListN.{length, getD}
+use borrow.Author.Tests.{not-true, not-false}
 use mathlib.Core.Bool.{true}
 use Rattle.ir_index.specs.Entries.{isKind, HeadAt}
 use Rattle.ir_index.proofs.Laws.Heads.{kind-type}
-use Rattle.ir_index.proofs.Laws.Walk.{Walking, walk-start, walk-room, walk-in, walk-on, walk-end}
+use Rattle.ir_index.proofs.Laws.Entries.{added-of, came-of}
+use Rattle.ir_index.proofs.Laws.Walk.{Walking, walk-start, walk-room, walk-in, walk-on, walk-came, walk-end}
 use Rattle.ir_index.proofs.enter_kind.Statement.{statement}
 use Rattle.ir_index.proofs.enter_kind.Tie as tie
 
@@ -44,6 +46,36 @@ enter-requires c κs =
     let head : HeadAt (start .args .rows .now) (at .loop .place) = record { inside = omega (arith, start .pre .1 .0, c .before .before .before .before .before .loop-test .taken); isHead = kind-type (start .args .complex) _ e } in
     (w .known, (head, (start .pre .1 .1, omega (arith, room, start .pre .1 .2, at .loop .inv .0))))
 
+-- the row at hand is a head of the kind
+is-kind-at : (c : tie.Then1 Inv-loop μ-loop) → let at = c .before .before .before .before in isKind (at .before .before .before .before .before .args .complex) (getD (at .before .before .before .before .before .args .rows .now) (10 * at .loop .place) 0) ≡ true
+is-kind-at c = sym (c .before .is-kind .ensures) ∙ c .if1 .taken
+
+-- the call of `enter`, from behind it
+abbrev entered : tie.After-slice-known4 Inv-loop μ-loop → tie.After-enter Inv-loop μ-loop
+entered c = c .before .before .before .before
+
+abbrev kindAt : tie.After-slice-known4 Inv-loop μ-loop → tie.Then1 Inv-loop μ-loop
+kindAt c = entered c .before .before .before
+
+same-length : tie.Need-same-length Inv-loop μ-loop
+same-length c = entered (c .before) .enter .kept .1 .1 .1 .0 ∙ kindAt (c .before) .before .before .before .before .loop .inv .0
+
+same-length-2 : tie.Need-same-length-2 Inv-loop μ-loop
+same-length-2 c = entered (c .before) .enter .kept .1 .1 .1 .1 .1 .0 ∙ kindAt (c .before) .before .before .before .before .loop .inv .1
+
+returns : tie.Need-returns Inv-loop μ-loop
+returns c =
+    let kind = kindAt (c .before) in
+    let at = kind .before .before .before .before in
+    walk-came (at .loop .inv .2) (kind .before .before .before .loop-test .taken) (is-kind-at kind) (came-of _ _ _ _ _ _ _ (entered (c .before) .enter .result) (entered (c .before) .enter .ensures) (not-true _ (c .if2 .taken)))
+
+add-count : tie.Need-add-count Inv-loop μ-loop
+add-count c =
+    let kind = kindAt (c .before) in
+    let at = kind .before .before .before .before in
+    let start = at .before .before .before .before .before in
+    omega (arith, walk-room (at .loop .inv .2) (kind .before .before .before .loop-test .taken) (is-kind-at kind), start .pre .1 .2)
+
 add-place : tie.Need-add-place Inv-loop μ-loop
 add-place c = omega arith
 
@@ -55,18 +87,19 @@ loop-again c =
     let at = c .before .before .before .before in
     let w = at .loop .inv .2 in
     ⊎-elim
-    (λ v. rw (v .8, v .9, v .10) (v .3 .kept .1 .1 .1 .0 ∙ at .loop .inv .0, v .3 .kept .1 .1 .1 .1 .1 .0 ∙ at .loop .inv .1, walk-in w (omega arith) (sym (c .before .is-kind .ensures) ∙ v .0 .taken) (v .3 .ensures)))
+    (λ v. rw (v .9, v .10, v .11)
+    (v .3 .kept .1 .1 .1 .0 ∙ at .loop .inv .0, v .3 .kept .1 .1 .1 .1 .1 .0 ∙ at .loop .inv .1, walk-in w (omega arith) (sym (c .before .is-kind .ensures) ∙ v .0 .taken) (added-of _ _ _ _ _ _ _ (v .3 .result) (v .3 .ensures) (not-false _ (v .8 .left)))))
     (λ v. rw (v .1, v .2, v .3) (at .loop .inv .0, at .loop .inv .1, walk-on w (omega arith) (sym (c .before .is-kind .ensures) ∙ v .0 .left)))
     (c .if1 .came)
 
-same-length : tie.Need-same-length Inv-loop μ-loop
-same-length c = c .before .loop .inv .0
+same-length-3 : tie.Need-same-length-3 Inv-loop μ-loop
+same-length-3 c = c .before .loop .inv .0
 
-same-length-2 : tie.Need-same-length-2 Inv-loop μ-loop
-same-length-2 c = c .before .loop .inv .1
+same-length-4 : tie.Need-same-length-4 Inv-loop μ-loop
+same-length-4 c = c .before .loop .inv .1
 
-returns : tie.Need-returns Inv-loop μ-loop
-returns c = walk-end (c .before .loop .inv .2) (c .loop-test .left)
+returns-2 : tie.Need-returns-2 Inv-loop μ-loop
+returns-2 c = walk-end (c .before .loop .inv .2) (c .loop-test .left)
 
 pub enter-kind-spec : {M : Type 1} → statement M
 enter-kind-spec =
@@ -80,9 +113,13 @@ enter-kind-spec =
     shared-slice-read-is-kind
     is-kind-requires
     enter-requires
+    same-length
+    same-length-2
+    returns
+    add-count
     add-place
     loop-less
     loop-again
-    same-length
-    same-length-2
-    returns)
+    same-length-3
+    same-length-4
+    returns-2)

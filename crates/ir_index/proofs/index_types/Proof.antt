@@ -1,7 +1,7 @@
--- `ir_index::index_types` meets its contract: from no entries and no flags, the simple types are put in and then the complex ones. Assumes nothing.
+-- `ir_index::index_types` meets its contract: from no entries and no flags, the simple types are entered and then the complex ones. Assumes nothing.
 use native.Mathlib.Omega.{arith}
 use Rattle.ir_index.proofs.Laws.Entries.{known-none}
-use Rattle.ir_index.proofs.Laws.Walk.{types-length, both-kinds}
+use Rattle.ir_index.proofs.Laws.Walk.{types-length, simple-came, index-both, kind-in-of, kind-came-of}
 use borrow.Author.Needs.{needs}
 use Rattle.ir_index.proofs.index_types.Statement.{statement}
 use Rattle.ir_index.proofs.index_types.Tie as tie
@@ -14,18 +14,28 @@ enter-kind-requires c κs =
 
 enter-kind-requires-2 : tie.Need-enter-kind-requires-2
 enter-kind-requires-2 c κs =
-    let first = c .before .before .before .before .before in
+    let told = c .before .before .before in
+    let first = told .before .before .before .before .before in
     let start = first .before .before .before .before .before .before in
     let a = start .args in
-    let g = first .enter-kind .ensures in
+    let g = kind-in-of _ _ _ _ _ _ _ _ (first .enter-kind .result) (first .enter-kind .ensures) _ (told .simple .given .1) in
     (g .known, (start .pre .1, start .pre .2, omega (arith, start .pre .3, types-length (a .rows .now) (a .names .now) (a .end), g .room, first .enter-kind .kept .1 .1 .1 .1 .0)))
 
 returns : tie.Need-returns
 returns c =
     let second = c .before .before .before in
-    let first = second .before .before .before .before .before .before in
+    let told = second .before .before .before .before in
+    let first = told .before .before .before .before .before in
     let start = first .before .before .before .before .before .before in
-    both-kinds (start .args .end) (first .enter-kind .ensures) (second .enter-kind2 .ensures)
+    index-both (start .args .end) (kind-in-of _ _ _ _ _ _ _ _ (first .enter-kind .result) (first .enter-kind .ensures) _ (told .simple .given .1)) _ _ (second .enter-kind2 .result) (second .enter-kind2 .ensures)
+
+returns-2 : tie.Need-returns-2
+returns-2 c =
+    let told = c .before in
+    let first = told .before .before .before .before .before in
+    let start = first .before .before .before .before .before .before in
+    let a = start .args in
+    simple-came (a .rows .now) (a .names .now) (a .scratch .now) (a .end) _ (kind-came-of _ _ _ _ _ _ _ _ (first .enter-kind .result) (first .enter-kind .ensures) _ (told .simple2 .given .1))
 
 pub index-types-spec : {M : Type 1} → statement M
 index-types-spec =
@@ -34,6 +44,10 @@ index-types-spec =
     (λ c. search needs)
     enter-kind-requires
     (λ c. search needs)
+    (λ c. search needs)
     enter-kind-requires-2
     (λ c. search needs)
-    returns)
+    (λ c. search needs)
+    returns
+    (λ c. search needs)
+    returns-2)

@@ -14,22 +14,13 @@ use Rattle.xsd_types.specs.Good.{good}
 use Rattle.xsd_types.specs.Back.{stateOf}
 use Rattle.ir_types.specs.Form.{graphForm}
 use Rattle.ir_types.proofs.Laws.GraphForm.{graph-form}
-use Rattle.ir_lower.specs.Call.{Lowered, unchanged, cleared, lowerState, lowering}
+use Rattle.ir_lower.specs.Call.{Lowered, unchanged, lowerState, lowering}
 use Rattle.ir_lower.specs.Outcome.{Outcome}
 use Rattle.ir_lower.proofs.Laws.GraphOk.{lower-ok}
-use Rattle.ir_lower.proofs.Laws.Outcome.{lowering-1, lowering-2, lowering-state, outcome}
+use Rattle.ir_lower.proofs.Laws.Outcome.{unchanged-number, cleared-number, lowering-1, lowering-2, lowering-state, outcome}
 use Rattle.text.proofs.Laws.Tests.{and-true-right, test-cases}
 use Rattle.sheet.specs.Form.{words}
 use Rattle.xsd_types.proofs.Laws.StateOf.{proper-stateOf}
-
--- an answer that is not 0
-unchanged-number : (n : ℕ) (graph : Sheet) (scratch : List ℕ) (l : Lowered) → l ≡ unchanged n graph scratch → l .answer .number ≡ n
-unfolding unchanged
-unchanged-number n graph scratch l e = rw e
-
-cleared-number : (n place : ℕ) (graph : Sheet) (scratch : List ℕ) (l : Lowered) → l ≡ cleared n place graph scratch → l .answer .number ≡ n
-unfolding cleared
-cleared-number n place graph scratch l e = rw e
 
 not-zero : (n : ℕ) (graph : Sheet) (scratch : List ℕ) (l : Lowered) → 1 ≤ n → l ≡ unchanged n graph scratch → l .answer .number ≡ 0 → ⊥
 not-zero n graph scratch l h e z = let q = unchanged-number n graph scratch l e in omega arith
@@ -42,8 +33,9 @@ outcome-form : (s : State) (graph : Sheet) (scratch : List ℕ) (l : Lowered) �
 outcome-form s graph scratch l h (Outcome.short a e) z = let n = unchanged-number 14 graph scratch l e in absurd (omega arith)
 outcome-form s graph scratch l h (Outcome.rootless a b e) z = let n = cleared-number 12 0 graph scratch l e in absurd (omega arith)
 outcome-form s graph scratch l h (Outcome.unknown a b c e) z = let n = cleared-number 13 _ graph scratch l e in absurd (omega arith)
-outcome-form s graph scratch l h (Outcome.tight a b g c f e) z = let n = cleared-number 15 0 graph scratch l e in absurd (omega arith)
-outcome-form s graph scratch l h (Outcome.fitting a b g c f e) z =
+outcome-form s graph scratch l h (Outcome.repeated a b g c row r e) z = let n = cleared-number 20 row graph scratch l e in absurd (omega arith)
+outcome-form s graph scratch l h (Outcome.tight a b g c r f e) z = let n = cleared-number 15 0 graph scratch l e in absurd (omega arith)
+outcome-form s graph scratch l h (Outcome.fitting a b g c r f e) z =
     rw e (graph-form g (length (graph .rows)) (length (graph .names)) (lower-ok (s .reader .schema) g h c) f)
 
 pub state-form : (s : State) (graph : Sheet) (scratch : List ℕ) → schemaOk (s .reader .schema) ≡ true → lowerState s graph scratch .answer .number ≡ 0

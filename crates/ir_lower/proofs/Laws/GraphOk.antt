@@ -14,10 +14,8 @@ use Rattle.xsd_types.specs.Types.{Element, Facet, SimpleType, MaxOccurs, Sequen
 use Rattle.xsd_types.specs.State.{elementOk, facetOk, maxOccursOk, sequenceElementOk, choiceVariantOk, attributeOk, namespaceOk, contentOk, started, itemOk, schemaOk}
 use Rattle.ir_types.specs.Types.{TypeDef, TypeGraph}
 use Rattle.ir_types.specs.Ok.{refOk, cardinalityOk, fieldOk, variantOk, constraintOk, codeOk, attrOk, typeOk, rootOk, graphOk}
-use Rattle.ir_types.proofs.Laws.Order.{insertAll-every}
-use Rattle.ir_lower.specs.Lower.{resolved, resolveTypeRef, allEnums, codes, constraints, lowerNewtype, lowerSimpleType, lowerCardinality, lowerField, lowerVariant, lowerAttribute, lowerContent, lowerComplexType, rootOf, graphOf, lower}
-use Rattle.ir_lower.specs.Finished.{withDefinition, simpleDefinitions, finishedDefinitions}
-use Rattle.ir_lower.proofs.Laws.Types.{lower-some, lower-inserts}
+use Rattle.ir_lower.specs.Lower.{resolved, resolveTypeRef, allEnums, codes, constraints, lowerNewtype, lowerSimpleType, lowerCardinality, lowerField, lowerVariant, lowerAttribute, lowerContent, lowerComplexType, withDefinition, simpleDefinitions, finishedDefinitions, rootOf, graphOf, lower}
+use Rattle.ir_lower.proofs.Laws.Types.{lower-some}
 use Rattle.text.proofs.Laws.Tests.{and-true-left, and-true-right, keep-left, test-cases, and-true}
 use Rattle.text.proofs.Laws.Every.{every-append-true, every-map}
 use Rattle.names.proofs.Laws.Names.{normalize-text, snake-text, pascal-text}
@@ -167,7 +165,7 @@ unfolding schemaOk graphOk every graphOf
 lower-ok s g h e =
     let k : every itemOk (s .items) ≡ true = and-true-right (isText (s .targetNamespace)) (every itemOk (s .items)) h in
     let p = lower-some s g e in
-    let a : isText (g .namespace) ≡ true = rw (← p .2) (and-true-left (isText (s .targetNamespace)) (every itemOk (s .items)) h) in
-    let b : every rootOk (g .rootElements) ≡ true = rw (← p .2) (every-map elementOk rootOk rootOf root-ok (elements (s .items)) (elements-ok (s .items) k)) in
-    let c : every typeOk (g .types) ≡ true = rw (lower-inserts s g e) (insertAll-every typeOk (finishedDefinitions s) [] (finished-ok s k) refl) in
+    let a : isText (g .namespace) ≡ true = rw (← p .1) (and-true-left (isText (s .targetNamespace)) (every itemOk (s .items)) h) in
+    let b : every rootOk (g .rootElements) ≡ true = rw (← p .1) (every-map elementOk rootOk rootOf root-ok (elements (s .items)) (elements-ok (s .items) k)) in
+    let c : every typeOk (g .types) ≡ true = rw (← p .1) (finished-ok s k) in
     rw (a, b, c)

@@ -1,4 +1,4 @@
--- What a lowering leaves: buffers as long as those lent, the scratch zero after 0, 12, 13 and 15, the graph zero after 12, 13 and 15,
+-- What a lowering leaves: buffers as long as those lent, the scratch zero after 0, 12, 13, 20 and 15, the graph zero after 12, 13, 20 and 15,
 -- nothing changed after 1, 2 and 14. Assumes nothing.
 use Prim.Native.Nat.{ℕ}
 use mathlib.Core.Path.{_≡_, refl, sym, ap, _∙_}
@@ -45,8 +45,9 @@ unfolding changesNothing clearsGraph clearsScratch between
 outcome-leaves s graph scratch l (Outcome.short a e) = kept 14 refl refl e
 outcome-leaves s graph scratch l (Outcome.rootless a b e) = emptied 12 0 refl refl e
 outcome-leaves s graph scratch l (Outcome.unknown a b c e) = emptied 13 _ refl refl e
-outcome-leaves s graph scratch l (Outcome.tight a b g c f e) = emptied 15 0 refl refl e
-outcome-leaves s graph scratch l (Outcome.fitting a b g c f e) = written g f e
+outcome-leaves s graph scratch l (Outcome.repeated a b g c row r e) = emptied 20 row refl refl e
+outcome-leaves s graph scratch l (Outcome.tight a b g c r f e) = emptied 15 0 refl refl e
+outcome-leaves s graph scratch l (Outcome.fitting a b g c r f e) = written g f e
 
 lowering-leaves : (x graph : Sheet) (scratch : List ℕ) → Leaves graph scratch (lowering x graph scratch)
 unfolding changesNothing clearsGraph clearsScratch between
@@ -119,11 +120,11 @@ lowering-names-length x graph scratch = leaves-names graph scratch _ (lowering-l
 pub lowering-scratch-length : (x graph : Sheet) (scratch : List ℕ) → length (lowering x graph scratch .scratch) ≡ length scratch
 lowering-scratch-length x graph scratch = leaves-scratch graph scratch _ (lowering-leaves x graph scratch)
 
--- the scratch is all zero after 0, 12, 13 and 15
+-- the scratch is all zero after 0, 12, 13, 20 and 15
 pub lowering-scratch-zero : (x graph : Sheet) (scratch : List ℕ) → clearsScratch (lowering x graph scratch .answer .number) ≡ true → allZero (lowering x graph scratch .scratch) ≡ true
 lowering-scratch-zero x graph scratch h = leaves-zero graph scratch _ (lowering-leaves x graph scratch) h
 
--- the graph's buffers are zeros after 12, 13 and 15
+-- the graph's buffers are zeros after 12, 13, 20 and 15
 pub lowering-graph-zero : (x graph : Sheet) (scratch : List ℕ) → clearsGraph (lowering x graph scratch .answer .number) ≡ true → lowering x graph scratch .graph ≡ noGraph graph
 lowering-graph-zero x graph scratch h = leaves-graph graph scratch _ (lowering-leaves x graph scratch) h
 

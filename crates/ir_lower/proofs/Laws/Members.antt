@@ -1,10 +1,10 @@
--- Each definition of a lowered graph is that of a finished type, the last one of its name, and its named references are normalised type names.
+-- Each definition of a lowered graph is that of a finished type, and its named references are normalised type names.
 -- Assumes nothing.
 use Prim.Native.Nat.{ℕ}
 use mathlib.Core.Path.{_≡_, refl, sym, ap, _∙_}
 use mathlib.Core.Logic.{_⊎_, inl, inr, ⊎-elim}
 use mathlib.Core.Bool.{true, false}
-use mathlib.Core.List.{List, [], _∷_, map, List·Memᴰ, List·Memᴰ·head, List·Memᴰ·tail, List·Memᴰ·cases-cons, List·Memᴰ·not-nil, List·Memᴰ·append-cases}
+use mathlib.Core.List.{List, [], _∷_, map, List·Memᴰ, List·Memᴰ·head, List·Memᴰ·tail, List·Memᴰ·cases-cons, List·Memᴰ·append-cases}
 use mathlib.Core.Option.{Option, some, none, Option·some-injective}
 use native.Mathlib.Omega.{arith}
 use lib.ListN.{getD, List·getD-map}
@@ -12,17 +12,11 @@ use Rattle.text.specs.Text.{Text, if_then_else_}
 use Rattle.builtin.specs.Builtin.{RustType, mapBuiltin}
 use Rattle.names.specs.Names.{normalizeTypeName}
 use Rattle.xsd_types.specs.Types.{SimpleType, ComplexContent, ComplexType, Schema, simpleTypes, complexTypes}
-use Rattle.ir_types.specs.Types.{TypeRef, TypeDef, TypeGraph, nameOf}
-use Rattle.ir_types.specs.Distinct.{lastOf}
-use Rattle.ir_types.proofs.Laws.Members.{find-member, insertAll-member}
-use Rattle.ir_lower.specs.Lower.{resolveTypeRef, allEnums, codes, lowerNewtype, lowerSimpleType, lowerContent, lowerComplexType, lower}
-use Rattle.ir_lower.specs.Finished.{withDefinition, simpleDefinitions, finishedDefinitions, references, typeNamesIn}
+use Rattle.ir_types.specs.Types.{TypeRef, TypeDef, TypeGraph}
+use Rattle.ir_lower.specs.Lower.{resolveTypeRef, allEnums, codes, lowerNewtype, lowerSimpleType, lowerContent, lowerComplexType, withDefinition, simpleDefinitions, finishedDefinitions, lower}
+use Rattle.ir_lower.specs.Finished.{references, typeNamesIn}
 use Rattle.ir_lower.proofs.Laws.References.{resolve-named, content-references}
-use Rattle.ir_lower.proofs.Laws.Types.{lower-inserts, lower-distinct, lower-last}
-
--- each definition is the last one of its name
-pub lower-each-last : (s : Schema) (g : TypeGraph) (d : TypeDef) → lower s ≡ some g → List·Memᴰ d (g .types) → lastOf (nameOf d) (finishedDefinitions s) ≡ some d
-lower-each-last s g d e m = sym (lower-last s g (nameOf d) e) ∙ find-member d (g .types) (lower-distinct s g e) m
+use Rattle.ir_lower.proofs.Laws.Types.{lower-types}
 
 -- a simple type of the list that has this definition
 abbrev Simple : TypeDef → List SimpleType → Type 0
@@ -56,10 +50,8 @@ pub lower-member : (s : Schema) (g : TypeGraph) (d : TypeDef) → lower s ≡ so
     → ((t : SimpleType) × List·Memᴰ t (simpleTypes (s .items)) × (lowerSimpleType t ≡ some d)) ⊎ ((t : ComplexType) × List·Memᴰ t (complexTypes (s .items)) × (d ≡ lowerComplexType t))
 unfolding finishedDefinitions
 lower-member s g d e m =
-    ⊎-elim (λ k. ⊎-elim (λ j. inl (simple-member d (simpleTypes (s .items)) j)) (λ j. inr (complex-member d (complexTypes (s .items)) j))
-    (List·Memᴰ·append-cases (simpleDefinitions (simpleTypes (s .items))) k))
-    (λ k. absurd (List·Memᴰ·not-nil k))
-    (insertAll-member d (finishedDefinitions s) [] (rw (lower-inserts s g e) at m))
+    ⊎-elim (λ j. inl (simple-member d (simpleTypes (s .items)) j)) (λ j. inr (complex-member d (complexTypes (s .items)) j))
+    (List·Memᴰ·append-cases (simpleDefinitions (simpleTypes (s .items))) (rw (lower-types s g e) at m))
 
 -- ---- references
 

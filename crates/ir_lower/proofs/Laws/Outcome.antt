@@ -16,10 +16,20 @@ use Rattle.xsd_types.specs.Back.{stateOf}
 use Rattle.ir_types.specs.Types.{TypeGraph}
 use Rattle.ir_types.specs.Sheet.{graphFits}
 use Rattle.ir_lower.specs.Lower.{lower, finishedTypes}
-use Rattle.ir_lower.specs.Call.{unchanged, cleared, written, refusedOrWritten, lowerFinished, lowerState, lowering}
+use Rattle.ir_lower.specs.Call.{Lowered, unchanged, cleared, written, repeatedOrWritten, refusedOrWritten, lowerFinished, lowerState, lowering}
+use Rattle.ir_lower.specs.Repeated.{repeatedRow}
 use Rattle.ir_lower.specs.Outcome.{Outcome}
 use Rattle.ir_lower.proofs.Laws.Refusals.{refused-exactly}
 use Rattle.text.proofs.Laws.Tests.{test-cases}
+
+-- the number of a refusal
+pub unchanged-number : (n : ℕ) (graph : Sheet) (scratch : List ℕ) (l : Lowered) → l ≡ unchanged n graph scratch → l .answer .number ≡ n
+unfolding unchanged
+unchanged-number n graph scratch l e = rw e
+
+pub cleared-number : (n place : ℕ) (graph : Sheet) (scratch : List ℕ) (l : Lowered) → l ≡ cleared n place graph scratch → l .answer .number ≡ n
+unfolding cleared
+cleared-number n place graph scratch l e = rw e
 
 -- 1 and 2, and then the state decides
 pub lowering-1 : (x graph : Sheet) (scratch : List ℕ) → goodLengths (lengthsOf x) && goodLengths (lengthsOf graph) ≡ false → lowering x graph scratch ≡ unchanged 1 graph scratch
@@ -49,13 +59,19 @@ state-lowered : (s : State) (graph : Sheet) (scratch : List ℕ) → leb (finish
 unfolding lowerState lowerFinished
 state-lowered s graph scratch h k = rw (h, k)
 
+-- 20, and then room decides
+named-outcome : (s : State) (graph : Sheet) (scratch : List ℕ) → finishedTypes (s .reader .schema) ≤ length scratch → s .reader .rootSeen ≡ true
+    → (g : TypeGraph) → lower (s .reader .schema) ≡ some g → (o : Option ℕ) → repeatedRow (s .reader .schema) ≡ o → Outcome s graph scratch (repeatedOrWritten o g graph scratch)
+unfolding written
+named-outcome s graph scratch h k g e (some row) r = Outcome.repeated h k g e row r refl
+named-outcome s graph scratch h k g e none r =
+    ⊎-elim (λ f. rw f (Outcome.fitting h k g e r f refl)) (λ f. rw f (Outcome.tight h k g e r f refl))
+    (test-cases (graphFits (length (graph .rows)) (length (graph .names)) g))
+
 lowered-outcome : (s : State) (graph : Sheet) (scratch : List ℕ) → finishedTypes (s .reader .schema) ≤ length scratch → s .reader .rootSeen ≡ true
     → (o : Option TypeGraph) → lower (s .reader .schema) ≡ o → Outcome s graph scratch (refusedOrWritten (s .reader .schema) o graph scratch)
-unfolding written
 lowered-outcome s graph scratch h k none e = Outcome.unknown h k (refused-exactly (s .reader .schema) .0 e) refl
-lowered-outcome s graph scratch h k (some g) e =
-    ⊎-elim (λ f. rw f (Outcome.fitting h k g e f refl)) (λ f. rw f (Outcome.tight h k g e f refl))
-    (test-cases (graphFits (length (graph .rows)) (length (graph .names)) g))
+lowered-outcome s graph scratch h k (some g) e = named-outcome s graph scratch h k g e (repeatedRow (s .reader .schema)) refl
 
 pub outcome : (s : State) (graph : Sheet) (scratch : List ℕ) → Outcome s graph scratch (lowerState s graph scratch)
 outcome s graph scratch =

@@ -3,18 +3,17 @@
 use Prim.Native.Nat.{ℕ, _+_, _≤_}
 use mathlib.Core.Path.{_≡_, refl, sym, ap, _∙_}
 use mathlib.Core.Logic.{_↔_, ⊎-elim}
-use mathlib.Core.Bool.{true, false, _||_, false≢true, or-true}
+use mathlib.Core.Bool.{true, false, false≢true, or-true}
 use mathlib.Core.List.{List, [], _∷_, _++_}
 use mathlib.Core.Option.{Option, some, none}
 use native.Mathlib.Omega.{arith}
 use lib.ListN.{length, length-append}
-use Rattle.text.specs.Text.{Text}
+use Rattle.text.specs.Text.{Text, if_then_else_}
 use Rattle.sheet.specs.Rows.{Row}
 use Rattle.xsd_types.specs.Types.{SimpleType, Item, Schema, simpleTypes}
 use Rattle.xsd_types.specs.Rows.{itemRows, itemsRows}
-use Rattle.ir_types.specs.Types.{TypeDef, TypeGraph, insert}
-use Rattle.ir_lower.specs.Lower.{lowerSimpleType, isNone, unknownBase, lowerSimpleTypes, graphOf, lower, isUnknown, unknownRow}
-use Rattle.ir_lower.specs.Finished.{anyUnknown}
+use Rattle.ir_types.specs.Types.{TypeGraph}
+use Rattle.ir_lower.specs.Lower.{isNone, unknownBase, anyUnknown, graphOf, lower, isUnknown, unknownRow}
 use Rattle.text.proofs.Laws.Tests.{test-cases, or-false-left, or-false-right}
 
 isNone-none : {A : Type 0} (o : Option A) → isNone o ≡ true → o ≡ none
@@ -22,21 +21,10 @@ unfolding isNone
 isNone-none none e = refl
 isNone-none (some x) e = absurd (false≢true e)
 
-simple-refusal : (ts : List SimpleType) (types : List TypeDef) → isNone (lowerSimpleTypes ts types) ≡ anyUnknown ts
-unfolding lowerSimpleTypes anyUnknown unknownBase isNone
-simple-refusal [] types = refl
-simple-refusal (t ∷ ts) types =
-    elim (lowerSimpleType t)
-    as (λ o. isNone {A = List TypeDef} (elim o [ none ↦ none | some d ↦ lowerSimpleTypes ts (insert d types) ]) ≡ (isNone o || anyUnknown ts))
-    [ none ↦ refl | some d ↦ simple-refusal ts (insert d types) ]
-
 pub refusal : (s : Schema) → isNone (lower s) ≡ anyUnknown (simpleTypes (s .items))
 unfolding lower isNone
 refusal s =
-    (elim (lowerSimpleTypes (simpleTypes (s .items)) [])
-    as (λ o. isNone {A = TypeGraph} (elim o [ none ↦ none | some types ↦ some (graphOf s types) ]) ≡ isNone o)
-    [ none ↦ refl | some types ↦ refl ])
-    ∙ simple-refusal (simpleTypes (s .items)) []
+    elim (anyUnknown (simpleTypes (s .items))) as (λ b. isNone {A = TypeGraph} (if b then none else some (graphOf s)) ≡ b) [ true ↦ refl | false ↦ refl ]
 
 pub refused-exactly : (s : Schema) → (lower s ≡ none) ↔ (anyUnknown (simpleTypes (s .items)) ≡ true)
 unfolding isNone

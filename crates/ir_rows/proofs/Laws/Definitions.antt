@@ -19,11 +19,10 @@ use Rattle.xsd_types.specs.Good.{isHead}
 use Rattle.xsd_types.specs.Back.{text0, text1}
 use Rattle.xsd_types.proofs.Laws.Groups.{asGroup}
 use Rattle.xsd_types.proofs.Laws.Items.{name-back}
-use Rattle.ir_types.specs.Types.{TypeDef, nameOf}
+use Rattle.ir_types.specs.Types.{TypeDef}
 use Rattle.ir_types.specs.Rows.{refA, refText, variantRow, constraintRow, codeRow, attrRow, typeRows, fieldRow as graphField}
 use Rattle.ir_lower.specs.Lower.{resolved, resolveTypeRef, isEnumeration, allEnums, codes, constraints, lowerNewtype, lowerSimpleType, lowerCardinality, lowerField, lowerVariant, lowerAttribute, lowerContent, lowerComplexType}
-use Rattle.ir_lower.specs.Finished.{simpleName}
-use Rattle.ir_lower.proofs.Laws.Types.{simple-name, content-name}
+use Rattle.ir_lower.specs.Finished.{simpleName, complexName}
 use Rattle.ir_rows.specs.Lowered.{referenceTexts, valueRow, opaqueRow, fieldRow, simpleRow, codeRows, loweredAs, loweredRow, isCodeEnum, childRows, typeRowsOf}
 use Rattle.ir_rows.proofs.Laws.Items.{headFirst, isCodeEnum-facets}
 
@@ -170,10 +169,10 @@ module _ (t : SimpleType) (more : List Row) (h : headFirst more ≡ true) where
 
 -- ---- the names, by the head's row
 
-pub simple-head-name : (t : SimpleType) (d : TypeDef) → lowerSimpleType t ≡ some d → normalizeTypeName (text0 (asGroup (itemRows (Item.simpleType t)) .head)) ≡ nameOf d
+pub simple-head-name : (t : SimpleType) → normalizeTypeName (text0 (asGroup (itemRows (Item.simpleType t)) .head)) ≡ simpleName t
 unfolding asGroup itemRows simpleTypeRows row text0 simpleName
-simple-head-name t d e = sym (simple-name t d e)
+simple-head-name t = refl
 
-pub complex-head-name : (t : ComplexType) → normalizeTypeName (text0 (asGroup (itemRows (Item.complexType t)) .head)) ≡ nameOf (lowerComplexType t)
-unfolding itemRows lowerComplexType
-complex-head-name t = ap normalizeTypeName (name-back (t .name) (started (t .content))) ∙ sym (content-name (normalizeTypeName (t .name)) (t .content))
+pub complex-head-name : (t : ComplexType) → normalizeTypeName (text0 (asGroup (itemRows (Item.complexType t)) .head)) ≡ complexName t
+unfolding itemRows complexName
+complex-head-name t = ap normalizeTypeName (name-back (t .name) (started (t .content)))

@@ -30,15 +30,15 @@ use Rattle.xsd_progress.proofs.Laws.States.{at-small}
 use Rattle.ir_types.specs.Types.{TypeGraph}
 use Rattle.ir_types.specs.Rows.{rootRow, rowsOf as graphRowsOf}
 use Rattle.ir_lower.specs.Lower.{lower, unknownRow, finishedTypes}
+use Rattle.ir_lower.specs.Repeated.{firstRepeated, repeatedRow}
 use Rattle.ir_lower.proofs.Laws.Types.{lower-namespace, lower-roots}
 use Rattle.ir_rows.specs.Places.{rowAt, rowsFrom}
 use Rattle.ir_rows.specs.Lowered.{loweredAs, loweredRow, rootRows, unknownPlace}
-use Rattle.ir_rows.specs.Types.{typePlaces, keptPlaces, graphRows}
+use Rattle.ir_rows.specs.Types.{finishedPlaces, headsAt, graphRows}
 use Rattle.ir_rows.specs.End.{finishedEnd}
 use Rattle.ir_rows.proofs.Laws.Places.{rowAt-first, rowsFrom-parts, rowsFrom-until}
 use Rattle.ir_rows.proofs.Laws.Items.{typePlaces-finished, unknownPlace-items, unknownPlace-refused, unknownPlace-lowered, rootRows-items}
-use Rattle.ir_rows.proofs.Laws.Inside.{kept-few}
-use Rattle.ir_rows.proofs.Laws.Kept.{kept-rows, kept-count}
+use Rattle.ir_rows.proofs.Laws.Types.{types-rows, types-count, types-heads}
 
 -- the rows of a packing, read from its two buffers
 module _ (rows names z : List ℕ) (rs : List Row) (p : Packs rows names z rs) where
@@ -101,12 +101,14 @@ module _ {s : State} {rows names : List ℕ} {p : Progress} (at : At s rows name
   pub finishedEnd-room : (2 ≤ finishedEnd p) × (10 * finishedEnd p ≤ length rows)
   finishedEnd-room = (omega (arith, finishedEnd-is), omega (arith, finishedEnd-is, used-rows, at-small at .0))
 
-  -- as many type heads as finished types, and no more places kept
-  pub finished-types : length (typePlaces 2 (rowsFrom rows names 2 (finishedEnd p))) ≡ finishedTypes (s .reader .schema)
+  -- as many type heads as finished types
+  pub finished-types : length (finishedPlaces rows names (finishedEnd p)) ≡ finishedTypes (s .reader .schema)
   finished-types = rw finished-rows (typePlaces-finished 2 (s .reader .schema))
 
-  pub kept-finished : length (keptPlaces rows names (finishedEnd p)) ≤ finishedTypes (s .reader .schema)
-  kept-finished = omega (arith, finished-types, kept-few rows names (finishedEnd p))
+  -- the first head whose name came before
+  pub repeated-heads : firstRepeated [] (headsAt rows names (finishedEnd p)) ≡ repeatedRow (s .reader .schema)
+  unfolding repeatedRow
+  repeated-heads = ap (firstRepeated []) (types-heads rows names (finishedEnd p) (s .reader .schema .items) finished-rows)
 
   -- the place of the first refused simple type, 0 exactly if lowering succeeds
   pub unknown-place : unknownPlace 2 (rowsFrom rows names 2 (finishedEnd p)) ≡ unknownRow 2 (s .reader .schema .items)
@@ -126,9 +128,9 @@ module _ {s : State} {rows names : List ℕ} {p : Progress} (at : At s rows name
     pub root-count : length (rootRows (rowsFrom rows names 2 (finishedEnd p))) ≡ length (g .rootElements)
     root-count = rw root-rows (length-map (g .rootElements) rootRow)
 
-    pub type-count : length (keptPlaces rows names (finishedEnd p)) ≡ length (g .types)
-    type-count = kept-count rows names (finishedEnd p) (s .reader .schema) finished-rows g l
+    pub type-count : length (finishedPlaces rows names (finishedEnd p)) ≡ length (g .types)
+    type-count = types-count rows names (finishedEnd p) (s .reader .schema) finished-rows g l
 
-    pub graph-rows : graphRows rows names (finishedEnd p) (keptPlaces rows names (finishedEnd p)) ≡ graphRowsOf g
+    pub graph-rows : graphRows rows names (finishedEnd p) (finishedPlaces rows names (finishedEnd p)) ≡ graphRowsOf g
     unfolding graphRows graphRowsOf
-    graph-rows = rw (namespace-lowered, root-rows, kept-rows rows names (finishedEnd p) (s .reader .schema) finished-rows g l, lower-namespace (s .reader .schema) g l)
+    graph-rows = rw (namespace-lowered, root-rows, types-rows rows names (finishedEnd p) (s .reader .schema) finished-rows g l, lower-namespace (s .reader .schema) g l)

@@ -23,8 +23,7 @@ use Rattle.xsd_types.proofs.Laws.Items.{group-item}
 use Rattle.xsd_types.proofs.Laws.Heads.{HeadTag, headTags}
 use Rattle.ir_types.specs.Types.{TypeDef, TypeGraph}
 use Rattle.ir_types.specs.Rows.{rootRow, headC as graphHeadC}
-use Rattle.ir_lower.specs.Lower.{isEnumeration, allEnums, codes, lowerNewtype, lowerSimpleType, isNone, unknownBase, rootOf, lower, unknownRow, finishedTypes, isUnknown as itemUnknown}
-use Rattle.ir_lower.specs.Finished.{anyUnknown}
+use Rattle.ir_lower.specs.Lower.{isEnumeration, allEnums, codes, lowerNewtype, lowerSimpleType, isNone, unknownBase, anyUnknown, rootOf, lower, unknownRow, finishedTypes, isUnknown as itemUnknown}
 use Rattle.ir_lower.proofs.Laws.Refusals.{refusal, refused-exactly, unknownRow-least}
 use Rattle.names.specs.Names.{normalizeTypeName}
 use Rattle.ir_rows.specs.Lowered.{loweredAs, loweredRow, onlyCodes, isCodeEnum, rootRows, isUnknown, unknownPlace}

@@ -1,4 +1,4 @@
--- `ir_index::spot_of` meets its contract: where the fingerprint's flag is not set, or no entry has the fingerprint, the name is new.
+-- `ir_index::name_came` meets its contract: where the fingerprint's flag is not set, or no entry has the fingerprint, the name is new.
 -- Assumes nothing.
 use mathlib.Core.Path.{_≡_, sym, _∙_}
 use native.Mathlib.Omega.{arith}
@@ -9,8 +9,8 @@ use Rattle.ir_index.specs.Prints.{fingerprint}
 use Rattle.ir_index.proofs.Laws.Prints.{fingerprint-below}
 use Rattle.ir_index.proofs.Laws.Entries.{flag-none, print-none}
 use borrow.Author.Needs.{needs}
-use Rattle.ir_index.proofs.spot_of.Statement.{statement}
-use Rattle.ir_index.proofs.spot_of.Tie as tie
+use Rattle.ir_index.proofs.name_came.Statement.{statement}
+use Rattle.ir_index.proofs.name_came.Tie as tie
 
 shared-slice-read-if1 : tie.Need-shared-slice-read-if1
 shared-slice-read-if1 c =
@@ -36,8 +36,8 @@ returns-2 c =
     let a = start .args in
     sym (print-none (a .rows .now) (a .names .now) (a .place) (a .scratch .now) (a .n) (start .pre .0 .entries) (rw (start .pre .1 .1) at (sym (c .before .has-print .ensures) ∙ not-true (c .before .has-print .result) (c .if2 .taken))))
 
-pub spot-of-spec : {M : Type 1} → statement M
-spot-of-spec =
+pub name-came-spec : {M : Type 1} → statement M
+name-came-spec =
     tie.close
     (tie.spec
     (λ c κs. search needs)
