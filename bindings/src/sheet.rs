@@ -113,9 +113,34 @@ pub struct Declared<'s> {
     pub name: &'s str,
     /// The type of an element, the base of a simple type or of simple content, else empty.
     pub second: &'s str,
+    event: Option<u32>,
 }
 
 impl Declared<'_> {
+    /// The number in the run, from 0, of the event that gave it its name: the start or empty tag of an element, the start tag of a type.
+    /// `None` where it is not known: in sheets stored before there were numbers, and for event 0 of a run begun inside a schema.
+    ///
+    /// Content, bases and the close leave it as it is, and it does not depend on the pieces in which the events were read.
+    ///
+    /// ```
+    /// use lubiksan::{SchemaSheet, TapeBuilder};
+    ///
+    /// let mut sheet = SchemaSheet::new();
+    /// let mut piece = TapeBuilder::new();
+    /// piece.start("schema", &[])?;
+    /// sheet.read(&piece.finish())?;
+    /// let mut piece = TapeBuilder::new();
+    /// piece.start("complexType", &[("name", "Party")])?;
+    /// piece.start("sequence", &[])?;
+    /// sheet.read(&piece.finish())?;
+    /// let party = sheet.declared().next().ok_or("a type was expected")?;
+    /// assert_eq!((party.name, party.event()), ("Party", Some(1)));
+    /// # Ok::<(), Box<dyn std::error::Error>>(())
+    /// ```
+    pub fn event(&self) -> Option<u32> {
+        self.event
+    }
+
     fn at(&self) -> TypeAt {
         TypeAt {
             row: self.row,
@@ -354,6 +379,7 @@ impl<'a> SchemaSheet<'a> {
             kind,
             name: self.text(row, 0),
             second,
+            event: Some(self.number(row, 9)).filter(|&event| event > 0),
         }))
     }
 

@@ -79,6 +79,70 @@ fn the_choice_is_kept_by_every_reading() -> Tried {
 }
 
 #[test]
+fn heads_have_the_number_of_their_event() -> Tried {
+    let mut sheet = SchemaSheet::cleared(ReadAs::Standard);
+    let mut piece = TapeBuilder::new();
+    piece.start("schema", &[])?;
+    piece.start("annotation", &[])?;
+    piece.close()?;
+    piece.start("complexType", &[("name", "a_b")])?;
+    sheet.read(&piece.finish())?;
+    // The second piece refuses a nameless type, which has no number; the third goes on behind the events that are done.
+    let mut piece = TapeBuilder::new();
+    piece.start("sequence", &[])?;
+    piece.close()?;
+    piece.start("choice", &[])?;
+    piece.close()?;
+    piece.close()?;
+    piece.start("simpleType", &[])?;
+    assert!(sheet.read(&piece.finish()).is_err());
+    let mut piece = TapeBuilder::new();
+    piece.empty("element", &[("name", "c"), ("type", "a_b")])?;
+    sheet.read(&piece.finish())?;
+    let found: Vec<_> = sheet.declared().map(|it| (it.name, it.event())).collect();
+    assert_eq!(found, [("a_b", Some(3)), ("c", Some(9))]);
+    let mut graph = Graph::new();
+    sheet.lower(&mut graph)?;
+    let roots: Vec<_> = graph.roots().map(|it| (it.xml_name, it.event())).collect();
+    let types: Vec<_> = graph.types().map(|it| (it.name(), it.event())).collect();
+    assert_eq!(roots, [("c", Some(9))]);
+    assert_eq!(types, [("AB", Some(3))]);
+    Ok(())
+}
+
+#[test]
+fn unknown_numbers_stay_unknown_and_others_are_below_the_events() -> Tried {
+    let mut piece = TapeBuilder::new();
+    piece.start("schema", &[])?;
+    piece.start("complexType", &[("name", "T")])?;
+    let mut sheet = SchemaSheet::with_room(6, 20)?;
+    sheet.read(&piece.finish())?;
+    let (mut rows, names) = (sheet.rows().to_vec(), sheet.names().to_vec());
+    for (c, good) in [(0, true), (1, true), (2, false), (u32::MAX, false)] {
+        rows[29] = c;
+        let mut stored = SchemaSheet::from_buffers(rows.clone(), names.clone());
+        assert_eq!(stored.check().is_ok(), good, "{c}");
+    }
+    rows[29] = 0;
+    let mut stored = SchemaSheet::from_buffers(rows, names);
+    let mut piece = TapeBuilder::new();
+    piece.start("sequence", &[])?;
+    piece.close()?;
+    piece.empty("any", &[])?;
+    piece.close()?;
+    piece.empty("element", &[("name", "b"), ("type", "t")])?;
+    stored.read(&piece.finish())?;
+    let found: Vec<_> = stored.declared().map(|it| (it.name, it.event())).collect();
+    assert_eq!(found, [("T", None), ("b", Some(6))]);
+    let mut graph = Graph::new();
+    stored.lower(&mut graph)?;
+    assert_eq!(graph.types().next().and_then(|it| it.event()), None);
+    let again = Graph::from_buffers(graph.rows().to_vec(), graph.names().to_vec())?;
+    assert_eq!(again.roots().next().and_then(|it| it.event()), Some(6));
+    Ok(())
+}
+
+#[test]
 fn lowering_refuses_by_number() -> Tried {
     let mut graph = Graph::new();
     assert_eq!(SchemaSheet::new().lower(&mut graph), Err(Refusal::NoRoot));

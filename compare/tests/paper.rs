@@ -1,8 +1,8 @@
 //! The model of paper 01 against the Rust on many tapes and states, and on the paper's specimens.
 
 use judge::cases::{each_spelling, numbers};
-use judge::definitions::repeated;
 use judge::definitions::standard::{examples, header, heads, HEADERS};
+use judge::definitions::{numbered, repeated};
 use judge::leaves::{parse_u32, parse_u64};
 use judge::paper::agree;
 use judge::paper::answer;
@@ -43,7 +43,7 @@ fn printed_specimen() {
     let rows = [
         [0, 3, 2, 1, 0, 0, 0, 0, 0, 0],
         [1, 0, 0, 0, 0, 0, 0, 0, 0, 0],
-        [2, 0, 1, 1, 1, 0, 0, 0, 0, 0],
+        [2, 0, 1, 1, 1, 0, 0, 0, 0, 1],
     ];
     assert_eq!(lowered.graph.rows[..30], rows.concat());
     assert_eq!(lowered.graph.names[..3], *b"DT\0");
@@ -111,6 +111,19 @@ fn both_choices_as_worked_out_by_hand() {
 }
 
 #[test]
+fn numbers_of_heads_as_worked_out_by_hand() {
+    for example in numbered::examples() {
+        let (given, sheet) = read(&example.sheet, &example.tape);
+        assert_eq!(given, example.answer, "{}", example.shows);
+        assert!(example.is_in(&sheet), "{}", example.shows);
+    }
+    for given in numbered::GOODS {
+        let (answer, _) = read(&numbered::numbered_sheet(given), &Tape::default());
+        assert_eq!(answer.number, if given.3 { 0 } else { 2 }, "{given:?}");
+    }
+}
+
+#[test]
 fn by_the_standard_the_heads_are_the_direct_children_of_the_schema() {
     let mut random = Random::new(15);
     let mut compared = 0;
@@ -124,9 +137,9 @@ fn by_the_standard_the_heads_are_the_direct_children_of_the_schema() {
                 3 => Kind::SimpleType,
                 _ => Kind::ComplexType,
             };
-            let ours: Vec<(Kind, String)> = heads(&state)
+            let ours: Vec<(Kind, String, u32)> = heads(&state)
                 .into_iter()
-                .map(|(tag, name)| (kind(tag), name.to_owned()))
+                .map(|(tag, name, event)| (kind(tag), name.to_owned(), event))
                 .collect();
             assert_eq!(ours, declared(&events), "{events:?}");
             compared += 1;

@@ -11,7 +11,7 @@ fn prints(input: &[u8], lines: &str) {
 fn specimen() {
     let whole = input_of_lines(SPECIMEN);
     let lines =
-        "read 0 3\nlower 0 3\n0 3 2 1 0 0 0 0 0 0\n1 0 0 0 0 0 0 0 0 0\n2 0 1 1 1 0 0 0 0 0\nDT\n";
+        "read 0 3\nlower 0 3\n0 3 2 1 0 0 0 0 0 0\n1 0 0 0 0 0 0 0 0 0\n2 0 1 1 1 0 0 0 0 1\nDT\n";
     prints(&whole, lines);
     prints(&[&whole[..], b"more"].concat(), lines);
     prints(&whole[..whole.len() - 1], "short\n");

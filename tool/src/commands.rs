@@ -11,13 +11,14 @@ use crate::formats::{dot, json, rows, rust, text};
 use crate::interrupt;
 use crate::losses;
 use crate::names::Names;
+use crate::origins::Origins;
 use crate::output::{remove_left_beside, write_output};
 use crate::places::Places;
 use crate::progress::Progress;
 use crate::reading::{lowered, read_on, read_whole};
 use crate::shelf;
 use crate::source::{bytes_of, Source};
-use crate::stored::{self, Begin, Stored};
+use crate::stored::{self, About, Begin, Stored};
 use crate::xml::Lines;
 
 /// Runs a command.
@@ -51,6 +52,19 @@ pub fn run(command: &Command) -> Result<(), Failure> {
 struct Input {
     sheet: SchemaSheet<'static>,
     source: Option<Source>,
+    /// What a stored sheet was read from.
+    about: Option<About>,
+}
+
+impl Input {
+    /// The source that was just read, or that of a stored sheet where it is still there as it was.
+    fn with_source<A>(&self, shown: impl Fn(Option<&Source>) -> A) -> A {
+        let stored = || self.about.as_ref().and_then(About::source);
+        match &self.source {
+            Some(source) => shown(Some(source)),
+            None => shown(stored().as_ref()),
+        }
+    }
 }
 
 /// The sheet of a file, which is an XSD or a stored sheet.
@@ -68,6 +82,7 @@ fn input(command: &Command, file: &Path, partial: bool) -> Result<Input, Failure
     Ok(Input {
         sheet,
         source: Some(source),
+        about: None,
     })
 }
 
@@ -92,6 +107,7 @@ fn of_stored(
     Ok(Input {
         sheet: stored.sheet,
         source: None,
+        about: Some(stored.about),
     })
 }
 
@@ -153,11 +169,14 @@ fn shown(
 ) -> Result<Vec<u8>, Failure> {
     let sheet = &input.sheet;
     match format {
-        Format::Text => Ok(text::print(graph).into_bytes()),
+        Format::Text => Ok(input
+            .with_source(|source| text::print(graph, &Origins::of(source)))
+            .into_bytes()),
         Format::Dot => Ok(dot::print(graph).into_bytes()),
         Format::Rows => Ok(rows::print(sheet.events_done(), graph)),
         Format::Json => {
-            let text = json::print(graph).map_err(|error| Failure::Machine(error.to_string()))?;
+            let text = input.with_source(|source| json::print(graph, &Origins::of(source)));
+            let text = text.map_err(|error| Failure::Machine(error.to_string()))?;
             Ok(text.into_bytes())
         }
         Format::Rust => {

@@ -3,12 +3,13 @@
 use std::path::Path;
 
 use lubiksan::names::parse_u32;
-use lubiksan::{limits, Declared, Kind, Refusal, SchemaSheet, TypeAt};
+use lubiksan::{limits, Declared, Refusal, SchemaSheet, TypeAt};
 
 use crate::document::Document;
 use crate::failure::{quoted, Failure};
+use crate::origins::named_at;
 use crate::source::Source;
-use crate::xml::{Event, EventKind};
+use crate::xml::Event;
 
 /// A refused reading.
 pub fn reading(source: &Source, refusal: &Refusal) -> Failure {
@@ -178,50 +179,11 @@ fn declared_in<'s>(sheet: &'s SchemaSheet<'_>, row: usize) -> Option<Declared<'s
     sheet.declared().find(|declared| declared.row == row)
 }
 
-/// The source, where it is at hand, and where in it the tag stands that opened the type of a row.
+/// The source, where it is at hand, and where in it the tag stands that gave the type of a row its name.
 fn located<'s>(
     source: Option<&'s Source>,
     sheet: &SchemaSheet<'_>,
     row: usize,
 ) -> Option<(&'s Source, usize)> {
-    let (source, declared) = (source?, declared_in(sheet, row)?);
-    let new = SchemaSheet::cleared(sheet.read_as());
-    Some((source, opened_at(source, new, &declared)?))
-}
-
-/// Where the tag stands that opened a type: the first of the tags of its kind and name that, read in its turn into a new
-/// sheet, made its row the last.
-fn opened_at(
-    source: &Source,
-    mut sheet: SchemaSheet<'_>,
-    declared: &Declared<'_>,
-) -> Option<usize> {
-    let document = source.document();
-    for (index, event) in document.events().iter().enumerate() {
-        if !opens(document, event, declared) {
-            continue;
-        }
-        let most = (index + 1).checked_sub(sheet.events_done())?;
-        crate::reading::read_on(source, &mut sheet, most, |_| Ok(())).ok()?;
-        let last = sheet.declared().last();
-        if last.is_some_and(|last| last.row == declared.row) {
-            return Some(event.at);
-        }
-    }
-    None
-}
-
-/// The tag may have opened the type.
-fn opens(document: &Document, event: &Event, declared: &Declared<'_>) -> bool {
-    let tag = match declared.kind {
-        Kind::Element => return false,
-        Kind::SimpleType => "simpleType",
-        Kind::ComplexType => "complexType",
-    };
-    let named = || {
-        document
-            .attribute(event, "name")
-            .is_some_and(|(name, _)| name == declared.name)
-    };
-    event.kind == EventKind::Start && document.local(event) == tag && named()
+    Some((source?, named_at(source?, sheet, row)?))
 }

@@ -8,6 +8,7 @@
 //! | [`document`] | a text read in one of the two ways; its events in pieces |
 //! | [`source`], [`reading`] | a schema file; its events read into a schema sheet |
 //! | [`explain`], [`losses`] | a refusal in words; what of the file was not kept |
+//! | [`origins`] | where a root or type comes from, by the number of its event |
 //! | [`stored`], [`output`] | stored sheets; files that are whole or as they were |
 //! | [`formats`], [`names`], [`identifier`], [`places`] | the graph as text, JSON, dot, Rust and rows; names that meet, and where |
 //! | [`shelf`], [`interrupt`], [`progress`] | many schemas side by side |
@@ -27,6 +28,7 @@ pub mod identifier;
 pub mod interrupt;
 pub mod losses;
 pub mod names;
+pub mod origins;
 pub mod output;
 pub mod places;
 pub mod progress;

@@ -64,6 +64,13 @@ impl About {
             counts: losses::counts(source.document()),
         }
     }
+
+    /// The file that the sheet was read from, where it is still there as it was.
+    pub fn source(&self) -> Option<Source> {
+        let source = Source::load(&self.path).ok()?;
+        let same = source.length == self.length && source.sha256() == self.sha256;
+        same.then_some(source)
+    }
 }
 
 impl Stored {

@@ -7,7 +7,7 @@ use common::{lubiksan, Folder, Ran};
 /// The flag for the choice 0.
 const AS_ORIGINAL: &[&str] = &["--as-original"];
 
-/// The text of a schema with `inside` in it, behind a type `Before` and before a type `Behind`.
+/// The text of a schema with `inside` in it, behind a type `Before` and before a type `Behind`; all in line 1, which is cut from it.
 fn schema(inside: &str, more: &[&str]) -> Ran {
     let text = format!(
         "<schema><complexType name='Before'><choice/></complexType>{inside}<complexType name='Behind'><choice/></complexType></schema>"
@@ -16,7 +16,11 @@ fn schema(inside: &str, more: &[&str]) -> Ran {
     let file = folder.put("a.xsd", text);
     let mut args = vec!["graph", file.to_str().unwrap()];
     args.extend(more);
-    lubiksan(args)
+    let mut ran = lubiksan(args);
+    ran.out = ran
+        .out
+        .replace(&format!(" at {}:1\n", file.display()), "\n");
+    ran
 }
 
 /// The paragraphs between `Before` and `Behind`, and whether `Behind` is there.

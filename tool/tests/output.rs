@@ -152,3 +152,83 @@ fn what_a_killed_process_left_is_removed() {
     assert_eq!(to(&folder.path("out")), Some(0));
     assert_eq!(folder.names(), [".lubiksan-999999-1.tmp", "out"]);
 }
+
+/// The lines of roots and types, each behind what names it.
+fn places(text: &str) -> Vec<Option<&str>> {
+    let heads = [
+        "root ", "newtype ", "codes ", "struct ", "choice ", "opaque ", "value ",
+    ];
+    let lines = text
+        .lines()
+        .filter(|line| heads.iter().any(|head| line.starts_with(head)));
+    lines
+        .map(|line| line.split_once(" at ").map(|(_, place)| place))
+        .collect()
+}
+
+/// The file's tags in lines of their own: the schema is event 0.
+const PLACED: &str = "<schema>\n<element name=\"r\" type=\"T\"/>\n<!-- <x/> --><complexType\nname=\"T\"><sequence/>\n</complexType>\n<simpleType name=\"S\"><restriction base=\"string\"/></simpleType></schema>";
+
+#[test]
+fn roots_and_types_have_file_and_line() {
+    let folder = Folder::new();
+    let file = folder.put("a.xsd", PLACED);
+    let ran = lubiksan(["graph".as_ref(), file.as_os_str()]);
+    let at = |line: usize| format!("{}:{line}", file.display());
+    let lines = [at(2), at(6), at(3)];
+    let expected: Vec<Option<&str>> = lines.iter().map(|place| Some(place.as_str())).collect();
+    assert_eq!(places(&ran.out), expected, "{}", ran.out);
+}
+
+#[test]
+fn a_stored_sheet_has_places_while_its_source_is_as_it_was() {
+    let folder = Folder::new();
+    let (file, sheet) = (folder.put("a.xsd", PLACED), folder.path("a.sheet"));
+    let read: [&std::ffi::OsStr; 4] = [
+        "read".as_ref(),
+        file.as_ref(),
+        "--sheet".as_ref(),
+        sheet.as_ref(),
+    ];
+    assert_eq!(lubiksan(read).status, Some(0));
+    let shown = |format: &str| {
+        let args: [&std::ffi::OsStr; 4] = [
+            "graph".as_ref(),
+            sheet.as_ref(),
+            "--format".as_ref(),
+            format.as_ref(),
+        ];
+        lubiksan(args).out
+    };
+    assert!(places(&shown("text")).iter().all(Option::is_some));
+    fs::write(&file, PLACED.replace("<!-- <x/> -->", "<!-- <y/> -->")).unwrap();
+    assert_eq!(places(&shown("text")), [None; 3]);
+    let json = shown("json");
+    assert!(
+        json.contains("\"event\": 1,\n      \"file\": null,\n      \"line\": null"),
+        "{json}"
+    );
+}
+
+#[test]
+fn unknown_events_have_no_place() {
+    let folder = Folder::new();
+    let (file, sheet) = (folder.put("a.xsd", PLACED), folder.path("a.sheet"));
+    let read: [&std::ffi::OsStr; 4] = [
+        "read".as_ref(),
+        file.as_ref(),
+        "--sheet".as_ref(),
+        sheet.as_ref(),
+    ];
+    assert_eq!(lubiksan(read).status, Some(0));
+    let stored = lubiksan_tool::stored::load(&sheet).unwrap();
+    let mut rows = stored.sheet.rows().to_vec();
+    for head in rows.chunks_mut(10).skip(1) {
+        head[9] = 0;
+    }
+    let older = lubiksan::SchemaSheet::from_buffers(rows, stored.sheet.names().to_vec());
+    lubiksan_tool::stored::store(&sheet, &older, &stored.about).unwrap();
+    let shown = lubiksan(["graph".as_ref(), sheet.as_os_str()]);
+    assert_eq!(shown.status, Some(0), "{}", shown.err);
+    assert_eq!(places(&shown.out), [None; 3]);
+}

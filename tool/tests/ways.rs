@@ -12,14 +12,16 @@ use judge::texts::specimens::LINES;
 use lubiksan_tool::document::{Document, NoDocument, Way};
 use lubiksan_tool::xml::{Event, EventKind};
 
-/// Runs a command on a file `a.xsd` with this text; its folder is cut from the words.
+/// Runs a command on a file `a.xsd` with this text; its folder is cut from what is printed and said.
 fn run(text: impl AsRef<[u8]>, args: &[&str]) -> Ran {
     let folder = Folder::new();
     let file = folder.put("a.xsd", text);
     let (command, more) = args.split_first().unwrap();
     let args = [OsStr::new(command), file.as_os_str()].into_iter();
     let mut ran = lubiksan(args.chain(more.iter().map(OsStr::new)));
-    ran.err = ran.err.replace(&format!("{}/", folder.0.display()), "");
+    for text in [&mut ran.out, &mut ran.err] {
+        *text = text.replace(&format!("{}/", folder.0.display()), "");
+    }
     ran
 }
 

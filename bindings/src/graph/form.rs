@@ -104,16 +104,18 @@ fn head_of(tag: u32) -> Option<u32> {
     }
 }
 
-/// How many pairs the row uses, where its numbers a, b and c may be what they are.
+/// How many pairs the row uses, where its numbers a, b and c may be what they are. A head has any c, the number of its event.
 fn pairs_of(ten: &[u32]) -> Option<usize> {
     let (&tag, &a, &b, &c) = (ten.first()?, ten.get(7)?, ten.get(8)?, ten.get(9)?);
     let named = usize::from(a == 0);
     let (pairs, may) = match tag {
-        1 | 3 | 4 | 6 | 11 | 14 | 15 => (1, a == 0 && b == 0 && c == 0),
-        2 | 18 => (2, a == 0 && b == 0 && c == 0),
-        5 => (1, (1..=5).contains(&a) && b == 0 && c == 0),
-        7 => (1 + named, a <= 5 && b == 0 && c == 0),
-        8 => (1 + usize::from(a == 1), a <= 1 && b == 0 && c == 0),
+        1 | 11 | 14 | 15 => (1, a == 0 && b == 0 && c == 0),
+        18 => (2, a == 0 && b == 0 && c == 0),
+        2 => (2, a == 0 && b == 0),
+        3 | 4 | 6 => (1, a == 0 && b == 0),
+        5 => (1, (1..=5).contains(&a) && b == 0),
+        7 => (1 + named, a <= 5 && b == 0),
+        8 => (1 + usize::from(a == 1), a <= 1 && b == 0),
         9 => (2 + named, a <= 5 && cardinality_may_be(b, c)),
         10 => (2 + named, a <= 5 && b == 0 && c == 0),
         12 | 13 => (0, c == 0),

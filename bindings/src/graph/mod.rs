@@ -36,6 +36,8 @@ use types::Types;
 /// assert_eq!(sheet.lower(&mut graph)?, 3);
 /// let root = graph.roots().next().ok_or("a root was expected")?;
 /// assert_eq!((root.xml_name, root.type_name), ("D", "T"));
+/// // Event 0 is the schema, event 1 the element.
+/// assert_eq!(root.event(), Some(1));
 ///
 /// let stored = (graph.rows().to_vec(), graph.names().to_vec());
 /// assert_eq!(Graph::from_buffers(stored.0, stored.1)?.roots().count(), 1);

@@ -68,6 +68,11 @@ impl<'g> Row<'g> {
         self.number(9)
     }
 
+    /// The number of the event that gave a head its name; none where it is not known.
+    pub fn event(self) -> Option<u32> {
+        Some(self.c()).filter(|&event| event > 0)
+    }
+
     /// The text of a pair, from 0.
     pub fn text(self, pair: usize) -> &'g str {
         let (offset, length) = (self.number(1 + 2 * pair), self.number(2 + 2 * pair));

@@ -11,6 +11,7 @@ pub struct Root<'g> {
     pub xml_name: &'g str,
     /// The name of its type as in the schema, with its prefix; not normalised.
     pub type_name: &'g str,
+    event: Option<u32>,
 }
 
 impl<'g> Root<'g> {
@@ -22,7 +23,16 @@ impl<'g> Root<'g> {
         Root {
             xml_name: row.text(0),
             type_name: row.text(1),
+            event: row.event(),
         }
+    }
+
+    /// The number in the run, from 0, of the event that gave the root its name: the start or empty tag of its element. `None` where it
+    /// is not known: in a graph of a sheet stored before there were numbers, or of event 0 of a run begun inside a schema.
+    ///
+    /// Of a file that was read whole from a cleared sheet it is the event's place in the file, all tags counted.
+    pub fn event(&self) -> Option<u32> {
+        self.event
     }
 }
 
@@ -47,6 +57,12 @@ impl<'g> TypeDef<'g> {
     /// The name of the type.
     pub fn name(&self) -> &'g str {
         self.rows().next_row().map_or("", |row| row.text(0))
+    }
+
+    /// The number in the run, from 0, of the event that gave the type its name: the start tag of its `simpleType` or `complexType`.
+    /// `None` where it is not known, as of [`Root::event`].
+    pub fn event(&self) -> Option<u32> {
+        self.rows().next_row().and_then(Row::event)
     }
 
     fn rows(&self) -> Rows<'g> {
@@ -126,6 +142,11 @@ impl<'g> Struct<'g> {
         TypeDef::Struct(*self).name()
     }
 
+    /// The number of its event, as [`TypeDef::event`].
+    pub fn event(&self) -> Option<u32> {
+        TypeDef::Struct(*self).event()
+    }
+
     /// The fields in order.
     pub fn fields(&self) -> impl Iterator<Item = Field<'g>> {
         self.0.children(Field::of)
@@ -140,6 +161,11 @@ impl<'g> Choice<'g> {
     /// The name of the type.
     pub fn name(&self) -> &'g str {
         TypeDef::Choice(*self).name()
+    }
+
+    /// The number of its event, as [`TypeDef::event`].
+    pub fn event(&self) -> Option<u32> {
+        TypeDef::Choice(*self).event()
     }
 
     /// The variants in order.
@@ -158,6 +184,11 @@ impl<'g> CodeList<'g> {
         TypeDef::CodeList(*self).name()
     }
 
+    /// The number of its event, as [`TypeDef::event`].
+    pub fn event(&self) -> Option<u32> {
+        TypeDef::CodeList(*self).event()
+    }
+
     /// The codes in order.
     pub fn codes(&self) -> impl Iterator<Item = Code<'g>> {
         self.0.children(Code::of)
@@ -172,6 +203,11 @@ impl<'g> Newtype<'g> {
     /// The name of the type.
     pub fn name(&self) -> &'g str {
         TypeDef::Newtype(*self).name()
+    }
+
+    /// The number of its event, as [`TypeDef::event`].
+    pub fn event(&self) -> Option<u32> {
+        TypeDef::Newtype(*self).event()
     }
 
     /// The built-in type inside.
@@ -196,6 +232,11 @@ impl<'g> Value<'g> {
         TypeDef::Value(*self).name()
     }
 
+    /// The number of its event, as [`TypeDef::event`].
+    pub fn event(&self) -> Option<u32> {
+        TypeDef::Value(*self).event()
+    }
+
     /// The type of the value.
     pub fn value(&self) -> TypeRef<'g> {
         self.0
@@ -217,6 +258,11 @@ impl<'g> Opaque<'g> {
     /// The name of the type.
     pub fn name(&self) -> &'g str {
         TypeDef::Opaque(*self).name()
+    }
+
+    /// The number of its event, as [`TypeDef::event`].
+    pub fn event(&self) -> Option<u32> {
+        TypeDef::Opaque(*self).event()
     }
 
     /// The namespace that the schema names for the content.

@@ -10,13 +10,13 @@ use std::path::{Path, PathBuf};
 use std::process::ExitCode;
 use std::thread;
 
-use judge::calls::{labels, longer, numbers, small, standard, written};
+use judge::calls::{labels, longer, numbered, numbers, small, standard, written};
 use judge::tally::Tally;
 
 type Group = fn() -> Vec<Tally>;
 
 fn main() -> ExitCode {
-    let groups: [Group; 12] = [
+    let groups: [Group; 15] = [
         small::compare,
         numbers::compare,
         longer::documents,
@@ -29,6 +29,9 @@ fn main() -> ExitCode {
         standard::documents,
         standard::sheets,
         schemas_by_standard,
+        numbered::written,
+        numbered::sheets,
+        numbered::documents,
     ];
     let running = groups.map(thread::spawn);
     let tallies = running.map(|group| group.join().expect("the group runs to its end"));

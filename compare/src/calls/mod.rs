@@ -7,6 +7,7 @@
 //! | `small` | every list of a few events in each context |
 //! | `longer` | random documents, damaged, in pieces, on damaged sheets |
 //! | `standard` | sheets cleared with the choice 1 of order 3 |
+//! | `numbered` | the numbers of heads of order 5 |
 //! | `written` | the cases of the definitions, lengths, the schemas |
 //! | `numbers` | numbers and `unbounded` in every spelling, where an event has one |
 //! | `labels` | the label call on rows of graphs, on any rows and word lists |
@@ -14,6 +15,7 @@
 pub mod check;
 pub mod labels;
 pub mod longer;
+pub mod numbered;
 pub mod numbers;
 pub mod small;
 pub mod standard;

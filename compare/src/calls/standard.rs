@@ -154,7 +154,7 @@ fn with_tree(events: &[Event]) -> Option<Result<(), String>> {
     Some(same_heads(&state, events))
 }
 
-/// The kinds and names of the heads are those of the tree.
+/// The kinds, names and numbers of the heads are those of the tree.
 fn same_heads(state: &State, events: &[Event]) -> Result<(), String> {
     let kind = |tag| match tag {
         2 => Kind::Element,
@@ -162,8 +162,8 @@ fn same_heads(state: &State, events: &[Event]) -> Result<(), String> {
         _ => Kind::ComplexType,
     };
     let ours = heads(state).into_iter();
-    let ours: Vec<(Kind, String)> = ours
-        .map(|(tag, name)| (kind(tag), name.to_owned()))
+    let ours: Vec<(Kind, String, u32)> = ours
+        .map(|(tag, name, event)| (kind(tag), name.to_owned(), event))
         .collect();
     let tree = declared(events);
     if ours == tree {

@@ -8,12 +8,14 @@
 //! | `readings` | tapes read with roomy and tight buffers, damaged, in pieces |
 //! | `sheets` | good sheets that no reading reaches, and bad sheets |
 //! | `standard` | sheets cleared with each choice of order 3 |
+//! | `numbered` | the numbers of heads of order 5, worked out by hand |
 //! | `graphs` | lowering and label calls |
 //! | `repeated` | types of one name, with the answers worked out by hand |
 //! | `runs` | lists of readings and lowerings |
 
 pub mod call;
 pub(crate) mod graphs;
+pub mod numbered;
 pub mod print;
 pub(crate) mod readings;
 pub mod repeated;
@@ -41,6 +43,7 @@ pub fn cases(seed: u64) -> Vec<Case> {
         readings::cases(seed),
         sheets::cases(seed),
         standard::cases(seed),
+        numbered::cases(),
         graphs::cases(seed),
         repeated::cases(),
         runs::cases(seed),
@@ -57,6 +60,7 @@ pub fn reading_cases(seed: u64) -> Vec<Case> {
         readings::cases(seed),
         sheets::cases(seed),
         standard::cases(seed),
+        numbered::cases(),
     ]
     .concat()
 }

@@ -1,6 +1,7 @@
 //! Good sheets that no reading reaches, and bad sheets.
 
 use super::call::Call;
+use super::numbered::with_numbers;
 use super::readings::{blank, damage_one, roomy};
 use super::{generator, Case};
 use crate::paper::agree;
@@ -243,9 +244,9 @@ pub fn random_state(random: &mut Random) -> State {
     } else {
         0
     };
-    let last = rows.iter().rfind(|row| matches!(row.tag, 2 | 3 | 12..=16));
+    let last = rows.iter().rfind(|row| row.is_head());
     let extendable = context == 3 && last.is_some_and(|row| row.tag == 14);
-    State {
+    let unnumbered = State {
         events: random.below(50) as u32,
         extension: extendable && random.below(2) == 0,
         ..state(
@@ -254,7 +255,8 @@ pub fn random_state(random: &mut Random) -> State {
             context.min(2) + nesting + random.below(3) as u32,
             &rows,
         )
-    }
+    };
+    with_numbers(unnumbered, random)
 }
 
 fn open_group(random: &mut Random, context: u32) -> Vec<Row> {
@@ -336,7 +338,7 @@ fn random_states(seed: u64) -> Vec<Case> {
     (0..60).map(case).collect()
 }
 
-/// A sheet with every kind of row, in context 1.
+/// A sheet with every kind of row, in context 1, three events done.
 fn full_sheet() -> Sheet {
     let mut rows = facets();
     rows.extend(simple_content());
@@ -350,7 +352,10 @@ fn full_sheet() -> Sheet {
         Row::new(15, &["P", "n"]).with(1, 0),
         Row::new(2, &["E", "T"]),
     ]);
-    let state = state(1, 0, 1, &rows);
+    let state = State {
+        events: 3,
+        ..state(1, 0, 1, &rows)
+    };
     state.sheet(lent(&state))
 }
 

@@ -4,7 +4,7 @@ use super::call::Call;
 use super::readings::{blank_by, roomy_by};
 use super::sheets::random_state;
 use super::{generator, Case};
-use crate::paper::sheet::{names_used, Lent, Row, Sheet};
+use crate::paper::sheet::{names_used, Lent, Sheet};
 use crate::paper::state::State;
 use crate::paper::{answer, Answer};
 use crate::random::Random;
@@ -425,8 +425,9 @@ fn random_states(seed: u64) -> Vec<Case> {
 }
 
 /// What an example's sheet must say of its heads: tag and name, in order.
-pub fn heads(state: &State) -> Vec<(u32, &str)> {
-    let is_head = |row: &&Row| matches!(row.tag, 2 | 3 | 12..=16);
-    let heads = state.rows.iter().filter(is_head);
-    heads.map(|row| (row.tag, row.texts[0].as_str())).collect()
+pub fn heads(state: &State) -> Vec<(u32, &str, u32)> {
+    let heads = state.rows.iter().filter(|row| row.is_head());
+    heads
+        .map(|row| (row.tag, row.texts[0].as_str(), row.c))
+        .collect()
 }

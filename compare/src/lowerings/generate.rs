@@ -1,5 +1,6 @@
 //! Random schemas with types of every kind whose names meet by normalising.
 
+use crate::definitions::numbered::with_numbers;
 use crate::names::{near_misses, BUILTIN_NAMES, OTHER_BUILTIN_NAMES};
 use crate::paper::sheet::Row;
 use crate::paper::state::State;
@@ -163,12 +164,13 @@ pub fn schema(random: &mut Random, most: usize) -> State {
         3 => rows.extend(complex(random)),
         _ => {}
     }
-    State {
+    let unnumbered = State {
         rows,
         context,
         root_seen: true,
         events: random.below(100) as u32,
         open_tags: context.min(2) + random.below(3) as u32,
         ..State::cleared()
-    }
+    };
+    with_numbers(unnumbered, random)
 }

@@ -45,6 +45,11 @@ impl State {
         min.is_some_and(is_new_u32) || (number_or_one(min).is_ok() && max())
     }
 
+    /// Order 5: "the number in the run of the event", which is counted already.
+    fn number_in_run(&self) -> u32 {
+        self.events - 1
+    }
+
     /// Counts the event and its tag: 8, then 6 or 7.
     fn count(&mut self, event: &Event) -> Result<(), u32> {
         if self.events == 1_000_000 {
@@ -113,14 +118,15 @@ impl State {
     }
 
     fn open_type(&mut self, context: u32, head: Row) {
-        self.rows.push(head);
+        self.rows.push(head.named_by(self.number_in_run()));
         self.context = context;
     }
 
     /// An element of the schema "is kept if it has name and type".
     fn put_element(&mut self, tag: &Tag) {
         if let Some((name, type_name)) = name_and_type(tag) {
-            self.rows.push(Row::new(2, &[name, type_name]));
+            let row = Row::new(2, &[name, type_name]);
+            self.rows.push(row.named_by(self.number_in_run()));
         }
     }
 
@@ -157,13 +163,14 @@ impl State {
         Ok(())
     }
 
-    /// Another head for the open type, with the same name and without children; flag 0.
+    /// Another head for the open type, with the same name, given by the same event, and without children; flag 0.
     fn replace_content(&mut self, tag: u32, more: &[&str], a: u32) {
         let head = self.head();
-        let name = self.rows[head].texts[0].clone();
+        let (name, event) = (self.rows[head].texts[0].clone(), self.rows[head].c);
         self.rows.truncate(head);
         let texts: Vec<&str> = [name.as_str()].iter().chain(more).copied().collect();
-        self.rows.push(Row::new(tag, &texts).with(a, 0));
+        self.rows
+            .push(Row::new(tag, &texts).with(a, 0).named_by(event));
         self.extension = false;
     }
 

@@ -5,6 +5,7 @@ use super::sheet::{fits, good_lengths, rows_used, Row, Sheet};
 use super::state::State;
 use super::{answer, Answer};
 use crate::ir::lower::lower;
+use crate::leaves::normalize_type_name;
 use crate::xsd::types::{
     Attribute, ChoiceVariant, ComplexContent, ComplexType, Element, Facet, MaxOccurs, Restriction,
     Schema, SequenceElement, SimpleType,
@@ -104,7 +105,7 @@ impl State {
         if let Some(row) = self.first_repeated() {
             return Err(answer(20, row));
         }
-        let rows = graph_rows(&graph);
+        let rows = self.numbered(graph_rows(&graph));
         if !fits(&rows, lent.lent()) {
             return Err(answer(15, 0));
         }
@@ -112,6 +113,27 @@ impl State {
             rows_used(&rows) as u32,
             graph_sheet(&graph, &rows, lent.lent()),
         ))
+    }
+
+    /// Order 5: the rows of the graph, each root and type with the c of its head. Roots are the elements in order; a type is
+    /// found by its name, which only one has.
+    fn numbered(&self, mut rows: Vec<Row>) -> Vec<Row> {
+        let heads: Vec<&Row> = self.finished().iter().map(|(_, rows)| &rows[0]).collect();
+        let mut elements = heads.iter().filter(|head| head.tag == 2);
+        let named = |name: &str| {
+            let types = heads.iter().filter(|head| head.tag != 2);
+            types
+                .map(|head| (head, normalize_type_name(&head.texts[0])))
+                .find_map(|(head, own)| (own == name).then_some(head.c))
+        };
+        for row in &mut rows {
+            row.c = match row.tag {
+                2 => elements.next().expect("a root is an element").c,
+                3..=8 => named(&row.texts[0]).expect("a type has a head"),
+                _ => row.c,
+            };
+        }
+        rows
     }
 
     /// The row of the first simple type that the Rust refuses when it stands alone.

@@ -39,6 +39,16 @@ impl Row {
         Row { a, b, ..self }
     }
 
+    /// The row of a schema sheet with the number of the event that gave it its name.
+    pub fn named_by(self, event: u32) -> Row {
+        Row { c: event, ..self }
+    }
+
+    /// The row is a head of a schema sheet: an element or a type.
+    pub fn is_head(&self) -> bool {
+        matches!(self.tag, 2 | 3 | 12..=16)
+    }
+
     /// The row stands behind a head of its own.
     pub fn is_child(&self) -> bool {
         matches!(self.tag, 4..=11 | 17..=20)

@@ -83,6 +83,12 @@ impl State {
             && self.open_tags <= 255
             && self.last_head().is_some_and(|last| self.fits_context(last))
             && self.fits_root()
+            && self.rows.iter().all(|row| self.fits_events(row))
+    }
+
+    /// Order 5: a head's c is "zero .. in a good sheet any other c is below events done"; c of other rows is 0.
+    fn fits_events(&self, row: &Row) -> bool {
+        row.c == 0 || (row.is_head() && row.c < self.events)
     }
 
     /// "context above 0 has root seen; no root seen means two rows and no names"
@@ -169,7 +175,7 @@ fn unpacked_row(ten: &[u32], names: &[u8], end: &mut usize) -> Option<Row> {
         b: ten[8],
         c: ten[9],
     };
-    (unused && row.c == 0).then_some(row)
+    unused.then_some(row)
 }
 
 /// The text of a pair that starts at `end` and lies inside the names; `end` moves on.

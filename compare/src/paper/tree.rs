@@ -12,15 +12,16 @@ pub enum Kind {
     ComplexType,
 }
 
-/// A tag of the document, the path of the tags around it, from the outermost on.
+/// A tag of the document, the number of its event, the path of the tags around it, from the outermost on.
 struct Placed<'e> {
+    event: u32,
     path: Vec<&'e str>,
     tag: &'e Tag,
     started: bool,
 }
 
-/// The heads that the document declares: its elements with name and type and its named types, in order.
-pub fn declared(events: &[Event]) -> Vec<(Kind, String)> {
+/// The heads that the document declares, each with the number of its event: its elements with name and type and its named types, in order.
+pub fn declared(events: &[Event]) -> Vec<(Kind, String, u32)> {
     let found = placed(events);
     let heads = found.iter().filter(|it| is_direct_child(&it.path));
     heads.filter_map(head).collect()
@@ -30,7 +31,7 @@ pub fn declared(events: &[Event]) -> Vec<(Kind, String)> {
 fn placed(events: &[Event]) -> Vec<Placed<'_>> {
     let mut path: Vec<&str> = Vec::new();
     let mut all = Vec::new();
-    for event in events {
+    for (number, event) in (0..).zip(events) {
         let (tag, started) = match event {
             Event::Start(tag) => (tag, true),
             Event::Empty(tag) => (tag, false),
@@ -40,6 +41,7 @@ fn placed(events: &[Event]) -> Vec<Placed<'_>> {
             }
         };
         all.push(Placed {
+            event: number,
             path: path.clone(),
             tag,
             started,
@@ -58,16 +60,17 @@ fn is_direct_child(path: &[&str]) -> bool {
 }
 
 /// The head that a direct child becomes.
-fn head(it: &Placed<'_>) -> Option<(Kind, String)> {
+fn head(it: &Placed<'_>) -> Option<(Kind, String, u32)> {
     let value = |word: &str| {
         let mut keyed = it.tag.attributes.iter();
         let found = keyed.find(|(key, _)| local_name(key) == word);
         found.map(|(_, value)| value.clone())
     };
-    match local_name(&it.tag.name) {
-        "element" => value("type").and(value("name")).map(|n| (Kind::Element, n)),
-        "simpleType" if it.started => value("name").map(|n| (Kind::SimpleType, n)),
-        "complexType" if it.started => value("name").map(|n| (Kind::ComplexType, n)),
-        _ => None,
-    }
+    let (kind, name) = match local_name(&it.tag.name) {
+        "element" => (Kind::Element, value("type").and(value("name"))),
+        "simpleType" if it.started => (Kind::SimpleType, value("name")),
+        "complexType" if it.started => (Kind::ComplexType, value("name")),
+        _ => return None,
+    };
+    name.map(|name| (kind, name, it.event))
 }

@@ -108,7 +108,7 @@ no-scratch = refl
 -- one number is enough; it is zero afterwards
 exact-scratch :
     compiles (schema ∷ complexType "C" ∷ close ∷ []) 40 9 1
-    ≡ compiled 3 (lowered 0 3 (sheet 40 9 (line 0 3 1 0 1 0 0 0 0 0 ∷ noNamespace ∷ line 8 0 1 0 0 0 0 0 0 0 ∷ []) "C") 1)
+    ≡ compiled 3 (lowered 0 3 (sheet 40 9 (line 0 3 1 0 1 0 0 0 0 0 ∷ noNamespace ∷ line 8 0 1 0 0 0 0 0 0 1 ∷ []) "C") 1)
 unfolding called
 exact-scratch = refl
 
@@ -127,7 +127,7 @@ two-kinds-scratch = refl
 -- an element and an open type count for nothing (G8); the open type is not lowered (G14)
 no-finished-type :
     compiles (schema ∷ empty "element" (typed "D" "T") ∷ complexType "C" ∷ []) 30 2 0
-    ≡ compiled 3 (lowered 0 3 (sheet 30 2 (line 0 3 2 1 0 0 0 0 0 0 ∷ noNamespace ∷ line 2 0 1 1 1 0 0 0 0 0 ∷ []) "DT") 0)
+    ≡ compiled 3 (lowered 0 3 (sheet 30 2 (line 0 3 2 1 0 0 0 0 0 0 ∷ noNamespace ∷ line 2 0 1 1 1 0 0 0 0 1 ∷ []) "DT") 0)
 unfolding called
 no-finished-type = refl
 
@@ -224,7 +224,7 @@ one-byte-less = refl
 -- a field, which has its name twice
 one-field :
     compiles (schema ∷ complexType "C" ∷ start "sequence" [] ∷ empty "element" (typed "e" "t") ∷ close ∷ close ∷ []) 40 4 1
-    ≡ compiled 6 (lowered 0 4 (sheet 40 4 (line 0 4 4 0 1 0 0 0 0 0 ∷ noNamespace ∷ line 3 0 1 0 0 0 0 0 0 0
+    ≡ compiled 6 (lowered 0 4 (sheet 40 4 (line 0 4 4 0 1 0 0 0 0 0 ∷ noNamespace ∷ line 3 0 1 0 0 0 0 0 0 1
     ∷ line 9 1 1 2 1 3 1 0 0 0 ∷ []) "Ceet") 1)
 unfolding called
 one-field = refl

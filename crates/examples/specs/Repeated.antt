@@ -47,22 +47,22 @@ twenty-before-fifteen = refl
 -- "two finished types": an open one is none
 open-apart :
     compiles (schema ∷ complexType "A" ∷ close ∷ complexType "A" ∷ []) 30 1 1
-    ≡ compiled 4 (lowered 0 3 (sheet 30 1 (line 0 3 1 0 1 0 0 0 0 0 ∷ noNamespace ∷ line 8 0 1 0 0 0 0 0 0 0 ∷ []) "A") 1)
+    ≡ compiled 4 (lowered 0 3 (sheet 30 1 (line 0 3 1 0 1 0 0 0 0 0 ∷ noNamespace ∷ line 8 0 1 0 0 0 0 0 0 1 ∷ []) "A") 1)
 unfolding called
 open-apart = refl
 
 -- an element and a type of one name
 element-apart :
     compiles (schema ∷ empty "element" (typed "A" "A") ∷ complexType "A" ∷ close ∷ []) 40 3 1
-    ≡ compiled 4 (lowered 0 4 (sheet 40 3 (line 0 4 3 1 1 0 0 0 0 0 ∷ noNamespace ∷ line 2 0 1 1 1 0 0 0 0 0 ∷ line 8 2 1 0 0 0 0 0 0 0 ∷ []) "AAA") 1)
+    ≡ compiled 4 (lowered 0 4 (sheet 40 3 (line 0 4 3 1 1 0 0 0 0 0 ∷ noNamespace ∷ line 2 0 1 1 1 0 0 0 0 1 ∷ line 8 2 1 0 0 0 0 0 0 2 ∷ []) "AAA") 1)
 unfolding called
 element-apart = refl
 
 -- roots of one name are two
 same-roots :
     compiles (schema ∷ empty "element" (typed "D" "T") ∷ empty "element" (typed "D" "T") ∷ []) 40 4 0
-    ≡ compiled 3 (lowered 0 4 (sheet 40 4 (line 0 4 4 2 0 0 0 0 0 0 ∷ noNamespace ∷ line 2 0 1 1 1 0 0 0 0 0
-    ∷ line 2 2 1 3 1 0 0 0 0 0 ∷ []) "DTDT") 0)
+    ≡ compiled 3 (lowered 0 4 (sheet 40 4 (line 0 4 4 2 0 0 0 0 0 0 ∷ noNamespace ∷ line 2 0 1 1 1 0 0 0 0 1
+    ∷ line 2 2 1 3 1 0 0 0 0 2 ∷ []) "DTDT") 0)
 unfolding called
 same-roots = refl
 

@@ -33,12 +33,12 @@ unfolding clearing called
 clears = refl
 
 -- "read 0 3"
-reads-it : reading ≡ gives 0 3 (sheet 40 10 (line 0 3 2 0 0 1 3 0 0 0 ∷ noNamespace ∷ line 2 0 1 1 1 0 0 0 0 0 ∷ []) "DT")
+reads-it : reading ≡ gives 0 3 (sheet 40 10 (line 0 3 2 0 0 1 3 0 0 0 ∷ noNamespace ∷ line 2 0 1 1 1 0 0 0 0 1 ∷ []) "DT")
 unfolding text marks clearing reading called
 reads-it = refl
 
 -- "lower 0 3", "the graph's used rows, its used names": the three rows and DT, zeros behind them, the scratch zero
-lowers-it : graph ≡ lowered 0 3 (sheet 40 10 (line 0 3 2 1 0 0 0 0 0 0 ∷ line 1 0 0 0 0 0 0 0 0 0 ∷ line 2 0 1 1 1 0 0 0 0 0 ∷ []) "DT") 4
+lowers-it : graph ≡ lowered 0 3 (sheet 40 10 (line 0 3 2 1 0 0 0 0 0 0 ∷ line 1 0 0 0 0 0 0 0 0 0 ∷ line 2 0 1 1 1 0 0 0 0 1 ∷ []) "DT") 4
 unfolding text marks clearing reading graph called
 lowers-it = refl
 

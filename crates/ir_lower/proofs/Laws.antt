@@ -10,3 +10,4 @@ pub mod Members
 pub mod Outcome
 pub mod Form
 pub mod Names
+pub mod Unnumbered

@@ -26,10 +26,10 @@ schema : List Item → Schema
 schema items = record { targetNamespace = []; items = items }
 
 simple : Text → Text → List Facet → Item
-simple name base facets = Item.simpleType (record { name = name; base = base; facets = facets })
+simple name base facets = Item.simpleType (record { name = name; base = base; facets = facets; event = 4 })
 
 complex : Text → ComplexContent → Item
-complex name content = Item.complexType (record { name = name; content = content })
+complex name content = Item.complexType (record { name = name; content = content; event = 7 })
 
 graph : List TypeDef → Option TypeGraph
 graph types = some (record { namespace = []; rootElements = []; types = types })
@@ -38,19 +38,19 @@ graph types = some (record { namespace = []; rootElements = []; types = types })
 
 -- all finished types, simple ones before complex, whatever their names: a name that came before is judged by the call
 in-order : lower (schema (complex (bytes "A") (ComplexContent.any none) ∷ simple (bytes "B") (bytes "string") [] ∷ simple (bytes "A") (bytes "date") [] ∷ []))
-    ≡ graph (TypeDef.newtype (bytes "B") RustType.string [] ∷ TypeDef.newtype (bytes "A") RustType.date [] ∷ TypeDef.opaque (bytes "A") none ∷ [])
+    ≡ graph (TypeDef.newtype 4 (bytes "B") RustType.string [] ∷ TypeDef.newtype 4 (bytes "A") RustType.date [] ∷ TypeDef.opaque 7 (bytes "A") none ∷ [])
 unfolding schema simple complex graph texts builtinNames conversions schemas graphs lowerings
 in-order = refl
 
 -- a code enum's base is not looked at
 code-enum : lower (schema (simple (bytes "C") (bytes "QName") (Facet.enumeration (bytes "TEST-VALUE") ∷ []) ∷ []))
-    ≡ graph (TypeDef.codeEnum (bytes "C") (record { xmlValue = bytes "TEST-VALUE"; rustName = bytes "TestValue" } ∷ []) ∷ [])
+    ≡ graph (TypeDef.codeEnum 4 (bytes "C") (record { xmlValue = bytes "TEST-VALUE"; rustName = bytes "TestValue" } ∷ []) ∷ [])
 unfolding schema simple graph texts builtinNames conversions schemas graphs lowerings
 code-enum = refl
 
 -- a field: its names, its reference, its cardinality
 field : lower (schema (complex (bytes "S") (ComplexContent.sequence (record { name = bytes "CreDt"; typeName = bytes "a_b"; minOccurs = 0; maxOccurs = MaxOccurs.bounded 1 } ∷ [])) ∷ []))
-    ≡ graph (TypeDef.struct (bytes "S") (record { xmlName = bytes "CreDt"; rustName = bytes "cre_dt"; typeRef = TypeRef.named (bytes "AB"); cardinality = Cardinality.optional } ∷ []) ∷ [])
+    ≡ graph (TypeDef.struct 7 (bytes "S") (record { xmlName = bytes "CreDt"; rustName = bytes "cre_dt"; typeRef = TypeRef.named (bytes "AB"); cardinality = Cardinality.optional } ∷ []) ∷ [])
 unfolding schema complex graph texts builtinNames conversions schemas graphs lowerings
 field = refl
 
@@ -65,7 +65,7 @@ cardinalities = (refl, refl, refl, refl, refl, refl)
 
 stateIn : Context → ℕ → List Item → State
 stateIn context openTags items =
-    record { reader = record { schema = schema items; rootSeen = true; context = context }; events = 0; openTags = openTags; byStandard = false }
+    record { reader = record { schema = schema items; rootSeen = true; context = context }; events = 9; openTags = openTags; byStandard = false }
 
 state : List Item → State
 state items = stateIn Context.noContext 0 items
@@ -91,7 +91,7 @@ bad : Item
 bad = simple (bytes "A") (bytes "QName") []
 
 -- 13: the place is the row of the first refused simple type's head
-unknown-base : call (state (Item.element (record { name = bytes "D"; typeName = bytes "A" }) ∷ a ∷ bad ∷ bad ∷ [])) 20 3 3 ≡ zeroed 13 5 20 3 3
+unknown-base : call (state (Item.element (record { name = bytes "D"; typeName = bytes "A"; event = 1 }) ∷ a ∷ bad ∷ bad ∷ [])) 20 3 3 ≡ zeroed 13 5 20 3 3
 unfolding call sevens zeroed stateIn state schema simple a bad texts builtinNames conversions sheets schemas graphs lowerings
 unknown-base = refl
 
@@ -117,7 +117,7 @@ exact-room : call (state (a ∷ [])) 40 2 2
       graph =
           record {
             rows = 0 ∷ 4 ∷ 2 ∷ 0 ∷ 1 ∷ 0 ∷ 0 ∷ 0 ∷ 0 ∷ 0 ∷ 1 ∷ 0 ∷ 0 ∷ 0 ∷ 0 ∷ 0 ∷ 0 ∷ 0 ∷ 0 ∷ 0
-                ∷ 5 ∷ 0 ∷ 1 ∷ 0 ∷ 0 ∷ 0 ∷ 0 ∷ 1 ∷ 0 ∷ 0 ∷ 11 ∷ 1 ∷ 1 ∷ 0 ∷ 0 ∷ 0 ∷ 0 ∷ 0 ∷ 0 ∷ 0 ∷ [];
+                ∷ 5 ∷ 0 ∷ 1 ∷ 0 ∷ 0 ∷ 0 ∷ 0 ∷ 1 ∷ 0 ∷ 4 ∷ 11 ∷ 1 ∷ 1 ∷ 0 ∷ 0 ∷ 0 ∷ 0 ∷ 0 ∷ 0 ∷ 0 ∷ [];
             names = bytes "Ap";
           };
       scratch = 0 ∷ 0 ∷ [];
@@ -170,12 +170,12 @@ unfolding judged call sevens zeroed stateIn state schema simple s texts builtinN
 one-name = (refl, refl)
 
 -- an element is no type, and the open type is not finished
-elements-apart : call (state (Item.element (record { name = bytes "AB"; typeName = bytes "AB" }) ∷ s (bytes "AB") ∷ [])) 40 6 1 .answer ≡ record { number = 0; place = 4 }
+elements-apart : call (state (Item.element (record { name = bytes "AB"; typeName = bytes "AB"; event = 0 }) ∷ s (bytes "AB") ∷ [])) 40 6 1 .answer ≡ record { number = 0; place = 4 }
 unfolding call sevens stateIn state schema simple s texts builtinNames conversions sheets schemas graphs lowerings
 elements-apart = refl
 
 opened : State
-opened = stateIn (Context.inComplexType (record { name = bytes "AB"; content = ComplexContentBuilder.empty; nestingDepth = 0 })) 2 (s (bytes "AB") ∷ [])
+opened = stateIn (Context.inComplexType (record { name = bytes "AB"; content = ComplexContentBuilder.empty; nestingDepth = 0; event = 0 })) 2 (s (bytes "AB") ∷ [])
 
 open-apart : call opened 30 2 1 .answer ≡ record { number = 0; place = 3 }
 unfolding call sevens opened stateIn schema simple s texts builtinNames conversions sheets schemas graphs lowerings

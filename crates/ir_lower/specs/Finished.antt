@@ -18,12 +18,12 @@ finishedNames s = map simpleName (simpleTypes (s .items)) ++ map complexName (co
 
 -- the references of a definition: of its fields, its variants, its value and its attributes
 unfoldable pub references : TypeDef → List TypeRef
-references (TypeDef.struct n fs) = map (λ (f : FieldDef). f .typeRef) fs
-references (TypeDef.enum n vs) = map (λ (v : VariantDef). v .typeRef) vs
-references (TypeDef.newtype n i cs) = []
-references (TypeDef.codeEnum n cs) = []
-references (TypeDef.valueWithAttr n v xs) = v ∷ map (λ (x : AttrDef). x .typeRef) xs
-references (TypeDef.opaque n ns) = []
+references (TypeDef.struct event n fs) = map (λ (f : FieldDef). f .typeRef) fs
+references (TypeDef.enum event n vs) = map (λ (v : VariantDef). v .typeRef) vs
+references (TypeDef.newtype event n i cs) = []
+references (TypeDef.codeEnum event n cs) = []
+references (TypeDef.valueWithAttr event n v xs) = v ∷ map (λ (x : AttrDef). x .typeRef) xs
+references (TypeDef.opaque event n ns) = []
 
 -- the type names that a complex type's content holds
 unfoldable pub typeNamesIn : ComplexContent → List Text

@@ -1,4 +1,4 @@
--- Lowering: 001 (lower.rs), `lower` and its helpers, clause by clause.
+-- Lowering: 001 (lower.rs), `lower` and its helpers, clause by clause. A root and a definition have the event's number of their head (order 5).
 use Prim.Native.Nat.{ℕ, _+_}
 use mathlib.Core.List.{List, [], _∷_, _++_, map}
 use mathlib.Core.Bool.{Bool, true, false, not, _&&_, _||_}
@@ -64,12 +64,12 @@ constraints (Facet.fractionDigits n ∷ fs) = Constraint.fractionDigits n ∷ co
 -- 001, `lower_newtype`: none is `UnknownBase`
 unfoldable pub lowerNewtype : SimpleType → Option RustType → Option TypeDef
 lowerNewtype t none = none
-lowerNewtype t (some inner) = some (TypeDef.newtype (normalizeTypeName (t .name)) inner (constraints (t .facets)))
+lowerNewtype t (some inner) = some (TypeDef.newtype (t .event) (normalizeTypeName (t .name)) inner (constraints (t .facets)))
 
 unfoldable pub lowerSimpleType : SimpleType → Option TypeDef
 lowerSimpleType t =
     if allEnums (t .facets)
-    then some (TypeDef.codeEnum (normalizeTypeName (t .name)) (codes (t .facets)))
+    then some (TypeDef.codeEnum (t .event) (normalizeTypeName (t .name)) (codes (t .facets)))
     else lowerNewtype t (mapBuiltin (t .base))
 
 -- a simple type that lowering refuses
@@ -106,14 +106,14 @@ unfoldable pub lowerAttribute : Attribute → AttrDef
 lowerAttribute x =
     record { xmlName = x .name; rustName = xmlToSnakeCase (x .name); typeRef = resolveTypeRef (x .typeName); required = x .required }
 
-unfoldable pub lowerContent : Text → ComplexContent → TypeDef
-lowerContent name (ComplexContent.sequence es) = TypeDef.struct name (map lowerField es)
-lowerContent name (ComplexContent.choice vs) = TypeDef.enum name (map lowerVariant vs)
-lowerContent name (ComplexContent.simpleContent base xs) = TypeDef.valueWithAttr name (resolveTypeRef base) (map lowerAttribute xs)
-lowerContent name (ComplexContent.any n) = TypeDef.opaque name n
+unfoldable pub lowerContent : ℕ → Text → ComplexContent → TypeDef
+lowerContent event name (ComplexContent.sequence es) = TypeDef.struct event name (map lowerField es)
+lowerContent event name (ComplexContent.choice vs) = TypeDef.enum event name (map lowerVariant vs)
+lowerContent event name (ComplexContent.simpleContent base xs) = TypeDef.valueWithAttr event name (resolveTypeRef base) (map lowerAttribute xs)
+lowerContent event name (ComplexContent.any n) = TypeDef.opaque event name n
 
 unfoldable pub lowerComplexType : ComplexType → TypeDef
-lowerComplexType t = lowerContent (normalizeTypeName (t .name)) (t .content)
+lowerComplexType t = lowerContent (t .event) (normalizeTypeName (t .name)) (t .content)
 
 -- ---- lower
 
@@ -136,7 +136,7 @@ unfoldable pub finishedDefinitions : Schema → List TypeDef
 finishedDefinitions s = simpleDefinitions (simpleTypes (s .items)) ++ map lowerComplexType (complexTypes (s .items))
 
 unfoldable pub rootOf : Element → RootElement
-rootOf e = record { xmlName = e .name; typeName = e .typeName }
+rootOf e = record { xmlName = e .name; typeName = e .typeName; event = e .event }
 
 unfoldable pub graphOf : Schema → TypeGraph
 graphOf s =

@@ -3,7 +3,7 @@
 --     refers            the row's second text gives a reference
 --     referenceSpelling how the text of a reference is spelled
 --     namespaceSpelling how the namespace of an opaque type is spelled
---     textsRecipe       a recipe with up to two texts and one number
+--     textsRecipe       a recipe with up to two texts, a and c
 --     childRecipe       a child's recipe: its xml name, its Rust name and its reference
 --     IsCardinality     b and c of a field's row are those of a cardinality
 --     Lowers            the recipe gives what lowering makes of a row
@@ -45,9 +45,9 @@ referenceSpelling n = if eqb n 0 then Spelling.SecondNormalized else Spelling.No
 unfoldable pub namespaceSpelling : ℕ → Spelling
 namespaceSpelling a = if eqb a 1 then Spelling.Second else Spelling.Nothing
 
-abbrev pub textsRecipe : ℕ → ℕ → Spelling → Spelling → Recipe
-textsRecipe tag a first second =
-    record { tag = tag; a = a; b = 0; c = 0; first = first; second = second; third = Spelling.Nothing }
+abbrev pub textsRecipe : ℕ → ℕ → ℕ → Spelling → Spelling → Recipe
+textsRecipe tag a c first second =
+    record { tag = tag; a = a; b = 0; c = c; first = first; second = second; third = Spelling.Nothing }
 
 abbrev pub childRecipe : ℕ → ℕ → ℕ → ℕ → Spelling → Recipe
 childRecipe tag n b c second =
@@ -57,13 +57,13 @@ pub record IsCardinality (k : Cardinality) (r : FieldNumbers) : Type 0 where
   pub b : r .b ≡ cardinalityB k
   pub c : r .c ≡ cardinalityC k
 
-pub record Lowers (codeEnum : Bool) (tag a b n : ℕ) (r : Recipe) : Type 0 where
+pub record Lowers (codeEnum : Bool) (tag a b c n : ℕ) (r : Recipe) : Type 0 where
   pub inOrder : orderly r ≡ true
-  pub lowers : (t u : Text) → hasRecipe codeEnum tag ≡ true → (refers tag ≡ true → n ≡ reference (mapBuiltin u)) → loweredAs codeEnum tag a b t u ≡ recipeRow r t u ∷ []
+  pub lowers : (t u : Text) → hasRecipe codeEnum tag ≡ true → (refers tag ≡ true → n ≡ reference (mapBuiltin u)) → loweredAs codeEnum tag a b c t u ≡ recipeRow r t u ∷ []
 
 abbrev pub isCount : ℕ → Type 0
 isCount tag = (tag ≡ minLengthTag) ⊎ ((tag ≡ maxLengthTag) ⊎ ((tag ≡ totalDigitsTag) ⊎ (tag ≡ fractionDigitsTag)))
 
 unfoldable pub tenRows : Bool → List ℕ → Ten → List Row
 tenRows codeEnum names t =
-    loweredAs codeEnum (t .tag) (t .a) (t .b) (textAt names (t .at0) (t .len0)) (textAt names (t .at1) (t .len1))
+    loweredAs codeEnum (t .tag) (t .a) (t .b) (t .c) (textAt names (t .at0) (t .len0)) (textAt names (t .at1) (t .len1))

@@ -82,14 +82,14 @@ fn namespace_text(a: u32) -> Spelling
     }
 }
 
-fn with_texts(tag: u32, a: u32, first: Spelling, second: Spelling) -> Recipe
-    ensures { λ r. ⌜ r ≡ textsRecipe tag a first second ⌝ }
+fn with_texts(tag: u32, a: u32, c: u32, first: Spelling, second: Spelling) -> Recipe
+    ensures { λ r. ⌜ r ≡ textsRecipe tag a c first second ⌝ }
 {
     Recipe {
         tag,
         a,
         b: 0,
-        c: 0,
+        c,
         first,
         second,
         third: Spelling::Nothing,
@@ -125,14 +125,15 @@ fn bounded_numbers(min: u32, max: u32) -> FieldNumbers
     }
 }
 
-// The head of a simple type: a code enum, or a newtype with its inner type's number.
-fn simple_recipe(codes: bool, reference: u32) -> Recipe
-    ensures { λ r. ⌜ ((a b : ℕ) → Lowers codes simpleTypeTag a b reference r) ⌝ }
+// The head of a simple type: a code enum, or a newtype with its inner type's number. A head keeps the number of its event.
+fn simple_recipe(codes: bool, event: u32, reference: u32) -> Recipe
+    ensures { λ r. ⌜ ((a b : ℕ) → Lowers codes simpleTypeTag a b event reference r) ⌝ }
 {
     if codes {
         with_texts(
             graph::CODE_ENUM,
             0,
+            event,
             Spelling::FirstNormalized,
             Spelling::Nothing,
         )
@@ -140,6 +141,7 @@ fn simple_recipe(codes: bool, reference: u32) -> Recipe
         with_texts(
             graph::NEWTYPE,
             reference,
+            event,
             Spelling::FirstNormalized,
             Spelling::Nothing,
         )
@@ -147,56 +149,77 @@ fn simple_recipe(codes: bool, reference: u32) -> Recipe
 }
 
 // The namespace's row, an element's or a simple type's.
-fn first_recipe(codes: bool, tag: u32, reference: u32) -> Recipe
+fn first_recipe(codes: bool, tag: u32, event: u32, reference: u32) -> Recipe
     requires { ⌜ tag ≤ simpleTypeTag ⌝ }
-    ensures { λ r. ⌜ ((a b : ℕ) → Lowers codes tag a b reference r) ⌝ }
+    ensures { λ r. ⌜ ((a b : ℕ) → Lowers codes tag a b event reference r) ⌝ }
 {
     match tag {
-        schema::ELEMENT => with_texts(graph::ROOT, 0, Spelling::First, Spelling::Second),
-        schema::SIMPLE_TYPE => simple_recipe(codes, reference),
-        _ => with_texts(graph::NAMESPACE, 0, Spelling::First, Spelling::Nothing),
+        schema::ELEMENT => with_texts(graph::ROOT, 0, event, Spelling::First, Spelling::Second),
+        schema::SIMPLE_TYPE => simple_recipe(codes, event, reference),
+        _ => with_texts(graph::NAMESPACE, 0, 0, Spelling::First, Spelling::Nothing),
     }
 }
 
 // The row of a facet that is a text.
 fn facet_recipe(tag: u32) -> Recipe
     requires { ⌜ (simpleTypeTag < tag) × (tag ≤ fractionDigitsTag) ⌝ }
-    ensures { λ r. ⌜ ((codes : Bool) (a b n : ℕ) → Lowers codes tag a b n r) ⌝ }
+    ensures { λ r. ⌜ ((codes : Bool) (a b c n : ℕ) → Lowers codes tag a b c n r) ⌝ }
 {
     match tag {
-        schema::PATTERN => with_texts(graph::PATTERN, 0, Spelling::First, Spelling::Nothing),
+        schema::PATTERN => with_texts(graph::PATTERN, 0, 0, Spelling::First, Spelling::Nothing),
         schema::MIN_INCLUSIVE => {
-            with_texts(graph::MIN_INCLUSIVE, 0, Spelling::First, Spelling::Nothing)
+            with_texts(
+                graph::MIN_INCLUSIVE,
+                0,
+                0,
+                Spelling::First,
+                Spelling::Nothing,
+            )
         }
         schema::MAX_INCLUSIVE => {
-            with_texts(graph::MAX_INCLUSIVE, 0, Spelling::First, Spelling::Nothing)
+            with_texts(
+                graph::MAX_INCLUSIVE,
+                0,
+                0,
+                Spelling::First,
+                Spelling::Nothing,
+            )
         }
-        _ => with_texts(graph::CODE, 0, Spelling::First, Spelling::FirstPascal),
+        _ => with_texts(graph::CODE, 0, 0, Spelling::First, Spelling::FirstPascal),
     }
 }
 
 // The head of a complex type.
-fn complex_recipe(tag: u32, a: u32, reference: u32) -> Recipe
+fn complex_recipe(tag: u32, a: u32, event: u32, reference: u32) -> Recipe
     requires { ⌜ (fractionDigitsTag < tag) × (tag ≤ anyTag) ⌝ }
-    ensures { λ r. ⌜ ((codes : Bool) (b : ℕ) → Lowers codes tag a b reference r) ⌝ }
+    ensures { λ r. ⌜ ((codes : Bool) (b : ℕ) → Lowers codes tag a b event reference r) ⌝ }
 {
     match tag {
         schema::SEQUENCE => with_texts(
             graph::STRUCT,
             0,
+            event,
             Spelling::FirstNormalized,
             Spelling::Nothing,
         ),
-        schema::CHOICE => with_texts(graph::ENUM, 0, Spelling::FirstNormalized, Spelling::Nothing),
+        schema::CHOICE => with_texts(
+            graph::ENUM,
+            0,
+            event,
+            Spelling::FirstNormalized,
+            Spelling::Nothing,
+        ),
         schema::SIMPLE_CONTENT => with_texts(
             graph::VALUE_WITH_ATTRIBUTES,
             reference,
+            event,
             Spelling::FirstNormalized,
             reference_text(reference),
         ),
         _ => with_texts(
             graph::OPAQUE,
             a,
+            event,
             Spelling::FirstNormalized,
             namespace_text(a),
         ),
@@ -205,7 +228,7 @@ fn complex_recipe(tag: u32, a: u32, reference: u32) -> Recipe
 
 // The row of a field whose number is bounded.
 fn bounded_field(min: u32, max: u32, reference: u32) -> Recipe
-    ensures { λ r. ⌜ ((codes : Bool) → Lowers codes boundElementTag min max reference r) ⌝ }
+    ensures { λ r. ⌜ ((codes : Bool) (c : ℕ) → Lowers codes boundElementTag min max c reference r) ⌝ }
 {
     let k = bounded_numbers(min, max);
     child(graph::FIELD, reference, k.b, k.c, Spelling::FirstSnake)
@@ -214,7 +237,7 @@ fn bounded_field(min: u32, max: u32, reference: u32) -> Recipe
 // The row of a field, a variant or an attribute.
 fn child_recipe(tag: u32, a: u32, b: u32, reference: u32) -> Recipe
     requires { ⌜ anyTag < tag ⌝ }
-    ensures { λ r. ⌜ ((codes : Bool) → Lowers codes tag a b reference r) ⌝ }
+    ensures { λ r. ⌜ ((codes : Bool) (c : ℕ) → Lowers codes tag a b c reference r) ⌝ }
 {
     match tag {
         schema::BOUND_ELEMENT => bounded_field(a, b, reference),
@@ -224,18 +247,18 @@ fn child_recipe(tag: u32, a: u32, b: u32, reference: u32) -> Recipe
     }
 }
 
-// `reference` is that of the second text, where the row refers to a type.
-pub fn recipe_of(tag: u32, a: u32, b: u32, codes: bool, reference: u32) -> Recipe
-    ensures { λ r. ⌜ Lowers codes tag a b reference r ⌝ }
+// `reference` is that of the second text, where the row refers to a type; `event` is c, which a head keeps.
+pub fn recipe_of(tag: u32, a: u32, b: u32, event: u32, codes: bool, reference: u32) -> Recipe
+    ensures { λ r. ⌜ Lowers codes tag a b event reference r ⌝ }
 {
     if tag <= schema::SIMPLE_TYPE {
-        return first_recipe(codes, tag, reference);
+        return first_recipe(codes, tag, event, reference);
     }
     if tag <= schema::FRACTION_DIGITS {
         return facet_recipe(tag);
     }
     if tag <= schema::ANY {
-        complex_recipe(tag, a, reference)
+        complex_recipe(tag, a, event, reference)
     } else {
         child_recipe(tag, a, b, reference)
     }
@@ -276,7 +299,7 @@ fn put_spelled(
     }
     let first = part_of(names, wide(t.at0), wide(t.len0));
     let second = part_of(names, wide(t.at1), wide(t.len1));
-    let recipe = recipe_of(t.tag, t.a, t.b, codes, row_reference(t.tag, second));
+    let recipe = recipe_of(t.tag, t.a, t.b, t.c, codes, row_reference(t.tag, second));
     append_spelled(out, texts, used, recipe, first, second)
 }
 

@@ -27,14 +27,14 @@ use Rattle.ir_rows.specs.Types.{finishedPlaces, headsAt, graphRows}
 use Rattle.ir_rows.specs.Unfold.{computes as places}
 
 simple : Text → Text → List Facet → Item
-simple name base facets = Item.simpleType (record { name = name; base = base; facets = facets })
+simple name base facets = Item.simpleType (record { name = name; base = base; facets = facets; event = 4 })
 
 complex : Text → ComplexContent → Item
-complex name content = Item.complexType (record { name = name; content = content })
+complex name content = Item.complexType (record { name = name; content = content; event = 7 })
 
 state : List Item → Context → State
 state items context =
-    record { reader = record { schema = record { targetNamespace = bytes "urn"; items = items }; rootSeen = true; context = context }; events = 0; openTags = 2; byStandard = false }
+    record { reader = record { schema = record { targetNamespace = bytes "urn"; items = items }; rootSeen = true; context = context }; events = 9; openTags = 2; byStandard = false }
 
 -- the rows that a sheet's rows up to a place give
 made : Sheet → ℕ → List Row
@@ -48,7 +48,7 @@ graphOf (some g) = rowsOf g
 mixed : List Item
 mixed =
     complex (bytes "A") (ComplexContent.sequence (record { name = bytes "CreDt"; typeName = bytes "B_T"; minOccurs = 0; maxOccurs = MaxOccurs.bounded 1 } ∷ []))
-    ∷ Item.element (record { name = bytes "D"; typeName = bytes "A" })
+    ∷ Item.element (record { name = bytes "D"; typeName = bytes "A"; event = 2 })
     ∷ simple (bytes "A") (bytes "string") []
     ∷ simple (bytes "B") (bytes "date") (Facet.enumeration (bytes "e") ∷ Facet.maxLength 3 ∷ [])
     ∷ simple (bytes "C") (bytes "QName") (Facet.enumeration (bytes "f") ∷ [])
@@ -61,7 +61,7 @@ mixed-rows = (refl, refl, refl)
 
 -- the open type, which stands last, is not lowered: the finished items end at its head
 opened : Context
-opened = Context.inSimpleType (record { name = bytes "O"; base = bytes "QName"; facets = Facet.pattern (bytes "p") ∷ []; nestingDepth = 0 })
+opened = Context.inSimpleType (record { name = bytes "O"; base = bytes "QName"; facets = Facet.pattern (bytes "p") ∷ []; nestingDepth = 0; event = 8 })
 
 values : List Item
 values = complex (bytes "V") (ComplexContent.simpleContent (bytes "decimal") (record { name = bytes "Ccy"; typeName = bytes "Cur"; required = true } ∷ [])) ∷ []

@@ -1,6 +1,6 @@
 -- What lowering makes of each row of a schema sheet. Paper 01, "Graph sheet", Tags.
 --     referenceTexts    the texts of a reference to a type: none for a built-in one
---     loweredAs         the graph's rows for a row of a tag, a and b with its first and second text; codeEnum says that it belongs to a code enum
+--     loweredAs         the graph's rows for a row of a tag, a, b and c with its first and second text; codeEnum says that it belongs to a code enum
 --     loweredRow        the same of a row
 --     onlyCodes         the facets that a list of rows begins with are enumerations
 --     isCodeEnum        "Facets all enumerations and not none", of the rows behind a head
@@ -22,7 +22,7 @@ use Rattle.xsd_types.specs.Good.{isHead}
 use Rattle.xsd_types.specs.Back.{text0, text1}
 use Rattle.ir_types.specs.Types.{Cardinality}
 use Rattle.ir_types.specs.Tags as graph
-use Rattle.ir_types.specs.Rows.{headC, cardinalityB, cardinalityC}
+use Rattle.ir_types.specs.Rows.{cardinalityB, cardinalityC}
 use Rattle.ir_lower.specs.Lower.{isNone, lowerCardinality}
 
 -- "0 named (the pair, normalised), 1 String .. (pair unused)"
@@ -30,33 +30,34 @@ unfoldable pub referenceTexts : Text → List Text
 referenceTexts name = if eqb (reference (mapBuiltin name)) 0 then normalizeTypeName name ∷ [] else []
 
 -- "7 value with attributes (name, reference)"
-unfoldable pub valueRow : Text → Text → Row
-valueRow t u = row graph.valueWithAttributesTag (normalizeTypeName t ∷ referenceTexts u) (reference (mapBuiltin u)) 0 headC
+unfoldable pub valueRow : ℕ → Text → Text → Row
+valueRow c t u = row graph.valueWithAttributesTag (normalizeTypeName t ∷ referenceTexts u) (reference (mapBuiltin u)) 0 c
 
 -- "8 opaque (name; a and namespace as in 15)"
-unfoldable pub opaqueRow : ℕ → Text → Text → Row
-opaqueRow a t u = row graph.opaqueTag (normalizeTypeName t ∷ (if eqb a 1 then u ∷ [] else [])) a 0 headC
+unfoldable pub opaqueRow : ℕ → ℕ → Text → Text → Row
+opaqueRow a c t u = row graph.opaqueTag (normalizeTypeName t ∷ (if eqb a 1 then u ∷ [] else [])) a 0 c
 
 -- "9 field (xml, Rust name, reference; b cardinality 0 required, 1 optional, 2 vec, 3 bounded with c the bound, above 1)"
 unfoldable pub fieldRow : Cardinality → Text → Text → Row
 fieldRow k t u = row graph.fieldTag (t ∷ xmlToSnakeCase t ∷ referenceTexts u) (reference (mapBuiltin u)) (cardinalityB k) (cardinalityC k)
 
 -- a simple type's head: code enum or newtype
-unfoldable pub simpleRow : Bool → Text → Text → Row
-simpleRow codeEnum t u =
+unfoldable pub simpleRow : Bool → ℕ → Text → Text → Row
+simpleRow codeEnum c t u =
     if codeEnum
-    then row graph.codeEnumTag (normalizeTypeName t ∷ []) 0 0 headC
-    else row graph.newtypeTag (normalizeTypeName t ∷ []) (reference (mapBuiltin u)) 0 headC
+    then row graph.codeEnumTag (normalizeTypeName t ∷ []) 0 0 c
+    else row graph.newtypeTag (normalizeTypeName t ∷ []) (reference (mapBuiltin u)) 0 c
 
 -- "else newtype, enumerations dropped"
 unfoldable pub codeRows : Bool → Text → List Row
 codeRows codeEnum t = if codeEnum then row graph.codeTag (t ∷ codeToPascalCase t ∷ []) 0 0 0 ∷ [] else []
 
-unfoldable pub loweredAs : Bool → ℕ → ℕ → ℕ → Text → Text → List Row
-loweredAs codeEnum tag a b t u =
+-- a head keeps its c (order 5)
+unfoldable pub loweredAs : Bool → ℕ → ℕ → ℕ → ℕ → Text → Text → List Row
+loweredAs codeEnum tag a b c t u =
     if eqb tag schema.namespaceTag then row graph.namespaceTag (t ∷ []) 0 0 0 ∷ [] else
-    if eqb tag schema.elementTag then row graph.rootTag (t ∷ u ∷ []) 0 0 headC ∷ [] else
-    if eqb tag schema.simpleTypeTag then simpleRow codeEnum t u ∷ [] else
+    if eqb tag schema.elementTag then row graph.rootTag (t ∷ u ∷ []) 0 0 c ∷ [] else
+    if eqb tag schema.simpleTypeTag then simpleRow codeEnum c t u ∷ [] else
     if eqb tag schema.enumerationTag then codeRows codeEnum t else
     if eqb tag schema.patternTag then row graph.patternTag (t ∷ []) 0 0 0 ∷ [] else
     if eqb tag schema.minLengthTag then row graph.minLengthTag [] a b 0 ∷ [] else
@@ -65,17 +66,17 @@ loweredAs codeEnum tag a b t u =
     if eqb tag schema.maxInclusiveTag then row graph.maxInclusiveTag (t ∷ []) 0 0 0 ∷ [] else
     if eqb tag schema.totalDigitsTag then row graph.totalDigitsTag [] a 0 0 ∷ [] else
     if eqb tag schema.fractionDigitsTag then row graph.fractionDigitsTag [] a 0 0 ∷ [] else
-    if eqb tag schema.sequenceTag then row graph.structTag (normalizeTypeName t ∷ []) 0 0 headC ∷ [] else
-    if eqb tag schema.choiceTag then row graph.enumTag (normalizeTypeName t ∷ []) 0 0 headC ∷ [] else
-    if eqb tag schema.simpleContentTag then valueRow t u ∷ [] else
-    if eqb tag schema.anyTag then opaqueRow a t u ∷ [] else
+    if eqb tag schema.sequenceTag then row graph.structTag (normalizeTypeName t ∷ []) 0 0 c ∷ [] else
+    if eqb tag schema.choiceTag then row graph.enumTag (normalizeTypeName t ∷ []) 0 0 c ∷ [] else
+    if eqb tag schema.simpleContentTag then valueRow c t u ∷ [] else
+    if eqb tag schema.anyTag then opaqueRow a c t u ∷ [] else
     if eqb tag schema.boundElementTag then fieldRow (lowerCardinality a (MaxOccurs.bounded b)) t u ∷ [] else
     if eqb tag schema.unboundedElementTag then fieldRow (lowerCardinality a MaxOccurs.unbounded) t u ∷ [] else
     if eqb tag schema.choiceVariantTag then row graph.variantTag (t ∷ t ∷ referenceTexts u) (reference (mapBuiltin u)) 0 0 ∷ [] else
     if eqb tag schema.attributeTag then row graph.attributeTag (t ∷ xmlToSnakeCase t ∷ referenceTexts u) (reference (mapBuiltin u)) a 0 ∷ [] else []
 
 unfoldable pub loweredRow : Bool → Row → List Row
-loweredRow codeEnum r = loweredAs codeEnum (r .tag) (r .a) (r .b) (text0 r) (text1 r)
+loweredRow codeEnum r = loweredAs codeEnum (r .tag) (r .a) (r .b) (r .c) (text0 r) (text1 r)
 
 unfoldable pub onlyCodes : List Row → Bool
 onlyCodes [] = true

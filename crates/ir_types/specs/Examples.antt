@@ -26,12 +26,12 @@ sample : TypeGraph
 sample =
     record {
       namespace = bytes "urn";
-      rootElements = record { xmlName = bytes "D"; typeName = bytes "S" } ∷ [];
+      rootElements = record { xmlName = bytes "D"; typeName = bytes "S"; event = 1 } ∷ [];
       types =
-          TypeDef.newtype (bytes "N") RustType.decimal (Constraint.minLength 4294967298 ∷ [])
-          ∷ TypeDef.struct (bytes "S")
+          TypeDef.newtype 2 (bytes "N") RustType.decimal (Constraint.minLength 4294967298 ∷ [])
+          ∷ TypeDef.struct 7 (bytes "S")
           (record { xmlName = bytes "Ab"; rustName = bytes "ab"; typeRef = TypeRef.named (bytes "N"); cardinality = Cardinality.boundedVec 3 } ∷ [])
-          ∷ TypeDef.valueWithAttr (bytes "V") (TypeRef.named (bytes "N"))
+          ∷ TypeDef.valueWithAttr 0 (bytes "V") (TypeRef.named (bytes "N"))
           (record { xmlName = bytes "Ccy"; rustName = bytes "ccy"; typeRef = TypeRef.builtin RustType.string; required = true } ∷ [])
           ∷ [];
     }
@@ -50,10 +50,10 @@ sample-form = refl
 sample-rows : sampleSheet .rows
     ≡ 0 ∷ 9 ∷ 20 ∷ 1 ∷ 3 ∷ 0 ∷ 0 ∷ 0 ∷ 0 ∷ 0
     ∷ 1 ∷ 0 ∷ 3 ∷ 0 ∷ 0 ∷ 0 ∷ 0 ∷ 0 ∷ 0 ∷ 0
-    ∷ 2 ∷ 3 ∷ 1 ∷ 4 ∷ 1 ∷ 0 ∷ 0 ∷ 0 ∷ 0 ∷ 0
-    ∷ 5 ∷ 5 ∷ 1 ∷ 0 ∷ 0 ∷ 0 ∷ 0 ∷ 3 ∷ 0 ∷ 0
+    ∷ 2 ∷ 3 ∷ 1 ∷ 4 ∷ 1 ∷ 0 ∷ 0 ∷ 0 ∷ 0 ∷ 1
+    ∷ 5 ∷ 5 ∷ 1 ∷ 0 ∷ 0 ∷ 0 ∷ 0 ∷ 3 ∷ 0 ∷ 2
     ∷ 12 ∷ 0 ∷ 0 ∷ 0 ∷ 0 ∷ 0 ∷ 0 ∷ 2 ∷ 1 ∷ 0
-    ∷ 3 ∷ 6 ∷ 1 ∷ 0 ∷ 0 ∷ 0 ∷ 0 ∷ 0 ∷ 0 ∷ 0
+    ∷ 3 ∷ 6 ∷ 1 ∷ 0 ∷ 0 ∷ 0 ∷ 0 ∷ 0 ∷ 0 ∷ 7
     ∷ 9 ∷ 7 ∷ 2 ∷ 9 ∷ 2 ∷ 11 ∷ 1 ∷ 0 ∷ 3 ∷ 3
     ∷ 7 ∷ 12 ∷ 1 ∷ 13 ∷ 1 ∷ 0 ∷ 0 ∷ 0 ∷ 0 ∷ 0
     ∷ 19 ∷ 14 ∷ 3 ∷ 17 ∷ 3 ∷ 0 ∷ 0 ∷ 1 ∷ 1 ∷ 0
@@ -73,10 +73,10 @@ sample-fits = (refl, refl, refl, refl, refl)
 -- ---- names that come twice
 
 a : Bool → TypeDef
-a again = TypeDef.newtype (bytes "A") (if again then RustType.date else RustType.bool) []
+a again = TypeDef.newtype 3 (bytes "A") (if again then RustType.date else RustType.bool) []
 
 b : Bool → TypeDef
-b again = TypeDef.newtype (bytes "B") (if again then RustType.date else RustType.bool) []
+b again = TypeDef.newtype 4 (bytes "B") (if again then RustType.date else RustType.bool) []
 
 -- paper 01's rule: a redefined type is not moved to the end
 insert-again : insert (a true) (a false ∷ b false ∷ []) ≡ a true ∷ b false ∷ []

@@ -14,6 +14,9 @@ use Rattle.sheet.specs.Form.{counted}
 use Rattle.ir_types.specs.Types.{TypeRef, Cardinality, FieldDef, VariantDef, Constraint, CodeValue, AttrDef, TypeDef, RootElement, TypeGraph}
 use Rattle.ir_types.specs.Form.{usedPairs, formA, formB, formC}
 
+unfoldable pub isSmall : ℕ → Bool
+isSmall n = ltb n (2 ^ 32)
+
 unfoldable pub refOk : TypeRef → Bool
 refOk (TypeRef.named n) = isText n
 refOk (TypeRef.builtin t) = true
@@ -46,25 +49,22 @@ unfoldable pub attrOk : AttrDef → Bool
 attrOk x = isText (x .xmlName) && isText (x .rustName) && refOk (x .typeRef)
 
 unfoldable pub typeOk : TypeDef → Bool
-typeOk (TypeDef.struct n fs) = isText n && every fieldOk fs
-typeOk (TypeDef.enum n vs) = isText n && every variantOk vs
-typeOk (TypeDef.newtype n i cs) = isText n && every constraintOk cs
-typeOk (TypeDef.codeEnum n cs) = isText n && every codeOk cs
-typeOk (TypeDef.valueWithAttr n v xs) = isText n && refOk v && every attrOk xs
-typeOk (TypeDef.opaque n none) = isText n
-typeOk (TypeDef.opaque n (some ns)) = isText n && isText ns
+typeOk (TypeDef.struct event n fs) = isSmall event && (isText n && every fieldOk fs)
+typeOk (TypeDef.enum event n vs) = isSmall event && (isText n && every variantOk vs)
+typeOk (TypeDef.newtype event n i cs) = isSmall event && (isText n && every constraintOk cs)
+typeOk (TypeDef.codeEnum event n cs) = isSmall event && (isText n && every codeOk cs)
+typeOk (TypeDef.valueWithAttr event n v xs) = isSmall event && (isText n && refOk v && every attrOk xs)
+typeOk (TypeDef.opaque event n none) = isSmall event && isText n
+typeOk (TypeDef.opaque event n (some ns)) = isSmall event && (isText n && isText ns)
 
 unfoldable pub rootOk : RootElement → Bool
-rootOk e = isText (e .xmlName) && isText (e .typeName)
+rootOk e = isSmall (e .event) && (isText (e .xmlName) && isText (e .typeName))
 
 unfoldable pub graphOk : TypeGraph → Bool
 graphOk g = isText (g .namespace) && every rootOk (g .rootElements) && every typeOk (g .types)
 
 unfoldable pub rowForm : Row → Bool
 rowForm r = between 2 19 (r .tag) && formA (r .tag) (r .a) && formB (r .tag) (r .b) && formC (r .tag) (r .b) (r .c)
-
-unfoldable pub isSmall : ℕ → Bool
-isSmall n = ltb n (2 ^ 32)
 
 unfoldable pub rowSmall : Row → Bool
 rowSmall r = isSmall (r .tag) && isSmall (r .a) && isSmall (r .b) && isSmall (r .c)

@@ -1,9 +1,8 @@
 -- The graph as rows. Paper 01, "Graph sheet", Tags. Tags 3 to 8 all have the name as their first text.
 --     refA, refText     a of a reference, and its text where it is named
---     headC             c of a head
 --     cardinalityB, cardinalityC    b and c of a field
 --     fieldRow .. attrRow    the rows of children
---     typeRows, typesRows    a definition's rows: its head, its children behind it; those of all
+--     typeRows, typesRows    a definition's rows: its head, its children behind it; those of all; c of a head is its event's number
 --     rootRow           the row of a root
 --     rowsOf            all rows behind row 0: "Row 1: tag 1, namespace. Then roots, then types, children behind each."
 --     rowsUsed, namesUsed    how much of a sheet is used
@@ -27,10 +26,6 @@ refA (TypeRef.builtin t) = rustTypeNumber t
 unfoldable pub refText : TypeRef → List Text
 refText (TypeRef.named n) = n ∷ []
 refText (TypeRef.builtin t) = []
-
--- c of a head is unused
-unfoldable pub headC : ℕ
-headC = 0
 
 -- "b cardinality 0 required, 1 optional, 2 vec, 3 bounded with c the bound, above 1"
 unfoldable pub cardinalityB : Cardinality → ℕ
@@ -71,15 +66,16 @@ codeRow v = row codeTag (v .xmlValue ∷ v .rustName ∷ []) 0 0 0
 unfoldable pub attrRow : AttrDef → Row
 attrRow x = row attributeTag (x .xmlName ∷ x .rustName ∷ refText (x .typeRef)) (refA (x .typeRef)) (bit (x .required)) 0
 
+-- order 5: "Every head .. carries in c the number in the run of the event that gave it its name."
 -- "3 struct, 4 enum, 5 newtype (a inner), 6 code enum, 7 value with attributes (name, reference), 8 opaque (name; a and namespace as in 15)"
 unfoldable pub typeRows : TypeDef → List Row
-typeRows (TypeDef.struct n fs) = row structTag (n ∷ []) 0 0 headC ∷ map fieldRow fs
-typeRows (TypeDef.enum n vs) = row enumTag (n ∷ []) 0 0 headC ∷ map variantRow vs
-typeRows (TypeDef.newtype n i cs) = row newtypeTag (n ∷ []) (rustTypeNumber i) 0 headC ∷ map constraintRow cs
-typeRows (TypeDef.codeEnum n cs) = row codeEnumTag (n ∷ []) 0 0 headC ∷ map codeRow cs
-typeRows (TypeDef.valueWithAttr n v xs) = row valueWithAttributesTag (n ∷ refText v) (refA v) 0 headC ∷ map attrRow xs
-typeRows (TypeDef.opaque n none) = row opaqueTag (n ∷ []) 0 0 headC ∷ []
-typeRows (TypeDef.opaque n (some ns)) = row opaqueTag (n ∷ ns ∷ []) 1 0 headC ∷ []
+typeRows (TypeDef.struct event n fs) = row structTag (n ∷ []) 0 0 event ∷ map fieldRow fs
+typeRows (TypeDef.enum event n vs) = row enumTag (n ∷ []) 0 0 event ∷ map variantRow vs
+typeRows (TypeDef.newtype event n i cs) = row newtypeTag (n ∷ []) (rustTypeNumber i) 0 event ∷ map constraintRow cs
+typeRows (TypeDef.codeEnum event n cs) = row codeEnumTag (n ∷ []) 0 0 event ∷ map codeRow cs
+typeRows (TypeDef.valueWithAttr event n v xs) = row valueWithAttributesTag (n ∷ refText v) (refA v) 0 event ∷ map attrRow xs
+typeRows (TypeDef.opaque event n none) = row opaqueTag (n ∷ []) 0 0 event ∷ []
+typeRows (TypeDef.opaque event n (some ns)) = row opaqueTag (n ∷ ns ∷ []) 1 0 event ∷ []
 
 unfoldable pub typesRows : List TypeDef → List Row
 typesRows [] = []
@@ -87,7 +83,7 @@ typesRows (d ∷ ds) = typeRows d ++ typesRows ds
 
 -- "2 root (xml name, type name unchanged)"
 unfoldable pub rootRow : RootElement → Row
-rootRow e = row rootTag (e .xmlName ∷ e .typeName ∷ []) 0 0 headC
+rootRow e = row rootTag (e .xmlName ∷ e .typeName ∷ []) 0 0 (e .event)
 
 unfoldable pub rowsOf : TypeGraph → List Row
 rowsOf g = row namespaceTag (g .namespace ∷ []) 0 0 0 ∷ (map rootRow (g .rootElements) ++ typesRows (g .types))

@@ -45,17 +45,19 @@ pub record AttrDef : Type 0 where
   pub typeRef : TypeRef
   pub required : Bool
 
+-- a definition begins with the number of the event that gave it its name, which a root has too (order 5)
 pub data TypeDef : Type 0 where
-  struct : Text → List FieldDef → TypeDef
-  enum : Text → List VariantDef → TypeDef
-  newtype : Text → RustType → List Constraint → TypeDef
-  codeEnum : Text → List CodeValue → TypeDef
-  valueWithAttr : Text → TypeRef → List AttrDef → TypeDef
-  opaque : Text → Option Text → TypeDef
+  struct : ℕ → Text → List FieldDef → TypeDef
+  enum : ℕ → Text → List VariantDef → TypeDef
+  newtype : ℕ → Text → RustType → List Constraint → TypeDef
+  codeEnum : ℕ → Text → List CodeValue → TypeDef
+  valueWithAttr : ℕ → Text → TypeRef → List AttrDef → TypeDef
+  opaque : ℕ → Text → Option Text → TypeDef
 
 pub record RootElement : Type 0 where
   pub xmlName : Text
   pub typeName : Text
+  pub event : ℕ
 
 pub record TypeGraph : Type 0 where
   pub namespace : Text
@@ -63,9 +65,9 @@ pub record TypeGraph : Type 0 where
   pub types : List TypeDef
 
 unfoldable pub nameOf : TypeDef → Text
-nameOf (TypeDef.struct n fs) = n
-nameOf (TypeDef.enum n vs) = n
-nameOf (TypeDef.newtype n i cs) = n
-nameOf (TypeDef.codeEnum n cs) = n
-nameOf (TypeDef.valueWithAttr n v xs) = n
-nameOf (TypeDef.opaque n ns) = n
+nameOf (TypeDef.struct event n fs) = n
+nameOf (TypeDef.enum event n vs) = n
+nameOf (TypeDef.newtype event n i cs) = n
+nameOf (TypeDef.codeEnum event n cs) = n
+nameOf (TypeDef.valueWithAttr event n v xs) = n
+nameOf (TypeDef.opaque event n ns) = n

@@ -93,7 +93,11 @@
 #define LUBIKSAN_IN_SIMPLE_TYPE 2
 #define LUBIKSAN_IN_COMPLEX_TYPE 3
 
-/* Tags of the schema sheet: in brackets the texts of a row, in the order of its pairs, and its numbers. */
+/* Tags of the schema sheet: in brackets the texts of a row, in the order of its pairs, and its numbers. In the heads, which are the
+   elements (2) and types (3, 12 to 16), c is the number in the run, from 0, of the event that gave the row its name: the start or
+   empty tag of an element, the start tag of a type. Content, bases and the close leave it. 0 is unknown: in sheets stored before
+   there were numbers, and for event 0 of a run begun inside a schema. Any other c of a head is below the events done, and no order
+   among them is asked. Where c is not named it is 0. */
 #define LUBIKSAN_XSD_NAMESPACE 1       /* target namespace, always row 1 (namespace) */
 #define LUBIKSAN_XSD_ELEMENT 2         /* element of the schema (name, type) */
 #define LUBIKSAN_XSD_SIMPLE_TYPE 3     /* simple type (name, base); its facets follow */
@@ -115,7 +119,8 @@
 #define LUBIKSAN_XSD_VARIANT 19        /* element of a choice (name, type) */
 #define LUBIKSAN_XSD_ATTRIBUTE 20      /* (name, type), a required */
 
-/* Tags of the graph sheet. A reference is a kind in a; of kind LUBIKSAN_NAMED the type's name stands in the pair. */
+/* Tags of the graph sheet. A reference is a kind in a; of kind LUBIKSAN_NAMED the type's name stands in the pair. A root (2) and a
+   type (3 to 8) have in c what their head in the schema sheet has: the number of their event, 0 where it is unknown. */
 #define LUBIKSAN_IR_NAMESPACE 1        /* target namespace, always row 1 (namespace) */
 #define LUBIKSAN_IR_ROOT 2             /* root element (xml name, type name) */
 #define LUBIKSAN_IR_STRUCT 3           /* (name); fields follow */

@@ -3,8 +3,8 @@
 use Prim.Native.Nat.{ℕ, _+_, _≤_}
 use mathlib.Core.Path.{_≡_}
 use mathlib.Core.Logic.{_↔_}
-use mathlib.Core.Bool.{true, false}
-use mathlib.Core.List.{List, [], _∷_, _++_}
+use mathlib.Core.Bool.{Bool, true, false}
+use mathlib.Core.List.{List, [], _∷_, _++_, map}
 use lib.ListN.{length, take, drop}
 use Rattle.text.specs.Text.{Text, bytes, every, isText, join}
 use Rattle.text.specs.Trim.{Around}
@@ -14,8 +14,11 @@ use Rattle.sheet.specs.Rows.{Sheet}
 use Rattle.sheet.specs.Form.{words}
 use Rattle.sheet.specs.Returned.{accepted}
 use Rattle.sheet.specs.Lengths.{tapeLengths, Lengths, lengthsOf, goodLengths}
-use Rattle.xsd_types.specs.Types.{MaxOccurs}
-use Rattle.xsd_types.specs.State.{State, proper}
+use Rattle.xsd_types.specs.Types.{Schema, MaxOccurs}
+use Rattle.xsd_types.specs.State.{State, firstState, headsPass, proper}
+use Rattle.xsd_types.specs.Rows.{rowsOf}
+use Rattle.xsd_types.specs.Unnumbered.{clearedRow, unnumberedSchema, unnumbered}
+use Rattle.xsd_types.proofs.Laws.Unnumbered.{rows-cleared}
 use Rattle.xsd_types.specs.Row0.{row0In}
 use Rattle.xsd_types.specs.Sheet.{sheetOf, stateFits}
 use Rattle.xsd_types.specs.Good.{good}
@@ -28,12 +31,14 @@ use Rattle.xsd_types.proofs.Laws.Choice.{good-before}
 use Rattle.xsd_parser.specs.Event.{Tag, Event}
 use Rattle.xsd_parser.specs.Kinds.{startKind, emptyKind}
 use Rattle.xsd_parser.specs.EventText.{eventOk}
-use Rattle.xsd_parser.specs.Tape.{eventOf, records}
+use Rattle.xsd_parser.specs.Tape.{Judged, eventOf, records}
 use Rattle.xsd_parser.specs.Handlers.{ok, isUnbounded}
 use Rattle.xsd_parser.specs.Step.{step}
-use Rattle.xsd_parser.specs.Read.{read, readState, sheetOfReading}
+use Rattle.xsd_parser.specs.Read.{readRecords, read, readState, sheetOfReading}
+use Rattle.xsd_parser.specs.Numbered.{readRecordsBy, readStateBy, unknownNumber, unnumberedReading, carries}
 use Rattle.xsd_parser.specs.Whole.{wholeRecords}
 use Rattle.xsd_parser.specs.Children.{directChildren, heads, onlyTypes}
+use Rattle.xsd_parser.proofs.Laws.Cleared.{readState-unnumbered, readRecords-numbered}
 use Rattle.xsd_parser.proofs.Laws.Occurs.{unbounded-exactly}
 use Rattle.xsd_parser.proofs.Laws.Steps.{step-proper}
 use Rattle.xsd_parser.proofs.Laws.Reads.{readState-place}
@@ -50,9 +55,11 @@ use Rattle.xml_text.proofs.Laws.Back.{tag-back}
 use Rattle.ir_types.specs.Types.{Cardinality}
 use Rattle.ir_types.specs.Last.{insertAll}
 use Rattle.ir_types.specs.Form.{graphForm}
-use Rattle.ir_lower.specs.Lower.{lowerCardinality, finishedDefinitions}
+use Rattle.ir_lower.specs.Lower.{lower, lowerCardinality, finishedDefinitions}
 use Rattle.ir_lower.specs.Repeated.{heads as typeHeads, FirstRepeat}
 use Rattle.ir_lower.specs.Call.{lowering}
+use Rattle.ir_lower.specs.Unnumbered.{unnumberedLowered}
+use Rattle.ir_lower.proofs.Laws.Unnumbered.{lower-unnumbered}
 use Rattle.ir_lower.specs.Outcome.{Accepted, NameTwice}
 use Rattle.ir_lower.proofs.Laws.Cardinality.{optional-exactly, vec-exactly}
 use Rattle.ir_lower.proofs.Laws.Names.{lowering-accepted, lowering-last, repeated-exactly, repeated-place}
@@ -60,11 +67,12 @@ use Rattle.ir_lower.proofs.Laws.Form.{lowering-form}
 use Rattle.runs.specs.Runs.{Call, Answered, Ran, run}
 use Rattle.runs.specs.Trace.{Trace}
 use Rattle.runs.specs.Cut.{onwardRead, readCut, readBehind, isLowering, uncutCalls, cutCalls, CutAlike}
-use Rattle.runs.specs.Joined.{joined, refusesNone, afterRecords}
+use Rattle.runs.specs.Joined.{joined, refusesNone, acceptedEvents, afterRecords}
 use Rattle.runs.proofs.NoTwo.{NoneTwo, no-two}
 use Rattle.runs.proofs.Runs.{runs}
 use Rattle.runs.proofs.Cut.{cut, cut-anywhere}
 use Rattle.runs.proofs.Joined.{last-joined, made-joined}
+use Rattle.runs.proofs.Carried.{carried-run}
 use Rattle.runs.proofs.CutCalls.{cut-calls, cut-calls-accepted, cut-calls-refused, cut-made}
 use Rattle.runs.proofs.CutJoined.{joined-cut}
 use Rattle.runs.proofs.Choices.{run-choice, cleared-children, cleared-both}
@@ -190,6 +198,25 @@ claim-children-read = cleared-children
 -- where the schema's own close is the only one in context 1, both choices answer the same and leave the same sheet but for the last number of row 0
 pub claim-both-choices : (x : Sheet) (text : Text) (marks : List ℕ) → clear 0 x .answer .number ≡ 0 → onlyTypes (records text marks) ≡ true → let r = read (clear 0 x .sheet) text marks in read (clear 1 x .sheet) text marks ≡ record { answer = r .answer; sheet = sheetChosen true (r .sheet) }
 claim-both-choices = cleared-both
+
+-- order 5, the numbers of events: with c cleared everywhere, reading and lowering are those of before. A state without numbers has the state's rows with c
+-- of every head cleared. Sheets, and the claims on cutting, are with c: a cut changes none
+pub claim-cleared-rows : (s : State) → map clearedRow (rowsOf s) ≡ rowsOf (unnumbered s)
+claim-cleared-rows = rows-cleared
+
+pub claim-cleared-read : (lent : Lengths) (s : State) (text : Text) (marks : List ℕ) → unnumberedReading (readState lent s text marks) ≡ readStateBy unknownNumber lent (unnumbered s) text marks
+claim-cleared-read = readState-unnumbered
+
+-- reading by a numbering is reading where the numbering gives the events done
+pub claim-numbered-read : (lent : Lengths) (n : ℕ) (s : State) (js : List Judged) → readRecordsBy (λ k. k) lent n s js ≡ readRecords lent n s js
+claim-numbered-read = readRecords-numbered
+
+pub claim-cleared-lower : (s : Schema) → unnumberedLowered (lower s) ≡ lower (unnumberedSchema s)
+claim-cleared-lower = lower-unnumbered
+
+-- "the number in the run of the event that gave it its name": in the last sheet of a run from a cleared one, event c of those accepted carries the head's name
+pub claim-carried : (byStandard : Bool) (x : Sheet) (calls : List Call) → goodLengths (lengthsOf x) ≡ true → good x ≡ true → stateOf x ≡ firstState byStandard → (s : State) × (run x calls .last ≡ sheetOf s (length (x .rows)) (length (x .names))) × (headsPass (λ name c. carries (acceptedEvents (lengthsOf x) (firstState byStandard) (joined x calls)) c name) (s .reader) ≡ true)
+claim-carried = carried-run
 
 -- "min 0 and max 1 optional", and nothing else is; "unbounded gives vec", and nothing else does
 pub claim-optional : (min : ℕ) (max : MaxOccurs) → (lowerCardinality min max ≡ Cardinality.optional) ↔ ((min ≡ 0) × (max ≡ MaxOccurs.bounded 1))

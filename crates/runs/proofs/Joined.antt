@@ -34,11 +34,11 @@ unfolding afterRecords
 afterRecords-append lent s [] ks = refl
 afterRecords-append lent s (j ∷ js) ks = afterRecords-append lent (afterRecord lent s j) js ks
 
-afterRecord-ok : (lent : Lengths) (s s′ : State) (e : Event) → step lent s e ≡ ok s′ → afterRecord lent s (event e) ≡ s′
+pub afterRecord-ok : (lent : Lengths) (s s′ : State) (e : Event) → step lent s e ≡ ok s′ → afterRecord lent s (event e) ≡ s′
 unfolding afterRecord
 afterRecord-ok lent s s′ e q = rw (q, afterRecord)
 
-afterRecord-refuse : (lent : Lengths) (s : State) (e : Event) (k : ℕ) → step lent s e ≡ refuse k → afterRecord lent s (event e) ≡ s
+pub afterRecord-refuse : (lent : Lengths) (s : State) (e : Event) (k : ℕ) → step lent s e ≡ refuse k → afterRecord lent s (event e) ≡ s
 unfolding afterRecord
 afterRecord-refuse lent s e k q = rw (q, afterRecord)
 

@@ -43,16 +43,16 @@ left : ℕ → ℕ → Sheet → ℕ → Answered
 left num place g k = Answered.loweredAs (record { answer = answer num place; graph = g; scratch = replicate k 0 })
 
 -- A cleared sheet lowered (12), read, lowered, lowered into a graph of a bad length (1), a refused event (6), number 3 of the run, with the one before it
--- kept, a tape too long (1), a type read on, too little scratch (14), and lowered at the end.
+-- kept, a tape too long (1), a type read on, whose number in the run is 4, too little scratch (14), and lowered at the end.
 a-run :
     run (blank 40 6) (lowering 30 4 1 ∷ reading (schema ∷ empty "element" (typed "D" "T") ∷ []) ∷ lowering 30 4 1 ∷ lowering 25 4 1
     ∷ reading (close ∷ close ∷ schema ∷ []) ∷ Call.reading [] (replicate 16385 0) ∷ reading (start "schema" [] ∷ complexType "C" ∷ close ∷ []) ∷ lowering 30 4 0 ∷ lowering 40 4 1 ∷ [])
     ≡ record {
       answers = left 12 0 (sheet 30 4 [] "") 1 ∷ readTo 0 2
-          ∷ left 0 3 (sheet 30 4 (line 0 3 2 1 0 0 0 0 0 0 ∷ noNamespace ∷ line 2 0 1 1 1 0 0 0 0 0 ∷ []) "DT") 1
+          ∷ left 0 3 (sheet 30 4 (line 0 3 2 1 0 0 0 0 0 0 ∷ noNamespace ∷ line 2 0 1 1 1 0 0 0 0 1 ∷ []) "DT") 1
           ∷ kept 1 25 4 1 ∷ refusedBy 6 1 3 ∷ readTo 1 0 ∷ readTo 0 3 ∷ kept 14 30 4 0
-          ∷ left 0 4 (sheet 40 4 (line 0 4 3 1 1 0 0 0 0 0 ∷ noNamespace ∷ line 2 0 1 1 1 0 0 0 0 0 ∷ line 8 2 1 0 0 0 0 0 0 0 ∷ []) "DTC") 1 ∷ [];
-      last = sheet 40 6 (line 0 4 3 1 0 1 6 1 0 0 ∷ noNamespace ∷ line 2 0 1 1 1 0 0 0 0 0 ∷ line 15 2 1 0 0 0 0 0 0 0 ∷ []) "DTC";
+          ∷ left 0 4 (sheet 40 4 (line 0 4 3 1 1 0 0 0 0 0 ∷ noNamespace ∷ line 2 0 1 1 1 0 0 0 0 1 ∷ line 8 2 1 0 0 0 0 0 0 4 ∷ []) "DTC") 1 ∷ [];
+      last = sheet 40 6 (line 0 4 3 1 0 1 6 1 0 0 ∷ noNamespace ∷ line 2 0 1 1 1 0 0 0 0 1 ∷ line 15 2 1 0 0 0 0 0 0 4 ∷ []) "DTC";
     }
 unfolding reading lowering readTo refusedBy kept left taped builtins conversions graphs lowerings running
 a-run = refl
@@ -91,7 +91,7 @@ cut-run = refl
 
 -- With choice 1 an annotation that is cut in two does not end the schema: order 3.
 standard-run : run (blankBy 1 40 6) (reading (schema ∷ start "annotation" [] ∷ []) ∷ reading (close ∷ complexType "C" ∷ []) ∷ [])
-    ≡ record { answers = readTo 0 2 ∷ readTo 0 2 ∷ []; last = sheet 40 6 (line 0 3 1 3 0 1 4 2 0 1 ∷ noNamespace ∷ line 16 0 1 0 0 0 0 0 0 0 ∷ []) "C" }
+    ≡ record { answers = readTo 0 2 ∷ readTo 0 2 ∷ []; last = sheet 40 6 (line 0 3 1 3 0 1 4 2 0 1 ∷ noNamespace ∷ line 16 0 1 0 0 0 0 0 0 3 ∷ []) "C" }
 unfolding reading readTo taped running
 standard-run = refl
 

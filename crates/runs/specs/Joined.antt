@@ -5,6 +5,7 @@
 --     joinedFrom    those of all readings of a list of calls, in order
 --     joined        the events joined of a run
 --     refusesNone   the answer of a call that refuses no event: of a lowering, or 0 of a reading
+--     acceptedEvents    the events of records that are accepted, which are those that have a number in the run
 --     afterRecord, afterRecords    the state after one record; after records, one after the other, with no word of pieces
 use Prim.Native.Nat.{ℕ, suc}
 use mathlib.Core.Bool.{Bool, true}
@@ -15,6 +16,7 @@ use Rattle.text.specs.Text.{Text, if_then_else_}
 use Rattle.sheet.specs.Rows.{Sheet}
 use Rattle.sheet.specs.Lengths.{tapeLengths, Lengths}
 use Rattle.xsd_types.specs.State.{State}
+use Rattle.xsd_parser.specs.Event.{Event}
 use Rattle.xsd_parser.specs.Tape.{Judged, event, refused, records}
 use Rattle.xsd_parser.specs.Handlers.{ok, refuse}
 use Rattle.xsd_parser.specs.Step.{step}
@@ -49,3 +51,9 @@ afterRecord lent s (event e) = elim (step lent s e) [ ok next ↦ next | refuse 
 unfoldable pub afterRecords : Lengths → State → List Judged → State
 afterRecords lent s [] = s
 afterRecords lent s (j ∷ js) = afterRecords lent (afterRecord lent s j) js
+
+-- order 5: "the number in the run" of an event is its place among these, from 0
+unfoldable pub acceptedEvents : Lengths → State → List Judged → List Event
+acceptedEvents lent s [] = []
+acceptedEvents lent s (refused r ∷ js) = acceptedEvents lent s js
+acceptedEvents lent s (event e ∷ js) = elim (step lent s e) [ ok next ↦ e ∷ acceptedEvents lent next js | refuse r ↦ acceptedEvents lent s js ]

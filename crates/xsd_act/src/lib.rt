@@ -23,18 +23,7 @@ ghost use Rattle.xsd_act.specs.Acts.{ActRoom, Done};
 // The target namespace: the first text of row 1.
 const NAMESPACE: TextPlace = TextPlace { row: 1, pair: 0 };
 
-// The head of a type without its content: a simple type's has a base that is still empty.
-const SIMPLE: TypeHead = TypeHead {
-    tag: tags::SIMPLE_TYPE,
-    pairs: 2,
-};
-
-const COMPLEX: TypeHead = TypeHead {
-    tag: tags::NO_CONTENT,
-    pairs: 1,
-};
-
-// Does what was decided to the sheet.
+// Does what was decided to the sheet. A simple type that is opened has a base that is still empty.
 pub fn act(
     rows: &mut [u32],
     names: &mut [u8],
@@ -52,8 +41,22 @@ pub fn act(
         Decision::Refuse(_) => used,
         Decision::Keep => used,
         Decision::Root(at) => put_text(rows, names, used, NAMESPACE, text, marks, at),
-        Decision::OpenSimple(at) => open_type(rows, names, used, SIMPLE, text, marks, at),
-        Decision::OpenComplex(at) => open_type(rows, names, used, COMPLEX, text, marks, at),
+        Decision::OpenSimple(n) => {
+            let simple = TypeHead {
+                tag: tags::SIMPLE_TYPE,
+                pairs: 2,
+                event: n.event,
+            };
+            open_type(rows, names, used, simple, text, marks, n.name)
+        }
+        Decision::OpenComplex(n) => {
+            let complex = TypeHead {
+                tag: tags::NO_CONTENT,
+                pairs: 1,
+                event: n.event,
+            };
+            open_type(rows, names, used, complex, text, marks, n.name)
+        }
         Decision::Add(n) => add_row(rows, names, used, n, text, marks),
         Decision::Characters(f) => append_characters(rows, names, used, f.tag, f.count),
         Decision::Digits(f) => append_digits(rows, names, used, f.tag, f.count),

@@ -8,10 +8,11 @@ use xsd_replace::spot::replace_text;
 use xsd_rows::append::append;
 use xsd_rows::numbers::RowNumbers;
 use xsd_rows::numbers::Used;
+use xsd_rows::numbers::numbers_at;
 ghost use mathlib.Core.Path.{_≡_};
 ghost use mathlib.Core.List.{[]};
 ghost use Prim.Native.Nat.{_+_, _*_, _≤_};
-ghost use lib.ListN.{length};
+ghost use lib.ListN.{length, getD};
 ghost use Rattle.text.specs.Text.{join};
 ghost use Rattle.sheet.specs.Limits.{namesLimit};
 ghost use Rattle.sheet.specs.Rows.{row};
@@ -28,10 +29,11 @@ pub struct TextPlace {
     pub pair: usize,
 }
 
-// The head of a type that is opened: its tag, and one pair for the name alone or two with a base.
+// The head of a type that is opened: its tag, one pair for the name alone or two with a base, and the number of the event that gives the name.
 pub struct TypeHead {
     pub tag: u32,
     pub pairs: usize,
+    pub event: u32,
 }
 
 // Replaces a text of a row.
@@ -65,13 +67,13 @@ pub fn open_type(
     requires rows { ⌜ 10 * (used .rows + 1) ≤ length (now rows) ⌝ }
     requires names { ⌜ (used .names + length (textAtMark (now text) (now marks) at) ≤ length (now names)) × (length (now names) ≤ namesLimit) ⌝ }
     requires pairs { ⌜ (1 ≤ head .pairs) × (head .pairs ≤ 2) ⌝ }
-    ensures { λ r. ⌜ Appended (now (rows .entry)) (now (names .entry)) used (row (head .tag) (usedTexts (head .pairs) (textAtMark (now (text .entry)) (now (marks .entry)) at) []) 0 0 0) (now (rows .exit)) (now (names .exit)) r ⌝ }
+    ensures { λ r. ⌜ Appended (now (rows .entry)) (now (names .entry)) used (row (head .tag) (usedTexts (head .pairs) (textAtMark (now (text .entry)) (now (marks .entry)) at) []) 0 0 (head .event)) (now (rows .exit)) (now (names .exit)) r ⌝ }
 {
     let numbers = RowNumbers {
         tag: head.tag,
         a: 0,
         b: 0,
-        c: 0,
+        c: head.event,
     };
     let name = pair_part(text, marks, at);
     append(rows, names, used, numbers, name, b"", head.pairs)
@@ -94,7 +96,7 @@ pub fn add_row(
         tag: n.tag,
         a: n.a,
         b: n.b,
-        c: 0,
+        c: n.c,
     };
     let first = pair_part(text, marks, n.first);
     let second = pair_part(text, marks, n.second);
@@ -112,7 +114,7 @@ fn content_pairs(follows: bool) -> usize
     1
 }
 
-// Replaces the open type's content by another one.
+// Replaces the open type's content by another one. The event's number stays that of the name.
 pub fn put_content(
     rows: &mut [u32],
     names: &mut [u8],
@@ -124,13 +126,14 @@ pub fn put_content(
 ) -> Used
     requires head { ⌜ HeadRoom (now rows) (now names) used head (contentPairs (n .follows)) (length (textAtMark (now text) (now marks) (n .second))) ⌝ }
     requires names { ⌜ length (now names) ≤ namesLimit ⌝ }
-    ensures { λ r. ⌜ HeadReplaced (now (rows .entry)) (now (names .entry)) used head (contentNumbers n) (contentPairs (n .follows)) (textAtMark (now (text .entry)) (now (marks .entry)) (n .second)) (now (rows .exit)) (now (names .exit)) r ⌝ }
+    ensures { λ r. ⌜ HeadReplaced (now (rows .entry)) (now (names .entry)) used head (contentNumbers n (getD (now (rows .entry)) (10 * head + 9) 0)) (contentPairs (n .follows)) (textAtMark (now (text .entry)) (now (marks .entry)) (n .second)) (now (rows .exit)) (now (names .exit)) r ⌝ }
 {
+    let old = numbers_at(rows, head);
     let numbers = RowNumbers {
         tag: n.tag,
         a: n.a,
         b: 0,
-        c: 0,
+        c: old.c,
     };
     let second = pair_part(text, marks, n.second);
     let pairs = content_pairs(n.follows);

@@ -2,7 +2,7 @@
 --     Mode          what the handlers go by, beside the open head: row 0's context, nesting, root seen and extension flag (the code's struct)
 --     modeOf        the mode of a reader; headTag: the tag of the open type's head, 0 where no type is open
 --     behind        the rows behind row 1
---     Action        keep: no row changes; root: the namespace set anew; openSimple, openComplex: a type opened; add: a row more;
+--     Action        keep: no row changes; root: the namespace set anew; openSimple, openComplex: a type opened by the event of a number; add: a row more;
 --                   content: the open type's content replaced by a tag, the texts behind the name and a; base: the open type's base set
 --     raises        whether a start raises nesting; opensType: whether the action opens a type
 --     modeAfter, namespaceAfter, rowsAfter    the mode, the namespace and the rows behind row 1 after an event and its action
@@ -18,7 +18,7 @@ use Rattle.sheet.specs.Rows.{Row, row}
 use Rattle.xsd_types.specs.Tags.{simpleTypeTag, sequenceTag, choiceTag, simpleContentTag, anyTag, noContentTag}
 use Rattle.xsd_types.specs.Contexts.{noneContext, schemaContext, simpleTypeContext, complexTypeContext}
 use Rattle.xsd_types.specs.State.{ComplexContentBuilder, Context, Reader}
-use Rattle.xsd_types.specs.Rows.{headC, itemsRows, contextRows, contextNumber, nesting, extensionFlag}
+use Rattle.xsd_types.specs.Rows.{itemsRows, contextRows, contextNumber, nesting, extensionFlag}
 use Rattle.xsd_parser.specs.Event.{Event}
 use Rattle.xsd_actions.specs.declared.Mode.{Mode}
 
@@ -50,8 +50,8 @@ behind r = itemsRows (r .schema .items) ++ contextRows (r .context)
 pub data Action : Type 0 where
   keep : Action
   root : Text → Action
-  openSimple : Text → Action
-  openComplex : Text → Action
+  openSimple : ℕ → Text → Action
+  openComplex : ℕ → Text → Action
   add : Row → Action
   content : ℕ → List Text → ℕ → Action
   base : Text → Action
@@ -60,8 +60,8 @@ pub data Action : Type 0 where
 unfoldable pub contextAfter : Bool → Action → ℕ → ℕ
 contextAfter start Action.keep context = context
 contextAfter start (Action.root n) context = if start then schemaContext else context
-contextAfter start (Action.openSimple n) context = simpleTypeContext
-contextAfter start (Action.openComplex n) context = complexTypeContext
+contextAfter start (Action.openSimple event n) context = simpleTypeContext
+contextAfter start (Action.openComplex event n) context = complexTypeContext
 contextAfter start (Action.add r) context = context
 contextAfter start (Action.content tag more a) context = context
 contextAfter start (Action.base v) context = context
@@ -69,8 +69,8 @@ contextAfter start (Action.base v) context = context
 unfoldable pub rootAfter : Action → Bool → Bool
 rootAfter Action.keep seen = seen
 rootAfter (Action.root n) seen = true
-rootAfter (Action.openSimple n) seen = seen
-rootAfter (Action.openComplex n) seen = seen
+rootAfter (Action.openSimple event n) seen = seen
+rootAfter (Action.openComplex event n) seen = seen
 rootAfter (Action.add r) seen = seen
 rootAfter (Action.content tag more a) seen = seen
 rootAfter (Action.base v) seen = seen
@@ -79,8 +79,8 @@ rootAfter (Action.base v) seen = seen
 unfoldable pub flagAfter : Action → ℕ → Bool → Bool
 flagAfter Action.keep context flag = flag
 flagAfter (Action.root n) context flag = flag
-flagAfter (Action.openSimple n) context flag = flag
-flagAfter (Action.openComplex n) context flag = flag
+flagAfter (Action.openSimple event n) context flag = flag
+flagAfter (Action.openComplex event n) context flag = flag
 flagAfter (Action.add r) context flag = flag
 flagAfter (Action.content tag more a) context flag = false
 flagAfter (Action.base v) context flag = eqb context complexTypeContext
@@ -88,8 +88,8 @@ flagAfter (Action.base v) context flag = eqb context complexTypeContext
 unfoldable pub opensType : Action → Bool
 opensType Action.keep = false
 opensType (Action.root n) = false
-opensType (Action.openSimple n) = true
-opensType (Action.openComplex n) = true
+opensType (Action.openSimple event n) = true
+opensType (Action.openComplex event n) = true
 opensType (Action.add r) = false
 opensType (Action.content tag more a) = false
 opensType (Action.base v) = false
@@ -125,8 +125,8 @@ modeAfter byStandard Event.close a m = closeMode m
 unfoldable pub namespaceAfter : Action → Text → Text
 namespaceAfter Action.keep namespace = namespace
 namespaceAfter (Action.root n) namespace = n
-namespaceAfter (Action.openSimple n) namespace = namespace
-namespaceAfter (Action.openComplex n) namespace = namespace
+namespaceAfter (Action.openSimple event n) namespace = namespace
+namespaceAfter (Action.openComplex event n) namespace = namespace
 namespaceAfter (Action.add r) namespace = namespace
 namespaceAfter (Action.content tag more a) namespace = namespace
 namespaceAfter (Action.base v) namespace = namespace
@@ -135,28 +135,28 @@ unfoldable pub firstText : List Text → Text
 firstText [] = []
 firstText (t ∷ ts) = t
 
--- the open type's rows with another content: its head alone, the name kept
+-- the open type's rows with another content: its head alone, the name and its event's number kept
 unfoldable pub headWith : ℕ → List Text → ℕ → List Row → List Row
 headWith tag more a [] = []
-headWith tag more a (r ∷ kids) = row tag (firstText (r .texts) ∷ more) a 0 headC ∷ []
+headWith tag more a (r ∷ kids) = row tag (firstText (r .texts) ∷ more) a 0 (r .c) ∷ []
 
 -- the open type's rows with another base
 unfoldable pub baseWith : Text → List Row → List Row
 baseWith v [] = []
 baseWith v (r ∷ kids) = row (r .tag) (firstText (r .texts) ∷ v ∷ []) (r .a) (r .b) (r .c) ∷ kids
 
-unfoldable pub openSimpleRow : Text → Row
-openSimpleRow name = row simpleTypeTag (name ∷ [] ∷ []) 0 0 headC
+unfoldable pub openSimpleRow : ℕ → Text → Row
+openSimpleRow event name = row simpleTypeTag (name ∷ [] ∷ []) 0 0 event
 
-unfoldable pub openComplexRow : Text → Row
-openComplexRow name = row noContentTag (name ∷ []) 0 0 headC
+unfoldable pub openComplexRow : ℕ → Text → Row
+openComplexRow event name = row noContentTag (name ∷ []) 0 0 event
 
 -- the rows behind row 1, of which `last` are the open type's
 unfoldable pub rowsAfter : Action → List Row → List Row → List Row
 rowsAfter Action.keep done last = done ++ last
 rowsAfter (Action.root n) done last = done ++ last
-rowsAfter (Action.openSimple n) done last = (done ++ last) ++ openSimpleRow n ∷ []
-rowsAfter (Action.openComplex n) done last = (done ++ last) ++ openComplexRow n ∷ []
+rowsAfter (Action.openSimple event n) done last = (done ++ last) ++ openSimpleRow event n ∷ []
+rowsAfter (Action.openComplex event n) done last = (done ++ last) ++ openComplexRow event n ∷ []
 rowsAfter (Action.add r) done last = (done ++ last) ++ r ∷ []
 rowsAfter (Action.content tag more a) done last = done ++ headWith tag more a last
 rowsAfter (Action.base v) done last = done ++ baseWith v last
@@ -185,8 +185,8 @@ pub record BasedHead (last : List Row) : Type 0 where
 unfoldable pub Fitting : Action → List Row → Type 0
 Fitting Action.keep last = Unit
 Fitting (Action.root n) last = Unit
-Fitting (Action.openSimple n) last = Unit
-Fitting (Action.openComplex n) last = Unit
+Fitting (Action.openSimple event n) last = Unit
+Fitting (Action.openComplex event n) last = Unit
 Fitting (Action.add r) last = Unit
 Fitting (Action.content tag more a) last = NamedHead last
 Fitting (Action.base v) last = BasedHead last

@@ -20,7 +20,7 @@ textAtMark text marks at = pairText text (pairAt marks at)
 
 unfoldable pub newRow : Text → List ℕ → NewRow → Row
 newRow text marks n =
-    row (n .tag) (usedTexts (n .pairs) (textAtMark text marks (n .first)) (textAtMark text marks (n .second))) (n .a) (n .b) 0
+    row (n .tag) (usedTexts (n .pairs) (textAtMark text marks (n .first)) (textAtMark text marks (n .second))) (n .a) (n .b) (n .c)
 
 unfoldable pub following : Text → List ℕ → NewContent → List Text
 following text marks n = if n .follows then textAtMark text marks (n .second) ∷ [] else []
@@ -29,8 +29,8 @@ unfoldable pub decision : Text → List ℕ → Decision → Outcome Action
 decision text marks (Decision.Refuse r) = refuse (refusalNumber r)
 decision text marks Decision.Keep = ok Action.keep
 decision text marks (Decision.Root at) = ok (Action.root (textAtMark text marks at))
-decision text marks (Decision.OpenSimple at) = ok (Action.openSimple (textAtMark text marks at))
-decision text marks (Decision.OpenComplex at) = ok (Action.openComplex (textAtMark text marks at))
+decision text marks (Decision.OpenSimple n) = ok (Action.openSimple (n .event) (textAtMark text marks (n .name)))
+decision text marks (Decision.OpenComplex n) = ok (Action.openComplex (n .event) (textAtMark text marks (n .name)))
 decision text marks (Decision.Add n) = ok (Action.add (newRow text marks n))
 decision text marks (Decision.Characters f) = ok (Action.add (row (f .tag) [] (f .count .0 % 2 ^ 32) (f .count .0 / 2 ^ 32) 0))
 decision text marks (Decision.Digits f) = ok (Action.add (row (f .tag) [] (f .count .0) 0 0))

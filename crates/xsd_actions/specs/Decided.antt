@@ -1,4 +1,4 @@
--- Which action 000's handlers take, by the event, the mode and the tag of the open head alone, or the refusal 9 or 10.
+-- Which action 000's handlers take, by the event and its number n in the run, the mode and the tag of the open head alone, or the refusal 9 or 10.
 --     decided       for an event
 --     decidedStart, decidedEmpty, decidedClose    for each kind, in the order of 000's clauses
 --     Decides       what the handlers do is what was decided
@@ -15,7 +15,7 @@ use Rattle.xsd_types.specs.Tags.{elementTag, sequenceTag, choiceTag, simpleCont
 use Rattle.xsd_types.specs.Contexts.{noneContext, schemaContext, simpleTypeContext}
 use Rattle.xsd_types.specs.Types.{Facet}
 use Rattle.xsd_types.specs.State.{Reader}
-use Rattle.xsd_types.specs.Rows.{headC, facetRow, occursRow, variantRow, attributeRow}
+use Rattle.xsd_types.specs.Rows.{facetRow, occursRow, variantRow, attributeRow}
 use Rattle.xsd_parser.specs.Event.{Tag, Event, tagIs, attrValue, orEmpty}
 use Rattle.xsd_parser.specs.Handlers.{Outcome, ok, refuse, _andThen_, onParsed, requireName, parseMinOccurs, parseMaxOccurs, isRequired, facetValue}
 use Rattle.xsd_parser.specs.Step.{handled}
@@ -31,8 +31,8 @@ typed (some name) (some typeName) f = Action.add (f name typeName)
 unfoldable pub named : Tag → (Text → Text → Row) → Action
 named t f = typed (attrValue t "name") (attrValue t "type") f
 
-unfoldable pub topElement : Tag → Action
-topElement t = named t (λ name typeName. row elementTag (name ∷ typeName ∷ []) 0 0 headC)
+unfoldable pub topElement : ℕ → Tag → Action
+topElement n t = named t (λ name typeName. row elementTag (name ∷ typeName ∷ []) 0 0 n)
 
 unfoldable pub rootFound : Tag → Action
 rootFound t = if tagIs t "schema" then Action.root (orEmpty (attrValue t "targetNamespace")) else Action.keep
@@ -63,15 +63,15 @@ attributeInside t flag =
 
 -- ---- on_start
 
-unfoldable pub directChild : Tag → Outcome Action
-directChild t =
-    if tagIs t "simpleType" then requireName t Action.openSimple else
-    if tagIs t "complexType" then requireName t Action.openComplex else
-    if tagIs t "element" then ok (topElement t) else ok Action.keep
+unfoldable pub directChild : ℕ → Tag → Outcome Action
+directChild n t =
+    if tagIs t "simpleType" then requireName t (Action.openSimple n) else
+    if tagIs t "complexType" then requireName t (Action.openComplex n) else
+    if tagIs t "element" then ok (topElement n t) else ok Action.keep
 
 -- order 3: "only its direct children become elements or types"; with choice 0 nesting is 0 in context 1
-unfoldable pub startInSchema : Tag → ℕ → Outcome Action
-startInSchema t depth = if eqb depth 0 then directChild t else ok Action.keep
+unfoldable pub startInSchema : ℕ → Tag → ℕ → Outcome Action
+startInSchema n t depth = if eqb depth 0 then directChild n t else ok Action.keep
 
 unfoldable pub startInSimpleType : Tag → ℕ → Action
 startInSimpleType t depth = if eqb depth 1 && tagIs t "restriction" then baseSet t else Action.keep
@@ -96,10 +96,10 @@ startInComplexType t depth head =
     if eqb depth 2 then startAtTwo t head else ok Action.keep
 
 -- the nesting is counted after the raise, as in 000
-unfoldable pub decidedStart : Tag → Mode → ℕ → Outcome Action
-decidedStart t m head =
+unfoldable pub decidedStart : ℕ → Tag → Mode → ℕ → Outcome Action
+decidedStart n t m head =
     if eqb (m .context) noneContext then ok (rootFound t) else
-    if eqb (m .context) schemaContext then startInSchema t (m .nesting) else
+    if eqb (m .context) schemaContext then startInSchema n t (m .nesting) else
     if eqb (m .context) simpleTypeContext then ok (startInSimpleType t (suc (m .nesting))) else startInComplexType t (suc (m .nesting)) head
 
 -- ---- on_empty
@@ -130,10 +130,10 @@ emptyInComplexType t flag head =
     if tagIs t "any" then ok (anyContent (attrValue t "namespace")) else
     if tagIs t "attribute" then ok (attributeInside t flag) else ok Action.keep
 
-unfoldable pub decidedEmpty : Tag → Mode → ℕ → Outcome Action
-decidedEmpty t m head =
+unfoldable pub decidedEmpty : ℕ → Tag → Mode → ℕ → Outcome Action
+decidedEmpty n t m head =
     if eqb (m .context) noneContext then ok (rootFound t) else
-    if eqb (m .context) schemaContext then ok (if eqb (m .nesting) 0 && tagIs t "element" then topElement t else Action.keep) else
+    if eqb (m .context) schemaContext then ok (if eqb (m .nesting) 0 && tagIs t "element" then topElement n t else Action.keep) else
     if eqb (m .context) simpleTypeContext then emptyInSimpleType t else emptyInComplexType t (m .extension) head
 
 -- ---- on_end
@@ -142,11 +142,11 @@ decidedEmpty t m head =
 unfoldable pub decidedClose : Mode → ℕ → Action
 decidedClose m head = if eqb head noContentTag && eqb (m .nesting) 0 then Action.content anyTag [] 0 else Action.keep
 
-unfoldable pub decided : Event → Mode → ℕ → Outcome Action
-decided (Event.start t) m head = decidedStart t m head
-decided (Event.empty t) m head = decidedEmpty t m head
-decided Event.close m head = ok (decidedClose m head)
+unfoldable pub decided : ℕ → Event → Mode → ℕ → Outcome Action
+decided n (Event.start t) m head = decidedStart n t m head
+decided n (Event.empty t) m head = decidedEmpty n t m head
+decided n Event.close m head = ok (decidedClose m head)
 
-pub data Decides (byStandard : Bool) (e : Event) (r : Reader) : Outcome Action → Type 0 where
-  acts : (a : Action) (r′ : Reader) → handled byStandard e r ≡ ok r′ → Acted byStandard e r a r′ → Decides byStandard e r (ok a)
-  refuses : (n : ℕ) → handled byStandard e r ≡ refuse n → Decides byStandard e r (refuse n)
+pub data Decides (byStandard : Bool) (n : ℕ) (e : Event) (r : Reader) : Outcome Action → Type 0 where
+  acts : (a : Action) (r′ : Reader) → handled byStandard n e r ≡ ok r′ → Acted byStandard e r a r′ → Decides byStandard n e r (ok a)
+  refuses : (k : ℕ) → handled byStandard n e r ≡ refuse k → Decides byStandard n e r (refuse k)

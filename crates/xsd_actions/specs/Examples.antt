@@ -32,16 +32,16 @@ unfoldable at : ℕ → ℕ → Bool → Mode
 at context nesting extension = record { context = context; nesting = nesting; «root_seen» = true; extension = extension }
 
 -- "`restriction` at nesting 1 .. sets the base"
-restriction-deeper : decided (Event.start (tag "restriction" (("base", "B") ∷ []))) (at 2 1 false) 3 ≡ ok Action.keep
+restriction-deeper : decided 7 (Event.start (tag "restriction" (("base", "B") ∷ []))) (at 2 1 false) 3 ≡ ok Action.keep
 unfolding tag at texts schemas readings actions
 restriction-deeper = refl
 
 -- "start `extension` at 2 inside simple content sets base and flag"
-extension-simple-content : decided (Event.start (tag "extension" (("base", "B") ∷ []))) (at 3 1 false) 14 ≡ ok (Action.base (bytes "B"))
+extension-simple-content : decided 7 (Event.start (tag "extension" (("base", "B") ∷ []))) (at 3 1 false) 14 ≡ ok (Action.base (bytes "B"))
 unfolding tag at texts schemas readings actions
 extension-simple-content = refl
 
-extension-sequence : decided (Event.start (tag "extension" (("base", "B") ∷ []))) (at 3 1 false) 12 ≡ ok Action.keep
+extension-sequence : decided 7 (Event.start (tag "extension" (("base", "B") ∷ []))) (at 3 1 false) 12 ≡ ok Action.keep
 unfolding tag at texts schemas readings actions
 extension-sequence = refl
 
@@ -49,7 +49,7 @@ extension-sequence = refl
 unfoldable occurs : String → Event
 occurs key = Event.empty (tag "element" (("name", "N") ∷ ("type", "T") ∷ (key, "x") ∷ []))
 
-occurs-refused : map (λ key. decided (occurs key) (at 3 1 false) 12) ("minOccurs" ∷ "maxOccurs" ∷ []) ≡ refuse 10 ∷ refuse 10 ∷ []
+occurs-refused : map (λ key. decided 7 (occurs key) (at 3 1 false) 12) ("minOccurs" ∷ "maxOccurs" ∷ []) ≡ refuse 10 ∷ refuse 10 ∷ []
 unfolding occurs tag at texts numbers schemas readings actions
 occurs-refused = refl
 
@@ -57,20 +57,20 @@ occurs-refused = refl
 unfoldable attribute : Event
 attribute = Event.empty (tag "attribute" (("name", "N") ∷ ("type", "T") ∷ ("use", "required") ∷ []))
 
-attribute-flag : decided attribute (at 3 2 true) 14 ≡ ok (Action.add (row 20 (bytes "N" ∷ bytes "T" ∷ []) 1 0 0))
+attribute-flag : decided 7 attribute (at 3 2 true) 14 ≡ ok (Action.add (row 20 (bytes "N" ∷ bytes "T" ∷ []) 1 0 0))
 unfolding attribute tag at texts sheets schemas readings actions
 attribute-flag = refl
 
-attribute-no-flag : decided attribute (at 3 2 false) 14 ≡ ok Action.keep
+attribute-no-flag : decided 7 attribute (at 3 2 false) 14 ≡ ok Action.keep
 unfolding attribute tag at texts schemas readings actions
 attribute-no-flag = refl
 
 -- "Content still absent at the close becomes 15 with a = 0."
-close-finishes : decided Event.close (at 3 0 false) 16 ≡ ok (Action.content 15 [] 0)
+close-finishes : decided 7 Event.close (at 3 0 false) 16 ≡ ok (Action.content 15 [] 0)
 unfolding at texts actions
 close-finishes = refl
 
-close-lowers : decided Event.close (at 3 1 false) 16 ≡ ok Action.keep
+close-lowers : decided 7 Event.close (at 3 1 false) 16 ≡ ok Action.keep
 unfolding at texts actions
 close-lowers = refl
 
@@ -78,7 +78,7 @@ close-lowers = refl
 unfoldable nameless : Event
 nameless = Event.start (tag "complexType" [])
 
-nameless-by-nesting : map (λ nesting. decided nameless (at 1 nesting false) 0) (0 ∷ 1 ∷ []) ≡ refuse 9 ∷ ok Action.keep ∷ []
+nameless-by-nesting : map (λ nesting. decided 7 nameless (at 1 nesting false) 0) (0 ∷ 1 ∷ []) ≡ refuse 9 ∷ ok Action.keep ∷ []
 unfolding nameless tag at texts schemas readings actions
 nameless-by-nesting = refl
 
@@ -87,7 +87,7 @@ start-by-choice : map (λ byStandard. modeAfter byStandard (Event.start (tag "an
 unfolding tag at texts schemas actions
 start-by-choice = refl
 
-type-by-choice : map (λ byStandard. modeAfter byStandard nameless (Action.openComplex (bytes "C")) (at 1 0 false)) (false ∷ true ∷ []) ≡ at 3 0 false ∷ at 3 0 false ∷ []
+type-by-choice : map (λ byStandard. modeAfter byStandard nameless (Action.openComplex 7 (bytes "C")) (at 1 0 false)) (false ∷ true ∷ []) ≡ at 3 0 false ∷ at 3 0 false ∷ []
 unfolding nameless tag at texts schemas actions
 type-by-choice = refl
 
@@ -96,12 +96,19 @@ close-by-nesting : map (λ nesting. modeAfter true Event.close Action.keep (at 1
 unfolding at texts schemas actions
 close-by-nesting = refl
 
+-- the event's number goes to what gives a name
+names-given :
+    map (λ word. decided 7 (Event.start (tag word (("name", "N") ∷ ("type", "T") ∷ []))) (at 1 0 false) 0) ("element" ∷ "simpleType" ∷ "complexType" ∷ [])
+    ≡ ok (Action.add (row 2 (bytes "N" ∷ bytes "T" ∷ []) 0 0 7)) ∷ ok (Action.openSimple 7 (bytes "N")) ∷ ok (Action.openComplex 7 (bytes "N")) ∷ []
+unfolding tag at texts sheets schemas readings actions
+names-given = refl
+
 -- each action on the rows behind row 1
 unfoldable done : Row
-done = row 2 (bytes "D" ∷ bytes "T" ∷ []) 0 0 0
+done = row 2 (bytes "D" ∷ bytes "T" ∷ []) 0 0 1
 
 unfoldable head : String → Row
-head base = row 14 (bytes "C" ∷ bytes base ∷ []) 0 0 0
+head base = row 14 (bytes "C" ∷ bytes base ∷ []) 0 0 3
 
 unfoldable child : Row
 child = row 20 (bytes "N" ∷ bytes "T" ∷ []) 0 0 0
@@ -110,9 +117,9 @@ unfoldable after : Action → List Row
 after a = rowsAfter a (done ∷ []) (head "" ∷ child ∷ [])
 
 rows-more :
-    map after (Action.openSimple (bytes "S") ∷ Action.openComplex (bytes "S") ∷ Action.add child ∷ [])
-    ≡ (done ∷ head "" ∷ child ∷ row 3 (bytes "S" ∷ [] ∷ []) 0 0 0 ∷ [])
-    ∷ (done ∷ head "" ∷ child ∷ row 16 (bytes "S" ∷ []) 0 0 0 ∷ [])
+    map after (Action.openSimple 7 (bytes "S") ∷ Action.openComplex 8 (bytes "S") ∷ Action.add child ∷ [])
+    ≡ (done ∷ head "" ∷ child ∷ row 3 (bytes "S" ∷ [] ∷ []) 0 0 7 ∷ [])
+    ∷ (done ∷ head "" ∷ child ∷ row 16 (bytes "S" ∷ []) 0 0 8 ∷ [])
     ∷ (done ∷ head "" ∷ child ∷ child ∷ [])
     ∷ []
 unfolding after texts sheets schemas actions
@@ -122,7 +129,7 @@ rows-changed :
     map after (Action.keep ∷ Action.root (bytes "urn") ∷ Action.content 12 [] 0 ∷ Action.base (bytes "B") ∷ [])
     ≡ (done ∷ head "" ∷ child ∷ [])
     ∷ (done ∷ head "" ∷ child ∷ [])
-    ∷ (done ∷ row 12 (bytes "C" ∷ []) 0 0 0 ∷ [])
+    ∷ (done ∷ row 12 (bytes "C" ∷ []) 0 0 3 ∷ [])
     ∷ (done ∷ head "B" ∷ child ∷ [])
     ∷ []
 unfolding after head texts sheets schemas actions

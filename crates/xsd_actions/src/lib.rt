@@ -19,6 +19,13 @@ pub struct NewRow {
     pub second: usize,
     pub a: u32,
     pub b: u32,
+    pub c: u32,
+}
+
+// A type to open: where the pair of its name stands in the marks, and the number of the event that gives the name.
+pub struct NewType {
+    pub name: usize,
+    pub event: u32,
 }
 
 // The row of a length facet to add.
@@ -46,8 +53,8 @@ pub enum Decision {
     Refuse(Refusal),
     Keep,
     Root(usize),
-    OpenSimple(usize),
-    OpenComplex(usize),
+    OpenSimple(NewType),
+    OpenComplex(NewType),
     Add(NewRow),
     Characters(CharacterFacet),
     Digits(DigitFacet),

@@ -1,5 +1,5 @@
 -- Parts of xsd_actions' decidedStart and decidedEmpty that private functions decide.
---     openedAs      the type with a name is opened, a simple or a complex one
+--     openedAs      the type with a name is opened by the event of a number, a simple or a complex one
 --     emptyInSchema an empty tag at the top level: an element is kept if it has name and type
 use Prim.Native.Nat.{ℕ}
 use mathlib.Core.Bool.{Bool, true, false, _&&_}
@@ -9,9 +9,9 @@ use Rattle.xsd_parser.specs.Event.{Tag, tagIs}
 use Rattle.xsd_actions.specs.Actions.{Action}
 use Rattle.xsd_actions.specs.Decided.{topElement}
 
-unfoldable pub openedAs : Bool → Text → Action
-openedAs true name = Action.openSimple name
-openedAs false name = Action.openComplex name
+unfoldable pub openedAs : ℕ → Bool → Text → Action
+openedAs n true name = Action.openSimple n name
+openedAs n false name = Action.openComplex n name
 
-unfoldable pub emptyInSchema : Tag → ℕ → Action
-emptyInSchema t nesting = if eqb nesting 0 && tagIs t "element" then topElement t else Action.keep
+unfoldable pub emptyInSchema : ℕ → Tag → ℕ → Action
+emptyInSchema n t nesting = if eqb nesting 0 && tagIs t "element" then topElement n t else Action.keep

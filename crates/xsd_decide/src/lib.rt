@@ -30,6 +30,7 @@ use tape::view::attribute;
 use text::local_is;
 use xsd_actions::Decision;
 use xsd_actions::Mode;
+use xsd_actions::NewType;
 use xsd_types::contexts;
 use xsd_types::tags;
 
@@ -45,76 +46,97 @@ fn root_found(text: &[u8], marks: &[u32], t: TagRecord, name: &[u8]) -> Decision
     Decision::Keep
 }
 
-// A type needs a name.
-fn open_type(text: &[u8], marks: &[u32], t: TagRecord, simple: bool) -> Decision
+// A type needs a name, which the event of this number gives.
+fn open_type(text: &[u8], marks: &[u32], t: TagRecord, event: u32, simple: bool) -> Decision
     requires { ⌜ TagInside (now text) (now marks) (t .pairs) (t .count) ⌝ }
-    ensures { λ r. ⌜ decision (now (text .entry)) (now (marks .entry)) r ≡ requireName (recordTag (now (text .entry)) (now (marks .entry)) t) (openedAs simple) ⌝ }
+    ensures { λ r. ⌜ decision (now (text .entry)) (now (marks .entry)) r ≡ requireName (recordTag (now (text .entry)) (now (marks .entry)) t) (openedAs event simple) ⌝ }
 {
-    let Found::At(i) = attribute(text, marks, t.pairs, t.count, b"name") else {
+    let Found::At(name) = attribute(text, marks, t.pairs, t.count, b"name") else {
         return Decision::Refuse(Refusal::MissingAttribute);
     };
     if simple {
-        return Decision::OpenSimple(i);
+        return Decision::OpenSimple(NewType { name, event });
     }
-    Decision::OpenComplex(i)
+    Decision::OpenComplex(NewType { name, event })
 }
 
 // A started direct child of the schema opens a type or is an element.
-fn direct_child(text: &[u8], marks: &[u32], t: TagRecord, name: &[u8]) -> Decision
+fn direct_child(text: &[u8], marks: &[u32], t: TagRecord, name: &[u8], event: u32) -> Decision
     requires { ⌜ now name ≡ recordTag (now text) (now marks) t .name ⌝ }
     requires { ⌜ TagInside (now text) (now marks) (t .pairs) (t .count) ⌝ }
-    ensures { λ r. ⌜ decision (now (text .entry)) (now (marks .entry)) r ≡ directChild (recordTag (now (text .entry)) (now (marks .entry)) t) ⌝ }
+    ensures { λ r. ⌜ decision (now (text .entry)) (now (marks .entry)) r ≡ directChild event (recordTag (now (text .entry)) (now (marks .entry)) t) ⌝ }
 {
     if local_is(name, b"simpleType") {
-        return open_type(text, marks, t, true);
+        return open_type(text, marks, t, event, true);
     }
     if local_is(name, b"complexType") {
-        return open_type(text, marks, t, false);
+        return open_type(text, marks, t, event, false);
     }
     if local_is(name, b"element") {
-        return top_element(text, marks, t);
+        return top_element(text, marks, t, event);
     }
     Decision::Keep
 }
 
 // A start below the schema: deeper ones are passed over.
-fn start_in_schema(text: &[u8], marks: &[u32], t: TagRecord, name: &[u8], nesting: u32) -> Decision
+fn start_in_schema(
+    text: &[u8],
+    marks: &[u32],
+    t: TagRecord,
+    name: &[u8],
+    nesting: u32,
+    event: u32,
+) -> Decision
     requires { ⌜ now name ≡ recordTag (now text) (now marks) t .name ⌝ }
     requires { ⌜ TagInside (now text) (now marks) (t .pairs) (t .count) ⌝ }
-    ensures { λ r. ⌜ decision (now (text .entry)) (now (marks .entry)) r ≡ startInSchema (recordTag (now (text .entry)) (now (marks .entry)) t) nesting ⌝ }
+    ensures { λ r. ⌜ decision (now (text .entry)) (now (marks .entry)) r ≡ startInSchema event (recordTag (now (text .entry)) (now (marks .entry)) t) nesting ⌝ }
 {
     if nesting != 0 {
         return Decision::Keep;
     }
-    direct_child(text, marks, t, name)
+    direct_child(text, marks, t, name, event)
 }
 
 // An empty tag below the schema: only an element that is a direct child counts.
-fn empty_in_schema(text: &[u8], marks: &[u32], t: TagRecord, name: &[u8], nesting: u32) -> Decision
+fn empty_in_schema(
+    text: &[u8],
+    marks: &[u32],
+    t: TagRecord,
+    name: &[u8],
+    nesting: u32,
+    event: u32,
+) -> Decision
     requires { ⌜ now name ≡ recordTag (now text) (now marks) t .name ⌝ }
     requires { ⌜ TagInside (now text) (now marks) (t .pairs) (t .count) ⌝ }
-    ensures { λ r. ⌜ decision (now (text .entry)) (now (marks .entry)) r ≡ ok (emptyInSchema (recordTag (now (text .entry)) (now (marks .entry)) t) nesting) ⌝ }
+    ensures { λ r. ⌜ decision (now (text .entry)) (now (marks .entry)) r ≡ ok (emptyInSchema event (recordTag (now (text .entry)) (now (marks .entry)) t) nesting) ⌝ }
 {
     if nesting != 0 {
         return Decision::Keep;
     }
     if local_is(name, b"element") {
-        return top_element(text, marks, t);
+        return top_element(text, marks, t, event);
     }
     Decision::Keep
 }
 
-// What a start tag decides.
-pub fn on_start(text: &[u8], marks: &[u32], t: TagRecord, m: Mode, head: u32) -> Decision
+// What a start tag decides. The event is the run's event of this number, from 0.
+pub fn on_start(
+    text: &[u8],
+    marks: &[u32],
+    t: TagRecord,
+    m: Mode,
+    head: u32,
+    event: u32,
+) -> Decision
     requires { ⌜ TagInside (now text) (now marks) (t .pairs) (t .count) ⌝ }
-    ensures { λ r. ⌜ decision (now (text .entry)) (now (marks .entry)) r ≡ decidedStart (tagAt (now (text .entry)) (now (marks .entry)) (t .pairs) (t .count)) m head ⌝ }
+    ensures { λ r. ⌜ decision (now (text .entry)) (now (marks .entry)) r ≡ decidedStart event (tagAt (now (text .entry)) (now (marks .entry)) (t .pairs) (t .count)) m head ⌝ }
 {
     let name = raw_name(text, marks, t);
     if m.context == contexts::NONE {
         return root_found(text, marks, t, name);
     }
     if m.context == contexts::SCHEMA {
-        return start_in_schema(text, marks, t, name, m.nesting);
+        return start_in_schema(text, marks, t, name, m.nesting, event);
     }
     if m.context == contexts::SIMPLE_TYPE {
         return start_in_simple_type(text, marks, t, name, m.nesting);
@@ -123,16 +145,23 @@ pub fn on_start(text: &[u8], marks: &[u32], t: TagRecord, m: Mode, head: u32) ->
 }
 
 // What an empty tag decides.
-pub fn on_empty(text: &[u8], marks: &[u32], t: TagRecord, m: Mode, head: u32) -> Decision
+pub fn on_empty(
+    text: &[u8],
+    marks: &[u32],
+    t: TagRecord,
+    m: Mode,
+    head: u32,
+    event: u32,
+) -> Decision
     requires { ⌜ TagInside (now text) (now marks) (t .pairs) (t .count) ⌝ }
-    ensures { λ r. ⌜ decision (now (text .entry)) (now (marks .entry)) r ≡ decidedEmpty (tagAt (now (text .entry)) (now (marks .entry)) (t .pairs) (t .count)) m head ⌝ }
+    ensures { λ r. ⌜ decision (now (text .entry)) (now (marks .entry)) r ≡ decidedEmpty event (tagAt (now (text .entry)) (now (marks .entry)) (t .pairs) (t .count)) m head ⌝ }
 {
     let name = raw_name(text, marks, t);
     if m.context == contexts::NONE {
         return root_found(text, marks, t, name);
     }
     if m.context == contexts::SCHEMA {
-        return empty_in_schema(text, marks, t, name, m.nesting);
+        return empty_in_schema(text, marks, t, name, m.nesting, event);
     }
     if m.context == contexts::SIMPLE_TYPE {
         return empty_in_simple_type(text, marks, t, name);

@@ -49,8 +49,8 @@ pub fn content_alone(tag: u32) -> Decision
 }
 
 // A row with name and type.
-fn typed_row(p: Places, tag: u32, a: u32, b: u32) -> Decision
-    ensures { λ r. ⌜ ((text : Text) (marks : List ℕ) → decision text marks r ≡ ok (Action.add (typedRow tag a b (textAtMark text marks (p .name)) (textAtMark text marks (p .typ))))) ⌝ }
+fn typed_row(p: Places, tag: u32, a: u32, b: u32, c: u32) -> Decision
+    ensures { λ r. ⌜ ((text : Text) (marks : List ℕ) → decision text marks r ≡ ok (Action.add (typedRow tag a b c (textAtMark text marks (p .name)) (textAtMark text marks (p .typ))))) ⌝ }
 {
     Decision::Add(NewRow {
         tag,
@@ -59,26 +59,27 @@ fn typed_row(p: Places, tag: u32, a: u32, b: u32) -> Decision
         second: p.typ,
         a,
         b,
+        c,
     })
 }
 
-// A row without numbers for a tag that has name and type.
-fn named_row(text: &[u8], marks: &[u32], t: TagRecord, tag: u32) -> Decision
+// A row without numbers but c for a tag that has name and type.
+fn named_row(text: &[u8], marks: &[u32], t: TagRecord, tag: u32, c: u32) -> Decision
     requires { ⌜ TagInside (now text) (now marks) (t .pairs) (t .count) ⌝ }
-    ensures { λ r. ⌜ decision (now (text .entry)) (now (marks .entry)) r ≡ ok (named (recordTag (now (text .entry)) (now (marks .entry)) t) (typedRow tag 0 0)) ⌝ }
+    ensures { λ r. ⌜ decision (now (text .entry)) (now (marks .entry)) r ≡ ok (named (recordTag (now (text .entry)) (now (marks .entry)) t) (typedRow tag 0 0 c)) ⌝ }
 {
     match name_and_type(text, marks, t) {
-        Typed::Both(p) => typed_row(p, tag, 0, 0),
+        Typed::Both(p) => typed_row(p, tag, 0, 0, c),
         Typed::Missing => Decision::Keep,
     }
 }
 
-// An element at the top is kept if it has name and type.
-pub fn top_element(text: &[u8], marks: &[u32], t: TagRecord) -> Decision
+// An element at the top is kept if it has name and type, with the number of its event.
+pub fn top_element(text: &[u8], marks: &[u32], t: TagRecord, event: u32) -> Decision
     requires { ⌜ TagInside (now text) (now marks) (t .pairs) (t .count) ⌝ }
-    ensures { λ r. ⌜ decision (now (text .entry)) (now (marks .entry)) r ≡ ok (topElement (recordTag (now (text .entry)) (now (marks .entry)) t)) ⌝ }
+    ensures { λ r. ⌜ decision (now (text .entry)) (now (marks .entry)) r ≡ ok (topElement event (recordTag (now (text .entry)) (now (marks .entry)) t)) ⌝ }
 {
-    named_row(text, marks, t, tags::ELEMENT)
+    named_row(text, marks, t, tags::ELEMENT, event)
 }
 
 // The row of an element whose name, type and lower bound are known.
@@ -87,8 +88,8 @@ fn max_added(text: &[u8], marks: &[u32], t: TagRecord, p: Places, min: u32) -> D
     ensures { λ r. ⌜ decision (now (text .entry)) (now (marks .entry)) r ≡ maxAdded (textAtMark (now (text .entry)) (now (marks .entry)) (p .name)) (textAtMark (now (text .entry)) (now (marks .entry)) (p .typ)) min (parseMaxOccurs (attrValue (recordTag (now (text .entry)) (now (marks .entry)) t) "maxOccurs")) ⌝ }
 {
     match max_occurs(text, marks, t) {
-        Max::Bounded(max) => typed_row(p, tags::BOUND_ELEMENT, min, max),
-        Max::Unbounded => typed_row(p, tags::UNBOUNDED_ELEMENT, min, 0),
+        Max::Bounded(max) => typed_row(p, tags::BOUND_ELEMENT, min, max, 0),
+        Max::Unbounded => typed_row(p, tags::UNBOUNDED_ELEMENT, min, 0, 0),
         Max::Invalid => Decision::Refuse(Refusal::InvalidAttributeValue),
     }
 }
@@ -124,7 +125,7 @@ pub fn element_inside(text: &[u8], marks: &[u32], t: TagRecord, head: u32) -> De
         return occurs_added(text, marks, t);
     }
     if head == tags::CHOICE {
-        return named_row(text, marks, t, tags::CHOICE_VARIANT);
+        return named_row(text, marks, t, tags::CHOICE_VARIANT, 0);
     }
     Decision::Keep
 }
@@ -141,7 +142,7 @@ pub fn attribute_inside(text: &[u8], marks: &[u32], t: TagRecord, flag: bool) ->
         return Decision::Keep;
     };
     if is_required(text, marks, t) {
-        return typed_row(p, tags::ATTRIBUTE, 1, 0);
+        return typed_row(p, tags::ATTRIBUTE, 1, 0, 0);
     }
-    typed_row(p, tags::ATTRIBUTE, 0, 0)
+    typed_row(p, tags::ATTRIBUTE, 0, 0, 0)
 }

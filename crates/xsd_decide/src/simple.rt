@@ -58,6 +58,7 @@ fn text_row(tag: u32, at: usize) -> Decision
         second: at,
         a: 0,
         b: 0,
+        c: 0,
     })
 }
 

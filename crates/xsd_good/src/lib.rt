@@ -35,4 +35,5 @@ pub fn is_good(rows: &[u32], names: &[u8]) -> bool
         & tests::nesting_test(z)
         & tests::context_test(z.context, s.head)
         & tests::extension_test(z, s.head)
+        & scan::events_test(rows, n, z.events)
 }

@@ -8,6 +8,7 @@ ghost use mathlib.Core.Path.{_≡_};
 ghost use Prim.Native.Nat.{_-_, _*_, _≤_, _^_};
 ghost use lib.ListN.{length, drop};
 ghost use Rattle.sheet.specs.Rows.{tens};
+ghost use Rattle.xsd_types.specs.Good.{eventsTest};
 ghost use Rattle.xsd_good.specs.Forms.{asTen};
 ghost use Rattle.xsd_good.specs.Scan.{failed as nothing, firstRow, nextRow, scanned, scannedSheet};
 ghost use Rattle.xsd_good.specs.Heads.{headRow};
@@ -88,6 +89,23 @@ pub fn scan_sheet(rows: &[u32], rows_used: usize, names_used: u32) -> Scan
 {
     let first = first_row(names_used, row::ten_at(rows, limits::ROW));
     scan_rows(&rows[20..], rows_used - 2, names_used, first)
+}
+
+// Whether c of every row behind row 0 is 0 or the number of an event that is done.
+pub fn events_test(rows: &[u32], rows_used: usize, events: u32) -> bool
+    requires { ⌜ (2 ≤ «rows_used») × (10 * «rows_used» ≤ length (now rows)) ⌝ }
+    ensures { λ r. ⌜ r ≡ eventsTest events (tens («rows_used» - 1) (drop 10 (now (rows .entry)))) ⌝ }
+{
+    let mut ok = true;
+    let mut left = rows_used - 1;
+    let mut at = limits::ROW;
+    while 0 < left {
+        let t = row::ten_at(rows, at);
+        ok = ok & ((t.c == 0) | (t.c < events));
+        at += limits::ROW;
+        left -= 1;
+    }
+    ok
 }
 
 // The last row before row n that is a head, 0 if there is none: in contexts 2 and 3 of a good sheet, the head of the open type.

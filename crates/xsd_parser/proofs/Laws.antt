@@ -6,6 +6,7 @@ pub mod Readers
 pub mod Starts
 pub mod Empties
 pub mod Closes
+pub mod Numbers
 pub mod Steps
 pub mod Refusals
 pub mod Records
@@ -19,6 +20,7 @@ pub mod Facts
 pub mod Pieces
 pub mod Room
 pub mod CloseRoom
+pub mod Cleared
 pub mod Occurs
 pub mod Children
 pub mod ChildrenRead

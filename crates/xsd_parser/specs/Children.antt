@@ -1,24 +1,25 @@
 -- The direct children of the outermost `schema` tags, by a walk over the tags that knows no context. Order 3, with choice 1: "nesting in context 1 counts
 -- the open tags below the schema, a close at 0 ends it, only its direct children become elements or types".
---     Head          what a direct child becomes: an element, or a type of a name
+--     Head          what a direct child becomes: an element of a name and a type, or a type of a name
 --     depthAfter    how many tags are open from the outermost `schema` on, that one too; 0 outside
---     childHead     the head of a direct child, if it becomes one; headAt: of a tag at a depth
---     directChildren    the heads of all direct children in order; childrenFrom: from a depth on
---     heads         the heads that a reader has kept, the open type last
---     onlyTypes     directly below a schema nothing is started but types, so that its own close is the only one that comes in context 1
+--     childHead (namedHead, elementHead)    the head of a direct child, if it becomes one; headAt: of a tag at a depth
+--     directChildren (childrenFrom)    the heads of all direct children in order
+--     heads (itemHead, openHead)    the heads that a reader has kept, the open type last
+--     onlyTypes (onlyTypesFrom)    directly below a schema nothing is started but types, so that its own close is the only one that comes in context 1
+--     startsNoOther a start of a type, or no start
 use Prim.Native.Nat.{ℕ, zero, suc}
 use mathlib.Core.List.{List, [], _∷_, _++_, map}
 use mathlib.Core.Bool.{Bool, true, not, _&&_, _||_}
 use mathlib.Core.Option.{Option, some, none}
 use lib.Dec.{eqb}
 use Rattle.text.specs.Text.{Text, if_then_else_}
-use Rattle.xsd_types.specs.Types.{Element, Item}
+use Rattle.xsd_types.specs.Types.{Item}
 use Rattle.xsd_types.specs.State.{Context, Reader}
 use Rattle.xsd_parser.specs.Event.{Event, tagIs, attrValue}
 use Rattle.xsd_parser.specs.Tape.{Judged, event, refused}
 
 pub data Head : Type 0 where
-  element : Element → Head
+  element : Text → Text → Head
   simpleType complexType : Text → Head
 
 unfoldable pub depthAfter : Event → ℕ → ℕ
@@ -35,7 +36,7 @@ namedHead f (some name) = f name ∷ []
 unfoldable pub elementHead : Option Text → Option Text → List Head
 elementHead none typeName = []
 elementHead (some name) none = []
-elementHead (some name) (some typeName) = Head.element (record { name = name; typeName = typeName }) ∷ []
+elementHead (some name) (some typeName) = Head.element name typeName ∷ []
 
 -- "start `simpleType` or `complexType` needs a name and opens a type; `element`, start or empty, is kept if it has name and type"
 unfoldable pub childHead : Event → List Head
@@ -59,7 +60,7 @@ unfoldable pub directChildren : List Judged → List Head
 directChildren js = childrenFrom 0 js
 
 unfoldable pub itemHead : Item → Head
-itemHead (Item.element e) = Head.element e
+itemHead (Item.element e) = Head.element (e .name) (e .typeName)
 itemHead (Item.simpleType t) = Head.simpleType (t .name)
 itemHead (Item.complexType t) = Head.complexType (t .name)
 

@@ -3,6 +3,7 @@
 --     Event         a start tag, an empty tag, or a close
 --     tagIs         the tag's local name is the word
 --     attrValue     the value of the first attribute whose key's local name is the word (000, `attr_value`)
+--     eventName     the name that an event carries: the attribute `name` of its tag
 --     orEmpty       a value, the empty text where there is none (000, `unwrap_or_default`)
 use Prim.Native.String.{String}
 use mathlib.Core.List.{List, [], _∷_}
@@ -34,6 +35,11 @@ lookup (x ∷ xs) word = if is (localName (x .key)) word then some (x .value) el
 -- "Lookup takes the first attribute whose key matches. `xmlns:name` counts as `name`."
 unfoldable pub attrValue : Tag → String → Option Text
 attrValue t word = lookup (t .attributes) word
+
+unfoldable pub eventName : Event → Option Text
+eventName (Event.start t) = attrValue t "name"
+eventName (Event.empty t) = attrValue t "name"
+eventName Event.close = none
 
 unfoldable pub orEmpty : Option Text → Text
 orEmpty none = []

@@ -1,5 +1,5 @@
 -- Small tapes through the definitions, by computation. Here the printed specimen. Below: Tapes writes tapes as tags; Lengths has the numbers 0, 1
--- and 2, Records 3, 4 and 5, Counts 6, 7 and 8 and the order of refusals, Attributes 9 and 10, Room 11; Schemas, SimpleTypes, ComplexTypes and
+-- and 2, Records 3, 4 and 5, Counts 6, 7 and 8 and the order of refusals, Attributes 9 and 10, Room 11; EventNumbers has order 5's; Schemas, SimpleTypes, ComplexTypes and
 -- SimpleContents say what an event does; Annotations has order 3, Children the direct children of a schema.
 use Prim.Native.Nat.{ℕ}
 use mathlib.Core.Path.{_≡_, refl}
@@ -14,6 +14,7 @@ mod Records
 mod Counts
 mod Attributes
 mod Room
+mod EventNumbers
 mod Schemas
 mod SimpleTypes
 mod ComplexTypes
@@ -40,6 +41,6 @@ specimen-marks = refl
 -- "read 0 3", and what the sheet holds: one element behind an empty namespace, context 0, three events done
 specimen-read :
     read (blank 40 6) (bytes "schemaelementnameDtypeT") specimenMarks
-    ≡ gives 0 3 (sheet 40 6 (line 0 3 2 0 0 1 3 0 0 0 ∷ line 1 0 0 0 0 0 0 0 0 0 ∷ line 2 0 1 1 1 0 0 0 0 0 ∷ []) "DT")
+    ≡ gives 0 3 (sheet 40 6 (line 0 3 2 0 0 1 3 0 0 0 ∷ line 1 0 0 0 0 0 0 0 0 0 ∷ line 2 0 1 1 1 0 0 0 0 1 ∷ []) "DT")
 unfolding specimenMarks taped
 specimen-read = refl

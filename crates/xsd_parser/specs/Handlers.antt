@@ -1,6 +1,7 @@
 -- What an event does: 000 (parser.rs), `on_start`, `on_empty`, `on_end` and their sub-handlers, clause by clause.
 --     Outcome       a value, or a refusal with its number
 --     byStandard    the choice of order 3; false gives 000's clauses. It is handed down to `belowSchema` and asked there alone
+--     n             the event's number in the run, from 0; what gives a name keeps it (order 5: "the event that gave it its name")
 --     9             `MissingAttribute`
 --     10            `InvalidAttributeValue`
 use Prim.Native.Nat.{ℕ, zero, suc, _+_}
@@ -50,14 +51,14 @@ foundRoot t r =
       context = r .context;
     }
 
--- 000, `on_top_level_element`: "`element`, start or empty, is kept if it has name and type"
-unfoldable pub keptElement : Option Text → Option Text → Reader → Reader
-keptElement none typeName r = r
-keptElement (some name) none r = r
-keptElement (some name) (some typeName) r = withItem (Item.element (record { name = name; typeName = typeName })) r
+-- 000, `on_top_level_element`: "`element`, start or empty, is kept if it has name and type". The event is the n-th of the run, from 0
+unfoldable pub keptElement : ℕ → Option Text → Option Text → Reader → Reader
+keptElement n none typeName r = r
+keptElement n (some name) none r = r
+keptElement n (some name) (some typeName) r = withItem (Item.element (record { name = name; typeName = typeName; event = n })) r
 
-unfoldable pub onTopLevelElement : Tag → Reader → Reader
-onTopLevelElement t r = keptElement (attrValue t "name") (attrValue t "type") r
+unfoldable pub onTopLevelElement : ℕ → Tag → Reader → Reader
+onTopLevelElement n t r = keptElement n (attrValue t "name") (attrValue t "type") r
 
 -- 000, `require_attr`: 9 where it is absent
 unfoldable pub requireName : {A : Type 0} → Tag → (Text → A) → Outcome A
@@ -78,13 +79,13 @@ parseMaxOccurs (some v) = if isUnbounded v then ok MaxOccurs.unbounded else onPa
 
 -- a builder with another base or one more facet; with another content
 unfoldable pub withBase : Text → SimpleTypeBuilder → SimpleTypeBuilder
-withBase base t = record { name = t .name; base = base; facets = t .facets; nestingDepth = t .nestingDepth }
+withBase base t = record { name = t .name; base = base; facets = t .facets; nestingDepth = t .nestingDepth; event = t .event }
 
 unfoldable pub withFacet : SimpleTypeBuilder → Facet → SimpleTypeBuilder
-withFacet t f = record { name = t .name; base = t .base; facets = t .facets ++ f ∷ []; nestingDepth = t .nestingDepth }
+withFacet t f = record { name = t .name; base = t .base; facets = t .facets ++ f ∷ []; nestingDepth = t .nestingDepth; event = t .event }
 
 unfoldable pub withContent : ComplexTypeBuilder → ComplexContentBuilder → ComplexTypeBuilder
-withContent t content = record { name = t .name; content = content; nestingDepth = t .nestingDepth }
+withContent t content = record { name = t .name; content = content; nestingDepth = t .nestingDepth; event = t .event }
 
 -- 000, `on_element_inside_complex`: "Occurs are read only in a sequence and only then, min before max, default 1"
 unfoldable pub sequenceElement : Tag → Option Text → Option Text → List SequenceElement → Outcome ComplexContentBuilder
@@ -138,30 +139,30 @@ onExtension t (ComplexContentBuilder.any n) = ComplexContentBuilder.any n
 -- ---- on_start
 
 -- 000: `Some(Context::Schema)`. "start `simpleType` or `complexType` needs a name and opens a type"
-unfoldable pub openSimpleType : Text → Context
-openSimpleType name = Context.inSimpleType (record { name = name; base = []; facets = []; nestingDepth = 0 })
+unfoldable pub openSimpleType : ℕ → Text → Context
+openSimpleType n name = Context.inSimpleType (record { name = name; base = []; facets = []; nestingDepth = 0; event = n })
 
-unfoldable pub openComplexType : Text → Context
-openComplexType name = Context.inComplexType (record { name = name; content = ComplexContentBuilder.empty; nestingDepth = 0 })
+unfoldable pub openComplexType : ℕ → Text → Context
+openComplexType n name = Context.inComplexType (record { name = name; content = ComplexContentBuilder.empty; nestingDepth = 0; event = n })
 
 -- order 3: "In 1, nesting in context 1 counts the open tags below the schema"
 unfoldable pub belowSchema : Bool → ℕ → Reader → Reader
-belowSchema false n r = r
-belowSchema true n r = inContext (Context.inSchema (suc n)) r
+belowSchema false depth r = r
+belowSchema true depth r = inContext (Context.inSchema (suc depth)) r
 
-unfoldable pub onDirectChild : Bool → Tag → Reader → Outcome Reader
-onDirectChild byStandard t r =
-    if tagIs t "simpleType" then requireName t (λ name. inContext (openSimpleType name) r) else
-    if tagIs t "complexType" then requireName t (λ name. inContext (openComplexType name) r) else
-    if tagIs t "element" then ok (belowSchema byStandard 0 (onTopLevelElement t r)) else ok (belowSchema byStandard 0 r)
+unfoldable pub onDirectChild : Bool → ℕ → Tag → Reader → Outcome Reader
+onDirectChild byStandard n t r =
+    if tagIs t "simpleType" then requireName t (λ name. inContext (openSimpleType n name) r) else
+    if tagIs t "complexType" then requireName t (λ name. inContext (openComplexType n name) r) else
+    if tagIs t "element" then ok (belowSchema byStandard 0 (onTopLevelElement n t r)) else ok (belowSchema byStandard 0 r)
 
 -- order 3: "only its direct children become elements or types, and a nameless type under an element is passed over without 9"
-unfoldable pub onStartInSchema : Bool → Tag → ℕ → Reader → Outcome Reader
-onStartInSchema byStandard t n r = if eqb n 0 then onDirectChild byStandard t r else ok (belowSchema byStandard n r)
+unfoldable pub onStartInSchema : Bool → ℕ → Tag → ℕ → Reader → Outcome Reader
+onStartInSchema byStandard n t depth r = if eqb depth 0 then onDirectChild byStandard n t r else ok (belowSchema byStandard depth r)
 
 -- "Simple type: each start raises nesting; `restriction` at nesting 1 .. sets the base"
 unfoldable pub raisedSimple : SimpleTypeBuilder → SimpleTypeBuilder
-raisedSimple t = record { name = t .name; base = t .base; facets = t .facets; nestingDepth = suc (t .nestingDepth) }
+raisedSimple t = record { name = t .name; base = t .base; facets = t .facets; nestingDepth = suc (t .nestingDepth); event = t .event }
 
 unfoldable pub onStartInSimpleType : Tag → SimpleTypeBuilder → SimpleTypeBuilder
 onStartInSimpleType t b =
@@ -169,7 +170,7 @@ onStartInSimpleType t b =
 
 -- "Complex type: each start raises nesting; start `sequence`, `choice`, `simpleContent` at 1 replaces the content, flag 0"
 unfoldable pub raisedComplex : ComplexTypeBuilder → ComplexTypeBuilder
-raisedComplex t = record { name = t .name; content = t .content; nestingDepth = suc (t .nestingDepth) }
+raisedComplex t = record { name = t .name; content = t .content; nestingDepth = suc (t .nestingDepth); event = t .event }
 
 unfoldable pub contentStarted : Tag → ComplexContentBuilder → ComplexContentBuilder
 contentStarted t content =
@@ -188,11 +189,11 @@ onStartInComplexType t b =
     if eqb (b .nestingDepth) 1 then ok (contentStarted t (b .content)) else
     if eqb (b .nestingDepth) 2 then contentAtTwo t (b .content) else ok (b .content)
 
-unfoldable pub onStart : Bool → Tag → Reader → Context → Outcome Reader
-onStart byStandard t r Context.noContext = ok (if tagIs t "schema" then inContext (Context.inSchema 0) (foundRoot t r) else r)
-onStart byStandard t r (Context.inSchema n) = onStartInSchema byStandard t n r
-onStart byStandard t r (Context.inSimpleType b) = ok (inContext (Context.inSimpleType (onStartInSimpleType t (raisedSimple b))) r)
-onStart byStandard t r (Context.inComplexType b) =
+unfoldable pub onStart : Bool → ℕ → Tag → Reader → Context → Outcome Reader
+onStart byStandard n t r Context.noContext = ok (if tagIs t "schema" then inContext (Context.inSchema 0) (foundRoot t r) else r)
+onStart byStandard n t r (Context.inSchema depth) = onStartInSchema byStandard n t depth r
+onStart byStandard n t r (Context.inSimpleType b) = ok (inContext (Context.inSimpleType (onStartInSimpleType t (raisedSimple b))) r)
+onStart byStandard n t r (Context.inComplexType b) =
     onStartInComplexType t (raisedComplex b) andThen λ content.
     ok (inContext (Context.inComplexType (withContent (raisedComplex b) content)) r)
 
@@ -222,12 +223,12 @@ onEmptyInComplexType t content =
     if tagIs t "any" then ok (ComplexContentBuilder.any (attrValue t "namespace")) else
     if tagIs t "attribute" then ok (onAttributeInsideComplex t content) else ok content
 
-unfoldable pub onEmpty : Tag → Reader → Context → Outcome Reader
-onEmpty t r Context.noContext = ok (if tagIs t "schema" then foundRoot t r else r)
-onEmpty t r (Context.inSchema n) = ok (if eqb n 0 && tagIs t "element" then onTopLevelElement t r else r)
-onEmpty t r (Context.inSimpleType b) =
+unfoldable pub onEmpty : ℕ → Tag → Reader → Context → Outcome Reader
+onEmpty n t r Context.noContext = ok (if tagIs t "schema" then foundRoot t r else r)
+onEmpty n t r (Context.inSchema depth) = ok (if eqb depth 0 && tagIs t "element" then onTopLevelElement n t r else r)
+onEmpty n t r (Context.inSimpleType b) =
     onEmptyInSimpleType t b andThen λ next. ok (inContext (Context.inSimpleType next) r)
-onEmpty t r (Context.inComplexType b) =
+onEmpty n t r (Context.inComplexType b) =
     onEmptyInComplexType t (b .content) andThen λ content. ok (inContext (Context.inComplexType (withContent b content)) r)
 
 -- ---- on_end
@@ -235,15 +236,15 @@ onEmpty t r (Context.inComplexType b) =
 -- "A close lowers nesting, or at 0 finishes the type, flag 0, and returns to context 1."
 unfoldable pub closeSimpleType : SimpleTypeBuilder → ℕ → Reader → Reader
 closeSimpleType b zero r =
-    inContext (Context.inSchema 0) (withItem (Item.simpleType (record { name = b .name; base = b .base; facets = b .facets })) r)
+    inContext (Context.inSchema 0) (withItem (Item.simpleType (record { name = b .name; base = b .base; facets = b .facets; event = b .event })) r)
 closeSimpleType b (suc n) r =
-    inContext (Context.inSimpleType (record { name = b .name; base = b .base; facets = b .facets; nestingDepth = n })) r
+    inContext (Context.inSimpleType (record { name = b .name; base = b .base; facets = b .facets; nestingDepth = n; event = b .event })) r
 
 unfoldable pub closeComplexType : ComplexTypeBuilder → ℕ → Reader → Reader
 closeComplexType b zero r =
-    inContext (Context.inSchema 0) (withItem (Item.complexType (record { name = b .name; content = finish (b .content) })) r)
+    inContext (Context.inSchema 0) (withItem (Item.complexType (record { name = b .name; content = finish (b .content); event = b .event })) r)
 closeComplexType b (suc n) r =
-    inContext (Context.inComplexType (record { name = b .name; content = b .content; nestingDepth = n })) r
+    inContext (Context.inComplexType (record { name = b .name; content = b .content; nestingDepth = n; event = b .event })) r
 
 -- "Any close leads to context 0." 000: `Some(Context::Schema)` pops the context. Order 3: "a close at 0 ends it"; with choice 0 nesting is 0 there
 unfoldable pub closeInSchema : ℕ → Reader → Reader

@@ -1,5 +1,5 @@
 -- One event on a state, with the refusals 6 to 11 in the paper's order. "Reading: .. event by event 3, 4, 5, 8, then 6 or 7, 9, 10, 11"
---     handled       the handlers of 000 on the reader, by the choice of order 3
+--     handled n     the handlers of 000 on the reader, by the choice of order 3, for the event that has the number n in the run: order 5, "events done" before it
 --     tagsAfter     the open tags after an event; 6 "close with no tag open", 7 "start with 255 open"
 --     counted       the state with one event more done, its choice kept
 --     roomFor       the state where it has room; 11 "the state after the event needs more rows or names than lent"
@@ -16,10 +16,10 @@ use Rattle.xsd_types.specs.Sheet.{stateFits}
 use Rattle.xsd_parser.specs.Event.{Event}
 use Rattle.xsd_parser.specs.Handlers.{Outcome, ok, refuse, _andThen_, onStart, onEmpty, onEnd}
 
-unfoldable pub handled : Bool → Event → Reader → Outcome Reader
-handled byStandard (Event.start t) r = onStart byStandard t r (r .context)
-handled byStandard (Event.empty t) r = onEmpty t r (r .context)
-handled byStandard Event.close r = ok (onEnd r (r .context))
+unfoldable pub handled : Bool → ℕ → Event → Reader → Outcome Reader
+handled byStandard n (Event.start t) r = onStart byStandard n t r (r .context)
+handled byStandard n (Event.empty t) r = onEmpty n t r (r .context)
+handled byStandard n Event.close r = ok (onEnd r (r .context))
 
 unfoldable pub closed : ℕ → Outcome ℕ
 closed zero = refuse noTagOpen
@@ -41,6 +41,6 @@ unfoldable pub step : Lengths → State → Event → Outcome State
 step lent s e =
     if ltb (s .events) eventsLimit
     then tagsAfter e (s .openTags) andThen (λ openTags.
-    handled (s .byStandard) e (s .reader) andThen (λ r.
+    handled (s .byStandard) (s .events) e (s .reader) andThen (λ r.
     roomFor lent (counted s openTags r)))
     else refuse tooManyEvents

@@ -20,18 +20,25 @@ ghost use Rattle.xsd_actions.specs.Decided.{decided};
 ghost use Rattle.xsd_actions.specs.Answers.{decision};
 ghost use Rattle.xsd_read.specs.Events.{EventRoom, EventTaken};
 
-// What is to be done for a record's event.
-fn decide_event(text: &[u8], marks: &[u32], t: TagRecord, m: Mode, head: u32) -> Decision
+// What is to be done for a record's event, which is the run's event of this number.
+fn decide_event(
+    text: &[u8],
+    marks: &[u32],
+    t: TagRecord,
+    m: Mode,
+    head: u32,
+    event: u32,
+) -> Decision
     requires { ⌜ ((t .kind ≡ closeKind → ⊥) → TagInside (now text) (now marks) (t .pairs) (t .count)) ⌝ }
-    ensures { λ r. ⌜ decision (now (text .entry)) (now (marks .entry)) r ≡ decided (recordEvent (now (text .entry)) (now (marks .entry)) t) m head ⌝ }
+    ensures { λ r. ⌜ decision (now (text .entry)) (now (marks .entry)) r ≡ decided event (recordEvent (now (text .entry)) (now (marks .entry)) t) m head ⌝ }
 {
     if t.kind == kinds::START {
-        return xsd_decide::on_start(text, marks, t, m, head);
+        return xsd_decide::on_start(text, marks, t, m, head, event);
     }
     if t.kind == kinds::CLOSE {
         return xsd_decide::on_close(m, head);
     }
-    xsd_decide::on_empty(text, marks, t, m, head)
+    xsd_decide::on_empty(text, marks, t, m, head, event)
 }
 
 // The event is counted (8, then 6 or 7), decided (9, 10), and done where it has room (11).
@@ -56,7 +63,7 @@ pub fn on_event(
         Tags::Refused(refusal) => Step::Refused(refusal),
         Tags::Open(open_tags) => {
             let head = head_tag(rows, p.mode.context, p.head);
-            let decision = decide_event(text, marks, t, p.mode, head);
+            let decision = decide_event(text, marks, t, p.mode, head, p.events);
             match decision {
                 Decision::Refuse(refusal) => Step::Refused(refusal),
                 _ => {

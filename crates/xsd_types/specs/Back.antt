@@ -87,10 +87,10 @@ contentOf flag g =
 
 unfoldable pub itemOf : Group → Item
 itemOf g =
-    if eqb (g .head .tag) elementTag then Item.element (record { name = text0 (g .head); typeName = text1 (g .head) }) else
+    if eqb (g .head .tag) elementTag then Item.element (record { name = text0 (g .head); typeName = text1 (g .head); event = g .head .c }) else
     if eqb (g .head .tag) simpleTypeTag
-    then Item.simpleType (record { name = text0 (g .head); base = text1 (g .head); facets = map facetOf (g .children) })
-    else Item.complexType (record { name = text0 (g .head); content = finish (contentOf false g) })
+    then Item.simpleType (record { name = text0 (g .head); base = text1 (g .head); facets = map facetOf (g .children); event = g .head .c })
+    else Item.complexType (record { name = text0 (g .head); content = finish (contentOf false g); event = g .head .c })
 
 unfoldable pub itemsOf : Bool → List Group → List Item
 itemsOf typeOpen [] = []
@@ -114,8 +114,8 @@ contextOf z gs =
     if eqb (z .context) noneContext then Context.noContext else
     if eqb (z .context) schemaContext then Context.inSchema (z .nesting) else
     if eqb (z .context) simpleTypeContext
-    then Context.inSimpleType (record { name = text0 (g .head); base = text1 (g .head); facets = map facetOf (g .children); nestingDepth = z .nesting })
-    else Context.inComplexType (record { name = text0 (g .head); content = contentOf (eqb (z .extension) 1) g; nestingDepth = z .nesting })
+    then Context.inSimpleType (record { name = text0 (g .head); base = text1 (g .head); facets = map facetOf (g .children); nestingDepth = z .nesting; event = g .head .c })
+    else Context.inComplexType (record { name = text0 (g .head); content = contentOf (eqb (z .extension) 1) g; nestingDepth = z .nesting; event = g .head .c })
 
 unfoldable pub namespaceIn : List Row → Text
 namespaceIn [] = []

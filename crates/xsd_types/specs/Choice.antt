@@ -1,7 +1,7 @@
 -- Order 3's choice beside what was before it. No contract cites it.
 --     paperForm     paper 01 of row 0's own numbers: "0, rows used, .. extension flag, 0"
 --     paperNesting  paper 01: "nesting is 0 in contexts 0 and 1; context 1 has an open tag; contexts 2 and 3 have at least nesting + 2"
---     paperGood     a sheet that was good before the order: the test with these two in place of its own
+--     paperGood     a sheet that was good before the order: the test with these two in place of its own. On c of the heads it says what order 5 says
 --     chosen        a state under a choice
 --     sheetChosen   a sheet with a choice as the last number of row 0
 use Prim.Native.Nat.{_+_}
@@ -13,7 +13,7 @@ use Rattle.sheet.specs.Rows.{Sheet, bit}
 use Rattle.sheet.specs.Form.{isFlag, tensOf, usedParts, zerosBehind}
 use Rattle.xsd_types.specs.State.{State}
 use Rattle.xsd_types.specs.Row0.{Row0, row0In}
-use Rattle.xsd_types.specs.Good.{rowsForm, namesForm, namesTest, limits, rootTest, contextTest, extensionTest, headOf}
+use Rattle.xsd_types.specs.Good.{rowsForm, namesForm, namesTest, limits, rootTest, contextTest, extensionTest, headOf, eventsTest}
 
 unfoldable pub paperForm : Row0 → Bool
 paperForm z = eqb (z .first) 0 && leb (z .context) 3 && isFlag (z .rootSeen) && isFlag (z .extension) && eqb (z .choice) 0
@@ -27,6 +27,7 @@ paperGood x =
     let ts = tensOf x in
     usedParts x && paperForm z && rowsForm ts && namesForm (z .namesUsed) ts && zerosBehind x && namesTest x
     && limits z && rootTest z && paperNesting z && contextTest (z .context) (headOf ts) && extensionTest z (headOf ts)
+    && eventsTest (z .events) ts
 
 unfoldable pub chosen : Bool → State → State
 chosen byStandard s = record { reader = s .reader; events = s .events; openTags = s .openTags; byStandard = byStandard }

@@ -32,9 +32,9 @@ sampleState =
                 record {
                   targetNamespace = bytes "urn:x";
                   items =
-                      Item.element (record { name = bytes "D"; typeName = bytes "T" })
-                      ∷ Item.simpleType (record { name = bytes "S"; base = bytes "xs:string"; facets = Facet.minLength 5000000000 ∷ Facet.pattern (bytes "") ∷ [] })
-                      ∷ Item.complexType (record { name = bytes "A"; content = ComplexContent.any (some (bytes "")) })
+                      Item.element (record { name = bytes "D"; typeName = bytes "T"; event = 1 })
+                      ∷ Item.simpleType (record { name = bytes "S"; base = bytes "xs:string"; facets = Facet.minLength 5000000000 ∷ Facet.pattern (bytes "") ∷ []; event = 11 })
+                      ∷ Item.complexType (record { name = bytes "A"; content = ComplexContent.any (some (bytes "")); event = 0 })
                       ∷ [];
                 };
             rootSeen = true;
@@ -44,6 +44,7 @@ sampleState =
                   name = bytes "C";
                   content = ComplexContentBuilder.sequence (record { name = bytes "e"; typeName = bytes "S"; minOccurs = 0; maxOccurs = MaxOccurs.unbounded } ∷ []);
                   nestingDepth = 1;
+                  event = 5;
                 });
           };
       events = 12;

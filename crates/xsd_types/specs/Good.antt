@@ -1,12 +1,13 @@
 -- "A sheet is good if": the test of a good schema sheet, from the paper's sentences, a named part for each.
 --     usedPairs tag a         how many pairs a row uses
 --     rowForm tag a b c       the tag is known, flags are 0 or 1, other unused numbers are 0; tenForm: of a row
---     isHead, isChild, mayFollow    which tag may stand behind which head
+--     isHead, isChild, mayFollow    which tags are heads, and which tag may stand behind which head
 --     headAfter     the head behind which the next row stands
 --     inOrder       children stand behind their head, and nothing behind a head 16
 --     lastHead      the tag of the last head; headOf: of a sheet's rows
 --     row0Form, rowsForm, namesForm    "it has this form", with usedParts and zerosBehind of the crate `sheet`
 --     namesTest, limits, rootTest, openTagsTest, nestingZero, contextTest, extensionTest    the sentences behind the form; nestingTest: two of them
+--     eventsTest    order 5's sentence on c
 --     good          all of them
 use Prim.Native.Nat.{ℕ, _+_}
 use mathlib.Core.List.{List, [], _∷_, map}
@@ -19,6 +20,7 @@ use Rattle.sheet.specs.Form.{isFlag, covers, covered, namesUsedOf, tensOf, used
 use Rattle.xsd_types.specs.Tags.{namespaceTag, elementTag, simpleTypeTag, minLengthTag, maxLengthTag, totalDigitsTag, fractionDigitsTag, sequenceTag, simpleContentTag, anyTag, noContentTag, boundElementTag, unboundedElementTag, attributeTag}
 use Rattle.xsd_types.specs.Contexts.{schemaContext, complexTypeContext}
 use Rattle.xsd_types.specs.Row0.{Row0, row0In}
+use Rattle.xsd_types.specs.State.{eventNumberOk}
 
 -- none for the facets of numbers; of an any the second where a is 1; two where name and type or base stand; one for the others
 unfoldable pub usedPairs : ℕ → ℕ → ℕ
@@ -27,17 +29,17 @@ usedPairs tag a =
     if eqb tag anyTag then 1 + a else
     if between elementTag simpleTypeTag tag || eqb tag simpleContentTag || between boundElementTag attributeTag tag then 2 else 1
 
--- a and b are numbers for lengths and elements with bound, a alone for digits and unbounded elements; a is a flag for an any and an attribute;
--- "other unused numbers are zero", every c among them
-unfoldable pub rowForm : ℕ → ℕ → ℕ → ℕ → Bool
-rowForm tag a b c =
-    between elementTag attributeTag tag && eqb c 0 && (eqb b 0 || between minLengthTag maxLengthTag tag || eqb tag boundElementTag)
-    && (eqb a 0 || between minLengthTag maxLengthTag tag || between totalDigitsTag fractionDigitsTag tag || between boundElementTag unboundedElementTag tag
-    || ((eqb tag anyTag || eqb tag attributeTag) && isFlag a))
-
 -- elements, simple types and complex types
 unfoldable pub isHead : ℕ → Bool
 isHead tag = between elementTag simpleTypeTag tag || between sequenceTag noContentTag tag
+
+-- a and b are numbers for lengths and elements with bound, a alone for digits and unbounded elements; a is a flag for an any and an attribute;
+-- "other unused numbers are zero", every c among them but that of a head, which is an event's number (order 5)
+unfoldable pub rowForm : ℕ → ℕ → ℕ → ℕ → Bool
+rowForm tag a b c =
+    between elementTag attributeTag tag && (isHead tag || eqb c 0) && (eqb b 0 || between minLengthTag maxLengthTag tag || eqb tag boundElementTag)
+    && (eqb a 0 || between minLengthTag maxLengthTag tag || between totalDigitsTag fractionDigitsTag tag || between boundElementTag unboundedElementTag tag
+    || ((eqb tag anyTag || eqb tag attributeTag) && isFlag a))
 
 -- "children behind their head (3: facets; 12: 17, 18; 13: 19; 14: 20)"
 unfoldable pub isChild : ℕ → ℕ → Bool
@@ -116,9 +118,14 @@ extensionTest z head = eqb (z .extension) 0 || (eqb (z .context) complexTypeCont
 unfoldable pub headOf : List Ten → ℕ
 headOf ts = lastHead 0 (map (λ (t : Ten). t .tag) ts)
 
+-- order 5: "Zero means unknown ..; in a good sheet any other c is below events done." A c that is not a head's is 0, as `rowForm` has it.
+unfoldable pub eventsTest : ℕ → List Ten → Bool
+eventsTest events ts = every (λ (t : Ten). eventNumberOk events (t .c)) ts
+
 unfoldable pub good : Sheet → Bool
 good x =
     let z = row0In x in
     let ts = tensOf x in
     usedParts x && row0Form z && rowsForm ts && namesForm (z .namesUsed) ts && zerosBehind x && namesTest x
     && limits z && rootTest z && nestingTest z && contextTest (z .context) (headOf ts) && extensionTest z (headOf ts)
+    && eventsTest (z .events) ts

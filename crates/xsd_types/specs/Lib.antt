@@ -1,6 +1,6 @@
 -- The definitions of the crate `xsd_types`: Types has 002's values, State the reader's state, Row0 the numbers of row 0 by name, Rows the
 -- state as rows, Sheet the sheet of a state,
--- Good the test of a good sheet, Back the way back, Clear the clearing call, Choice what order 3 chooses between.
+-- Good the test of a good sheet, Back the way back, Clear the clearing call, Choice what order 3 chooses between, Unnumbered the states without order 5's numbers.
 pub mod Tags
 pub mod Contexts
 pub mod Types
@@ -12,5 +12,6 @@ pub mod Good
 pub mod Back
 pub mod Clear
 pub mod Choice
+pub mod Unnumbered
 pub mod Unfold
 pub mod Examples

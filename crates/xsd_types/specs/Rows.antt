@@ -1,8 +1,8 @@
 -- The state as rows. Paper 01, "Schema sheet", Tags.
---     headC, namespaceA    unused numbers: c of a head, a of row 1
+--     namespaceA    unused numbers: a of row 1
 --     namespaceRow  row 1
 --     facetRow, elementRow (occursRow), variantRow, attributeRow    the rows of children
---     simpleTypeRows, complexTypeRows    a type's rows: its head, its children behind it
+--     simpleTypeRows, complexTypeRows    a type's rows: its head, its children behind it; c of a head is its event's number, c of a child is 0
 --     itemRows, itemsRows    a finished item's rows; those of all
 --     contextRows   the open type's rows, which stand last
 --     rowsOf        all rows behind row 0
@@ -18,10 +18,6 @@ use Rattle.xsd_types.specs.Tags.{namespaceTag, elementTag, simpleTypeTag
 use Rattle.xsd_types.specs.Types.{Facet, MaxOccurs, SequenceElement, ChoiceVariant, Attribute, Item}
 use Rattle.xsd_types.specs.Row0.{Row0}
 use Rattle.xsd_types.specs.State.{ComplexContentBuilder, Context, State, started}
-
--- c of a head is unused
-unfoldable pub headC : ℕ
-headC = 0
 
 -- a of row 1 is unused
 unfoldable pub namespaceA : ℕ
@@ -58,25 +54,25 @@ variantRow v = row choiceVariantTag (v .name ∷ v .typeName ∷ []) 0 0 0
 unfoldable pub attributeRow : Attribute → Row
 attributeRow x = row attributeTag (x .name ∷ x .typeName ∷ []) (bit (x .required)) 0 0
 
--- "3 simple type (name, base)"
-unfoldable pub simpleTypeRows : Text → Text → List Facet → List Row
-simpleTypeRows name base facets = row simpleTypeTag (name ∷ base ∷ []) 0 0 headC ∷ map facetRow facets
+-- "3 simple type (name, base)"; order 5: "Every head .. carries in c the number in the run of the event that gave it its name."
+unfoldable pub simpleTypeRows : ℕ → Text → Text → List Facet → List Row
+simpleTypeRows event name base facets = row simpleTypeTag (name ∷ base ∷ []) 0 0 event ∷ map facetRow facets
 
 -- "complex types 12 sequence, 13 choice (name), 14 simple content (name, base), 15 any (name; a is 1 and the namespace follows if present),
 -- 16 no content yet (name; only while open)"
-unfoldable pub complexTypeRows : Text → ComplexContentBuilder → List Row
-complexTypeRows name ComplexContentBuilder.empty = row noContentTag (name ∷ []) 0 0 headC ∷ []
-complexTypeRows name (ComplexContentBuilder.sequence es) = row sequenceTag (name ∷ []) 0 0 headC ∷ map elementRow es
-complexTypeRows name (ComplexContentBuilder.choice vs) = row choiceTag (name ∷ []) 0 0 headC ∷ map variantRow vs
-complexTypeRows name (ComplexContentBuilder.simpleContent base xs flag) = row simpleContentTag (name ∷ base ∷ []) 0 0 headC ∷ map attributeRow xs
-complexTypeRows name (ComplexContentBuilder.any none) = row anyTag (name ∷ []) 0 0 headC ∷ []
-complexTypeRows name (ComplexContentBuilder.any (some n)) = row anyTag (name ∷ n ∷ []) 1 0 headC ∷ []
+unfoldable pub complexTypeRows : ℕ → Text → ComplexContentBuilder → List Row
+complexTypeRows event name ComplexContentBuilder.empty = row noContentTag (name ∷ []) 0 0 event ∷ []
+complexTypeRows event name (ComplexContentBuilder.sequence es) = row sequenceTag (name ∷ []) 0 0 event ∷ map elementRow es
+complexTypeRows event name (ComplexContentBuilder.choice vs) = row choiceTag (name ∷ []) 0 0 event ∷ map variantRow vs
+complexTypeRows event name (ComplexContentBuilder.simpleContent base xs flag) = row simpleContentTag (name ∷ base ∷ []) 0 0 event ∷ map attributeRow xs
+complexTypeRows event name (ComplexContentBuilder.any none) = row anyTag (name ∷ []) 0 0 event ∷ []
+complexTypeRows event name (ComplexContentBuilder.any (some n)) = row anyTag (name ∷ n ∷ []) 1 0 event ∷ []
 
 -- "2 element (name, type)"
 unfoldable pub itemRows : Item → List Row
-itemRows (Item.element e) = row elementTag (e .name ∷ e .typeName ∷ []) 0 0 headC ∷ []
-itemRows (Item.simpleType t) = simpleTypeRows (t .name) (t .base) (t .facets)
-itemRows (Item.complexType t) = complexTypeRows (t .name) (started (t .content))
+itemRows (Item.element e) = row elementTag (e .name ∷ e .typeName ∷ []) 0 0 (e .event) ∷ []
+itemRows (Item.simpleType t) = simpleTypeRows (t .event) (t .name) (t .base) (t .facets)
+itemRows (Item.complexType t) = complexTypeRows (t .event) (t .name) (started (t .content))
 
 unfoldable pub itemsRows : List Item → List Row
 itemsRows [] = []
@@ -85,8 +81,8 @@ itemsRows (i ∷ is) = itemRows i ++ itemsRows is
 unfoldable pub contextRows : Context → List Row
 contextRows Context.noContext = []
 contextRows (Context.inSchema n) = []
-contextRows (Context.inSimpleType t) = simpleTypeRows (t .name) (t .base) (t .facets)
-contextRows (Context.inComplexType t) = complexTypeRows (t .name) (t .content)
+contextRows (Context.inSimpleType t) = simpleTypeRows (t .event) (t .name) (t .base) (t .facets)
+contextRows (Context.inComplexType t) = complexTypeRows (t .event) (t .name) (t .content)
 
 -- "Rows stand in order of arrival, children behind their head, the open type last."
 unfoldable pub rowsOf : State → List Row

@@ -1,8 +1,9 @@
 -- The reader's state: 000 (parser.rs), "Internal state machine types", and the counters of paper 01's row 0.
---     SimpleTypeBuilder, ComplexContentBuilder, ComplexTypeBuilder, Context    as in 000; noContext is 000's empty stack
+--     SimpleTypeBuilder, ComplexContentBuilder, ComplexTypeBuilder, Context    as in 000, event as in 002's types; noContext is 000's empty stack
 --     Reader        what 000's handlers change: the schema, found_schema_root and the context
 --     State         the reader with the events done, the open tags and the choice of order 3
 --     firstState    the state of a cleared sheet, by its choice
+--     headsPass     every head passes a test of its name and its event's number; eventsOk: order 5's sentence on c
 --     proper        what "A sheet is good if" asks of a state, sentence by sentence
 use Prim.Native.Nat.{ℕ, _+_, _^_}
 use mathlib.Core.List.{List, [], _∷_}
@@ -17,6 +18,7 @@ pub record SimpleTypeBuilder : Type 0 where
   pub base : Text
   pub facets : List Facet
   pub nestingDepth : ℕ
+  pub event : ℕ
 
 pub data ComplexContentBuilder : Type 0 where
   empty : ComplexContentBuilder
@@ -29,6 +31,7 @@ pub record ComplexTypeBuilder : Type 0 where
   pub name : Text
   pub content : ComplexContentBuilder
   pub nestingDepth : ℕ
+  pub event : ℕ
 
 pub data Context : Type 0 where
   noContext : Context
@@ -149,5 +152,29 @@ rootOk r = r .rootSeen || (isNoContext (r .context) && isEmpty (r .schema .items
 unfoldable pub countersOk : State → Bool
 countersOk s = leb (s .events) 1000000 && leb (s .openTags) 255
 
+-- order 5: "Zero means unknown ..; in a good sheet any other c is below events done"
+unfoldable pub eventNumberOk : ℕ → ℕ → Bool
+eventNumberOk events n = eqb n 0 || ltb n events
+
+-- every head, the open type's too, passes a test of its name and its event's number
+unfoldable pub itemPasses : (Text → ℕ → Bool) → Item → Bool
+itemPasses p (Item.element e) = p (e .name) (e .event)
+itemPasses p (Item.simpleType t) = p (t .name) (t .event)
+itemPasses p (Item.complexType t) = p (t .name) (t .event)
+
+unfoldable pub openPasses : (Text → ℕ → Bool) → Context → Bool
+openPasses p Context.noContext = true
+openPasses p (Context.inSchema n) = true
+openPasses p (Context.inSimpleType t) = p (t .name) (t .event)
+openPasses p (Context.inComplexType t) = p (t .name) (t .event)
+
+unfoldable pub headsPass : (Text → ℕ → Bool) → Reader → Bool
+headsPass p r = every (itemPasses p) (r .schema .items) && openPasses p (r .context)
+
+unfoldable pub eventsOk : Reader → ℕ → Bool
+eventsOk r events = headsPass (λ (name : Text) (n : ℕ). eventNumberOk events n) r
+
 unfoldable pub proper : State → Bool
-proper s = countersOk s && rootOk (s .reader) && contextOk (s .byStandard) (s .reader .context) (s .openTags) && schemaOk (s .reader .schema)
+proper s =
+    countersOk s && rootOk (s .reader) && contextOk (s .byStandard) (s .reader .context) (s .openTags) && schemaOk (s .reader .schema)
+    && eventsOk (s .reader) (s .events)

@@ -1,5 +1,6 @@
 -- The schema: 002 (xsd/types.rs), with its names.
 --     Element, Facet, SimpleType, MaxOccurs, SequenceElement, ChoiceVariant, Attribute, ComplexContent, ComplexType    as in 002
+--     event         of an element or a type: the number in the run of the event that gave it its name, 0 where it is unknown (order 5)
 --     Item          a finished top-level item
 --     Schema        the target namespace and the items in order of arrival. 002 keeps three lists, which are the items of each kind:
 --                   elements, simpleTypes, complexTypes
@@ -12,6 +13,7 @@ use Rattle.text.specs.Text.{Text}
 pub record Element : Type 0 where
   pub name : Text
   pub typeName : Text
+  pub event : ℕ
 
 pub data Facet : Type 0 where
   enumeration pattern : Text → Facet
@@ -24,6 +26,7 @@ pub record SimpleType : Type 0 where
   pub name : Text
   pub base : Text
   pub facets : List Facet
+  pub event : ℕ
 
 pub data MaxOccurs : Type 0 where
   bounded : ℕ → MaxOccurs
@@ -53,6 +56,7 @@ pub data ComplexContent : Type 0 where
 pub record ComplexType : Type 0 where
   pub name : Text
   pub content : ComplexContent
+  pub event : ℕ
 
 pub data Item : Type 0 where
   element : Element → Item

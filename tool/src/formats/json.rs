@@ -7,23 +7,30 @@ use serde::ser::SerializeStruct;
 use serde::{Serialize, Serializer};
 
 use super::word_of;
+use crate::origins::Origins;
 
 /// The version of the shape.
-pub const VERSION: u32 = 1;
+pub const VERSION: u32 = 2;
 
-/// The JSON text of a graph.
+/// The JSON text of a graph, with the place of each root and type where it is known.
 ///
 /// # Errors
 ///
 /// The error of the serializer; a graph has nothing that it refuses.
-pub fn print(graph: &Graph<'_>) -> Result<String, serde_json::Error> {
-    let mut text = serde_json::to_string_pretty(&Shown(graph))?;
+pub fn print(graph: &Graph<'_>, origins: &Origins<'_>) -> Result<String, serde_json::Error> {
+    let mut text = serde_json::to_string_pretty(&Located { it: graph, origins })?;
     text.push('\n');
     Ok(text)
 }
 
 /// Something of a graph, as JSON shows it.
 struct Shown<T>(T);
+
+/// Something of a graph with the places of its file.
+struct Located<'o, T> {
+    it: T,
+    origins: &'o Origins<'o>,
+}
 
 /// A list of things of a graph.
 struct List<T>(Vec<T>);
@@ -37,32 +44,55 @@ where
     }
 }
 
-impl Serialize for Shown<&Graph<'_>> {
+impl<'o, T> Located<'o, T> {
+    /// All of these with the same places.
+    fn list<I>(&self, items: impl Iterator<Item = I>) -> Vec<Located<'o, I>> {
+        let origins = self.origins;
+        items.map(|it| Located { it, origins }).collect()
+    }
+
+    /// The number of an event, its file and its line, each null where it is not known.
+    fn put_origin<S: SerializeStruct>(
+        &self,
+        out: &mut S,
+        event: Option<u32>,
+    ) -> Result<(), S::Error> {
+        let origin = self.origins.at(event);
+        let file = origin.map(|origin| origin.file.to_string_lossy());
+        out.serialize_field("event", &event)?;
+        out.serialize_field("file", &file)?;
+        out.serialize_field("line", &origin.map(|origin| origin.line))
+    }
+}
+
+impl Serialize for Located<'_, &Graph<'_>> {
     fn serialize<S: Serializer>(&self, out: S) -> Result<S::Ok, S::Error> {
         let mut out = out.serialize_struct("graph", 4)?;
         out.serialize_field("version", &VERSION)?;
-        out.serialize_field("namespace", self.0.namespace())?;
-        out.serialize_field("roots", &List(self.0.roots().collect()))?;
-        out.serialize_field("types", &List(self.0.types().collect()))?;
+        out.serialize_field("namespace", self.it.namespace())?;
+        out.serialize_field("roots", &self.list(self.it.roots()))?;
+        out.serialize_field("types", &self.list(self.it.types()))?;
         out.end()
     }
 }
 
-impl Serialize for Shown<Root<'_>> {
+impl Serialize for Located<'_, Root<'_>> {
     fn serialize<S: Serializer>(&self, out: S) -> Result<S::Ok, S::Error> {
-        let mut out = out.serialize_struct("root", 2)?;
-        out.serialize_field("xml", self.0.xml_name)?;
-        out.serialize_field("type", self.0.type_name)?;
+        let mut out = out.serialize_struct("root", 5)?;
+        out.serialize_field("xml", self.it.xml_name)?;
+        out.serialize_field("type", self.it.type_name)?;
+        self.put_origin(&mut out, self.it.event())?;
         out.end()
     }
 }
 
-impl Serialize for Shown<TypeDef<'_>> {
+impl Serialize for Located<'_, TypeDef<'_>> {
     fn serialize<S: Serializer>(&self, out: S) -> Result<S::Ok, S::Error> {
-        let mut out = out.serialize_struct("type", 4)?;
-        out.serialize_field("kind", word_of(&self.0))?;
-        out.serialize_field("name", self.0.name())?;
-        match &self.0 {
+        let mut out = out.serialize_struct("type", 7)?;
+        out.serialize_field("kind", word_of(&self.it))?;
+        out.serialize_field("name", self.it.name())?;
+        self.put_origin(&mut out, self.it.event())?;
+        match &self.it {
             TypeDef::Struct(it) => out.serialize_field("fields", &List(it.fields().collect()))?,
             TypeDef::Choice(it) => {
                 out.serialize_field("variants", &List(it.variants().collect()))?

@@ -6,34 +6,43 @@ use lubiksan::{Graph, TypeDef};
 
 use super::{facet_words, with_cardinality, word_of};
 use crate::failure::{escaped, quoted};
+use crate::origins::{Origin, Origins};
 
-/// The text of a graph.
-pub fn print(graph: &Graph<'_>) -> String {
+/// The text of a graph, with the place of each root and type where it is known.
+pub fn print(graph: &Graph<'_>, origins: &Origins<'_>) -> String {
     let mut out = String::new();
     let _ = writeln!(out, "namespace {}", escaped(graph.namespace()));
     for root in graph.roots() {
         let _ = writeln!(
             out,
-            "root {}: {}",
+            "root {}: {}{}",
             escaped(root.xml_name),
-            escaped(root.type_name)
+            escaped(root.type_name),
+            place(origins.at(root.event()))
         );
     }
     for found in graph.types() {
-        paragraph(&mut out, &found);
+        paragraph(&mut out, &found, &place(origins.at(found.event())));
     }
     out
 }
 
-fn paragraph(out: &mut String, found: &TypeDef<'_>) {
+fn paragraph(out: &mut String, found: &TypeDef<'_>, place: &str) {
     let _ = writeln!(
         out,
-        "\n{} {}{}",
+        "\n{} {}{}{place}",
         word_of(found),
         escaped(found.name()),
         behind_name(found)
     );
     put_lines(out, &children(found));
+}
+
+/// ` at FILE:LINE`
+fn place(origin: Option<Origin<'_>>) -> String {
+    origin.map_or(String::new(), |Origin { file, line }| {
+        format!(" at {}:{line}", escaped(&file.to_string_lossy()))
+    })
 }
 
 /// What stands behind the name of a type.

@@ -25,7 +25,7 @@ root-one : (r : Row) → eqb (r .tag) 2 ≡ true → length (loweredRow false r)
 unfolding loweredRow loweredAs
 root-one r e =
     let t = eqb-true (r .tag) 2 e in
-    ap (λ (n : ℕ). length (loweredAs false n (r .a) (r .b) (text0 r) (text1 r))) t
+    ap (λ (n : ℕ). length (loweredAs false n (r .a) (r .b) (r .c) (text0 r) (text1 r))) t
 
 rootRows-few : (rs : List Row) → length (rootRows rs) ≤ length rs
 unfolding rootRows

@@ -65,15 +65,15 @@ pub simple-references : (t : SimpleType) (d : TypeDef) → lowerSimpleType t ≡
 unfolding lowerSimpleType references
 simple-references t d e =
     (elim (allEnums (t .facets))
-    as (λ b. (if b then some (TypeDef.codeEnum (normalizeTypeName (t .name)) (codes (t .facets))) else lowerNewtype t (mapBuiltin (t .base))) ≡ some d → references d ≡ []) [
+    as (λ b. (if b then some (TypeDef.codeEnum (t .event) (normalizeTypeName (t .name)) (codes (t .facets))) else lowerNewtype t (mapBuiltin (t .base))) ≡ some d → references d ≡ []) [
       | true ↦ λ k. let q = Option·some-injective _ _ k in rw (← q)
       | false ↦ λ k. newtype-references t (mapBuiltin (t .base)) d k
     ]) e
 
 -- a complex type's named references, place by place
-pub content-named : (name : Text) (c : ComplexContent) (i : ℕ) (t : Text) → getD (references (lowerContent name c)) i (resolveTypeRef []) ≡ TypeRef.named t
+pub content-named : (event : ℕ) (name : Text) (c : ComplexContent) (i : ℕ) (t : Text) → getD (references (lowerContent event name c)) i (resolveTypeRef []) ≡ TypeRef.named t
     → (t ≡ normalizeTypeName (getD (typeNamesIn c) i [])) × (mapBuiltin (getD (typeNamesIn c) i []) ≡ none)
-content-named name c i t e =
-    let at : getD (references (lowerContent name c)) i (resolveTypeRef []) ≡ resolveTypeRef (getD (typeNamesIn c) i []) =
-    rw (content-references name c) (List·getD-map resolveTypeRef (typeNamesIn c) i []) in
+content-named event name c i t e =
+    let at : getD (references (lowerContent event name c)) i (resolveTypeRef []) ≡ resolveTypeRef (getD (typeNamesIn c) i []) =
+    rw (content-references event name c) (List·getD-map resolveTypeRef (typeNamesIn c) i []) in
     resolve-named (getD (typeNamesIn c) i []) t (sym at ∙ e)

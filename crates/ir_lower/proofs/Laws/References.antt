@@ -72,9 +72,9 @@ attributes-references [] = refl
 attributes-references (x ∷ xs) = rw (attribute-reference x, attributes-references xs)
 
 -- all references of a lowered content are the type names of the content, resolved, in their order
-pub content-references : (name : Text) (c : ComplexContent) → references (lowerContent name c) ≡ map resolveTypeRef (typeNamesIn c)
+pub content-references : (event : ℕ) (name : Text) (c : ComplexContent) → references (lowerContent event name c) ≡ map resolveTypeRef (typeNamesIn c)
 unfolding references lowerContent typeNamesIn
-content-references name (ComplexContent.sequence es) = fields-references es
-content-references name (ComplexContent.choice vs) = variants-references vs
-content-references name (ComplexContent.simpleContent base xs) = ap (λ (l : List TypeRef). resolveTypeRef base ∷ l) (attributes-references xs)
-content-references name (ComplexContent.any n) = refl
+content-references event name (ComplexContent.sequence es) = fields-references es
+content-references event name (ComplexContent.choice vs) = variants-references vs
+content-references event name (ComplexContent.simpleContent base xs) = ap (λ (l : List TypeRef). resolveTypeRef base ∷ l) (attributes-references xs)
+content-references event name (ComplexContent.any n) = refl

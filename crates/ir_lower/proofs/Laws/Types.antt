@@ -46,17 +46,17 @@ simple-name : (t : SimpleType) (d : TypeDef) → lowerSimpleType t ≡ some d �
 unfolding lowerSimpleType simpleName nameOf
 simple-name t d e =
     (elim (allEnums (t .facets))
-    as (λ b. (if b then some (TypeDef.codeEnum (normalizeTypeName (t .name)) (codes (t .facets))) else lowerNewtype t (mapBuiltin (t .base))) ≡ some d → nameOf d ≡ normalizeTypeName (t .name)) [
+    as (λ b. (if b then some (TypeDef.codeEnum (t .event) (normalizeTypeName (t .name)) (codes (t .facets))) else lowerNewtype t (mapBuiltin (t .base))) ≡ some d → nameOf d ≡ normalizeTypeName (t .name)) [
       | true ↦ λ k. let q = Option·some-injective _ _ k in rw (← q)
       | false ↦ λ k. newtype-name t (mapBuiltin (t .base)) d k
     ]) e
 
-content-name : (n : Text) (c : ComplexContent) → nameOf (lowerContent n c) ≡ n
+content-name : (event : ℕ) (n : Text) (c : ComplexContent) → nameOf (lowerContent event n c) ≡ n
 unfolding nameOf lowerContent
-content-name n (ComplexContent.sequence es) = refl
-content-name n (ComplexContent.choice vs) = refl
-content-name n (ComplexContent.simpleContent base xs) = refl
-content-name n (ComplexContent.any ns) = refl
+content-name event n (ComplexContent.sequence es) = refl
+content-name event n (ComplexContent.choice vs) = refl
+content-name event n (ComplexContent.simpleContent base xs) = refl
+content-name event n (ComplexContent.any ns) = refl
 
 simple-names : (ts : List SimpleType) → anyUnknown ts ≡ false → typeNames (simpleDefinitions ts) ≡ map simpleName ts
 unfolding anyUnknown simpleDefinitions withDefinition typeNames unknownBase isNone
@@ -70,7 +70,7 @@ simple-names (t ∷ ts) u =
 complex-names : (ts : List ComplexType) → typeNames (map lowerComplexType ts) ≡ map complexName ts
 unfolding typeNames lowerComplexType complexName
 complex-names [] = refl
-complex-names (t ∷ ts) = rw (content-name (normalizeTypeName (t .name)) (t .content), complex-names ts)
+complex-names (t ∷ ts) = rw (content-name (t .event) (normalizeTypeName (t .name)) (t .content), complex-names ts)
 
 pub lower-names : (s : Schema) (g : TypeGraph) → lower s ≡ some g → typeNames (g .types) ≡ finishedNames s
 unfolding finishedDefinitions finishedNames typeNames

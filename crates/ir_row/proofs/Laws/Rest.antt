@@ -25,9 +25,9 @@ unfolding codeRows hasRecipe between
 codes-or-none true tag t h = rw (ne-eqb tag 4 (λ q. false≢true (sym h ∙ ap (hasRecipe true) q)))
 codes-or-none false tag t h = if-same (eqb tag 4)
 
-pub lowered-none : (e : Bool) (tag a b : ℕ) (t u : Text) → (isCount tag → ⊥) → hasRecipe e tag ≡ false → loweredAs e tag a b t u ≡ []
+pub lowered-none : (e : Bool) (tag a b c : ℕ) (t u : Text) → (isCount tag → ⊥) → hasRecipe e tag ≡ false → loweredAs e tag a b c t u ≡ []
 unfolding loweredAs hasRecipe between
-lowered-none e tag a b t u other h =
+lowered-none e tag a b c t u other h =
     let no : (k : ℕ) → hasRecipe e k ≡ true → eqb tag k ≡ false = λ k p. ne-eqb tag k (λ q. false≢true (sym h ∙ ap (hasRecipe e) q ∙ p)) in
     let no6 = ne-eqb tag 6 (λ q. other (inl q)) in
     let no7 = ne-eqb tag 7 (λ q. other (inr (inl q))) in

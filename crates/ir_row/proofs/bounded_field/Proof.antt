@@ -8,7 +8,7 @@ returns : tie.Need-returns
 returns c =
     let args = c .before .before .args in
     let k = c .before .bounded-numbers .ensures in
-    λ codes. rw (c .child .ensures) (lowers-17 codes (args .min) (args .max) (args .reference) (k .b) (k .c))
+    λ codes event. rw (c .child .ensures) (lowers-17 codes (args .min) (args .max) event (args .reference) (k .b) (k .c))
 
 pub bounded-field-spec : {M : Type 1} → statement M
 bounded-field-spec = tie.close (tie.spec (λ c κs. search needs) (λ c κs. search needs) returns)

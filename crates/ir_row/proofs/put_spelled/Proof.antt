@@ -16,7 +16,7 @@ unfolding tenRows
 returns c =
     let start = c .before .before .before .before .before in
     let args = start .args in
-    let none = lowered-none (args .codes) (args .t .tag) (args .t .a) (args .t .b) (textAt (args .names .now) (args .t .at0) (args .t .len0)) (textAt (args .names .now) (args .t .at1) (args .t .len1)) (start .pre .1) (sym (c .before .has-recipe .ensures) ∙ not-true (c .before .has-recipe .result) (c .if1 .taken)) in
+    let none = lowered-none (args .codes) (args .t .tag) (args .t .a) (args .t .b) (args .t .c) (textAt (args .names .now) (args .t .at0) (args .t .len0)) (textAt (args .names .now) (args .t .at1) (args .t .len1)) (start .pre .1) (sym (c .before .has-recipe .ensures) ∙ not-true (c .before .has-recipe .result) (c .if1 .taken)) in
     rw none (grows-none (start .pre .0))
 
 returns-2 : tie.Need-returns-2

@@ -9,7 +9,7 @@ returns c = c .first-recipe .ensures (c .before .before .args .a) (c .before .be
 returns-2 : tie.Need-returns-2
 returns-2 c =
     let args = c .before .before .before .args in
-    c .facet-recipe .ensures (args .codes) (args .a) (args .b) (args .reference)
+    c .facet-recipe .ensures (args .codes) (args .a) (args .b) (args .event) (args .reference)
 
 returns-3 : tie.Need-returns-3
 returns-3 c =
@@ -19,7 +19,7 @@ returns-3 c =
 returns-4 : tie.Need-returns-4
 returns-4 c =
     let args = c .before .before .before .before .args in
-    c .child-recipe .ensures (args .codes)
+    c .child-recipe .ensures (args .codes) (args .event)
 
 pub recipe-of-spec : {M : Type 1} → statement M
 recipe-of-spec =

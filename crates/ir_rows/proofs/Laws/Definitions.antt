@@ -103,18 +103,18 @@ module _ (codeEnum : Bool) where
 
 -- ---- complex types
 
-content-rows : (name : Text) (c : ComplexContent) (more : List Row) → headFirst more ≡ true → typeRowsOf (complexTypeRows name (started c) ++ more) ≡ typeRows (lowerContent (normalizeTypeName name) c)
+content-rows : (event : ℕ) (name : Text) (c : ComplexContent) (more : List Row) → headFirst more ≡ true → typeRowsOf (complexTypeRows event name (started c) ++ more) ≡ typeRows (lowerContent event (normalizeTypeName name) c)
 unfolding typeRowsOf complexTypeRows started typeRows lowerContent loweredRow loweredAs row text0 text1 valueRow opaqueRow
-content-rows name (ComplexContent.sequence es) more h = rw (childRows-map (isCodeEnum (map elementRow es ++ more)) elementRow lowerField graphField element-child (field-row _) es more h)
-content-rows name (ComplexContent.choice vs) more h = rw (childRows-map (isCodeEnum (map choiceRow vs ++ more)) choiceRow lowerVariant variantRow variant-child (variant-row _) vs more h)
-content-rows name (ComplexContent.simpleContent base xs) more h =
+content-rows event name (ComplexContent.sequence es) more h = rw (childRows-map (isCodeEnum (map elementRow es ++ more)) elementRow lowerField graphField element-child (field-row _) es more h)
+content-rows event name (ComplexContent.choice vs) more h = rw (childRows-map (isCodeEnum (map choiceRow vs ++ more)) choiceRow lowerVariant variantRow variant-child (variant-row _) vs more h)
+content-rows event name (ComplexContent.simpleContent base xs) more h =
     rw (childRows-map (isCodeEnum (map attributeRow xs ++ more)) attributeRow lowerAttribute attrRow attribute-child (attribute-row _) xs more h, reference-a base, reference-text base)
-content-rows name (ComplexContent.any none) more h = rw (childRows-more (isCodeEnum more) more h)
-content-rows name (ComplexContent.any (some n)) more h = rw (childRows-more (isCodeEnum more) more h)
+content-rows event name (ComplexContent.any none) more h = rw (childRows-more (isCodeEnum more) more h)
+content-rows event name (ComplexContent.any (some n)) more h = rw (childRows-more (isCodeEnum more) more h)
 
 pub complex-rows : (t : ComplexType) (more : List Row) → headFirst more ≡ true → typeRowsOf (itemRows (Item.complexType t) ++ more) ≡ typeRows (lowerComplexType t)
 unfolding itemRows lowerComplexType
-complex-rows t more h = content-rows (t .name) (t .content) more h
+complex-rows t more h = content-rows (t .event) (t .name) (t .content) more h
 
 -- ---- simple types
 
@@ -143,11 +143,11 @@ constraints-rows (Facet.totalDigits n ∷ fs) more h = rw (constraints-rows fs m
 constraints-rows (Facet.fractionDigits n ∷ fs) more h = rw (constraints-rows fs more h)
 
 module _ (t : SimpleType) (more : List Row) (h : headFirst more ≡ true) where
-  simple-as : (b : Bool) → allEnums (t .facets) ≡ b → typeRowsOf (itemRows (Item.simpleType t) ++ more) ≡ simpleRow b (t .name) (t .base) ∷ childRows b (map facetRow (t .facets) ++ more)
+  simple-as : (b : Bool) → allEnums (t .facets) ≡ b → typeRowsOf (itemRows (Item.simpleType t) ++ more) ≡ simpleRow b (t .event) (t .name) (t .base) ∷ childRows b (map facetRow (t .facets) ++ more)
   unfolding typeRowsOf itemRows simpleTypeRows loweredRow loweredAs row text0 text1
   simple-as b e = rw (isCodeEnum-facets (t .facets) more h, e)
 
-  code-enum : allEnums (t .facets) ≡ true → typeRowsOf (itemRows (Item.simpleType t) ++ more) ≡ typeRows (TypeDef.codeEnum (normalizeTypeName (t .name)) (codes (t .facets)))
+  code-enum : allEnums (t .facets) ≡ true → typeRowsOf (itemRows (Item.simpleType t) ++ more) ≡ typeRows (TypeDef.codeEnum (t .event) (normalizeTypeName (t .name)) (codes (t .facets)))
   unfolding typeRows simpleRow allEnums
   code-enum e = simple-as true e ∙ rw (codes-rows (t .facets) more (and-true-right (not (isEmpty (t .facets))) _ e) h)
 
@@ -162,7 +162,7 @@ module _ (t : SimpleType) (more : List Row) (h : headFirst more ≡ true) where
   unfolding lowerSimpleType
   simple-rows d k =
       (elim (allEnums (t .facets))
-      as (λ b. allEnums (t .facets) ≡ b → (if b then some (TypeDef.codeEnum (normalizeTypeName (t .name)) (codes (t .facets))) else lowerNewtype t (mapBuiltin (t .base))) ≡ some d → typeRowsOf (itemRows (Item.simpleType t) ++ more) ≡ typeRows d) [
+      as (λ b. allEnums (t .facets) ≡ b → (if b then some (TypeDef.codeEnum (t .event) (normalizeTypeName (t .name)) (codes (t .facets))) else lowerNewtype t (mapBuiltin (t .base))) ≡ some d → typeRowsOf (itemRows (Item.simpleType t) ++ more) ≡ typeRows d) [
         | true ↦ λ e w. code-enum e ∙ ap typeRows (Option·some-injective _ _ w)
         | false ↦ λ e w. newtype-rows (mapBuiltin (t .base)) d refl e w
       ]) refl k
@@ -175,4 +175,4 @@ simple-head-name t = refl
 
 pub complex-head-name : (t : ComplexType) → normalizeTypeName (text0 (asGroup (itemRows (Item.complexType t)) .head)) ≡ complexName t
 unfolding itemRows complexName
-complex-head-name t = ap normalizeTypeName (name-back (t .name) (started (t .content)))
+complex-head-name t = ap normalizeTypeName (name-back (t .event) (t .name) (started (t .content)))

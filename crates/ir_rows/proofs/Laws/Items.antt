@@ -15,14 +15,14 @@ use Rattle.sheet.specs.Rows.{Row, row}
 use Rattle.builtin.specs.Builtin.{mapBuiltin}
 use Rattle.xsd_types.specs.Types.{Facet, SimpleType, ComplexContent, Item, Schema, elements, simpleTypes, complexTypes}
 use Rattle.xsd_types.specs.State.{started, isEmpty}
-use Rattle.xsd_types.specs.Rows.{headC, facetRow, simpleTypeRows, complexTypeRows, itemRows, itemsRows}
+use Rattle.xsd_types.specs.Rows.{facetRow, simpleTypeRows, complexTypeRows, itemRows, itemsRows}
 use Rattle.xsd_types.specs.Good.{isHead}
 use Rattle.xsd_types.specs.Back.{text0, text1}
 use Rattle.xsd_types.proofs.Laws.Groups.{isGroup, headTag}
 use Rattle.xsd_types.proofs.Laws.Items.{group-item}
 use Rattle.xsd_types.proofs.Laws.Heads.{HeadTag, headTags}
 use Rattle.ir_types.specs.Types.{TypeDef, TypeGraph}
-use Rattle.ir_types.specs.Rows.{rootRow, headC as graphHeadC}
+use Rattle.ir_types.specs.Rows.{rootRow}
 use Rattle.ir_lower.specs.Lower.{isEnumeration, allEnums, codes, lowerNewtype, lowerSimpleType, isNone, unknownBase, anyUnknown, rootOf, lower, unknownRow, finishedTypes, isUnknown as itemUnknown}
 use Rattle.ir_lower.proofs.Laws.Refusals.{refusal, refused-exactly, unknownRow-least}
 use Rattle.names.specs.Names.{normalizeTypeName}
@@ -96,21 +96,21 @@ isCodeEnum-facets (f ∷ fs) more h = rw (facet-code f, onlyCodes-facets fs more
 
 -- ---- how many types there are
 
-content-tag : (name : Text) (c : ComplexContent) → isComplex (headTag (complexTypeRows name (started c))) ≡ true
+content-tag : (event : ℕ) (name : Text) (c : ComplexContent) → isComplex (headTag (complexTypeRows event name (started c))) ≡ true
 unfolding isComplex complexTypeRows started headTag row between
-content-tag name (ComplexContent.sequence es) = refl
-content-tag name (ComplexContent.choice vs) = refl
-content-tag name (ComplexContent.simpleContent base xs) = refl
-content-tag name (ComplexContent.any none) = refl
-content-tag name (ComplexContent.any (some n)) = refl
+content-tag event name (ComplexContent.sequence es) = refl
+content-tag event name (ComplexContent.choice vs) = refl
+content-tag event name (ComplexContent.simpleContent base xs) = refl
+content-tag event name (ComplexContent.any none) = refl
+content-tag event name (ComplexContent.any (some n)) = refl
 
-content-others : (name : Text) (c : ComplexContent) → (eqb (headTag (complexTypeRows name (started c))) 2 ≡ false) × (eqb (headTag (complexTypeRows name (started c))) 3 ≡ false)
+content-others : (event : ℕ) (name : Text) (c : ComplexContent) → (eqb (headTag (complexTypeRows event name (started c))) 2 ≡ false) × (eqb (headTag (complexTypeRows event name (started c))) 3 ≡ false)
 unfolding complexTypeRows started headTag row
-content-others name (ComplexContent.sequence es) = (refl, refl)
-content-others name (ComplexContent.choice vs) = (refl, refl)
-content-others name (ComplexContent.simpleContent base xs) = (refl, refl)
-content-others name (ComplexContent.any none) = (refl, refl)
-content-others name (ComplexContent.any (some n)) = (refl, refl)
+content-others event name (ComplexContent.sequence es) = (refl, refl)
+content-others event name (ComplexContent.choice vs) = (refl, refl)
+content-others event name (ComplexContent.simpleContent base xs) = (refl, refl)
+content-others event name (ComplexContent.any none) = (refl, refl)
+content-others event name (ComplexContent.any (some n)) = (refl, refl)
 
 -- the kind of an item by its head's tag
 unfoldable pub simpleItem : Item → Bool
@@ -127,13 +127,13 @@ simple-tag : (i : Item) → isSimple (headTag (itemRows i)) ≡ simpleItem i
 unfolding isSimple simpleItem itemRows simpleTypeRows headTag row
 simple-tag (Item.element e) = refl
 simple-tag (Item.simpleType t) = refl
-simple-tag (Item.complexType t) = content-others (t .name) (t .content) .1
+simple-tag (Item.complexType t) = content-others (t .event) (t .name) (t .content) .1
 
 complex-tag : (i : Item) → isComplex (headTag (itemRows i)) ≡ complexItem i
 unfolding isComplex complexItem itemRows simpleTypeRows headTag row between
 complex-tag (Item.element e) = refl
 complex-tag (Item.simpleType t) = refl
-complex-tag (Item.complexType t) = content-tag (t .name) (t .content)
+complex-tag (Item.complexType t) = content-tag (t .event) (t .name) (t .content)
 
 -- the places in an item's rows, and then those in the rows behind it
 module _ (k : ℕ) (i : Item) (more : List Row) where
@@ -173,11 +173,11 @@ unknownBase-is : (t : SimpleType) → unknownBase t ≡ (not (allEnums (t .facet
 unfolding unknownBase lowerSimpleType lowerNewtype isNone
 unknownBase-is t =
     elim (allEnums (t .facets))
-    as (λ b. isNone (if b then some (TypeDef.codeEnum (normalizeTypeName (t .name)) (codes (t .facets))) else lowerNewtype t (mapBuiltin (t .base))) ≡ (not b && isNone (mapBuiltin (t .base))))
+    as (λ b. isNone (if b then some (TypeDef.codeEnum (t .event) (normalizeTypeName (t .name)) (codes (t .facets))) else lowerNewtype t (mapBuiltin (t .base))) ≡ (not b && isNone (mapBuiltin (t .base))))
     [ true ↦ refl | false ↦ elim (mapBuiltin (t .base)) as (λ o. isNone (lowerNewtype t o) ≡ isNone o) [ none ↦ refl | some r ↦ refl ] ]
 
 -- the rows of a refused item
-simple-unknown : (t : SimpleType) (more : List Row) → headFirst more ≡ true → isUnknown (row 3 (t .name ∷ t .base ∷ []) 0 0 headC) (map facetRow (t .facets) ++ more) ≡ unknownBase t
+simple-unknown : (t : SimpleType) (more : List Row) → headFirst more ≡ true → isUnknown (row 3 (t .name ∷ t .base ∷ []) 0 0 (t .event)) (map facetRow (t .facets) ++ more) ≡ unknownBase t
 unfolding isUnknown row text1
 simple-unknown t more h = rw (isCodeEnum-facets (t .facets) more h) (sym (unknownBase-is t))
 
@@ -195,10 +195,10 @@ unfolding unknownPlace itemsRows unknownRow itemUnknown itemRows simpleTypeRows 
 unknownPlace-items k [] = refl
 unknownPlace-items k (Item.element e ∷ is) = unknown-other k (itemRows (Item.element e)) (itemsRows is) (group-item (Item.element e)) refl ∙ unknownPlace-items _ is
 unknownPlace-items k (Item.simpleType t ∷ is) =
-    unknownPlace-group k (row 3 (t .name ∷ t .base ∷ []) 0 0 headC) (map facetRow (t .facets)) (itemsRows is) (group-item (Item.simpleType t))
+    unknownPlace-group k (row 3 (t .name ∷ t .base ∷ []) 0 0 (t .event)) (map facetRow (t .facets)) (itemsRows is) (group-item (Item.simpleType t))
     ∙ rw (simple-unknown t (itemsRows is) (headFirst-items is), unknownPlace-items (k + length (itemRows (Item.simpleType t))) is)
 unknownPlace-items k (Item.complexType t ∷ is) =
-    unknown-other k (itemRows (Item.complexType t)) (itemsRows is) (group-item (Item.complexType t)) (content-others (t .name) (t .content) .1) ∙ unknownPlace-items _ is
+    unknown-other k (itemRows (Item.complexType t)) (itemsRows is) (group-item (Item.complexType t)) (content-others (t .event) (t .name) (t .content) .1) ∙ unknownPlace-items _ is
 
 unknown-some : (k : ℕ) (is : List Item) → 1 ≤ k → anyUnknown (simpleTypes is) ≡ true → 1 ≤ unknownPlace k (itemsRows is)
 unknown-some k is h e = rw (unknownPlace-items k is) (omega (arith, unknownRow-least k is e))
@@ -222,9 +222,9 @@ unknownPlace-lowered k s g e = unknownPlace-items k (s .items) ∙ unknown-none 
 -- ---- the elements
 
 pub rootRows-items : (is : List Item) → rootRows (itemsRows is) ≡ map rootRow (map rootOf (elements is))
-unfolding rootRows itemsRows elements itemRows loweredRow loweredAs row text0 text1 rootOf rootRow simpleTypeRows headTag graphHeadC
+unfolding rootRows itemsRows elements itemRows loweredRow loweredAs row text0 text1 rootOf rootRow simpleTypeRows headTag
 rootRows-items [] = refl
 rootRows-items (Item.element e ∷ is) = rw (rootRows-items is)
 rootRows-items (Item.simpleType t ∷ is) = rootRows-group (itemRows (Item.simpleType t)) (itemsRows is) (group-item (Item.simpleType t)) refl ∙ rootRows-items is
 rootRows-items (Item.complexType t ∷ is) =
-    rootRows-group (itemRows (Item.complexType t)) (itemsRows is) (group-item (Item.complexType t)) (content-others (t .name) (t .content) .0) ∙ rootRows-items is
+    rootRows-group (itemRows (Item.complexType t)) (itemsRows is) (group-item (Item.complexType t)) (content-others (t .event) (t .name) (t .content) .0) ∙ rootRows-items is

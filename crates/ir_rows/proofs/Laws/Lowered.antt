@@ -18,7 +18,6 @@ use Rattle.sheet.specs.Rows.{Row, row, Ten, textAt, unpackRow}
 use Rattle.xsd_types.specs.Types.{MaxOccurs}
 use Rattle.xsd_types.specs.Good.{usedPairs, isHead}
 use Rattle.xsd_types.specs.Back.{text0, text1}
-use Rattle.ir_types.specs.Rows.{headC}
 use Rattle.ir_lower.specs.Lower.{isNone, lowerCardinality}
 use Rattle.ir_rows.specs.Lowered.{referenceTexts, valueRow, opaqueRow, fieldRow, simpleRow, codeRows, loweredAs, loweredRow, isCodeEnum, isUnknown}
 
@@ -38,7 +37,7 @@ second-taken (suc zero) x y z h = absurd (omega arith)
 second-taken (suc (suc n)) x y z h = refl
 
 -- two texts in place of two others: only those that a row of the tag and the a uses are looked at
-module _ (codeEnum : Bool) (tag a b : ℕ) (p q x y : Text) (one : 1 ≤ usedPairs tag a → p ≡ x) (two : 2 ≤ usedPairs tag a → q ≡ y) where
+module _ (codeEnum : Bool) (tag a b c : ℕ) (p q x y : Text) (one : 1 ≤ usedPairs tag a → p ≡ x) (two : 2 ≤ usedPairs tag a → q ≡ y) where
   one-at : (k : ℕ) → 1 ≤ usedPairs k a → eqb tag k ≡ true → p ≡ x
   one-at k h e = one (rw (eqb-true tag k e) h)
 
@@ -48,18 +47,18 @@ module _ (codeEnum : Bool) (tag a b : ℕ) (p q x y : Text) (one : 1 ≤ usedPai
   both-at : (k : ℕ) → 2 ≤ usedPairs k a → (f : Text → Text → List Row) → eqb tag k ≡ true → f p q ≡ f x y
   both-at k h f e = ap₂ f (one-at k (omega arith) e) (two-at k h e)
 
-  opaque-at : eqb tag 15 ≡ true → opaqueRow a p q ≡ opaqueRow a x y
+  opaque-at : eqb tag 15 ≡ true → opaqueRow a c p q ≡ opaqueRow a c x y
   unfolding opaqueRow usedPairs between
   opaque-at e =
       let second : (if eqb a 1 then q ∷ [] else []) ≡ (if eqb a 1 then y ∷ [] else []) = if-same (eqb a 1) (λ f. ap (λ (t : Text). t ∷ []) (two-at 15 (omega (arith, eqb-true a 1 f)) e)) refl in
-      ap₂ (λ (t : Text) (us : List Text). row 8 (normalizeTypeName t ∷ us) a 0 headC) (one-at 15 (omega arith) e) second
+      ap₂ (λ (t : Text) (us : List Text). row 8 (normalizeTypeName t ∷ us) a 0 c) (one-at 15 (omega arith) e) second
 
-  pub loweredAs-same : loweredAs codeEnum tag a b p q ≡ loweredAs codeEnum tag a b x y
+  pub loweredAs-same : loweredAs codeEnum tag a b c p q ≡ loweredAs codeEnum tag a b c x y
   unfolding loweredAs usedPairs between
   loweredAs-same =
       if-same (eqb tag 1) (λ e. rw (one-at 1 (omega arith) e))
-      (if-same (eqb tag 2) (λ e. both-at 2 (omega arith) (λ t u. row 2 (t ∷ u ∷ []) 0 0 headC ∷ []) e)
-      (if-same (eqb tag 3) (λ e. both-at 3 (omega arith) (λ t u. simpleRow codeEnum t u ∷ []) e)
+      (if-same (eqb tag 2) (λ e. both-at 2 (omega arith) (λ t u. row 2 (t ∷ u ∷ []) 0 0 c ∷ []) e)
+      (if-same (eqb tag 3) (λ e. both-at 3 (omega arith) (λ t u. simpleRow codeEnum c t u ∷ []) e)
       (if-same (eqb tag 4) (λ e. ap (codeRows codeEnum) (one-at 4 (omega arith) e))
       (if-same (eqb tag 5) (λ e. rw (one-at 5 (omega arith) e))
       (if-same (eqb tag 6) (λ e. refl)
@@ -70,7 +69,7 @@ module _ (codeEnum : Bool) (tag a b : ℕ) (p q x y : Text) (one : 1 ≤ usedPai
       (if-same (eqb tag 11) (λ e. refl)
       (if-same (eqb tag 12) (λ e. rw (one-at 12 (omega arith) e))
       (if-same (eqb tag 13) (λ e. rw (one-at 13 (omega arith) e))
-      (if-same (eqb tag 14) (λ e. both-at 14 (omega arith) (λ t u. valueRow t u ∷ []) e)
+      (if-same (eqb tag 14) (λ e. both-at 14 (omega arith) (λ t u. valueRow c t u ∷ []) e)
       (if-same (eqb tag 15) (λ e. rw (opaque-at e))
       (if-same (eqb tag 17) (λ e. both-at 17 (omega arith) (λ t u. fieldRow (lowerCardinality a (MaxOccurs.bounded b)) t u ∷ []) e)
       (if-same (eqb tag 18) (λ e. both-at 18 (omega arith) (λ t u. fieldRow (lowerCardinality a MaxOccurs.unbounded) t u ∷ []) e)
@@ -100,9 +99,9 @@ module _ (names : List ℕ) (t : Ten) where
   text1-at h = second-taken (usedPairs (t .tag) (t .a)) (textAt names (t .at0) (t .len0)) (textAt names (t .at1) (t .len1)) (textAt names (t .at2) (t .len2)) h
 
   -- the graph's rows for a row of numbers
-  pub lowered-at : (codeEnum : Bool) → loweredRow codeEnum (unpackRow usedPairs names t) ≡ loweredAs codeEnum (t .tag) (t .a) (t .b) (textAt names (t .at0) (t .len0)) (textAt names (t .at1) (t .len1))
+  pub lowered-at : (codeEnum : Bool) → loweredRow codeEnum (unpackRow usedPairs names t) ≡ loweredAs codeEnum (t .tag) (t .a) (t .b) (t .c) (textAt names (t .at0) (t .len0)) (textAt names (t .at1) (t .len1))
   unfolding loweredRow unpackRow
-  lowered-at codeEnum = loweredAs-same codeEnum (t .tag) (t .a) (t .b) _ _ (textAt names (t .at0) (t .len0)) (textAt names (t .at1) (t .len1)) text0-at text1-at
+  lowered-at codeEnum = loweredAs-same codeEnum (t .tag) (t .a) (t .b) (t .c) _ _ (textAt names (t .at0) (t .len0)) (textAt names (t .at1) (t .len1)) text0-at text1-at
 
   -- a simple type that lowering refuses, by its second text
   pub unknown-at : (rs : List Row) → isUnknown (unpackRow usedPairs names t) rs ≡ (eqb (t .tag) 3 && not (isCodeEnum rs) && isNone (mapBuiltin (textAt names (t .at1) (t .len1))))

@@ -55,13 +55,13 @@ headed-by head children h k u = record { head = head; children = children; made 
 
 shape : (d : TypeDef) → Shape (map tagOf (typeRows d))
 unfolding typeRows row isTypeTag between below isChild every fieldRow variantRow codeRow attrRow
-shape (TypeDef.struct n fs) = headed-by 3 _ refl refl (children-below 3 fieldRow (λ f. refl) fs)
-shape (TypeDef.enum n vs) = headed-by 4 _ refl refl (children-below 4 variantRow (λ v. refl) vs)
-shape (TypeDef.newtype n i cs) = headed-by 5 _ refl refl (children-below 5 constraintRow constraint-below cs)
-shape (TypeDef.codeEnum n cs) = headed-by 6 _ refl refl (children-below 6 codeRow (λ v. refl) cs)
-shape (TypeDef.valueWithAttr n v xs) = headed-by 7 _ refl refl (children-below 7 attrRow (λ x. refl) xs)
-shape (TypeDef.opaque n none) = headed-by 8 [] refl refl refl
-shape (TypeDef.opaque n (some ns)) = headed-by 8 [] refl refl refl
+shape (TypeDef.struct event n fs) = headed-by 3 _ refl refl (children-below 3 fieldRow (λ f. refl) fs)
+shape (TypeDef.enum event n vs) = headed-by 4 _ refl refl (children-below 4 variantRow (λ v. refl) vs)
+shape (TypeDef.newtype event n i cs) = headed-by 5 _ refl refl (children-below 5 constraintRow constraint-below cs)
+shape (TypeDef.codeEnum event n cs) = headed-by 6 _ refl refl (children-below 6 codeRow (λ v. refl) cs)
+shape (TypeDef.valueWithAttr event n v xs) = headed-by 7 _ refl refl (children-below 7 attrRow (λ x. refl) xs)
+shape (TypeDef.opaque event n none) = headed-by 8 [] refl refl refl
+shape (TypeDef.opaque event n (some ns)) = headed-by 8 [] refl refl refl
 
 -- ---- what a child's tag says
 

@@ -12,10 +12,10 @@ use Rattle.builtin.specs.Builtin.{RustType, rustTypeNumber}
 use Rattle.sheet.specs.Rows.{Row, row, bit}
 use Rattle.sheet.specs.Form.{isFlag, counted}
 use Rattle.ir_types.specs.Types.{TypeRef, Cardinality, FieldDef, VariantDef, Constraint, CodeValue, AttrDef, TypeDef, RootElement}
-use Rattle.ir_types.specs.Rows.{refA, refText, headC, cardinalityB, cardinalityC, fieldRow, variantRow, constraintRow, codeRow, attrRow, typeRows, typesRows, rootRow}
+use Rattle.ir_types.specs.Rows.{refA, refText, cardinalityB, cardinalityC, fieldRow, variantRow, constraintRow, codeRow, attrRow, typeRows, typesRows, rootRow}
 use Rattle.ir_types.specs.Form.{usedPairs, formA, formB, formC}
 use Rattle.ir_types.specs.Ok.{refOk, cardinalityOk, fieldOk, variantOk, constraintOk, codeOk, attrOk, typeOk, rootOk, rowForm, isSmall, rowSmall, rowOk}
-use Rattle.text.proofs.Laws.Tests.{and-true-left, and-true-right, and-true}
+use Rattle.text.proofs.Laws.Tests.{two, three, and-true-left, and-true-right, and-true}
 use Rattle.text.proofs.Laws.Every.{every-append-true, every-map}
 
 row-ok : (r : Row) → counted usedPairs r ≡ true → rowForm r ≡ true → rowSmall r ≡ true → every isText (r .texts) ≡ true → rowOk r ≡ true
@@ -160,60 +160,74 @@ unfolding codeOk codeRow row rowOk counted usedPairs between rowForm formA formB
 code-ok v h = two-texts (v .xmlValue) (v .rustName) (and-true-left (isText (v .xmlValue)) (isText (v .rustName)) h) (and-true-right (isText (v .xmlValue)) (isText (v .rustName)) h)
 
 pub root-ok : (e : RootElement) → rootOk e ≡ true → rowOk (rootRow e) ≡ true
-unfolding rootOk rootRow row rowOk counted usedPairs between rowForm formA formB formC headC rowSmall isSmall
-root-ok e h = two-texts (e .xmlName) (e .typeName) (and-true-left (isText (e .xmlName)) (isText (e .typeName)) h) (and-true-right (isText (e .xmlName)) (isText (e .typeName)) h)
+unfolding rootOk rootRow row rowOk counted usedPairs between rowForm formA formB formC rowSmall isSmall
+root-ok e h =
+    let w = two (isSmall (e .event)) (isText (e .xmlName) && isText (e .typeName)) h in
+    let t = two (isText (e .xmlName)) (isText (e .typeName)) (w .1) in
+    and-true (w .0) (two-texts (e .xmlName) (e .typeName) (t .0) (t .1))
 
 -- ---- rows of types
 
-newtype-head : (n : Text) (i : RustType) → isText n ≡ true → rowOk (row 5 (n ∷ []) (rustTypeNumber i) 0 headC) ≡ true
-unfolding rowOk row counted usedPairs between rowForm formA formB formC headC rowSmall isSmall
-newtype-head n RustType.string h = one-text n h
-newtype-head n RustType.bool h = one-text n h
-newtype-head n RustType.decimal h = one-text n h
-newtype-head n RustType.date h = one-text n h
-newtype-head n RustType.dateTime h = one-text n h
+newtype-head : (event : ℕ) (n : Text) (i : RustType) → isSmall event ≡ true → isText n ≡ true → rowOk (row 5 (n ∷ []) (rustTypeNumber i) 0 event) ≡ true
+unfolding rowOk row counted usedPairs between rowForm formA formB formC rowSmall isSmall
+newtype-head event n RustType.string s h = and-true s (one-text n h)
+newtype-head event n RustType.bool s h = and-true s (one-text n h)
+newtype-head event n RustType.decimal s h = and-true s (one-text n h)
+newtype-head event n RustType.date s h = and-true s (one-text n h)
+newtype-head event n RustType.dateTime s h = and-true s (one-text n h)
 
-value-head : (n : Text) (v : TypeRef) → isText n ≡ true → refOk v ≡ true → rowOk (row 7 (n ∷ refText v) (refA v) 0 headC) ≡ true
-unfolding rowOk row counted usedPairs between rowForm formA formB formC headC refA refText refOk rowSmall isSmall
-value-head n (TypeRef.named t) h k = two-texts n t h k
-value-head n (TypeRef.builtin RustType.string) h k = one-text n h
-value-head n (TypeRef.builtin RustType.bool) h k = one-text n h
-value-head n (TypeRef.builtin RustType.decimal) h k = one-text n h
-value-head n (TypeRef.builtin RustType.date) h k = one-text n h
-value-head n (TypeRef.builtin RustType.dateTime) h k = one-text n h
+value-head : (event : ℕ) (n : Text) (v : TypeRef) → isSmall event ≡ true → isText n ≡ true → refOk v ≡ true → rowOk (row 7 (n ∷ refText v) (refA v) 0 event) ≡ true
+unfolding rowOk row counted usedPairs between rowForm formA formB formC refA refText refOk rowSmall isSmall
+value-head event n (TypeRef.named t) s h k = and-true s (two-texts n t h k)
+value-head event n (TypeRef.builtin RustType.string) s h k = and-true s (one-text n h)
+value-head event n (TypeRef.builtin RustType.bool) s h k = and-true s (one-text n h)
+value-head event n (TypeRef.builtin RustType.decimal) s h k = and-true s (one-text n h)
+value-head event n (TypeRef.builtin RustType.date) s h k = and-true s (one-text n h)
+value-head event n (TypeRef.builtin RustType.dateTime) s h k = and-true s (one-text n h)
 
 -- a head of one text whose a is unused
-plain-head : (tag : ℕ) (n : Text) → (let r = row tag (n ∷ []) 0 0 headC in counted usedPairs r && rowForm r && rowSmall r ≡ true) → isText n ≡ true → rowOk (row tag (n ∷ []) 0 0 headC) ≡ true
-unfolding rowOk row
-plain-head tag n h k = and-true h (one-text n k)
+plain-head : (tag event : ℕ) (n : Text) → (let r = row tag (n ∷ []) 0 0 event in counted usedPairs r && rowForm r ≡ true) → isSmall tag ≡ true → isSmall event ≡ true → isText n ≡ true → rowOk (row tag (n ∷ []) 0 0 event) ≡ true
+unfolding rowOk rowSmall row
+plain-head tag event n h t s k = and-true (and-true h (rw (t, small 0 (omega arith), s))) (one-text n k)
 
 -- a head with its children behind it
 children-ok : {A : Type 0} (head : Row) (p : A → Bool) (f : A → Row) → ((x : A) → p x ≡ true → rowOk (f x) ≡ true) → (xs : List A) → rowOk head ≡ true → every p xs ≡ true → every rowOk (head ∷ map f xs) ≡ true
 unfolding every
 children-ok head p f g xs h k = and-true h (every-map p rowOk f g xs k)
 
-plain-children : {A : Type 0} (tag : ℕ) (n : Text) (p : A → Bool) (f : A → Row) → ((x : A) → p x ≡ true → rowOk (f x) ≡ true) → (xs : List A)
-    → (let r = row tag (n ∷ []) 0 0 headC in counted usedPairs r && rowForm r && rowSmall r ≡ true) → isText n && every p xs ≡ true → every rowOk (row tag (n ∷ []) 0 0 headC ∷ map f xs) ≡ true
-plain-children tag n p f g xs k h = children-ok _ p f g xs (plain-head tag n k (and-true-left (isText n) (every p xs) h)) (and-true-right (isText n) (every p xs) h)
+plain-children : {A : Type 0} (tag event : ℕ) (n : Text) (p : A → Bool) (f : A → Row) → ((x : A) → p x ≡ true → rowOk (f x) ≡ true) → (xs : List A)
+    → (let r = row tag (n ∷ []) 0 0 event in counted usedPairs r && rowForm r ≡ true) → isSmall tag ≡ true → isSmall event && (isText n && every p xs) ≡ true → every rowOk (row tag (n ∷ []) 0 0 event ∷ map f xs) ≡ true
+plain-children tag event n p f g xs k t h =
+    let w = two (isSmall event) (isText n && every p xs) h in
+    let v = two (isText n) (every p xs) (w .1) in
+    children-ok _ p f g xs (plain-head tag event n k t (w .0) (v .0)) (v .1)
 
-newtype-rows : (n : Text) (i : RustType) (cs : List Constraint) → isText n && every constraintOk cs ≡ true → every rowOk (row 5 (n ∷ []) (rustTypeNumber i) 0 headC ∷ map constraintRow cs) ≡ true
-newtype-rows n i cs h =
-    children-ok _ constraintOk constraintRow constraint-ok cs (newtype-head n i (and-true-left (isText n) (every constraintOk cs) h)) (and-true-right (isText n) (every constraintOk cs) h)
+newtype-rows : (event : ℕ) (n : Text) (i : RustType) (cs : List Constraint) → isSmall event && (isText n && every constraintOk cs) ≡ true → every rowOk (row 5 (n ∷ []) (rustTypeNumber i) 0 event ∷ map constraintRow cs) ≡ true
+newtype-rows event n i cs h =
+    let w = two (isSmall event) (isText n && every constraintOk cs) h in
+    let v = two (isText n) (every constraintOk cs) (w .1) in
+    children-ok _ constraintOk constraintRow constraint-ok cs (newtype-head event n i (w .0) (v .0)) (v .1)
 
-value-rows : (n : Text) (v : TypeRef) (xs : List AttrDef) → isText n && refOk v && every attrOk xs ≡ true → every rowOk (row 7 (n ∷ refText v) (refA v) 0 headC ∷ map attrRow xs) ≡ true
-value-rows n v xs h =
-    let p : isText n && refOk v ≡ true = and-true-left (isText n && refOk v) (every attrOk xs) h in
-    children-ok _ attrOk attrRow attr-ok xs (value-head n v (and-true-left (isText n) (refOk v) p) (and-true-right (isText n) (refOk v) p)) (and-true-right (isText n && refOk v) (every attrOk xs) h)
+value-rows : (event : ℕ) (n : Text) (v : TypeRef) (xs : List AttrDef) → isSmall event && (isText n && refOk v && every attrOk xs) ≡ true → every rowOk (row 7 (n ∷ refText v) (refA v) 0 event ∷ map attrRow xs) ≡ true
+value-rows event n v xs h =
+    let w = two (isSmall event) (isText n && refOk v && every attrOk xs) h in
+    let t = three (isText n) (refOk v) (every attrOk xs) (w .1) in
+    children-ok _ attrOk attrRow attr-ok xs (value-head event n v (w .0) (t .0) (t .1)) (t .2)
 
 pub type-ok : (d : TypeDef) → typeOk d ≡ true → every rowOk (typeRows d) ≡ true
-unfolding typeOk typeRows every counted row usedPairs between rowForm formA formB formC headC rowOk isFlag rowSmall isSmall
-type-ok (TypeDef.struct n fs) h = plain-children 3 n fieldOk fieldRow field-ok fs refl h
-type-ok (TypeDef.enum n vs) h = plain-children 4 n variantOk variantRow variant-ok vs refl h
-type-ok (TypeDef.newtype n i cs) h = newtype-rows n i cs h
-type-ok (TypeDef.codeEnum n cs) h = plain-children 6 n codeOk codeRow code-ok cs refl h
-type-ok (TypeDef.valueWithAttr n v xs) h = value-rows n v xs h
-type-ok (TypeDef.opaque n none) h = and-true (one-text n h) refl
-type-ok (TypeDef.opaque n (some ns)) h = and-true (two-texts n ns (and-true-left (isText n) (isText ns) h) (and-true-right (isText n) (isText ns) h)) refl
+unfolding typeOk typeRows every counted row usedPairs between rowForm formA formB formC rowOk isFlag rowSmall isSmall
+type-ok (TypeDef.struct event n fs) h = plain-children 3 event n fieldOk fieldRow field-ok fs refl refl h
+type-ok (TypeDef.enum event n vs) h = plain-children 4 event n variantOk variantRow variant-ok vs refl refl h
+type-ok (TypeDef.newtype event n i cs) h = newtype-rows event n i cs h
+type-ok (TypeDef.codeEnum event n cs) h = plain-children 6 event n codeOk codeRow code-ok cs refl refl h
+type-ok (TypeDef.valueWithAttr event n v xs) h = value-rows event n v xs h
+type-ok (TypeDef.opaque event n none) h =
+    let w = two (isSmall event) (isText n) h in
+    and-true (and-true (w .0) (one-text n (w .1))) refl
+type-ok (TypeDef.opaque event n (some ns)) h =
+    let w = two (isSmall event) (isText n && isText ns) h in
+    let t = two (isText n) (isText ns) (w .1) in
+    and-true (and-true (w .0) (two-texts n ns (t .0) (t .1))) refl
 
 pub types-ok : (ds : List TypeDef) → every typeOk ds ≡ true → every rowOk (typesRows ds) ≡ true
 unfolding every typesRows

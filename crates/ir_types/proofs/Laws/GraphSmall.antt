@@ -77,13 +77,13 @@ zeros-small (suc n) = rw zero-small (zeros-small n)
 -- row 0 counts no more than there are rows
 head-row : (d : TypeDef) → 1 ≤ length (typeRows d)
 unfolding typeRows
-head-row (TypeDef.struct n fs) = omega arith
-head-row (TypeDef.enum n vs) = omega arith
-head-row (TypeDef.newtype n i cs) = omega arith
-head-row (TypeDef.codeEnum n cs) = omega arith
-head-row (TypeDef.valueWithAttr n v xs) = omega arith
-head-row (TypeDef.opaque n none) = omega arith
-head-row (TypeDef.opaque n (some ns)) = omega arith
+head-row (TypeDef.struct event n fs) = omega arith
+head-row (TypeDef.enum event n vs) = omega arith
+head-row (TypeDef.newtype event n i cs) = omega arith
+head-row (TypeDef.codeEnum event n cs) = omega arith
+head-row (TypeDef.valueWithAttr event n v xs) = omega arith
+head-row (TypeDef.opaque event n none) = omega arith
+head-row (TypeDef.opaque event n (some ns)) = omega arith
 
 types-fewer : (ds : List TypeDef) → length ds ≤ length (typesRows ds)
 unfolding typesRows

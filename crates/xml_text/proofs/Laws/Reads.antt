@@ -44,7 +44,7 @@ pub step-open : (lent : Lengths) (s : State) (e : Event) (m : ℕ) → Gives (Op
 unfolding step
 step-open lent s e m g =
     gives-if (ltb (s .events) 1000000)
-    (gives-andThen g λ n p. gives-andThen (gives-wider (λ r q. omega arith) (handled-refusal (s .byStandard) e (s .reader))) λ r q. room-open lent s n r m p)
+    (gives-andThen g λ n p. gives-andThen (gives-wider (λ r q. omega arith) (handled-refusal (s .byStandard) (s .events) e (s .reader))) λ r q. room-open lent s n r m p)
     (refusal (omega arith))
 
 -- the open tags after an event, where there are so many inside the text over those before it

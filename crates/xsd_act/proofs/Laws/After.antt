@@ -7,7 +7,7 @@ use native.Mathlib.Omega.{arith}
 use lib.ListN.{length, length-append}
 use Rattle.text.specs.Text.{Text, join}
 use Rattle.sheet.specs.Rows.{Row, row, namesOf}
-use Rattle.xsd_types.specs.Rows.{headC, namespaceRow}
+use Rattle.xsd_types.specs.Rows.{namespaceRow}
 use Rattle.xsd_rows.specs.declared.numbers.Used.{Used}
 use Rattle.xsd_replace.specs.Spots.{Spot, spotRow, spotRows, TextAt}
 use Rattle.xsd_actions.specs.Actions.{Action, namespaceAfter, rowsAfter, firstText, headWith, baseWith, NamedHead, BasedHead}
@@ -20,7 +20,7 @@ use Rattle.xsd_act.proofs.Laws.Ready.{rootSpot, baseSpot}
 -- the rows after an action, as the writers leave them
 module _ (namespace : Text) (done last : List Row) where
   pub after-content : (tag a : ℕ) (more : List Text) (h : NamedHead last)
-      → rowsAfterAll (Action.content tag more a) namespace done last ≡ (namespaceRow namespace ∷ done) ++ row tag (h .name ∷ more) a 0 headC ∷ []
+      → rowsAfterAll (Action.content tag more a) namespace done last ≡ (namespaceRow namespace ∷ done) ++ row tag (h .name ∷ more) a 0 (h .c) ∷ []
   unfolding rowsAfterAll namespaceAfter rowsAfter headWith firstText row
   after-content tag a more h = ap (λ (l : List Row). namespaceRow namespace ∷ (done ++ headWith tag more a l)) (h .is)
 

@@ -1,11 +1,11 @@
 -- What the writers leave is what the action says: the rows after it, by the laws of `xsd_needs`. Assumes nothing.
-use Prim.Native.Nat.{ℕ}
+use Prim.Native.Nat.{ℕ, _+_, _*_}
 use mathlib.Core.Path.{_≡_, refl, sym, subst, ap, _∙_}
 use mathlib.Core.List.{List, [], _∷_, _++_}
-use lib.ListN.{length}
+use lib.ListN.{length, getD}
 use Rattle.text.specs.Text.{Text}
 use Rattle.sheet.specs.Rows.{Row, row}
-use Rattle.xsd_types.specs.Rows.{headC, namespaceRow}
+use Rattle.xsd_types.specs.Rows.{namespaceRow}
 use Rattle.xsd_parser.specs.Handlers.{ok}
 use Rattle.xsd_rows.specs.declared.numbers.Used.{Used}
 use Rattle.xsd_rows.specs.declared.numbers.RowNumbers.{RowNumbers}
@@ -16,7 +16,7 @@ use Rattle.xsd_replace.specs.Head.{HeadReplaced}
 use Rattle.xsd_replace.specs.Spots.{TextReplaced}
 use Rattle.xsd_actions.specs.Actions.{Action, namespaceAfter, rowsAfter, Fitting}
 use Rattle.xsd_act.specs.Ready.{Ready, rowsAfterAll}
-use Rattle.xsd_act.proofs.Laws.Ready.{ready-root, ready-head, ready-base}
+use Rattle.xsd_act.proofs.Laws.Ready.{ready-root, ready-head, ready-event, ready-base}
 use Rattle.xsd_act.proofs.Laws.After.{after-content, after-base, after-root}
 use Rattle.xsd_act.proofs.Laws.Needs.{ok-back}
 use Rattle.xsd_act.specs.Acts.{Done}
@@ -47,12 +47,13 @@ module _ {rows names : List ℕ} {used : Used} {head : ℕ} {rows′ names′ : 
   done-base v h =
       done-ok (Action.base v) (h .rowsLength) (h .namesLength) (λ z namespace done last g k. subst (λ (l : List Row). Holds rows′ names′ used′ z l) (sym (after-base namespace done last z v k)) (h .holds _ (ready-base g k)))
 
-  pub done-content : (n : RowNumbers) (more : List Text) (pairs : ℕ) (second : Text) → n .b ≡ 0 → n .c ≡ 0 → ((name : Text) → name ∷ more ≡ usedTexts pairs name second)
+  pub done-content : (n : RowNumbers) (more : List Text) (pairs : ℕ) (second : Text) → n .b ≡ 0 → n .c ≡ getD rows (10 * head + 9) 0 → ((name : Text) → name ∷ more ≡ usedTexts pairs name second)
       → HeadReplaced rows names used head n pairs second rows′ names′ used′ → Done rows names used head (ok (Action.content (n .tag) more (n .a))) rows′ names′ used′
-  unfolding Fitting headC
+  unfolding Fitting
   done-content n more pairs second b c same h =
       done-ok (Action.content (n .tag) more (n .a)) (h .rowsLength) (h .namesLength) (λ z namespace done last g k.
-      let as-row : row (n .tag) (k .name ∷ more) (n .a) 0 0 ≡ rowOf n (usedTexts pairs (k .name) second) = rw (same (k .name), b, c) in
+      let kept : n .c ≡ k .c = c ∙ ready-event g k in
+      let as-row : row (n .tag) (k .name ∷ more) (n .a) 0 (k .c) ≡ rowOf n (usedTexts pairs (k .name) second) = rw (same (k .name), b, kept) in
       subst (λ (l : List Row). Holds rows′ names′ used′ z l) (sym (after-content namespace done last (n .tag) (n .a) more k ∙ ap (λ (x : Row). (namespaceRow namespace ∷ done) ++ x ∷ []) as-row))
       (h .holds z (namespaceRow namespace ∷ done) (k .name) (ready-head g k)))
 

@@ -6,7 +6,7 @@ use native.Mathlib.Omega.{arith}
 use lib.ListN.{length, length-append}
 use Rattle.text.specs.Text.{Text, join}
 use Rattle.sheet.specs.Rows.{Row, row, namesOf}
-use Rattle.xsd_types.specs.Rows.{headC, namespaceRow}
+use Rattle.xsd_types.specs.Rows.{namespaceRow}
 use Rattle.xsd_parser.specs.Handlers.{ok, refuse}
 use Rattle.xsd_rows.specs.declared.numbers.Used.{Used}
 use Rattle.xsd_actions.specs.Actions.{Action, namespaceAfter, rowsAfter, Fitting}
@@ -58,7 +58,7 @@ module _ {rows : List ℕ} {used : Used} {head : ℕ} {r : Used} where
   needed-content tag a more e =
       needed-ok (Action.content tag more a) (e .few) (λ names z namespace done last h k.
       let rs = namespaceRow namespace ∷ done in
-      let new = row tag (k .name ∷ more) a 0 headC in
+      let new = row tag (k .name ∷ more) a 0 (k .c) in
       let found = e .counted names z rs (k .name) (ready-head h k) in
       subst (λ (l : List Row). Counted r l) (sym (after-content namespace done last tag a more k))
       (counted-one rs new (found .0) (found .1 ∙ ap (λ (m : ℕ). length (namesOf rs) + m) (sym (length-append (k .name) (join more))))))

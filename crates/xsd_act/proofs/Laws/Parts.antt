@@ -34,13 +34,13 @@ unfolding join
 join-one t = rw append-nil
 
 -- the bytes of the row that opens a type
-pub openSimple-bytes : (t : Text) → length (join (openSimpleRow t .texts)) ≡ length t
+pub openSimple-bytes : (n : ℕ) (t : Text) → length (join (openSimpleRow n t .texts)) ≡ length t
 unfolding openSimpleRow row join
-openSimple-bytes t = rw append-nil
+openSimple-bytes n t = rw append-nil
 
-pub openComplex-bytes : (t : Text) → length (join (openComplexRow t .texts)) ≡ length t
+pub openComplex-bytes : (n : ℕ) (t : Text) → length (join (openComplexRow n t .texts)) ≡ length t
 unfolding openComplexRow row
-openComplex-bytes t = join-one t
+openComplex-bytes n t = join-one t
 
 module _ (text : Text) (marks : List ℕ) where
   pub textAtMark-bound : (at : ℕ) → length (textAtMark text marks at) ≤ length text

@@ -1,9 +1,10 @@
 -- Where the texts and the head of a sheet stand that an action is done to: row 1 first, the finished items' rows behind it, then the open type's.
 -- Assumes nothing.
-use Prim.Native.Nat.{ℕ}
+use Prim.Native.Nat.{ℕ, _+_, _*_}
 use mathlib.Core.Path.{_≡_, refl, subst}
 use mathlib.Core.List.{List, [], _∷_, _++_}
 use native.Mathlib.Omega.{arith}
+use lib.ListN.{getD}
 use Rattle.text.specs.Text.{Text}
 use Rattle.sheet.specs.Rows.{Row}
 use Rattle.xsd_types.specs.Rows.{namespaceA, namespaceRow}
@@ -11,6 +12,7 @@ use Rattle.xsd_rows.specs.declared.numbers.Used.{Used}
 use Rattle.xsd_rows.specs.Packing.{Holds}
 use Rattle.xsd_replace.specs.Offsets.{RightPairs}
 use Rattle.xsd_replace.specs.Head.{HeadAt}
+use Rattle.xsd_replace.proofs.Laws.Head.{head-last}
 use Rattle.xsd_replace.specs.Spots.{Paired, Spot, TextAt}
 use Rattle.xsd_actions.specs.Actions.{NamedHead, BasedHead}
 use Rattle.xsd_act.specs.Ready.{Ready}
@@ -48,6 +50,13 @@ module _ {rows names : List ℕ} {used : Used} {head : ℕ} {z : List ℕ} {name
   pub ready-head : (k : NamedHead last) → HeadAt rows names used head z (namespaceRow namespace ∷ done) (k .name)
   ready-head k =
       record { tag = k .tag; more = k .more; a = k .a; b = k .b; c = k .c; kids = k .kids; here = omega (arith, h .here _ _ (k .is)); holds = ready-last _ _ (k .is) }
+
+  -- c of the head, as the sheet has it
+  pub ready-event : (k : NamedHead last) → getD rows (10 * head + 9) 0 ≡ k .c
+  ready-event k =
+      let at : HeadAt rows names used head z (namespaceRow namespace ∷ done) (k .name) =
+      record { tag = k .tag; more = k .more; a = k .a; b = k .b; c = k .c; kids = k .kids; here = omega (arith, h .here _ _ (k .is)); holds = ready-last _ _ (k .is) } in
+      head-last at
 
   pub ready-base : (k : BasedHead last) → TextAt rows names used head 1 (baseSpot z namespace done last k)
   ready-base k =

@@ -8,7 +8,7 @@ use lib.ListN.{length}
 use Rattle.text.specs.Text.{Text, join}
 use Rattle.sheet.specs.Rows.{Row, row, namesOf}
 use Rattle.sheet.specs.Lengths.{fits}
-use Rattle.xsd_types.specs.Rows.{headC, namespaceRow}
+use Rattle.xsd_types.specs.Rows.{namespaceRow}
 use Rattle.xsd_parser.specs.Handlers.{Outcome, ok}
 use Rattle.xsd_rows.specs.declared.numbers.Used.{Used}
 use Rattle.xsd_rows.proofs.Laws.Room.{fits-room}
@@ -84,7 +84,7 @@ module _ {rows names : List ℕ} {used : Used} {head : ℕ} {z : List ℕ} {name
   unfolding row
   content-room tag a more k pairs second few same e =
       let rs = namespaceRow namespace ∷ done in
-      let new = row tag (k .name ∷ more) a 0 headC in
+      let new = row tag (k .name ∷ more) a 0 (k .c) in
       let bytes : length (join (new .texts)) ≡ usedLength pairs (length (k .name)) (length second) = ap (λ (l : List Text). length (join l)) same ∙ used-bytes pairs (k .name) second few in
       let r : Used = record { rows = 2 + length rs; names = length (namesOf rs) + length (join (new .texts)) } in
       let room = counted-room rows names {used = r} (counted-one rs new refl refl) (subst (λ (l : List Row). Roomy rows names l) (after-content namespace done last tag a more k) e) .1 in

@@ -6,7 +6,6 @@ use native.Mathlib.Nat.{add-zero}
 use native.Mathlib.Omega.{arith}
 use Rattle.text.specs.Text.{join}
 use Rattle.sheet.specs.Rows.{row}
-use Rattle.xsd_types.specs.Rows.{headC}
 use Rattle.xsd_parser.specs.Handlers.{ok}
 use Rattle.xsd_rows.specs.declared.numbers.Used.{Used}
 use Rattle.xsd_actions.specs.declared.Decision.{Decision}
@@ -47,7 +46,7 @@ open-type-requires c κs =
     let start = c .before .before .before .before .before .before .before .before .before in
     let w = room-as start _ _ (c .before .before .before .d2 .given .1) refl in
     let room = more-room (w .ready) _ (w .roomy) in
-    (room .0, ((rw (openSimple-bytes _) at (room .1), start .pre .1), (omega arith, omega arith)))
+    (room .0, ((rw (openSimple-bytes _ _) at (room .1), start .pre .1), (omega arith, omega arith)))
 
 open-type-requires-2 : tie.Need-open-type-requires-2
 unfolding decision rowsAfterAll namespaceAfter rowsAfter
@@ -55,7 +54,7 @@ open-type-requires-2 c κs =
     let start = c .before .before .before .before .before .before .before .before .before in
     let w = room-as start _ _ (c .before .before .before .d3 .given .1) refl in
     let room = more-room (w .ready) _ (w .roomy) in
-    (room .0, ((rw (openComplex-bytes _) at (room .1), start .pre .1), (omega arith, omega arith)))
+    (room .0, ((rw (openComplex-bytes _ _) at (room .1), start .pre .1), (omega arith, omega arith)))
 
 add-row-requires : tie.Need-add-row-requires
 unfolding decision rowsAfterAll namespaceAfter rowsAfter
@@ -126,8 +125,8 @@ same-length-4 : tie.Need-same-length-4
 same-length-4 c = c .before .before .before .before .open-type .kept .1 .0
 
 returns-4 : tie.Need-returns-4
-unfolding decision openSimpleRow headC rowsAfterAll namespaceAfter rowsAfter
-returns-4 c = done-as (c .before .before .before .before .before .before .before .before .before .before .before .before .before .before) _ _ _ _ (c .before .before .before .before .before .before .before .before .d2 .given .1) (done-more (Action.openSimple _) (openSimpleRow _) (λ namespace done last. refl) (c .before .before .before .before .open-type .ensures))
+unfolding decision openSimpleRow rowsAfterAll namespaceAfter rowsAfter
+returns-4 c = done-as (c .before .before .before .before .before .before .before .before .before .before .before .before .before .before) _ _ _ _ (c .before .before .before .before .before .before .before .before .d2 .given .1) (done-more (Action.openSimple _ _) (openSimpleRow _ _) (λ namespace done last. refl) (c .before .before .before .before .open-type .ensures))
 
 same-length-5 : tie.Need-same-length-5
 same-length-5 c = c .before .before .before .before .open-type2 .kept .0
@@ -136,8 +135,8 @@ same-length-6 : tie.Need-same-length-6
 same-length-6 c = c .before .before .before .before .open-type2 .kept .1 .0
 
 returns-5 : tie.Need-returns-5
-unfolding decision openComplexRow headC rowsAfterAll namespaceAfter rowsAfter
-returns-5 c = done-as (c .before .before .before .before .before .before .before .before .before .before .before .before .before .before) _ _ _ _ (c .before .before .before .before .before .before .before .before .d3 .given .1) (done-more (Action.openComplex _) (openComplexRow _) (λ namespace done last. refl) (c .before .before .before .before .open-type2 .ensures))
+unfolding decision openComplexRow rowsAfterAll namespaceAfter rowsAfter
+returns-5 c = done-as (c .before .before .before .before .before .before .before .before .before .before .before .before .before .before) _ _ _ _ (c .before .before .before .before .before .before .before .before .d3 .given .1) (done-more (Action.openComplex _ _) (openComplexRow _ _) (λ namespace done last. refl) (c .before .before .before .before .open-type2 .ensures))
 
 same-length-7 : tie.Need-same-length-7
 same-length-7 c = c .before .before .before .before .add-row .kept .0
@@ -182,7 +181,7 @@ returns-9 c =
     let a = start .args in
     let n = c .before .before .before .before .before .before .before .before .d7 .given .0 .0 in
     done-as start _ _ _ _ (c .before .before .before .before .before .before .before .before .d7 .given .1)
-    (done-content (contentNumbers n) _ (contentPairs (n .follows)) _ refl refl (following-used (a .text .now) (a .marks .now) n) (c .before .before .before .before .put-content .ensures))
+    (done-content (contentNumbers n _) _ (contentPairs (n .follows)) _ refl refl (following-used (a .text .now) (a .marks .now) n) (c .before .before .before .before .put-content .ensures))
 
 same-length-15 : tie.Need-same-length-15
 same-length-15 c = c .before .before .before .before .put-text2 .kept .0

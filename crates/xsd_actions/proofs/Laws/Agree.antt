@@ -54,7 +54,7 @@ agree-name {A} {B} {R} t f g h = go (attrValue t "name")
     go (some v) = values (h v)
 
 -- the handlers' outcome agrees with the decision
-pub agree-decides : (byStandard : Bool) (e : Event) (r : Reader) (o : Outcome Reader) {p : Outcome Action} → handled byStandard e r ≡ o
-    → Agree (λ r′ a. Acted byStandard e r a r′) o p → Decides byStandard e r p
-agree-decides b e r o q (values {x = r′} {y = a} h) = acts a r′ q h
-agree-decides b e r o q (refusals {n = n}) = refuses n q
+pub agree-decides : (byStandard : Bool) (m : ℕ) (e : Event) (r : Reader) (o : Outcome Reader) {p : Outcome Action} → handled byStandard m e r ≡ o
+    → Agree (λ r′ a. Acted byStandard e r a r′) o p → Decides byStandard m e r p
+agree-decides b m e r o q (values {x = r′} {y = a} h) = acts a r′ q h
+agree-decides b m e r o q (refusals {n = n}) = refuses n q

@@ -31,8 +31,8 @@ unfolding decidedClose
 decided-lowered n head m q = rw (q, eqb·suc-zero n, and-false (eqb head 16))
 
 -- the context of an open simple type
-abbrev pub simpleOf : Text → Text → List Facet → ℕ → Context
-simpleOf name base facets d = Context.inSimpleType (record { name = name; base = base; facets = facets; nestingDepth = d })
+abbrev pub simpleOf : ℕ → Text → Text → List Facet → ℕ → Context
+simpleOf event name base facets d = Context.inSimpleType (record { name = name; base = base; facets = facets; nestingDepth = d; event = event })
 
 module _ (byStandard : Bool) (r : Reader) where
   -- outside the schema, and in it
@@ -60,41 +60,41 @@ module _ (byStandard : Bool) (r : Reader) where
       }
 
   -- a simple type, at 0 and above
-  pub closeSimple-acted : (name base : Text) (facets : List Facet) (d : ℕ)
-      → Acted byStandard Event.close (inContext (simpleOf name base facets d) r) Action.keep
-      (closeSimpleType (record { name = name; base = base; facets = facets; nestingDepth = d }) d (inContext (simpleOf name base facets d) r))
+  pub closeSimple-acted : (event : ℕ) (name base : Text) (facets : List Facet) (d : ℕ)
+      → Acted byStandard Event.close (inContext (simpleOf event name base facets d) r) Action.keep
+      (closeSimpleType (record { name = name; base = base; facets = facets; nestingDepth = d; event = event }) d (inContext (simpleOf event name base facets d) r))
   unfolding closeSimpleType inContext itemRows contextRows contextNumber nesting extensionFlag modeOf modeAfter closeMode rowsAfter Fitting
-  closeSimple-acted name base facets zero =
-      close-finished (simpleOf name base facets 0) (Item.simpleType (record { name = name; base = base; facets = facets })) Inner.keep refl (λ done. refl) tt
-  closeSimple-acted name base facets (suc n) = changed-acted byStandard Event.close r (mode-lowered 2 n (r .rootSeen) false) (changed-keep refl refl refl)
+  closeSimple-acted event name base facets zero =
+      close-finished (simpleOf event name base facets 0) (Item.simpleType (record { name = name; base = base; facets = facets; event = event })) Inner.keep refl (λ done. refl) tt
+  closeSimple-acted event name base facets (suc n) = changed-acted byStandard Event.close r (mode-lowered 2 n (r .rootSeen) false) (changed-keep refl refl refl)
 
   -- "Content still absent at the close becomes 15 with a = 0."
-  pub finished-acted : (name : Text) (c : ComplexContentBuilder)
-      → Acted byStandard Event.close (inContext (complexOf name c 0) r) (decidedClose (modeOf (inContext (complexOf name c 0) r)) (contentTag c))
-      (closeComplexType (record { name = name; content = c; nestingDepth = 0 }) 0 (inContext (complexOf name c 0) r))
+  pub finished-acted : (event : ℕ) (name : Text) (c : ComplexContentBuilder)
+      → Acted byStandard Event.close (inContext (complexOf event name c 0) r) (decidedClose (modeOf (inContext (complexOf event name c 0) r)) (contentTag c))
+      (closeComplexType (record { name = name; content = c; nestingDepth = 0; event = event }) 0 (inContext (complexOf event name c 0) r))
   unfolding closeComplexType decidedClose contentTag started finish inContext itemRows contextRows contextNumber nesting extensionFlag modeOf closeMode rowsAfter Fitting complexTypeRows headWith firstText row
-  finished-acted name ComplexContentBuilder.empty = close-finished _ _ Inner.content refl (λ done. refl) (head-named name ComplexContentBuilder.empty)
-  finished-acted name (ComplexContentBuilder.sequence es) = close-finished _ _ Inner.keep refl (λ done. refl) tt
-  finished-acted name (ComplexContentBuilder.choice vs) = close-finished _ _ Inner.keep refl (λ done. refl) tt
-  finished-acted name (ComplexContentBuilder.simpleContent base xs flag) = close-finished _ _ Inner.keep refl (λ done. refl) tt
-  finished-acted name (ComplexContentBuilder.any n) = close-finished _ _ Inner.keep refl (λ done. refl) tt
+  finished-acted event name ComplexContentBuilder.empty = close-finished _ _ Inner.content refl (λ done. refl) (head-named event name ComplexContentBuilder.empty)
+  finished-acted event name (ComplexContentBuilder.sequence es) = close-finished _ _ Inner.keep refl (λ done. refl) tt
+  finished-acted event name (ComplexContentBuilder.choice vs) = close-finished _ _ Inner.keep refl (λ done. refl) tt
+  finished-acted event name (ComplexContentBuilder.simpleContent base xs flag) = close-finished _ _ Inner.keep refl (λ done. refl) tt
+  finished-acted event name (ComplexContentBuilder.any n) = close-finished _ _ Inner.keep refl (λ done. refl) tt
 
   -- a complex type above 0, at any nesting, and any context
-  pub complex-lowered : (name : Text) (c : ComplexContentBuilder) (n : ℕ)
-      → Acted byStandard Event.close (inContext (complexOf name c (suc n)) r) Action.keep (inContext (complexOf name c n) r)
+  pub complex-lowered : (event : ℕ) (name : Text) (c : ComplexContentBuilder) (n : ℕ)
+      → Acted byStandard Event.close (inContext (complexOf event name c (suc n)) r) Action.keep (inContext (complexOf event name c n) r)
   unfolding inContext modeOf modeAfter contextRows contextNumber nesting extensionFlag
-  complex-lowered name c n = changed-acted byStandard Event.close r (mode-lowered 3 n (r .rootSeen) (eqb (contentFlag c) 1)) (changed-keep refl refl refl)
+  complex-lowered event name c n = changed-acted byStandard Event.close r (mode-lowered 3 n (r .rootSeen) (eqb (contentFlag c) 1)) (changed-keep refl refl refl)
 
-  pub closeComplex-acted : (name : Text) (c : ComplexContentBuilder) (d : ℕ)
-      → Acted byStandard Event.close (inContext (complexOf name c d) r) (decidedClose (modeOf (inContext (complexOf name c d) r)) (contentTag c))
-      (closeComplexType (record { name = name; content = c; nestingDepth = d }) d (inContext (complexOf name c d) r))
+  pub closeComplex-acted : (event : ℕ) (name : Text) (c : ComplexContentBuilder) (d : ℕ)
+      → Acted byStandard Event.close (inContext (complexOf event name c d) r) (decidedClose (modeOf (inContext (complexOf event name c d) r)) (contentTag c))
+      (closeComplexType (record { name = name; content = c; nestingDepth = d; event = event }) d (inContext (complexOf event name c d) r))
   unfolding closeComplexType inContext modeOf nesting
-  closeComplex-acted name c zero = finished-acted name c
-  closeComplex-acted name c (suc n) = rw (decided-lowered n (contentTag c) (modeOf (inContext (complexOf name c (suc n)) r)) refl) (complex-lowered name c n)
+  closeComplex-acted event name c zero = finished-acted event name c
+  closeComplex-acted event name c (suc n) = rw (decided-lowered n (contentTag c) (modeOf (inContext (complexOf event name c (suc n)) r)) refl) (complex-lowered event name c n)
 
   pub close-acted : (x : Context) → Acted byStandard Event.close (inContext x r) (decidedClose (modeOf (inContext x r)) (headTag x)) (onEnd (inContext x r) x)
   unfolding onEnd headTag decidedClose
   close-acted Context.noContext = close-outside
   close-acted (Context.inSchema n) = close-schema n
-  close-acted (Context.inSimpleType b) = closeSimple-acted (b .name) (b .base) (b .facets) (b .nestingDepth)
-  close-acted (Context.inComplexType b) = closeComplex-acted (b .name) (b .content) (b .nestingDepth)
+  close-acted (Context.inSimpleType b) = closeSimple-acted (b .event) (b .name) (b .base) (b .facets) (b .nestingDepth)
+  close-acted (Context.inComplexType b) = closeComplex-acted (b .event) (b .name) (b .content) (b .nestingDepth)

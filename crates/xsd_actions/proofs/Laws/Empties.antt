@@ -4,6 +4,7 @@ use mathlib.Core.Bool.{Bool, _&&_}
 use Prim.Native.Nat.{ℕ, zero, suc}
 use lib.Dec.{eqb, eqb·suc-zero}
 use Rattle.text.specs.Text.{if_then_else_}
+use Prim.Native.Nat.{ℕ}
 use Rattle.xsd_types.specs.State.{Context, Reader}
 use Rattle.xsd_types.specs.Rows.{contextNumber, nesting, extensionFlag}
 use Rattle.xsd_parser.specs.Event.{Tag, Event, tagIs}
@@ -16,7 +17,7 @@ use Rattle.xsd_actions.proofs.Laws.Inside.{emptyInComplex-agrees}
 use Rattle.xsd_actions.proofs.Laws.Simples.{emptyInSimple-agrees}
 use Rattle.xsd_actions.proofs.Laws.Tops.{top, mode-still, top-acted, root-empty}
 
-module _ (byStandard : Bool) (t : Tag) (r : Reader) where
+module _ (byStandard : Bool) (m : ℕ) (t : Tag) (r : Reader) where
   -- the reader after an empty tag in a context, and the action
   abbrev pub Passed : Context → Reader → Action → Type 0
   Passed x r′ a = Acted byStandard (Event.empty t) (inContext x r) a r′
@@ -28,19 +29,19 @@ module _ (byStandard : Bool) (t : Tag) (r : Reader) where
   unfolding rootFound
   emptyOutside-agrees = if-both (Passed Context.noContext) (tagIs t "schema") (root-empty byStandard t r) (empty-kept Context.noContext)
 
-  pub empty-element : Passed (Context.inSchema 0) (onTopLevelElement t (top 0 r)) (topElement t)
+  pub empty-element : Passed (Context.inSchema 0) (onTopLevelElement m t (top 0 r)) (topElement m t)
   unfolding modeAfter
-  empty-element = top-acted byStandard (Event.empty t) r 0 (λ q. q) (λ q. refl) (empty-kept (Context.inSchema 0)) (mode-still byStandard r) t
+  empty-element = top-acted byStandard (Event.empty t) r 0 (λ q. q) (λ q. refl) (empty-kept (Context.inSchema 0)) (mode-still byStandard r) m t
 
-  pub emptyInSchema-agrees : (n : ℕ) → Passed (Context.inSchema n) (if eqb n 0 && tagIs t "element" then onTopLevelElement t (top n r) else top n r)
-      (if eqb n 0 && tagIs t "element" then topElement t else Action.keep)
+  pub emptyInSchema-agrees : (n : ℕ) → Passed (Context.inSchema n) (if eqb n 0 && tagIs t "element" then onTopLevelElement m t (top n r) else top n r)
+      (if eqb n 0 && tagIs t "element" then topElement m t else Action.keep)
   emptyInSchema-agrees zero = if-both (Passed (Context.inSchema 0)) (tagIs t "element") empty-element (empty-kept (Context.inSchema 0))
   emptyInSchema-agrees (suc n) = rw (eqb·suc-zero n) (empty-kept (Context.inSchema (suc n)))
 
-  pub empty-agrees : (x : Context) → Agree (Passed x) (onEmpty t (inContext x r) x) (decidedEmpty t (modeOf (inContext x r)) (headTag x))
+  pub empty-agrees : (x : Context) → Agree (Passed x) (onEmpty m t (inContext x r) x) (decidedEmpty m t (modeOf (inContext x r)) (headTag x))
   unfolding onEmpty decidedEmpty modeOf inContext headTag contextNumber nesting extensionFlag withContent
   empty-agrees Context.noContext = values emptyOutside-agrees
   empty-agrees (Context.inSchema n) = values (emptyInSchema-agrees n)
   empty-agrees (Context.inSimpleType b) = agree-then _ (λ b′ a h. changed-empty byStandard t r (h .nesting) (h .changed)) (emptyInSimple-agrees t b)
   empty-agrees (Context.inComplexType b) =
-      agree-then _ (λ c a h. changed-empty byStandard t r refl h) (emptyInComplex-agrees (b .name) (b .nestingDepth) (b .nestingDepth) t (b .content))
+      agree-then _ (λ c a h. changed-empty byStandard t r refl h) (emptyInComplex-agrees (b .event) (b .name) (b .nestingDepth) (b .nestingDepth) t (b .content))

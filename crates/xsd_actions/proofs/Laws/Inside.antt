@@ -17,10 +17,10 @@ use Rattle.xsd_actions.specs.Decided.{typed, named, baseSet, occursAdded
 use Rattle.xsd_actions.proofs.Laws.Agree.{Agree, values, if-both, agree-if, agree-step}
 use Rattle.xsd_actions.proofs.Laws.Contents.{Content, content-keep, content-replaced, content-based, element-more, variant-more, attribute-more}
 
-module _ (name : Text) (d d′ : ℕ) where
+module _ (event : ℕ) (name : Text) (d d′ : ℕ) where
   -- an element inside
   pub occurs-agrees : (t : Tag) (n ty : Option Text) (es : List SequenceElement)
-      → Agree (Content name d d′ (ComplexContentBuilder.sequence es)) (sequenceElement t n ty es) (occursAdded t n ty)
+      → Agree (Content event name d d′ (ComplexContentBuilder.sequence es)) (sequenceElement t n ty es) (occursAdded t n ty)
   unfolding sequenceElement occursAdded elementRow
   occurs-agrees t none ty es = values (content-keep _)
   occurs-agrees t (some n) none es = values (content-keep _)
@@ -30,13 +30,13 @@ module _ (name : Text) (d d′ : ℕ) where
       values (element-more es (record { name = n; typeName = ty; minOccurs = min; maxOccurs = max }))
 
   pub variant-agrees : (n ty : Option Text) (vs : List ChoiceVariant)
-      → Content name d d′ (ComplexContentBuilder.choice vs) (choiceVariant n ty vs) (typed n ty (λ name typeName. variantRow (record { name = name; typeName = typeName })))
+      → Content event name d d′ (ComplexContentBuilder.choice vs) (choiceVariant n ty vs) (typed n ty (λ name typeName. variantRow (record { name = name; typeName = typeName })))
   unfolding choiceVariant typed
   variant-agrees none ty vs = content-keep _
   variant-agrees (some n) none vs = content-keep _
   variant-agrees (some n) (some ty) vs = variant-more vs (record { name = n; typeName = ty })
 
-  pub elementInside-agrees : (t : Tag) (c : ComplexContentBuilder) → Agree (Content name d d′ c) (onElementInsideComplex t c) (elementInside t (contentTag c))
+  pub elementInside-agrees : (t : Tag) (c : ComplexContentBuilder) → Agree (Content event name d d′ c) (onElementInsideComplex t c) (elementInside t (contentTag c))
   unfolding onElementInsideComplex elementInside contentTag named
   elementInside-agrees t ComplexContentBuilder.empty = values (content-keep _)
   elementInside-agrees t (ComplexContentBuilder.sequence es) = occurs-agrees t (attrValue t "name") (attrValue t "type") es
@@ -46,7 +46,7 @@ module _ (name : Text) (d d′ : ℕ) where
 
   -- an attribute inside
   pub attribute-agrees : (t : Tag) (n ty : Option Text) (base : Text) (xs : List Attribute)
-      → Content name d d′ (ComplexContentBuilder.simpleContent base xs true) (ComplexContentBuilder.simpleContent base (attributeAdded t n ty xs) true)
+      → Content event name d d′ (ComplexContentBuilder.simpleContent base xs true) (ComplexContentBuilder.simpleContent base (attributeAdded t n ty xs) true)
       (typed n ty (λ name typeName. attributeRow (record { name = name; typeName = typeName; required = isRequired (attrValue t "use") })))
   unfolding attributeAdded typed
   attribute-agrees t none ty base xs = content-keep _
@@ -54,7 +54,7 @@ module _ (name : Text) (d d′ : ℕ) where
   attribute-agrees t (some n) (some ty) base xs =
       attribute-more base xs (record { name = n; typeName = ty; required = isRequired (attrValue t "use") })
 
-  pub attributeInside-agrees : (t : Tag) (c : ComplexContentBuilder) → Content name d d′ c (onAttributeInsideComplex t c) (attributeInside t (eqb (contentFlag c) 1))
+  pub attributeInside-agrees : (t : Tag) (c : ComplexContentBuilder) → Content event name d d′ c (onAttributeInsideComplex t c) (attributeInside t (eqb (contentFlag c) 1))
   unfolding onAttributeInsideComplex attributeInside contentFlag bit named
   attributeInside-agrees t ComplexContentBuilder.empty = content-keep _
   attributeInside-agrees t (ComplexContentBuilder.sequence es) = content-keep _
@@ -63,7 +63,7 @@ module _ (name : Text) (d d′ : ℕ) where
   attributeInside-agrees t (ComplexContentBuilder.simpleContent base xs true) = attribute-agrees t (attrValue t "name") (attrValue t "type") base xs
   attributeInside-agrees t (ComplexContentBuilder.any n) = content-keep _
 
-  pub extension-agrees : (t : Tag) (c : ComplexContentBuilder) → Content name d d′ c (onExtension t c) (extended t (contentTag c))
+  pub extension-agrees : (t : Tag) (c : ComplexContentBuilder) → Content event name d d′ c (onExtension t c) (extended t (contentTag c))
   unfolding onExtension extended contentTag baseSet
   extension-agrees t ComplexContentBuilder.empty = content-keep _
   extension-agrees t (ComplexContentBuilder.sequence es) = content-keep _
@@ -72,26 +72,26 @@ module _ (name : Text) (d d′ : ℕ) where
   extension-agrees t (ComplexContentBuilder.any n) = content-keep _
 
   -- the content replaced
-  pub contentStart-agrees : (t : Tag) (c : ComplexContentBuilder) → Content name d d′ c (contentStarted t c) (contentStart t)
+  pub contentStart-agrees : (t : Tag) (c : ComplexContentBuilder) → Content event name d d′ c (contentStarted t c) (contentStart t)
   unfolding contentStarted contentStart contentFlag bit complexTypeRows
   contentStart-agrees t c =
-      if-both (Content name d d′ c) (tagIs t "sequence") (content-replaced c _ 12 [] 0 refl refl)
-      (if-both (Content name d d′ c) (tagIs t "choice") (content-replaced c _ 13 [] 0 refl refl)
-      (if-both (Content name d d′ c) (tagIs t "simpleContent") (content-replaced c _ 14 ([] ∷ []) 0 refl refl) (content-keep c)))
+      if-both (Content event name d d′ c) (tagIs t "sequence") (content-replaced c _ 12 [] 0 refl refl)
+      (if-both (Content event name d d′ c) (tagIs t "choice") (content-replaced c _ 13 [] 0 refl refl)
+      (if-both (Content event name d d′ c) (tagIs t "simpleContent") (content-replaced c _ 14 ([] ∷ []) 0 refl refl) (content-keep c)))
 
-  pub any-agrees : (c : ComplexContentBuilder) (n : Option Text) → Content name d d′ c (ComplexContentBuilder.any n) (anyContent n)
+  pub any-agrees : (c : ComplexContentBuilder) (n : Option Text) → Content event name d d′ c (ComplexContentBuilder.any n) (anyContent n)
   unfolding anyContent contentFlag complexTypeRows
   any-agrees c none = content-replaced c (ComplexContentBuilder.any none) 15 [] 0 refl refl
   any-agrees c (some n) = content-replaced c (ComplexContentBuilder.any (some n)) 15 (n ∷ []) 1 refl refl
 
   -- a start, and an empty tag, in a complex type
-  pub startAtTwo-agrees : (t : Tag) (c : ComplexContentBuilder) → Agree (Content name d d′ c) (contentAtTwo t c) (startAtTwo t (contentTag c))
+  pub startAtTwo-agrees : (t : Tag) (c : ComplexContentBuilder) → Agree (Content event name d d′ c) (contentAtTwo t c) (startAtTwo t (contentTag c))
   unfolding contentAtTwo startAtTwo
   startAtTwo-agrees t c =
       agree-if (tagIs t "extension") (values (extension-agrees t c)) (agree-if (tagIs t "element") (elementInside-agrees t c) (values (content-keep c)))
 
   pub startInComplex-agrees : (t : Tag) (b : ComplexTypeBuilder)
-      → Agree (Content name d d′ (b .content)) (onStartInComplexType t b) (startInComplexType t (b .nestingDepth) (contentTag (b .content)))
+      → Agree (Content event name d d′ (b .content)) (onStartInComplexType t b) (startInComplexType t (b .nestingDepth) (contentTag (b .content)))
   unfolding onStartInComplexType startInComplexType
   startInComplex-agrees t b =
       let c = b .content in
@@ -99,7 +99,7 @@ module _ (name : Text) (d d′ : ℕ) where
       (agree-if (eqb (b .nestingDepth) 2) (startAtTwo-agrees t c) (values (content-keep c)))
 
   pub emptyInComplex-agrees : (t : Tag) (c : ComplexContentBuilder)
-      → Agree (Content name d d′ c) (onEmptyInComplexType t c) (emptyInComplexType t (eqb (contentFlag c) 1) (contentTag c))
+      → Agree (Content event name d d′ c) (onEmptyInComplexType t c) (emptyInComplexType t (eqb (contentFlag c) 1) (contentTag c))
   unfolding onEmptyInComplexType emptyInComplexType
   emptyInComplex-agrees t c =
       agree-if (tagIs t "element") (elementInside-agrees t c)

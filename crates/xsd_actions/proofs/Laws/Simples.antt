@@ -9,7 +9,7 @@ use Rattle.text.specs.Text.{Text}
 use Rattle.number.specs.Number.{number}
 use Rattle.xsd_types.specs.Types.{Facet}
 use Rattle.xsd_types.specs.State.{SimpleTypeBuilder, Context}
-use Rattle.xsd_types.specs.Rows.{headC, facetRow, simpleTypeRows, contextRows, contextNumber, nesting, extensionFlag}
+use Rattle.xsd_types.specs.Rows.{facetRow, simpleTypeRows, contextRows, contextNumber, nesting, extensionFlag}
 use Rattle.xsd_parser.specs.Event.{Tag, tagIs, attrValue, orEmpty}
 use Rattle.xsd_parser.specs.Handlers.{withBase, withFacet, raisedSimple, onStartInSimpleType, facetValue, onEmptyInSimpleType, onParsed}
 use Rattle.xsd_actions.specs.Actions.{Action}
@@ -22,15 +22,15 @@ pub record Simple (b : SimpleTypeBuilder) (d : ℕ) (b′ : SimpleTypeBuilder) (
   pub changed : Changed (Context.inSimpleType b) a (Context.inSimpleType b′)
 
 module _ (b : SimpleTypeBuilder) (d : ℕ) where
-  pub simple-keep : Simple b d (record { name = b .name; base = b .base; facets = b .facets; nestingDepth = d }) Action.keep
+  pub simple-keep : Simple b d (record { name = b .name; base = b .base; facets = b .facets; nestingDepth = d; event = b .event }) Action.keep
   unfolding contextNumber extensionFlag contextRows
   simple-keep = record { nesting = refl; changed = changed-keep refl refl refl }
 
-  pub simple-base : (v : Text) → Simple b d (record { name = b .name; base = v; facets = b .facets; nestingDepth = d }) (Action.base v)
+  pub simple-base : (v : Text) → Simple b d (record { name = b .name; base = v; facets = b .facets; nestingDepth = d; event = b .event }) (Action.base v)
   unfolding contextNumber extensionFlag contextRows simpleTypeRows
-  simple-base v = record { nesting = refl; changed = changed-base 3 (b .name) (b .base) v 0 0 headC (map facetRow (b .facets)) refl refl refl refl }
+  simple-base v = record { nesting = refl; changed = changed-base 3 (b .name) (b .base) v 0 0 (b .event) (map facetRow (b .facets)) refl refl refl refl }
 
-  pub simple-facet : (f : Facet) → Simple b d (record { name = b .name; base = b .base; facets = b .facets ++ f ∷ []; nestingDepth = d }) (facetAdded f)
+  pub simple-facet : (f : Facet) → Simple b d (record { name = b .name; base = b .base; facets = b .facets ++ f ∷ []; nestingDepth = d; event = b .event }) (facetAdded f)
   unfolding contextNumber extensionFlag contextRows simpleTypeRows facetAdded
   simple-facet f = record { nesting = refl; changed = changed-add refl refl (facetRow f) (rows-more _ facetRow (b .facets) f) }
 

@@ -9,7 +9,7 @@ use Rattle.text.specs.Text.{Text}
 use Rattle.sheet.specs.Rows.{Row, row}
 use Rattle.xsd_types.specs.Types.{Item}
 use Rattle.xsd_types.specs.State.{Context, Reader}
-use Rattle.xsd_types.specs.Rows.{headC, simpleTypeRows, complexTypeRows, itemRows, itemsRows, contextRows, contextNumber, nesting, contentFlag, extensionFlag}
+use Rattle.xsd_types.specs.Rows.{simpleTypeRows, complexTypeRows, itemRows, itemsRows, contextRows, contextNumber, nesting, contentFlag, extensionFlag}
 use Rattle.xsd_parser.specs.Event.{Tag, Event, attrValue, orEmpty}
 use Rattle.xsd_parser.specs.Handlers.{inContext, withItem, foundRoot, keptElement, onTopLevelElement, openSimpleType, openComplexType, belowSchema}
 use Rattle.xsd_parser.proofs.Laws.CloseRoom.{items-one-more}
@@ -52,16 +52,16 @@ module _ (byStandard : Bool) (e : Event) (r : Reader) (m : ℕ) (next : Reader �
   added-acted i new h q = rw (is (withItem i r)) (element-acted i new h q)
 
   module _ (k : Acted byStandard e (top 0 r) Action.keep (next (top 0 r))) (h : (new : Row) → modeOf (top m r) ≡ modeAfter byStandard e (Action.add new) (modeOf (top 0 r))) where
-    pub kept-acted : (n ty : Option Text)
-        → Acted byStandard e (top 0 r) (typed n ty (λ name typeName. row 2 (name ∷ typeName ∷ []) 0 0 headC)) (next (keptElement n ty (top 0 r)))
+    pub kept-acted : (event : ℕ) (n ty : Option Text)
+        → Acted byStandard e (top 0 r) (typed n ty (λ name typeName. row 2 (name ∷ typeName ∷ []) 0 0 event)) (next (keptElement event n ty (top 0 r)))
     unfolding typed keptElement itemRows
-    kept-acted none ty = k
-    kept-acted (some n) none = k
-    kept-acted (some n) (some ty) = added-acted (Item.element (record { name = n; typeName = ty })) _ (h _) refl
+    kept-acted event none ty = k
+    kept-acted event (some n) none = k
+    kept-acted event (some n) (some ty) = added-acted (Item.element (record { name = n; typeName = ty; event = event })) _ (h _) refl
 
-    pub top-acted : (t : Tag) → Acted byStandard e (top 0 r) (topElement t) (next (onTopLevelElement t (top 0 r)))
+    pub top-acted : (event : ℕ) (t : Tag) → Acted byStandard e (top 0 r) (topElement event t) (next (onTopLevelElement event t (top 0 r)))
     unfolding topElement named onTopLevelElement
-    top-acted t = kept-acted (attrValue t "name") (attrValue t "type")
+    top-acted event t = kept-acted event (attrValue t "name") (attrValue t "type")
 
 -- order 3: the nesting below the schema after a start that opens no type
 unfoldable pub depthBelow : Bool → ℕ → ℕ
@@ -102,10 +102,10 @@ module _ (byStandard : Bool) (t : Tag) (r : Reader) where
   root-empty = record { mode = refl; namespace = refl; rows = refl; items = λ h. refl; fitting = tt }
 
   -- a type opened
-  pub simple-opened : (name : Text) → Acted byStandard (Event.start t) (top 0 r) (Action.openSimple name) (inContext (openSimpleType name) (top 0 r))
+  pub simple-opened : (m : ℕ) (name : Text) → Acted byStandard (Event.start t) (top 0 r) (Action.openSimple m name) (inContext (openSimpleType m name) (top 0 r))
   unfolding inContext openSimpleType openSimpleRow modeOf modeAfter tagMode raises opensType contextAfter rootAfter flagAfter behind contextRows simpleTypeRows contextNumber nesting extensionFlag namespaceAfter rowsAfter Fitting
-  simple-opened name = record { mode = refl; namespace = refl; rows = row-behind (itemsRows (r .schema .items)) (openSimpleRow name); items = λ h. refl; fitting = tt }
+  simple-opened m name = record { mode = refl; namespace = refl; rows = row-behind (itemsRows (r .schema .items)) (openSimpleRow m name); items = λ h. refl; fitting = tt }
 
-  pub complex-opened : (name : Text) → Acted byStandard (Event.start t) (top 0 r) (Action.openComplex name) (inContext (openComplexType name) (top 0 r))
+  pub complex-opened : (m : ℕ) (name : Text) → Acted byStandard (Event.start t) (top 0 r) (Action.openComplex m name) (inContext (openComplexType m name) (top 0 r))
   unfolding inContext openComplexType openComplexRow modeOf modeAfter tagMode raises opensType contextAfter rootAfter flagAfter behind contextRows complexTypeRows contextNumber nesting extensionFlag contentFlag namespaceAfter rowsAfter Fitting
-  complex-opened name = record { mode = refl; namespace = refl; rows = row-behind (itemsRows (r .schema .items)) (openComplexRow name); items = λ h. refl; fitting = tt }
+  complex-opened m name = record { mode = refl; namespace = refl; rows = row-behind (itemsRows (r .schema .items)) (openComplexRow m name); items = λ h. refl; fitting = tt }

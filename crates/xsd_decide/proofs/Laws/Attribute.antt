@@ -14,6 +14,6 @@ pub attribute-off : (t : Tag) {flag : Bool} → flag ≡ false → attributeInsi
 unfolding attributeInside
 attribute-off t e = rw e
 
-pub attribute-on : (t : Tag) {flag required : Bool} → flag ≡ true → isRequired (attrValue t "use") ≡ required → attributeInside t flag ≡ named t (typedRow 20 (bit required) 0)
+pub attribute-on : (t : Tag) {flag required : Bool} → flag ≡ true → isRequired (attrValue t "use") ≡ required → attributeInside t flag ≡ named t (typedRow 20 (bit required) 0 0)
 unfolding attributeInside attributeRow typedRow
 attribute-on t e h = rw e (ap (λ (b : Bool). named t (λ n v. row 20 (n ∷ v ∷ []) (bit b) 0 0)) h)

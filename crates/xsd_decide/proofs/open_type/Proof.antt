@@ -21,7 +21,7 @@ returns c =
     let called = c .before .before in
     let a = called .before .before .before .before .args in
     let t = recordTag (a .text .now) (a .marks .now) (a .t) in
-    sym (requireName-none t (openedAs (a .simple)) (attrValue-none (a .text .now) (a .marks .now) t "name" (called .attribute .ensures) (c .enum-told .given .1)))
+    sym (requireName-none t (openedAs (a .event) (a .simple)) (attrValue-none (a .text .now) (a .marks .now) t "name" (called .attribute .ensures) (c .enum-told .given .1)))
 
 returns-2 : tie.Need-returns-2
 unfolding bytes decision openedAs
@@ -29,8 +29,8 @@ returns-2 c =
     let called = c .before .before .before .before in
     let a = called .before .before .before .before .args in
     let t = recordTag (a .text .now) (a .marks .now) (a .t) in
-    let name = attrValue-at (a .text .now) (a .marks .now) t "name" (called .attribute .ensures) (c .before .before .i .given .1) in
-    sym (requireName-some t (openedAs (a .simple)) name ∙ ap (λ b. ok (openedAs b (textAtMark (a .text .now) (a .marks .now) (c .before .before .i .given .0 .0)))) (c .if1 .taken))
+    let name = attrValue-at (a .text .now) (a .marks .now) t "name" (called .attribute .ensures) (c .before .before .name .given .1) in
+    sym (requireName-some t (openedAs (a .event) (a .simple)) name ∙ ap (λ b. ok (openedAs (a .event) b (textAtMark (a .text .now) (a .marks .now) (c .before .before .name .given .0 .0)))) (c .if1 .taken))
 
 returns-3 : tie.Need-returns-3
 unfolding bytes decision openedAs
@@ -38,8 +38,8 @@ returns-3 c =
     let called = c .before .before .before .before in
     let a = called .before .before .before .before .args in
     let t = recordTag (a .text .now) (a .marks .now) (a .t) in
-    let name = attrValue-at (a .text .now) (a .marks .now) t "name" (called .attribute .ensures) (c .before .before .i .given .1) in
-    sym (requireName-some t (openedAs (a .simple)) name ∙ ap (λ b. ok (openedAs b (textAtMark (a .text .now) (a .marks .now) (c .before .before .i .given .0 .0)))) (c .if1 .left))
+    let name = attrValue-at (a .text .now) (a .marks .now) t "name" (called .attribute .ensures) (c .before .before .name .given .1) in
+    sym (requireName-some t (openedAs (a .event) (a .simple)) name ∙ ap (λ b. ok (openedAs (a .event) b (textAtMark (a .text .now) (a .marks .now) (c .before .before .name .given .0 .0)))) (c .if1 .left))
 
 pub open-type-spec : {M : Type 1} → statement M
 open-type-spec =

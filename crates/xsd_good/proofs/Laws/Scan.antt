@@ -2,11 +2,11 @@
 -- A row whose pairs end behind the limit fails at once, since the ends only grow and the last one must be the limit.
 -- Assumes nothing.
 use mathlib.Core.Path.{_≡_, refl, sym, ap, _∙_}
-use mathlib.Core.Bool.{Bool, true, false, _&&_, _||_, false≢true, and-assoc, and-false}
+use mathlib.Core.Bool.{Bool, true, false, _&&_, _||_, false≢true, and-assoc, and-false, and-true as and-nothing}
 use mathlib.Core.List.{List, [], _∷_, map}
 use Prim.Native.Nat.{ℕ, _+_, _-_, _≤_, _<_}
 use native.Mathlib.Omega.{arith}
-use lib.Dec.{eqb, leb}
+use lib.Dec.{eqb, leb, ltb}
 use lib.ListN.{length, take, drop}
 use borrow.Author.Needs.{zero≤}
 use borrow.Author.Tests.{leb-true, le-leb, eqb-true}
@@ -14,7 +14,8 @@ use Rattle.text.specs.Text.{if_then_else_, every, between}
 use Rattle.text.proofs.Laws.Tests.{and-true-left, and-true-right, if-in}
 use Rattle.sheet.specs.Rows.{Ten, ten, tens}
 use Rattle.sheet.specs.Form.{rowCovers, endOf, covers, covered}
-use Rattle.xsd_types.specs.Good.{usedPairs, tenForm, mayFollow, isHead, isChild, headAfter, inOrder, lastHead, rowsForm, namesForm, headOf}
+use Rattle.xsd_types.specs.Good.{usedPairs, tenForm, mayFollow, isHead, isChild, headAfter, inOrder, lastHead, rowsForm, namesForm, headOf, eventsTest}
+use Rattle.xsd_types.specs.State.{eventNumberOk}
 use Rattle.xsd_good.specs.declared.scan.Scan.{Scan}
 use Rattle.xsd_good.specs.Scan.{failed, firstPasses, firstRow, nextPasses, nextRow, scanned, scannedSheet}
 use Rattle.text.proofs.Laws.Table.{part-from}
@@ -121,6 +122,16 @@ sheet-ends limit p (t ∷ ts) =
 pub scan-step : (limit : ℕ) (s : Scan) (left at : ℕ) (rows : List ℕ) (t : Ten) → 0 < left → t ≡ ten (drop at rows) → scanned limit (nextRow limit s t) (tens (left - 1) (drop (at + 10) rows)) ≡ scanned limit s (tens left (drop at rows))
 unfolding scanned
 scan-step limit s left at rows t h e = rw (tens-more left at rows h, e)
+
+-- the same of the pass that looks at c
+pub events-step : (events left at : ℕ) (rows : List ℕ) (t : Ten) (ok : Bool) → 0 < left → t ≡ ten (drop at rows)
+    → (ok && (eqb (t .c) 0 || ltb (t .c) events)) && eventsTest events (tens (left - 1) (drop (at + 10) rows)) ≡ ok && eventsTest events (tens left (drop at rows))
+unfolding eventsTest every eventNumberOk
+events-step events left at rows t ok h e = rw (tens-more left at rows h, e) (and-assoc ok _ _)
+
+pub events-stop : (events left : ℕ) (rows : List ℕ) (ok : Bool) → left ≤ 0 → ok ≡ ok && eventsTest events (tens left rows)
+unfolding eventsTest every
+events-stop events left rows ok h = rw (tens-none left rows h) (sym (and-nothing ok))
 
 pub scan-stops : (limit : ℕ) (s : Scan) (left : ℕ) (rows : List ℕ) → left ≤ 0 → s ≡ scanned limit s (tens left rows)
 unfolding scanned

@@ -44,14 +44,20 @@ zeros-behind-requires c κs =
 names-test-requires : tie.Need-names-test-requires
 names-test-requires c κs = inside (c .before .before .before .before .before .before .before) .2
 
+events-test-requires : tie.Need-events-test-requires
+events-test-requires c κs =
+    let h = inside (c .before .before .before .before .before .before .before .before .before .before .before .before .before) in
+    (h .0, h .1)
+
 returns-3 : tie.Need-returns-3
 returns-3 c =
-    let r = c .before .before .before .before .before in
+    let d = c .before in
+    let r = d .before .before .before .before .before in
     let q = r .before .before .before .before .before in
     let p = q .before .before .before in
     let a = p .before .before .before .before .before .before .args in
     let z = asRow0 (p .before .before .row0-at .result) in
-    good-tests (a .rows .now) (a .names .now) z (q .before .scan-sheet .result) (q .row0-form .ensures) (r .before .before .before .wide .ensures) (r .before .zeros-behind .ensures) (r .names-test .ensures) (c .before .before .before .before .limits .ensures) (c .before .before .before .root-test .ensures) (c .before .before .nesting-test .ensures) (c .before .context-test .ensures) (c .extension-test .ensures) (p .before .before .row0-at .ensures) (fits p) (q .before .scan-sheet .ensures)
+    good-tests (a .rows .now) (a .names .now) z (q .before .scan-sheet .result) (q .row0-form .ensures) (r .before .before .before .wide .ensures) (r .before .zeros-behind .ensures) (r .names-test .ensures) (d .before .before .before .before .limits .ensures) (d .before .before .before .root-test .ensures) (d .before .before .nesting-test .ensures) (d .before .context-test .ensures) (d .extension-test .ensures) (c .events-test .ensures) (p .before .before .row0-at .ensures) (fits p) (q .before .scan-sheet .ensures)
 
 pub is-good-spec : {M : Type 1} → statement M
 is-good-spec =
@@ -72,4 +78,5 @@ is-good-spec =
     (λ c κs. search needs)
     (λ c κs. search needs)
     (λ c κs. search needs)
+    events-test-requires
     returns-3)

@@ -109,7 +109,7 @@ pub fn row_form(tag: u32, a: u32, b: u32, c: u32) -> bool
     ensures { λ r. ⌜ r ≡ rowForm tag a b c ⌝ }
 {
     in_range(tags::ELEMENT, tags::ATTRIBUTE, tag)
-        & (c == 0)
+        & (is_head(tag) | (c == 0))
         & ((b == 0)
             | in_range(tags::MIN_LENGTH, tags::MAX_LENGTH, tag)
             | (tag == tags::BOUND_ELEMENT))

@@ -46,17 +46,17 @@ same-heads hs gs e = rw e (sym (append-nil hs))
 pub item-head : (is : List Item) (i : Item) → map itemHead (is ++ i ∷ []) ≡ map itemHead is ++ (itemHead i ∷ [])
 item-head is i = map-append itemHead is (i ∷ [])
 
-pub kept-head : (name typeName : Option Text) (r : Reader) → map itemHead (keptElement name typeName r .schema .items) ≡ map itemHead (r .schema .items) ++ elementHead name typeName
+pub kept-head : (m : ℕ) (name typeName : Option Text) (r : Reader) → map itemHead (keptElement m name typeName r .schema .items) ≡ map itemHead (r .schema .items) ++ elementHead name typeName
 unfolding keptElement elementHead withItem itemHead
-kept-head none typeName r = sym (append-nil (map itemHead (r .schema .items)))
-kept-head (some name) none r = sym (append-nil (map itemHead (r .schema .items)))
-kept-head (some name) (some typeName) r = item-head (r .schema .items) (Item.element (record { name = name; typeName = typeName }))
+kept-head m none typeName r = sym (append-nil (map itemHead (r .schema .items)))
+kept-head m (some name) none r = sym (append-nil (map itemHead (r .schema .items)))
+kept-head m (some name) (some typeName) r = item-head (r .schema .items) (Item.element (record { name = name; typeName = typeName; event = m }))
 
-pub kept-context : (name typeName : Option Text) (r : Reader) → keptElement name typeName r .context ≡ r .context
+pub kept-context : (m : ℕ) (name typeName : Option Text) (r : Reader) → keptElement m name typeName r .context ≡ r .context
 unfolding keptElement withItem
-kept-context none typeName r = refl
-kept-context (some name) none r = refl
-kept-context (some name) (some typeName) r = refl
+kept-context m none typeName r = refl
+kept-context m (some name) none r = refl
+kept-context m (some name) (some typeName) r = refl
 
 -- whatever an outcome is
 pub gives-any : {A : Type 0} (o : Outcome A) → Gives Any Any o
@@ -67,7 +67,7 @@ gives-any (refuse r) = refusal tt
 abbrev pub at : Schema → Bool → Context → Reader
 at s seen x = record { schema = s; rootSeen = seen; context = x }
 
-module _ (s : Schema) (seen : Bool) where
+module _ (m : ℕ) (s : Schema) (seen : Bool) where
   -- ---- a start
 
   pub startOutside-walked : (t : Tag) → Walked (Event.start t) (at s seen Context.noContext) (if tagIs t "schema" then inContext (Context.inSchema 0) (foundRoot t (at s seen Context.noContext)) else at s seen Context.noContext)
@@ -78,7 +78,7 @@ module _ (s : Schema) (seen : Bool) where
       (λ e. record { depth = rw e; headsAre = same-heads _ [] refl })
       (λ e. record { depth = rw e; headsAre = same-heads _ [] refl })
 
-  pub child-walked : (t : Tag) → Gives (Walked (Event.start t) (at s seen (Context.inSchema 0))) Any (onDirectChild true t (at s seen (Context.inSchema 0)))
+  pub child-walked : (t : Tag) → Gives (Walked (Event.start t) (at s seen (Context.inSchema 0))) Any (onDirectChild true m t (at s seen (Context.inSchema 0)))
   unfolding onDirectChild inContext openSimpleType openComplexType belowSchema onTopLevelElement depthAfter headAt childHead namedHead heads openHead
   child-walked t =
       let r = at s seen (Context.inSchema 0) in
@@ -88,10 +88,10 @@ module _ (s : Schema) (seen : Bool) where
       (λ e. if-cases P (tagIs t "complexType")
       (λ f. gives-name t _ (λ v q. record { depth = refl; headsAre = rw (e, f, q) (rw (append-nil (map itemHead (s .items)))) }) tt)
       (λ f. if-cases P (tagIs t "element")
-      (λ g. value (record { depth = refl; headsAre = rw (e, f, g) (rw (append-nil (map itemHead (s .items)), kept-head (attrValue t "name") (attrValue t "type") r) (append-nil _)) }))
+      (λ g. value (record { depth = refl; headsAre = rw (e, f, g) (rw (append-nil (map itemHead (s .items)), kept-head m (attrValue t "name") (attrValue t "type") r) (append-nil _)) }))
       (λ g. value (record { depth = refl; headsAre = rw (e, f, g) (same-heads _ [] refl) }))))
 
-  pub startInSchema-walked : (t : Tag) (n : ℕ) → Gives (Walked (Event.start t) (at s seen (Context.inSchema n))) Any (onStartInSchema true t n (at s seen (Context.inSchema n)))
+  pub startInSchema-walked : (t : Tag) (n : ℕ) → Gives (Walked (Event.start t) (at s seen (Context.inSchema n))) Any (onStartInSchema true m t n (at s seen (Context.inSchema n)))
   unfolding onStartInSchema belowSchema inContext depthAfter heads openHead
   startInSchema-walked t zero = child-walked t
   startInSchema-walked t (suc n) = rw (eqb·suc-zero n) (value (record { depth = refl; headsAre = same-heads _ _ (deeper-none n (Event.start t)) }))
@@ -106,13 +106,13 @@ module _ (s : Schema) (seen : Bool) where
       let k = started-simple t (raisedSimple b) in
       record { depth = ap (λ n. suc (suc n)) (k .0); headsAre = rw (k .1) (same-heads _ _ (deeper-none (b .nestingDepth) (Event.start t))) }
 
-  pub startInComplex-walked : (t : Tag) (b : ComplexTypeBuilder) → Gives (Walked (Event.start t) (at s seen (Context.inComplexType b))) Any (onStart true t (at s seen (Context.inComplexType b)) (Context.inComplexType b))
+  pub startInComplex-walked : (t : Tag) (b : ComplexTypeBuilder) → Gives (Walked (Event.start t) (at s seen (Context.inComplexType b))) Any (onStart true m t (at s seen (Context.inComplexType b)) (Context.inComplexType b))
   unfolding onStart inContext raisedComplex withContent depthAfter heads openHead
   startInComplex-walked t b =
       gives-andThen (gives-any (onStartInComplexType t (raisedComplex b))) λ content q.
       value (record { depth = refl; headsAre = same-heads _ _ (deeper-none (b .nestingDepth) (Event.start t)) })
 
-  pub start-walked : (t : Tag) (x : Context) → Gives (Walked (Event.start t) (at s seen x)) Any (onStart true t (at s seen x) x)
+  pub start-walked : (t : Tag) (x : Context) → Gives (Walked (Event.start t) (at s seen x)) Any (onStart true m t (at s seen x) x)
   unfolding onStart inContext
   start-walked t Context.noContext = value (startOutside-walked t)
   start-walked t (Context.inSchema n) = startInSchema-walked t n
@@ -121,12 +121,12 @@ module _ (s : Schema) (seen : Bool) where
 
   -- ---- an empty tag
 
-  pub emptyInSchema-walked : (t : Tag) (n : ℕ) → Walked (Event.empty t) (at s seen (Context.inSchema n)) (if eqb n 0 && tagIs t "element" then onTopLevelElement t (at s seen (Context.inSchema n)) else at s seen (Context.inSchema n))
+  pub emptyInSchema-walked : (t : Tag) (n : ℕ) → Walked (Event.empty t) (at s seen (Context.inSchema n)) (if eqb n 0 && tagIs t "element" then onTopLevelElement m t (at s seen (Context.inSchema n)) else at s seen (Context.inSchema n))
   unfolding onTopLevelElement depthAfter headAt childHead heads openHead
   emptyInSchema-walked t zero =
       let r = at s seen (Context.inSchema 0) in
       if-cases (Walked (Event.empty t) r) (tagIs t "element")
-      (λ e. record { depth = ap depthIn (kept-context (attrValue t "name") (attrValue t "type") r); headsAre = rw (e, kept-context (attrValue t "name") (attrValue t "type") r) (rw (append-nil (map itemHead (s .items)), kept-head (attrValue t "name") (attrValue t "type") r) (append-nil _)) })
+      (λ e. record { depth = ap depthIn (kept-context m (attrValue t "name") (attrValue t "type") r); headsAre = rw (e, kept-context m (attrValue t "name") (attrValue t "type") r) (rw (append-nil (map itemHead (s .items)), kept-head m (attrValue t "name") (attrValue t "type") r) (append-nil _)) })
       (λ e. record { depth = refl; headsAre = rw e (same-heads _ [] refl) })
   emptyInSchema-walked t (suc n) = rw (eqb·suc-zero n) (record { depth = refl; headsAre = same-heads _ _ (deeper-none n (Event.empty t)) })
 
@@ -152,7 +152,7 @@ module _ (s : Schema) (seen : Bool) where
       (gives-if (tagIs t "totalDigits") (numberFacet-alike b 32 v Facet.totalDigits)
       (gives-if (tagIs t "fractionDigits") (numberFacet-alike b 32 v Facet.fractionDigits) (value (refl, refl))))))))))
 
-  pub empty-walked : (t : Tag) (x : Context) → Gives (Walked (Event.empty t) (at s seen x)) Any (onEmpty t (at s seen x) x)
+  pub empty-walked : (t : Tag) (x : Context) → Gives (Walked (Event.empty t) (at s seen x)) Any (onEmpty m t (at s seen x) x)
   unfolding onEmpty inContext foundRoot withContent depthAfter headAt heads openHead
   empty-walked t Context.noContext =
       value (if-either (Walked (Event.empty t) (at s seen Context.noContext)) (tagIs t "schema")
@@ -172,7 +172,7 @@ module _ (s : Schema) (seen : Bool) where
   closeSimple-walked b zero q =
       record {
         depth = ap suc (sym q);
-        headsAre = rw (close-none (suc (suc (b .nestingDepth))), item-head (s .items) (Item.simpleType (record { name = b .name; base = b .base; facets = b .facets }))) refl;
+        headsAre = rw (close-none (suc (suc (b .nestingDepth))), item-head (s .items) (Item.simpleType (record { name = b .name; base = b .base; facets = b .facets; event = b .event }))) refl;
       }
   closeSimple-walked b (suc d) q = record { depth = ap suc (sym q); headsAre = same-heads _ _ (close-none (suc (suc (b .nestingDepth)))) }
 
@@ -198,8 +198,8 @@ module _ (s : Schema) (seen : Bool) where
   close-walked (Context.inComplexType b) = closeComplex-walked b (b .nestingDepth) refl
 
 -- with choice 1 each event that the handlers take is the walk's
-pub handled-walked : (e : Event) (r : Reader) → Gives (Walked e r) Any (handled true e r)
+pub handled-walked : (m : ℕ) (e : Event) (r : Reader) → Gives (Walked e r) Any (handled true m e r)
 unfolding handled
-handled-walked (Event.start t) r = start-walked (r .schema) (r .rootSeen) t (r .context)
-handled-walked (Event.empty t) r = empty-walked (r .schema) (r .rootSeen) t (r .context)
-handled-walked Event.close r = value (close-walked (r .schema) (r .rootSeen) (r .context))
+handled-walked m (Event.start t) r = start-walked m (r .schema) (r .rootSeen) t (r .context)
+handled-walked m (Event.empty t) r = empty-walked m (r .schema) (r .rootSeen) t (r .context)
+handled-walked m Event.close r = value (close-walked m (r .schema) (r .rootSeen) (r .context))

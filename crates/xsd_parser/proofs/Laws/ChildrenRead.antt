@@ -27,7 +27,7 @@ unfolding counted
 step-choice lent s e s′ h = sym (ap (λ x. x .byStandard) (step-parts lent s e s′ h .state))
 
 pub step-walked : (lent : Lengths) (s : State) (e : Event) (s′ : State) → s .byStandard ≡ true → step lent s e ≡ ok s′ → Walked e (s .reader) (s′ .reader)
-step-walked lent s e s′ b h = gives-value (handled-walked e (s .reader)) (rw b at (step-reader lent s e s′ h))
+step-walked lent s e s′ b h = gives-value (handled-walked (s .events) e (s .reader)) (rw b at (step-reader lent s e s′ h))
 
 pub accepted-heads : {lent : Lengths} {s s₁ : State} {js : List Judged} → s .byStandard ≡ true → Accepted lent s js s₁
     → heads (s₁ .reader) ≡ heads (s .reader) ++ childrenFrom (depthIn (s .reader .context)) js

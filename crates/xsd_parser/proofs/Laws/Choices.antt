@@ -47,38 +47,38 @@ Flat (Context.inComplexType t) = Unit {0}
 abbrev pub NoOther : ℕ → Event → Type 0
 NoOther depth e = not (eqb depth 1) || startsNoOther e ≡ true
 
-pub child-same : (t : Tag) (r : Reader) → tagIs t "simpleType" || tagIs t "complexType" ≡ true → onDirectChild true t r ≡ onDirectChild false t r
+pub child-same : (m : ℕ) (t : Tag) (r : Reader) → tagIs t "simpleType" || tagIs t "complexType" ≡ true → onDirectChild true m t r ≡ onDirectChild false m t r
 unfolding onDirectChild
-child-same t r e =
+child-same m t r e =
     bool-cases (tagIs t "simpleType") (λ h. rw h) (λ h. let c : tagIs t "complexType" ≡ true = rw h at e in rw (h, c))
 
-pub start-same : (t : Tag) (r : Reader) (x : Context) → Flat x → NoOther (depthIn x) (Event.start t) → onStart true t r x ≡ onStart false t r x
+pub start-same : (m : ℕ) (t : Tag) (r : Reader) (x : Context) → Flat x → NoOther (depthIn x) (Event.start t) → onStart true m t r x ≡ onStart false m t r x
 unfolding onStart onStartInSchema startsNoOther
-start-same t r Context.noContext f c = refl
-start-same t r (Context.inSchema zero) f c = child-same t r c
-start-same t r (Context.inSchema (suc n)) f c = absurd (omega arith)
-start-same t r (Context.inSimpleType b) f c = refl
-start-same t r (Context.inComplexType b) f c = refl
+start-same m t r Context.noContext f c = refl
+start-same m t r (Context.inSchema zero) f c = child-same m t r c
+start-same m t r (Context.inSchema (suc n)) f c = absurd (omega arith)
+start-same m t r (Context.inSimpleType b) f c = refl
+start-same m t r (Context.inComplexType b) f c = refl
 
-pub handled-same : (e : Event) (r : Reader) → Flat (r .context) → NoOther (depthIn (r .context)) e → handled true e r ≡ handled false e r
+pub handled-same : (m : ℕ) (e : Event) (r : Reader) → Flat (r .context) → NoOther (depthIn (r .context)) e → handled true m e r ≡ handled false m e r
 unfolding handled
-handled-same (Event.start t) r f c = start-same t r (r .context) f c
-handled-same (Event.empty t) r f c = refl
-handled-same Event.close r f c = refl
+handled-same m (Event.start t) r f c = start-same m t r (r .context) f c
+handled-same m (Event.empty t) r f c = refl
+handled-same m Event.close r f c = refl
 
 -- with choice 0 nesting in context 1 stays 0
 abbrev pub FlatIn : Reader → Type 0
 FlatIn r = Flat (r .context)
 
-module _ (s : Schema) (seen : Bool) where
-  pub child-flat : (t : Tag) → Gives FlatIn Any (onDirectChild false t (at s seen (Context.inSchema 0)))
+module _ (m : ℕ) (s : Schema) (seen : Bool) where
+  pub child-flat : (t : Tag) → Gives FlatIn Any (onDirectChild false m t (at s seen (Context.inSchema 0)))
   unfolding onDirectChild inContext openSimpleType openComplexType belowSchema onTopLevelElement
   child-flat t =
       gives-if (tagIs t "simpleType") (gives-name t _ (λ v q. tt) tt)
       (gives-if (tagIs t "complexType") (gives-name t _ (λ v q. tt) tt)
-      (gives-if (tagIs t "element") (value (rw (kept-context (attrValue t "name") (attrValue t "type") (at s seen (Context.inSchema 0))) refl)) (value refl)))
+      (gives-if (tagIs t "element") (value (rw (kept-context m (attrValue t "name") (attrValue t "type") (at s seen (Context.inSchema 0))) refl)) (value refl)))
 
-  pub start-flat : (t : Tag) (x : Context) → Flat x → Gives FlatIn Any (onStart false t (at s seen x) x)
+  pub start-flat : (t : Tag) (x : Context) → Flat x → Gives FlatIn Any (onStart false m t (at s seen x) x)
   unfolding onStart onStartInSchema inContext foundRoot
   start-flat t Context.noContext f = value (if-either FlatIn (tagIs t "schema") refl tt)
   start-flat t (Context.inSchema zero) f = child-flat t
@@ -86,12 +86,12 @@ module _ (s : Schema) (seen : Bool) where
   start-flat t (Context.inSimpleType b) f = value tt
   start-flat t (Context.inComplexType b) f = gives-andThen (gives-any (onStartInComplexType t (raisedComplex b))) λ c q. value tt
 
-  pub empty-flat : (t : Tag) (x : Context) → Flat x → Gives FlatIn Any (onEmpty t (at s seen x) x)
+  pub empty-flat : (t : Tag) (x : Context) → Flat x → Gives FlatIn Any (onEmpty m t (at s seen x) x)
   unfolding onEmpty onTopLevelElement inContext foundRoot
   empty-flat t Context.noContext f = value (if-either FlatIn (tagIs t "schema") tt tt)
   empty-flat t (Context.inSchema n) f =
       let r = at s seen (Context.inSchema n) in
-      value (if-either FlatIn (eqb n 0 && tagIs t "element") {x = onTopLevelElement t r} {y = r} (rw (kept-context (attrValue t "name") (attrValue t "type") r) f) f)
+      value (if-either FlatIn (eqb n 0 && tagIs t "element") {x = onTopLevelElement m t r} {y = r} (rw (kept-context m (attrValue t "name") (attrValue t "type") r) f) f)
   empty-flat t (Context.inSimpleType b) f = gives-andThen (gives-any (onEmptyInSimpleType t b)) λ c q. value tt
   empty-flat t (Context.inComplexType b) f = gives-andThen (gives-any (onEmptyInComplexType t (b .content))) λ c q. value tt
 
@@ -113,11 +113,11 @@ module _ (s : Schema) (seen : Bool) where
   close-flat (Context.inSimpleType b) f = closeSimple-flat b (b .nestingDepth)
   close-flat (Context.inComplexType b) f = closeComplex-flat b (b .nestingDepth)
 
-pub handled-flat : (e : Event) (r : Reader) → FlatIn r → Gives FlatIn Any (handled false e r)
+pub handled-flat : (m : ℕ) (e : Event) (r : Reader) → FlatIn r → Gives FlatIn Any (handled false m e r)
 unfolding handled
-handled-flat (Event.start t) r f = start-flat (r .schema) (r .rootSeen) t (r .context) f
-handled-flat (Event.empty t) r f = empty-flat (r .schema) (r .rootSeen) t (r .context) f
-handled-flat Event.close r f = value (close-flat (r .schema) (r .rootSeen) (r .context) f)
+handled-flat m (Event.start t) r f = start-flat m (r .schema) (r .rootSeen) t (r .context) f
+handled-flat m (Event.empty t) r f = empty-flat m (r .schema) (r .rootSeen) t (r .context) f
+handled-flat m Event.close r f = value (close-flat m (r .schema) (r .rootSeen) (r .context) f)
 
 -- ---- one step under both choices
 
@@ -145,7 +145,7 @@ unfolding step counted chosen _andThen_
 step-chosen lent s e f c =
     bool-cases (ltb (s .events) 1000000)
     (λ h. rw h (then-maps (tagsAfter e (s .openTags)) _ _ standardly (λ o.
-    rw (handled-same e (s .reader) f c) (then-maps (handled false e (s .reader)) _ _ standardly (λ r. room-chosen lent (counted s o r))))))
+    rw (handled-same (s .events) e (s .reader) f c) (then-maps (handled false (s .events) e (s .reader)) _ _ standardly (λ r. room-chosen lent (counted s o r))))))
     (λ h. rw h)
 
 -- ---- a reading under both choices
@@ -168,8 +168,8 @@ reads-chosen lent n s (event e ∷ js) f k =
     outcome-cases (step lent (chosen false s) e)
     (λ x q.
     let h = step-reader lent (chosen false s) e x q in
-    let d = gives-value (handled-walked e (s .reader)) (handled-same e (s .reader) f (w .0) ∙ h) .depth in
-    let i = reads-chosen lent (suc n) x js (gives-value (handled-flat e (s .reader) f) h) (rw d (w .1)) in
+    let d = gives-value (handled-walked (s .events) e (s .reader)) (handled-same (s .events) e (s .reader) f (w .0) ∙ h) .depth in
+    let i = reads-chosen lent (suc n) x js (gives-value (handled-flat (s .events) e (s .reader) f) h) (rw d (w .1)) in
     read-ok lent n (chosen true s) (chosen true x) e js (both ∙ ap (λ o. o andThen standardly) q)
     ∙ i ∙ ap readingChosen (ap (λ y. readRecords lent (suc n) y js) (chosen-same x (step-choice lent (chosen false s) e x q)) ∙ sym (read-ok lent n (chosen false s) x e js q)))
     (λ r q. read-refuse lent n (chosen true s) e js r (both ∙ ap (λ o. o andThen standardly) q) ∙ ap readingChosen (sym (read-refuse lent n (chosen false s) e js r q)))

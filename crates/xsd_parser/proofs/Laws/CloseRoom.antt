@@ -45,13 +45,13 @@ items-one-more [] i = append-nil (itemRows i)
 items-one-more (x ∷ xs) i = ap (λ rs. itemRows x ++ rs) (items-one-more xs i) ∙ sym (append-assoc (itemRows x) (itemsRows xs) (itemRows i))
 
 -- "Content still absent at the close becomes 15 with a = 0": its row has the same texts
-pub finish-texts : (name : Text) (c : ComplexContentBuilder) → textsOf (complexTypeRows name (started (finish c))) ≡ textsOf (complexTypeRows name c)
+pub finish-texts : (event : ℕ) (name : Text) (c : ComplexContentBuilder) → textsOf (complexTypeRows event name (started (finish c))) ≡ textsOf (complexTypeRows event name c)
 unfolding complexTypeRows started finish row
-finish-texts name ComplexContentBuilder.empty = refl
-finish-texts name (ComplexContentBuilder.sequence es) = refl
-finish-texts name (ComplexContentBuilder.choice vs) = refl
-finish-texts name (ComplexContentBuilder.simpleContent base xs flag) = refl
-finish-texts name (ComplexContentBuilder.any n) = refl
+finish-texts event name ComplexContentBuilder.empty = refl
+finish-texts event name (ComplexContentBuilder.sequence es) = refl
+finish-texts event name (ComplexContentBuilder.choice vs) = refl
+finish-texts event name (ComplexContentBuilder.simpleContent base xs flag) = refl
+finish-texts event name (ComplexContentBuilder.any n) = refl
 
 -- the rows of a reader behind the namespace's
 abbrev pub restTexts : List Item → List Row → List (List Text)
@@ -74,7 +74,7 @@ closeSimple-texts b (suc d) r = refl
 pub closeComplex-texts : (b : ComplexTypeBuilder) (d : ℕ) (r : Reader)
     → readerTexts (closeComplexType b d r) ≡ restTexts (r .schema .items) (contextRows (Context.inComplexType b))
 unfolding closeComplexType inContext withItem contextRows itemRows
-closeComplex-texts b zero r = finished-texts (r .schema .items) _ (contextRows (Context.inComplexType b)) (finish-texts (b .name) (b .content))
+closeComplex-texts b zero r = finished-texts (r .schema .items) _ (contextRows (Context.inComplexType b)) (finish-texts (b .event) (b .name) (b .content))
 closeComplex-texts b (suc d) r = refl
 
 pub closeSchema-texts : (n : ℕ) (r : Reader) → readerTexts (closeInSchema n r) ≡ restTexts (r .schema .items) []

@@ -57,24 +57,24 @@ module _ (byStandard : Bool) where
   rootFound-kept t r n e o = record { root = seen-root (foundRoot t r) refl; context = o .context; schema = namespace-set t r e (o .schema) }
 
   -- an empty tag in a simple type, and in a complex type
-  pub emptyInSimpleType-kept : (t : Tag) (r : Reader) (n : ℕ) (b : SimpleTypeBuilder) → tagOk t ≡ true → r .rootSeen ≡ true → SimpleOk b n → schemaOk (r .schema) ≡ true
-      → Gives (λ x. ReaderOk byStandard x n) Any (onEmpty t r (Context.inSimpleType b))
+  pub emptyInSimpleType-kept : (m : ℕ) (t : Tag) (r : Reader) (n : ℕ) (b : SimpleTypeBuilder) → tagOk t ≡ true → r .rootSeen ≡ true → SimpleOk b n → schemaOk (r .schema) ≡ true
+      → Gives (λ x. ReaderOk byStandard x n) Any (onEmpty m t r (Context.inSimpleType b))
   unfolding onEmpty
-  emptyInSimpleType-kept t r n b e h p k =
+  emptyInSimpleType-kept m t r n b e h p k =
       gives-andThen (emptyInSimple-kept t b n e p) λ c q. value (context-set byStandard r _ n h (simple-whole byStandard c n q) k)
 
-  pub emptyInComplexType-kept : (t : Tag) (r : Reader) (n : ℕ) (b : ComplexTypeBuilder) → tagOk t ≡ true → r .rootSeen ≡ true → ComplexOk b n → schemaOk (r .schema) ≡ true
-      → Gives (λ x. ReaderOk byStandard x n) Any (onEmpty t r (Context.inComplexType b))
+  pub emptyInComplexType-kept : (m : ℕ) (t : Tag) (r : Reader) (n : ℕ) (b : ComplexTypeBuilder) → tagOk t ≡ true → r .rootSeen ≡ true → ComplexOk b n → schemaOk (r .schema) ≡ true
+      → Gives (λ x. ReaderOk byStandard x n) Any (onEmpty m t r (Context.inComplexType b))
   unfolding onEmpty
-  emptyInComplexType-kept t r n b e h p k =
+  emptyInComplexType-kept m t r n b e h p k =
       gives-andThen (emptyInComplex-kept t (b .content) e (p .content)) λ c q. value (context-set byStandard r _ n h (complex-whole byStandard _ n (content-set b c n p q)) k)
 
-  pub empty-kept : (t : Tag) (r : Reader) (n : ℕ) (x : Context) → r .context ≡ x → tagOk t ≡ true → ReaderOk byStandard r n → Gives (λ x. ReaderOk byStandard x n) Any (onEmpty t r x)
+  pub empty-kept : (m : ℕ) (t : Tag) (r : Reader) (n : ℕ) (x : Context) → r .context ≡ x → tagOk t ≡ true → ReaderOk byStandard r n → Gives (λ x. ReaderOk byStandard x n) Any (onEmpty m t r x)
   unfolding onEmpty isNoContext
-  empty-kept t r n Context.noContext q e o = value (if-either (λ x. ReaderOk byStandard x n) (tagIs t "schema") (rootFound-kept t r n e o) o)
-  empty-kept t r n (Context.inSchema depth) q e o =
-      value (if-either (λ x. ReaderOk byStandard x n) (eqb depth 0 && tagIs t "element") (topLevel-kept byStandard t r n e (root-seen r (Context.inSchema depth) q refl (o .root)) o) o)
-  empty-kept t r n (Context.inSimpleType b) q e o =
-      emptyInSimpleType-kept t r n b e (root-seen r (Context.inSimpleType b) q refl (o .root)) (simple-parts byStandard b n (rw q at (o .context))) (o .schema)
-  empty-kept t r n (Context.inComplexType b) q e o =
-      emptyInComplexType-kept t r n b e (root-seen r (Context.inComplexType b) q refl (o .root)) (complex-parts byStandard b n (rw q at (o .context))) (o .schema)
+  empty-kept m t r n Context.noContext q e o = value (if-either (λ x. ReaderOk byStandard x n) (tagIs t "schema") (rootFound-kept t r n e o) o)
+  empty-kept m t r n (Context.inSchema depth) q e o =
+      value (if-either (λ x. ReaderOk byStandard x n) (eqb depth 0 && tagIs t "element") (topLevel-kept byStandard m t r n e (root-seen r (Context.inSchema depth) q refl (o .root)) o) o)
+  empty-kept m t r n (Context.inSimpleType b) q e o =
+      emptyInSimpleType-kept m t r n b e (root-seen r (Context.inSimpleType b) q refl (o .root)) (simple-parts byStandard b n (rw q at (o .context))) (o .schema)
+  empty-kept m t r n (Context.inComplexType b) q e o =
+      emptyInComplexType-kept m t r n b e (root-seen r (Context.inComplexType b) q refl (o .root)) (complex-parts byStandard b n (rw q at (o .context))) (o .schema)

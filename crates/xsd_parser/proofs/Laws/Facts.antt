@@ -36,7 +36,7 @@ pub start-unknown : (lent : Lengths) (s s′ : State) (t : Tag) → s .reader .c
     → step lent s (Event.start t) ≡ ok s′ → s′ .reader ≡ s .reader
 unfolding handled onStart
 start-unknown lent s s′ t c u h =
-    let p : onStart (s .byStandard) t (s .reader) Context.noContext ≡ ok (s′ .reader) = sym (ap (onStart (s .byStandard) t (s .reader)) c) ∙ step-reader lent s (Event.start t) s′ h in
+    let p : onStart (s .byStandard) (s .events) t (s .reader) Context.noContext ≡ ok (s′ .reader) = sym (ap (onStart (s .byStandard) (s .events) t (s .reader)) c) ∙ step-reader lent s (Event.start t) s′ h in
     let q : ok (s .reader) ≡ ok (s′ .reader) = rw u at p in
     cc
 
@@ -44,7 +44,7 @@ pub empty-unknown : (lent : Lengths) (s s′ : State) (t : Tag) → s .reader .c
     → step lent s (Event.empty t) ≡ ok s′ → s′ .reader ≡ s .reader
 unfolding handled onEmpty
 empty-unknown lent s s′ t c u h =
-    let p : onEmpty t (s .reader) Context.noContext ≡ ok (s′ .reader) = sym (ap (onEmpty t (s .reader)) c) ∙ step-reader lent s (Event.empty t) s′ h in
+    let p : onEmpty (s .events) t (s .reader) Context.noContext ≡ ok (s′ .reader) = sym (ap (onEmpty (s .events) t (s .reader)) c) ∙ step-reader lent s (Event.empty t) s′ h in
     let q : ok (s .reader) ≡ ok (s′ .reader) = rw u at p in
     cc
 

@@ -78,16 +78,16 @@ elementInside-refusal t (ComplexContentBuilder.choice vs) = value tt
 elementInside-refusal t (ComplexContentBuilder.simpleContent base xs flag) = value tt
 elementInside-refusal t (ComplexContentBuilder.any n) = value tt
 
-pub directChild-refusal : (byStandard : Bool) (t : Tag) (r : Reader) → HandlerRefusal (onDirectChild byStandard t r)
+pub directChild-refusal : (byStandard : Bool) (m : ℕ) (t : Tag) (r : Reader) → HandlerRefusal (onDirectChild byStandard m t r)
 unfolding onDirectChild
-directChild-refusal b t r =
+directChild-refusal b m t r =
     gives-if (tagIs t "simpleType") (gives-name t _ (λ v q. tt) (omega arith))
     (gives-if (tagIs t "complexType") (gives-name t _ (λ v q. tt) (omega arith))
     (gives-if (tagIs t "element") (value tt) (value tt)))
 
-pub startInSchema-refusal : (byStandard : Bool) (t : Tag) (n : ℕ) (r : Reader) → HandlerRefusal (onStartInSchema byStandard t n r)
+pub startInSchema-refusal : (byStandard : Bool) (m : ℕ) (t : Tag) (n : ℕ) (r : Reader) → HandlerRefusal (onStartInSchema byStandard m t n r)
 unfolding onStartInSchema
-startInSchema-refusal b t n r = gives-if (eqb n 0) (directChild-refusal b t r) (value tt)
+startInSchema-refusal b m t n r = gives-if (eqb n 0) (directChild-refusal b m t r) (value tt)
 
 pub startInComplex-refusal : (t : Tag) (b : ComplexTypeBuilder) → HandlerRefusal (onStartInComplexType t b)
 unfolding onStartInComplexType contentAtTwo
@@ -97,12 +97,12 @@ startInComplex-refusal t b =
     (gives-if (tagIs t "extension") (value tt) (gives-if (tagIs t "element") (elementInside-refusal t (b .content)) (value tt)))
     (value tt))
 
-pub start-refusal : (byStandard : Bool) (t : Tag) (r : Reader) (x : Context) → HandlerRefusal (onStart byStandard t r x)
+pub start-refusal : (byStandard : Bool) (m : ℕ) (t : Tag) (r : Reader) (x : Context) → HandlerRefusal (onStart byStandard m t r x)
 unfolding onStart
-start-refusal s t r Context.noContext = value tt
-start-refusal s t r (Context.inSchema n) = startInSchema-refusal s t n r
-start-refusal s t r (Context.inSimpleType b) = value tt
-start-refusal s t r (Context.inComplexType b) = gives-andThen (startInComplex-refusal t (raisedComplex b)) λ c p. value tt
+start-refusal s m t r Context.noContext = value tt
+start-refusal s m t r (Context.inSchema n) = startInSchema-refusal s m t n r
+start-refusal s m t r (Context.inSimpleType b) = value tt
+start-refusal s m t r (Context.inComplexType b) = gives-andThen (startInComplex-refusal t (raisedComplex b)) λ c p. value tt
 
 pub emptyInSimple-refusal : (t : Tag) (b : SimpleTypeBuilder) → HandlerRefusal (onEmptyInSimpleType t b)
 unfolding onEmptyInSimpleType
@@ -123,18 +123,18 @@ emptyInComplex-refusal t c =
     gives-if (tagIs t "element") (elementInside-refusal t c)
     (gives-if (tagIs t "any") (value tt) (gives-if (tagIs t "attribute") (value tt) (value tt)))
 
-pub empty-refusal : (t : Tag) (r : Reader) (x : Context) → HandlerRefusal (onEmpty t r x)
+pub empty-refusal : (m : ℕ) (t : Tag) (r : Reader) (x : Context) → HandlerRefusal (onEmpty m t r x)
 unfolding onEmpty
-empty-refusal t r Context.noContext = value tt
-empty-refusal t r (Context.inSchema n) = value tt
-empty-refusal t r (Context.inSimpleType b) = gives-andThen (emptyInSimple-refusal t b) λ c p. value tt
-empty-refusal t r (Context.inComplexType b) = gives-andThen (emptyInComplex-refusal t (b .content)) λ c p. value tt
+empty-refusal m t r Context.noContext = value tt
+empty-refusal m t r (Context.inSchema n) = value tt
+empty-refusal m t r (Context.inSimpleType b) = gives-andThen (emptyInSimple-refusal t b) λ c p. value tt
+empty-refusal m t r (Context.inComplexType b) = gives-andThen (emptyInComplex-refusal t (b .content)) λ c p. value tt
 
-pub handled-refusal : (byStandard : Bool) (e : Event) (r : Reader) → HandlerRefusal (handled byStandard e r)
+pub handled-refusal : (byStandard : Bool) (m : ℕ) (e : Event) (r : Reader) → HandlerRefusal (handled byStandard m e r)
 unfolding handled
-handled-refusal b (Event.start t) r = start-refusal b t r (r .context)
-handled-refusal b (Event.empty t) r = empty-refusal t r (r .context)
-handled-refusal b Event.close r = value tt
+handled-refusal b m (Event.start t) r = start-refusal b m t r (r .context)
+handled-refusal b m (Event.empty t) r = empty-refusal m t r (r .context)
+handled-refusal b m Event.close r = value tt
 
 -- 6 and 7 are the open tags'
 pub closed-refusal : (n : ℕ) → Gives Any (Within 6 11) (closed n)
@@ -158,7 +158,7 @@ unfolding step
 step-gives lent s e =
     gives-if (ltb (s .events) 1000000)
     (gives-andThen (tags-refusal e (s .openTags)) λ n p.
-    gives-andThen (gives-wider (λ r q. omega arith) (handled-refusal (s .byStandard) e (s .reader))) λ r q. room-refusal lent (counted s n r))
+    gives-andThen (gives-wider (λ r q. omega arith) (handled-refusal (s .byStandard) (s .events) e (s .reader))) λ r q. room-refusal lent (counted s n r))
     (refusal (omega arith))
 
 pub step-refusal : (lent : Lengths) (s : State) (e : Event) (k : ℕ) → step lent s e ≡ refuse k → Within 6 11 k

@@ -25,6 +25,6 @@ unfolding namesUsed rowsOf namesOf namespaceRow row join
 names-parts s = simp (append-nil, namesOf-append, length-append) (omega arith)
 
 -- an event that the counters and the handlers accept is refused by 11 exactly where the state after it has no room
-pub step-room : (lent : Lengths) (s : State) (e : Event) (n : ℕ) (r : Reader) → s .events < 1000000 → tagsAfter e (s .openTags) ≡ ok n → handled (s .byStandard) e (s .reader) ≡ ok r → step lent s e ≡ roomFor lent (counted s n r)
+pub step-room : (lent : Lengths) (s : State) (e : Event) (n : ℕ) (r : Reader) → s .events < 1000000 → tagsAfter e (s .openTags) ≡ ok n → handled (s .byStandard) (s .events) e (s .reader) ≡ ok r → step lent s e ≡ roomFor lent (counted s n r)
 unfolding step _andThen_
 step-room lent s e n r h t k = rw (lt-ltb (s .events) 1000000 h, t, k)

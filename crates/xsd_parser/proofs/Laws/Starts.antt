@@ -28,38 +28,38 @@ unfolding namespaceOk
 found-text t v e q = let h : namespaceOk (some v) ≡ true = rw q at (value-text t "name" e) in h
 
 -- an element at the top
-pub keptElement-root : (name typeName : Option Text) (r : Reader) → keptElement name typeName r .rootSeen ≡ r .rootSeen
+pub keptElement-root : (m : ℕ) (name typeName : Option Text) (r : Reader) → keptElement m name typeName r .rootSeen ≡ r .rootSeen
 unfolding keptElement withItem
-keptElement-root none typeName r = refl
-keptElement-root (some name) none r = refl
-keptElement-root (some name) (some typeName) r = refl
+keptElement-root m none typeName r = refl
+keptElement-root m (some name) none r = refl
+keptElement-root m (some name) (some typeName) r = refl
 
 module _ (byStandard : Bool) where
-  pub keptElement-kept : (name typeName : Option Text) (r : Reader) (n : ℕ) → namespaceOk name ≡ true → namespaceOk typeName ≡ true → r .rootSeen ≡ true
-      → ReaderOk byStandard r n → ReaderOk byStandard (keptElement name typeName r) n
+  pub keptElement-kept : (m : ℕ) (name typeName : Option Text) (r : Reader) (n : ℕ) → namespaceOk name ≡ true → namespaceOk typeName ≡ true → r .rootSeen ≡ true
+      → ReaderOk byStandard r n → ReaderOk byStandard (keptElement m name typeName r) n
   unfolding keptElement namespaceOk withItem elementOk itemOk
-  keptElement-kept none typeName r n p q h o = o
-  keptElement-kept (some name) none r n p q h o = o
-  keptElement-kept (some name) (some typeName) r n p q h o =
-      let i = Item.element (record { name = name; typeName = typeName }) in
+  keptElement-kept m none typeName r n p q h o = o
+  keptElement-kept m (some name) none r n p q h o = o
+  keptElement-kept m (some name) (some typeName) r n p q h o =
+      let i = Item.element (record { name = name; typeName = typeName; event = m }) in
       record { root = seen-root (withItem i r) h; context = o .context; schema = item-added r i (and-true p q) (o .schema) }
 
-  pub topLevel-kept : (t : Tag) (r : Reader) (n : ℕ) → tagOk t ≡ true → r .rootSeen ≡ true → ReaderOk byStandard r n → ReaderOk byStandard (onTopLevelElement t r) n
+  pub topLevel-kept : (m : ℕ) (t : Tag) (r : Reader) (n : ℕ) → tagOk t ≡ true → r .rootSeen ≡ true → ReaderOk byStandard r n → ReaderOk byStandard (onTopLevelElement m t r) n
   unfolding onTopLevelElement
-  topLevel-kept t r n e h o = keptElement-kept (attrValue t "name") (attrValue t "type") r n (value-text t "name" e) (value-text t "type" e) h o
+  topLevel-kept m t r n e h o = keptElement-kept m (attrValue t "name") (attrValue t "type") r n (value-text t "name" e) (value-text t "type" e) h o
 
   -- a reader that stays as it is, with one open tag more
   pub unchanged-kept : (r : Reader) (n : ℕ) → ReaderOk byStandard r n → ReaderOk byStandard r (suc n)
   unchanged-kept r n o = record { root = o .root; context = one-tag-more byStandard (r .context) n (o .context); schema = o .schema }
 
   -- a type opened in the schema has nesting 0, and the schema and the type are open
-  pub openSimple-kept : (name : Text) (n : ℕ) → 1 ≤ n → isText name ≡ true → contextOk byStandard (openSimpleType name) (suc n) ≡ true
+  pub openSimple-kept : (m : ℕ) (name : Text) (n : ℕ) → 1 ≤ n → isText name ≡ true → contextOk byStandard (openSimpleType m name) (suc n) ≡ true
   unfolding openSimpleType every isText
-  openSimple-kept name n h e = simple-whole byStandard _ (suc n) (record { tags = omega arith; name = e; base = refl; facets = refl })
+  openSimple-kept m name n h e = simple-whole byStandard _ (suc n) (record { tags = omega arith; name = e; base = refl; facets = refl })
 
-  pub openComplex-kept : (name : Text) (n : ℕ) → 1 ≤ n → isText name ≡ true → contextOk byStandard (openComplexType name) (suc n) ≡ true
+  pub openComplex-kept : (m : ℕ) (name : Text) (n : ℕ) → 1 ≤ n → isText name ≡ true → contextOk byStandard (openComplexType m name) (suc n) ≡ true
   unfolding openComplexType contentOk
-  openComplex-kept name n h e = complex-whole byStandard _ (suc n) (record { tags = omega arith; name = e; content = refl })
+  openComplex-kept m name n h e = complex-whole byStandard _ (suc n) (record { tags = omega arith; name = e; content = refl })
 
 -- order 3: with choice 1 a start below the schema raises nesting, with choice 0 the reader stays as it is
 pub belowSchema-kept : (byStandard : Bool) (depth : ℕ) (r : Reader) (n : ℕ) → r .rootSeen ≡ true → depth + 1 ≤ n → ReaderOk byStandard r n
@@ -87,51 +87,51 @@ unfolding raisedComplex
 raised-kept b n o = record { tags = omega arith; name = o .name; content = o .content }
 
 module _ (byStandard : Bool) where
-  pub directChild-kept : (t : Tag) (r : Reader) (n : ℕ) → tagOk t ≡ true → r .rootSeen ≡ true → 1 ≤ n → ReaderOk byStandard r n
-      → Gives (λ x. ReaderOk byStandard x (suc n)) Any (onDirectChild byStandard t r)
+  pub directChild-kept : (m : ℕ) (t : Tag) (r : Reader) (n : ℕ) → tagOk t ≡ true → r .rootSeen ≡ true → 1 ≤ n → ReaderOk byStandard r n
+      → Gives (λ x. ReaderOk byStandard x (suc n)) Any (onDirectChild byStandard m t r)
   unfolding onDirectChild onTopLevelElement
-  directChild-kept t r n e h k o =
+  directChild-kept m t r n e h k o =
       gives-if (tagIs t "simpleType")
-      (gives-name t _ (λ v q. context-set byStandard r _ (suc n) h (openSimple-kept byStandard v n k (found-text t v e q)) (o .schema)) tt)
+      (gives-name t _ (λ v q. context-set byStandard r _ (suc n) h (openSimple-kept byStandard m v n k (found-text t v e q)) (o .schema)) tt)
       (gives-if (tagIs t "complexType")
-      (gives-name t _ (λ v q. context-set byStandard r _ (suc n) h (openComplex-kept byStandard v n k (found-text t v e q)) (o .schema)) tt)
+      (gives-name t _ (λ v q. context-set byStandard r _ (suc n) h (openComplex-kept byStandard m v n k (found-text t v e q)) (o .schema)) tt)
       (gives-if (tagIs t "element")
-      (value (belowSchema-kept byStandard 0 (onTopLevelElement t r) n (keptElement-root (attrValue t "name") (attrValue t "type") r ∙ h) k (topLevel-kept byStandard t r n e h o)))
+      (value (belowSchema-kept byStandard 0 (onTopLevelElement m t r) n (keptElement-root m (attrValue t "name") (attrValue t "type") r ∙ h) k (topLevel-kept byStandard m t r n e h o)))
       (value (belowSchema-kept byStandard 0 r n h k o))))
 
-  pub startInSchema-kept : (t : Tag) (depth : ℕ) (r : Reader) (n : ℕ) → tagOk t ≡ true → r .rootSeen ≡ true → depth + 1 ≤ n → ReaderOk byStandard r n
-      → Gives (λ x. ReaderOk byStandard x (suc n)) Any (onStartInSchema byStandard t depth r)
+  pub startInSchema-kept : (m : ℕ) (t : Tag) (depth : ℕ) (r : Reader) (n : ℕ) → tagOk t ≡ true → r .rootSeen ≡ true → depth + 1 ≤ n → ReaderOk byStandard r n
+      → Gives (λ x. ReaderOk byStandard x (suc n)) Any (onStartInSchema byStandard m t depth r)
   unfolding onStartInSchema
-  startInSchema-kept t depth r n e h k o =
-      gives-if (eqb depth 0) (directChild-kept t r n e h (omega arith) o) (value (belowSchema-kept byStandard depth r n h k o))
+  startInSchema-kept m t depth r n e h k o =
+      gives-if (eqb depth 0) (directChild-kept m t r n e h (omega arith) o) (value (belowSchema-kept byStandard depth r n h k o))
 
   -- a start outside the schema, in a simple type, in a complex type
-  pub startOutside-kept : (t : Tag) (r : Reader) (n : ℕ) → tagOk t ≡ true → ReaderOk byStandard r n → Gives (λ x. ReaderOk byStandard x (suc n)) Any (onStart byStandard t r Context.noContext)
+  pub startOutside-kept : (m : ℕ) (t : Tag) (r : Reader) (n : ℕ) → tagOk t ≡ true → ReaderOk byStandard r n → Gives (λ x. ReaderOk byStandard x (suc n)) Any (onStart byStandard m t r Context.noContext)
   unfolding onStart foundRoot
-  startOutside-kept t r n e o =
+  startOutside-kept m t r n e o =
       value (if-either (λ x. ReaderOk byStandard x (suc n)) (tagIs t "schema")
       (context-set byStandard (foundRoot t r) (Context.inSchema 0) (suc n) refl (schema-first byStandard (suc n) (omega arith)) (namespace-set t r e (o .schema)))
       (unchanged-kept byStandard r n o))
 
-  pub startInSimpleType-kept : (t : Tag) (r : Reader) (n : ℕ) (b : SimpleTypeBuilder) → tagOk t ≡ true → r .rootSeen ≡ true → SimpleOk b n → schemaOk (r .schema) ≡ true
-      → Gives (λ x. ReaderOk byStandard x (suc n)) Any (onStart byStandard t r (Context.inSimpleType b))
+  pub startInSimpleType-kept : (m : ℕ) (t : Tag) (r : Reader) (n : ℕ) (b : SimpleTypeBuilder) → tagOk t ≡ true → r .rootSeen ≡ true → SimpleOk b n → schemaOk (r .schema) ≡ true
+      → Gives (λ x. ReaderOk byStandard x (suc n)) Any (onStart byStandard m t r (Context.inSimpleType b))
   unfolding onStart
-  startInSimpleType-kept t r n b e h p k = value (context-set byStandard r _ (suc n) h (simple-whole byStandard _ (suc n) (startInSimple-kept t b n e p)) k)
+  startInSimpleType-kept m t r n b e h p k = value (context-set byStandard r _ (suc n) h (simple-whole byStandard _ (suc n) (startInSimple-kept t b n e p)) k)
 
-  pub startInComplexType-kept : (t : Tag) (r : Reader) (n : ℕ) (b : ComplexTypeBuilder) → tagOk t ≡ true → r .rootSeen ≡ true → ComplexOk b n → schemaOk (r .schema) ≡ true
-      → Gives (λ x. ReaderOk byStandard x (suc n)) Any (onStart byStandard t r (Context.inComplexType b))
+  pub startInComplexType-kept : (m : ℕ) (t : Tag) (r : Reader) (n : ℕ) (b : ComplexTypeBuilder) → tagOk t ≡ true → r .rootSeen ≡ true → ComplexOk b n → schemaOk (r .schema) ≡ true
+      → Gives (λ x. ReaderOk byStandard x (suc n)) Any (onStart byStandard m t r (Context.inComplexType b))
   unfolding onStart
-  startInComplexType-kept t r n b e h p k =
+  startInComplexType-kept m t r n b e h p k =
       let o = raised-kept b n p in
       gives-andThen (startInComplex-kept t (raisedComplex b) e (o .content)) λ c q.
       value (context-set byStandard r _ (suc n) h (complex-whole byStandard _ (suc n) (content-set _ c (suc n) o q)) k)
 
-  pub start-kept : (t : Tag) (r : Reader) (n : ℕ) (x : Context) → r .context ≡ x → tagOk t ≡ true → ReaderOk byStandard r n → Gives (λ x. ReaderOk byStandard x (suc n)) Any (onStart byStandard t r x)
+  pub start-kept : (m : ℕ) (t : Tag) (r : Reader) (n : ℕ) (x : Context) → r .context ≡ x → tagOk t ≡ true → ReaderOk byStandard r n → Gives (λ x. ReaderOk byStandard x (suc n)) Any (onStart byStandard m t r x)
   unfolding onStart isNoContext
-  start-kept t r n Context.noContext q e o = startOutside-kept t r n e o
-  start-kept t r n (Context.inSchema depth) q e o =
-      startInSchema-kept t depth r n e (root-seen r (Context.inSchema depth) q refl (o .root)) (schema-parts byStandard depth n (rw q at (o .context)) .tags) o
-  start-kept t r n (Context.inSimpleType b) q e o =
-      startInSimpleType-kept t r n b e (root-seen r (Context.inSimpleType b) q refl (o .root)) (simple-parts byStandard b n (rw q at (o .context))) (o .schema)
-  start-kept t r n (Context.inComplexType b) q e o =
-      startInComplexType-kept t r n b e (root-seen r (Context.inComplexType b) q refl (o .root)) (complex-parts byStandard b n (rw q at (o .context))) (o .schema)
+  start-kept m t r n Context.noContext q e o = startOutside-kept m t r n e o
+  start-kept m t r n (Context.inSchema depth) q e o =
+      startInSchema-kept m t depth r n e (root-seen r (Context.inSchema depth) q refl (o .root)) (schema-parts byStandard depth n (rw q at (o .context)) .tags) o
+  start-kept m t r n (Context.inSimpleType b) q e o =
+      startInSimpleType-kept m t r n b e (root-seen r (Context.inSimpleType b) q refl (o .root)) (simple-parts byStandard b n (rw q at (o .context))) (o .schema)
+  start-kept m t r n (Context.inComplexType b) q e o =
+      startInComplexType-kept m t r n b e (root-seen r (Context.inComplexType b) q refl (o .root)) (complex-parts byStandard b n (rw q at (o .context))) (o .schema)

@@ -1,12 +1,12 @@
 -- One accepted event: what it is made of, and that it keeps a proper state proper and within the lent lengths. Assumes nothing.
 use mathlib.Core.Path.{_≡_, refl, sym, ap, subst, _∙_}
-use mathlib.Core.Bool.{Bool, true}
+use mathlib.Core.Bool.{Bool, true, _&&_}
 use Prim.Native.Nat.{ℕ, zero, suc, _≤_, _<_}
 use native.Mathlib.Omega.{arith}
 use lib.Dec.{leb, ltb}
 use borrow.Author.Tests.{ltb-true, leb-true, le-leb}
 use Rattle.sheet.specs.Lengths.{Lengths}
-use Rattle.xsd_types.specs.State.{Reader, State, contextOk, rootOk, schemaOk, countersOk, proper}
+use Rattle.xsd_types.specs.State.{Reader, State, contextOk, rootOk, schemaOk, countersOk, eventsOk, proper}
 use Rattle.xsd_types.specs.Sheet.{stateFits}
 use Rattle.xsd_parser.specs.Event.{Event}
 use Rattle.xsd_parser.specs.EventText.{eventOk}
@@ -17,6 +17,7 @@ use Rattle.xsd_parser.proofs.Laws.Readers.{ReaderOk}
 use Rattle.xsd_parser.proofs.Laws.Starts.{start-kept}
 use Rattle.xsd_parser.proofs.Laws.Empties.{empty-kept}
 use Rattle.xsd_parser.proofs.Laws.Closes.{close-kept}
+use Rattle.xsd_parser.proofs.Laws.Numbers.{numbers-kept}
 use Rattle.text.proofs.Laws.Tests.{and-true, two, four}
 
 -- an accepted event: the open tags and the reader after it
@@ -25,7 +26,7 @@ pub record StepParts (lent : Lengths) (s : State) (e : Event) (s′ : State) : T
   pub reader : Reader
   pub more : s .events < 1000000
   pub tagged : tagsAfter e (s .openTags) ≡ ok tags
-  pub handles : handled (s .byStandard) e (s .reader) ≡ ok reader
+  pub handles : handled (s .byStandard) (s .events) e (s .reader) ≡ ok reader
   pub state : counted s tags reader ≡ s′
   pub room : stateFits (lent .rows) (lent .names) s′ ≡ true
 
@@ -40,7 +41,7 @@ unfolding step
 step-parts lent s e s′ h =
     let p = if-value (ltb (s .events) 1000000) _ 8 h in
     let q = then-value (tagsAfter e (s .openTags)) _ (p .1) in
-    let u = then-value (handled (s .byStandard) e (s .reader)) _ (q .2) in
+    let u = then-value (handled (s .byStandard) (s .events) e (s .reader)) _ (q .2) in
     let v = room-parts lent (counted s (q .0) (u .0)) s′ (u .2) in
     record { tags = q .0; reader = u .0; more = ltb-true (s .events) 1000000 (p .0); tagged = q .1; handles = u .1; state = v .0; room = v .1 }
 
@@ -54,7 +55,7 @@ unfolding counted
 step-events lent s e s′ h = sym (ap (λ x. x .events) (step-parts lent s e s′ h .state))
 
 -- the reader after an accepted event is the handlers', the open tags are counted
-pub step-reader : (lent : Lengths) (s : State) (e : Event) (s′ : State) → step lent s e ≡ ok s′ → handled (s .byStandard) e (s .reader) ≡ ok (s′ .reader)
+pub step-reader : (lent : Lengths) (s : State) (e : Event) (s′ : State) → step lent s e ≡ ok s′ → handled (s .byStandard) (s .events) e (s .reader) ≡ ok (s′ .reader)
 unfolding counted
 step-reader lent s e s′ h =
     let p = step-parts lent s e s′ h in
@@ -87,38 +88,41 @@ tags-kept (Event.empty t) n m e h = let q : n ≡ m = cc in omega arith
 tags-kept Event.close n m e h = let q = closed-parts n m e in omega arith
 
 -- the reader after the event, with the open tags after it
-pub reader-kept : (byStandard : Bool) (e : Event) (r r′ : Reader) (n m : ℕ) → tagsAfter e n ≡ ok m → handled byStandard e r ≡ ok r′ → eventOk e ≡ true
+pub reader-kept : (byStandard : Bool) (k : ℕ) (e : Event) (r r′ : Reader) (n m : ℕ) → tagsAfter e n ≡ ok m → handled byStandard k e r ≡ ok r′ → eventOk e ≡ true
     → ReaderOk byStandard r n → ReaderOk byStandard r′ m
 unfolding tagsAfter handled eventOk
-reader-kept b (Event.start t) r r′ n m p q e o =
-    subst (ReaderOk b r′) (ok-or-refuse (ltb n 255) 7 p .1) (gives-value (start-kept b t r n (r .context) refl e o) q)
-reader-kept b (Event.empty t) r r′ n m p q e o =
-    subst (ReaderOk b r′) (cc) (gives-value (empty-kept b t r n (r .context) refl e o) q)
-reader-kept b Event.close r r′ n m p q e o =
-    let k : onEnd r (r .context) ≡ r′ = cc in
-    subst (λ x. ReaderOk b x m) k (close-kept b r m (r .context) refl (subst (ReaderOk b r) (closed-parts n m p) o))
+reader-kept b k (Event.start t) r r′ n m p q e o =
+    subst (ReaderOk b r′) (ok-or-refuse (ltb n 255) 7 p .1) (gives-value (start-kept b k t r n (r .context) refl e o) q)
+reader-kept b k (Event.empty t) r r′ n m p q e o =
+    subst (ReaderOk b r′) (cc) (gives-value (empty-kept b k t r n (r .context) refl e o) q)
+reader-kept b k Event.close r r′ n m p q e o =
+    let same : onEnd r (r .context) ≡ r′ = cc in
+    subst (λ x. ReaderOk b x m) same (close-kept b r m (r .context) refl (subst (ReaderOk b r) (closed-parts n m p) o))
 
 -- a proper state by its parts
 pub record ProperParts (s : State) : Type 0 where
   pub events : s .events ≤ 1000000
   pub tags : s .openTags ≤ 255
   pub reader : ReaderOk (s .byStandard) (s .reader) (s .openTags)
+  pub numbers : eventsOk (s .reader) (s .events) ≡ true
 
 pub proper-parts : (s : State) → proper s ≡ true → ProperParts s
 unfolding proper countersOk
 proper-parts s e =
-    let p = four (countersOk s) (rootOk (s .reader)) (contextOk (s .byStandard) (s .reader .context) (s .openTags)) (schemaOk (s .reader .schema)) e in
+    let before = countersOk s && rootOk (s .reader) && contextOk (s .byStandard) (s .reader .context) (s .openTags) && schemaOk (s .reader .schema) in
+    let both = two before (eventsOk (s .reader) (s .events)) e in
+    let p = four (countersOk s) (rootOk (s .reader)) (contextOk (s .byStandard) (s .reader .context) (s .openTags)) (schemaOk (s .reader .schema)) (both .0) in
     let c = two (leb (s .events) 1000000) (leb (s .openTags) 255) (p .0) in
-    record { events = leb-true (s .events) 1000000 (c .0); tags = leb-true (s .openTags) 255 (c .1); reader = record { root = p .1; context = p .2; schema = p .3 } }
+    record { events = leb-true (s .events) 1000000 (c .0); tags = leb-true (s .openTags) 255 (c .1); reader = record { root = p .1; context = p .2; schema = p .3 }; numbers = both .1 }
 
 pub proper-whole : (s : State) → ProperParts s → proper s ≡ true
 unfolding proper countersOk
 proper-whole s p =
-    and-true (and-true (and-true (and-true (le-leb (s .events) 1000000 (p .events)) (le-leb (s .openTags) 255 (p .tags))) (p .reader .root)) (p .reader .context)) (p .reader .schema)
+    and-true (and-true (and-true (and-true (and-true (le-leb (s .events) 1000000 (p .events)) (le-leb (s .openTags) 255 (p .tags))) (p .reader .root)) (p .reader .context)) (p .reader .schema)) (p .numbers)
 
-pub counted-proper : (s : State) (n : ℕ) (r : Reader) → s .events < 1000000 → n ≤ 255 → ReaderOk (s .byStandard) r n → proper (counted s n r) ≡ true
+pub counted-proper : (s : State) (n : ℕ) (r : Reader) → s .events < 1000000 → n ≤ 255 → ReaderOk (s .byStandard) r n → eventsOk r (suc (s .events)) ≡ true → proper (counted s n r) ≡ true
 unfolding counted
-counted-proper s n r h k o = proper-whole (counted s n r) (record { events = h; tags = k; reader = o })
+counted-proper s n r h k o v = proper-whole (counted s n r) (record { events = h; tags = k; reader = o; numbers = v })
 
 -- an accepted event leads from a proper state to a proper one
 pub step-proper : (lent : Lengths) (s : State) (e : Event) (s′ : State) → proper s ≡ true → eventOk e ≡ true → step lent s e ≡ ok s′ → proper s′ ≡ true
@@ -126,4 +130,5 @@ step-proper lent s e s′ h k q =
     let p = step-parts lent s e s′ q in
     let o = proper-parts s h in
     rw (p .state) at (counted-proper s (p .tags) (p .reader) (p .more) (tags-kept e (s .openTags) (p .tags) (p .tagged) (o .tags))
-    (reader-kept (s .byStandard) e (s .reader) (p .reader) (s .openTags) (p .tags) (p .tagged) (p .handles) k (o .reader)))
+    (reader-kept (s .byStandard) (s .events) e (s .reader) (p .reader) (s .openTags) (p .tags) (p .tagged) (p .handles) k (o .reader))
+    (numbers-kept (s .byStandard) (s .events) e (s .reader) (p .reader) (o .numbers) (p .handles)))

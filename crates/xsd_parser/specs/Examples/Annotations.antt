@@ -16,8 +16,8 @@ annotated =
 -- "the schema ends at its own tag"
 annotated-standard :
     reads (blankBy 1 60 20) annotated
-    ≡ gives 0 16 (sheet 60 20 (line 0 5 17 0 0 1 16 0 0 1 ∷ line 1 0 1 0 0 0 0 0 0 0 ∷ line 3 1 1 2 6 0 0 0 0 0
-    ∷ line 2 8 1 9 1 0 0 0 0 0 ∷ line 3 10 1 11 6 0 0 0 0 0 ∷ []) "NAstringrABstring")
+    ≡ gives 0 16 (sheet 60 20 (line 0 5 17 0 0 1 16 0 0 1 ∷ line 1 0 1 0 0 0 0 0 0 0 ∷ line 3 1 1 2 6 0 0 0 0 5
+    ∷ line 2 8 1 9 1 0 0 0 0 8 ∷ line 3 10 1 11 6 0 0 0 0 12 ∷ []) "NAstringrABstring")
 unfolding annotated taped
 annotated-standard = refl
 
@@ -33,7 +33,7 @@ nameless : List Tag
 nameless = schema ∷ start "element" (named "r") ∷ start "complexType" [] ∷ close ∷ close ∷ empty "element" (typed "b" "t") ∷ []
 
 nameless-standard :
-    reads (blankBy 1 40 9) nameless ≡ gives 0 6 (sheet 40 9 (line 0 3 2 1 0 1 6 1 0 1 ∷ noNamespace ∷ line 2 0 1 1 1 0 0 0 0 0 ∷ []) "bt")
+    reads (blankBy 1 40 9) nameless ≡ gives 0 6 (sheet 40 9 (line 0 3 2 1 0 1 6 1 0 1 ∷ noNamespace ∷ line 2 0 1 1 1 0 0 0 0 5 ∷ []) "bt")
 unfolding nameless taped
 nameless-standard = refl
 
@@ -67,7 +67,7 @@ under-foo-original = refl
 -- a started element is kept and counted
 started-element :
     reads (blankBy 1 40 9) (schema ∷ start "element" (typed "r" "t") ∷ [])
-    ≡ gives 0 2 (sheet 40 9 (line 0 3 2 1 1 1 2 2 0 1 ∷ noNamespace ∷ line 2 0 1 1 1 0 0 0 0 0 ∷ []) "rt")
+    ≡ gives 0 2 (sheet 40 9 (line 0 3 2 1 1 1 2 2 0 1 ∷ noNamespace ∷ line 2 0 1 1 1 0 0 0 0 1 ∷ []) "rt")
 unfolding taped
 started-element = refl
 
@@ -82,14 +82,14 @@ passed-over = refl
 -- an empty tag is not counted
 empty-tags :
     reads (blankBy 1 40 9) (schema ∷ empty "annotation" [] ∷ empty "complexType" [] ∷ empty "element" (typed "r" "t") ∷ [])
-    ≡ gives 0 4 (sheet 40 9 (line 0 3 2 1 0 1 4 1 0 1 ∷ noNamespace ∷ line 2 0 1 1 1 0 0 0 0 0 ∷ []) "rt")
+    ≡ gives 0 4 (sheet 40 9 (line 0 3 2 1 0 1 4 1 0 1 ∷ noNamespace ∷ line 2 0 1 1 1 0 0 0 0 3 ∷ []) "rt")
 unfolding taped
 empty-tags = refl
 
 -- the start of a type counts from the type, and its close leads back to nesting 0
 type-standard :
     reads (blankBy 1 40 9) (schema ∷ simpleType "S" ∷ start "annotation" [] ∷ close ∷ close ∷ [])
-    ≡ gives 0 5 (sheet 40 9 (line 0 3 1 1 0 1 5 1 0 1 ∷ noNamespace ∷ line 3 0 1 1 0 0 0 0 0 0 ∷ []) "S")
+    ≡ gives 0 5 (sheet 40 9 (line 0 3 1 1 0 1 5 1 0 1 ∷ noNamespace ∷ line 3 0 1 1 0 0 0 0 0 1 ∷ []) "S")
 unfolding taped
 type-standard = refl
 
@@ -112,7 +112,7 @@ around = refl
 -- a second schema is read as with choice 0
 second-schema :
     reads (blankBy 1 40 9) (start "schema" (("targetNamespace", "N") ∷ []) ∷ empty "element" (typed "r" "t") ∷ close ∷ schema ∷ [])
-    ≡ gives 0 4 (sheet 40 9 (line 0 3 2 1 0 1 4 1 0 1 ∷ noNamespace ∷ line 2 0 1 1 1 0 0 0 0 0 ∷ []) "rt")
+    ≡ gives 0 4 (sheet 40 9 (line 0 3 2 1 0 1 4 1 0 1 ∷ noNamespace ∷ line 2 0 1 1 1 0 0 0 0 1 ∷ []) "rt")
 unfolding taped
 second-schema = refl
 

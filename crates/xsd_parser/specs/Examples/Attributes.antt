@@ -38,14 +38,14 @@ empty-type-named = refl
 -- the empty text is a name (E10)
 empty-name :
     reads (blank 30 1) (schema ∷ simpleType "" ∷ [])
-    ≡ gives 0 2 (sheet 30 1 (line 0 3 0 2 0 1 2 2 0 0 ∷ noNamespace ∷ line 3 0 0 0 0 0 0 0 0 0 ∷ []) "")
+    ≡ gives 0 2 (sheet 30 1 (line 0 3 0 2 0 1 2 2 0 0 ∷ noNamespace ∷ line 3 0 0 0 0 0 0 0 0 1 ∷ []) "")
 unfolding taped
 empty-name = refl
 
 -- "`xmlns:name` counts as `name`": the first matching key wins (T9)
 xmlns-name :
     reads (blank 30 1) (schema ∷ start "complexType" (("xmlns:name", "x") ∷ ("name", "y") ∷ []) ∷ [])
-    ≡ gives 0 2 (sheet 30 1 (line 0 3 1 3 0 1 2 2 0 0 ∷ noNamespace ∷ line 16 0 1 0 0 0 0 0 0 0 ∷ []) "x")
+    ≡ gives 0 2 (sheet 30 1 (line 0 3 1 3 0 1 2 2 0 0 ∷ noNamespace ∷ line 16 0 1 0 0 0 0 0 0 1 ∷ []) "x")
 unfolding taped
 xmlns-name = refl
 
@@ -64,7 +64,7 @@ no-schema = refl
 -- nor inside a type, where the start only raises nesting
 type-in-type :
     reads (blank 30 1) (schema ∷ simpleType "S" ∷ start "simpleType" [] ∷ [])
-    ≡ gives 0 3 (sheet 30 1 (line 0 3 1 2 1 1 3 3 0 0 ∷ noNamespace ∷ line 3 0 1 1 0 0 0 0 0 0 ∷ []) "S")
+    ≡ gives 0 3 (sheet 30 1 (line 0 3 1 2 1 1 3 3 0 0 ∷ noNamespace ∷ line 3 0 1 1 0 0 0 0 0 1 ∷ []) "S")
 unfolding taped
 type-in-type = refl
 

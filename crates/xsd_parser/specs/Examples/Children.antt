@@ -20,7 +20,7 @@ typesOnly ts = onlyTypes (records (textOf ts) (marksOf 0 ts))
 -- behind an annotation, and an element with name and type that is started
 some-children :
     children (schema ∷ start "annotation" [] ∷ close ∷ simpleType "A" ∷ close ∷ start "element" (typed "r" "A") ∷ close ∷ complexType "B" ∷ [])
-    ≡ Head.simpleType (bytes "A") ∷ Head.element (record { name = bytes "r"; typeName = bytes "A" }) ∷ Head.complexType (bytes "B") ∷ []
+    ≡ Head.simpleType (bytes "A") ∷ Head.element (bytes "r") (bytes "A") ∷ Head.complexType (bytes "B") ∷ []
 unfolding children taped
 some-children = refl
 
@@ -35,7 +35,7 @@ no-children = refl
 -- the inner `schema` is a child like any other; a second one behind the first has children again
 two-schemas :
     children (schema ∷ schema ∷ empty "element" (typed "a" "t") ∷ close ∷ close ∷ schema ∷ empty "element" (typed "b" "t") ∷ [])
-    ≡ Head.element (record { name = bytes "b"; typeName = bytes "t" }) ∷ []
+    ≡ Head.element (bytes "b") (bytes "t") ∷ []
 unfolding children taped
 two-schemas = refl
 

@@ -15,7 +15,7 @@ no-row = refl
 -- in 30 it has room
 exact-rows :
     reads (blank 30 2) (schema ∷ empty "element" (typed "D" "T") ∷ [])
-    ≡ gives 0 2 (sheet 30 2 (line 0 3 2 1 0 1 2 1 0 0 ∷ noNamespace ∷ line 2 0 1 1 1 0 0 0 0 0 ∷ []) "DT")
+    ≡ gives 0 2 (sheet 30 2 (line 0 3 2 1 0 1 2 1 0 0 ∷ noNamespace ∷ line 2 0 1 1 1 0 0 0 0 1 ∷ []) "DT")
 unfolding taped
 exact-rows = refl
 

@@ -58,7 +58,7 @@ first-attribute = refl
 -- "`element`, start or empty, is kept if it has name and type"; values are kept whole (E13)
 elements :
     reads (blank 50 12) (schema ∷ empty "xs:element" (("type", "xs:T") ∷ ("name", "D") ∷ []) ∷ start "element" (typed "E" "U") ∷ [])
-    ≡ gives 0 3 (sheet 50 12 (line 0 4 7 1 0 1 3 2 0 0 ∷ noNamespace ∷ line 2 0 1 1 4 0 0 0 0 0 ∷ line 2 5 1 6 1 0 0 0 0 0 ∷ []) "Dxs:TEU")
+    ≡ gives 0 3 (sheet 50 12 (line 0 4 7 1 0 1 3 2 0 0 ∷ noNamespace ∷ line 2 0 1 1 4 0 0 0 0 1 ∷ line 2 5 1 6 1 0 0 0 0 2 ∷ []) "Dxs:TEU")
 unfolding taped
 elements = refl
 
@@ -72,7 +72,7 @@ element-no-type = refl
 -- with an empty name and an empty type (S2)
 element-empty :
     reads (blank 50 12) (start "schema" (("targetNamespace", "ns") ∷ []) ∷ empty "element" (typed "" "") ∷ [])
-    ≡ gives 0 2 (sheet 50 12 (line 0 3 2 1 0 1 2 1 0 0 ∷ line 1 0 2 0 0 0 0 0 0 0 ∷ line 2 2 0 2 0 0 0 0 0 0 ∷ []) "ns")
+    ≡ gives 0 2 (sheet 50 12 (line 0 3 2 1 0 1 2 1 0 0 ∷ line 1 0 2 0 0 0 0 0 0 0 ∷ line 2 2 0 2 0 0 0 0 0 1 ∷ []) "ns")
 unfolding taped
 element-empty = refl
 
@@ -96,7 +96,7 @@ close-in-1 = refl
 -- a started `element` is kept, and its close ends the schema context (E11)
 close-of-element :
     reads (blank 50 12) (schema ∷ start "element" (typed "D" "T") ∷ close ∷ empty "element" (typed "D" "T") ∷ [])
-    ≡ gives 0 4 (sheet 50 12 (line 0 3 2 0 0 1 4 1 0 0 ∷ noNamespace ∷ line 2 0 1 1 1 0 0 0 0 0 ∷ []) "DT")
+    ≡ gives 0 4 (sheet 50 12 (line 0 3 2 0 0 1 4 1 0 0 ∷ noNamespace ∷ line 2 0 1 1 1 0 0 0 0 1 ∷ []) "DT")
 unfolding taped
 close-of-element = refl
 
@@ -104,14 +104,14 @@ close-of-element = refl
 schema-again :
     reads (blank 50 12) (start "schema" (("targetNamespace", "ns") ∷ []) ∷ empty "element" (typed "D" "T") ∷ start "a" [] ∷ close ∷ schema
     ∷ empty "element" (typed "E" "U") ∷ [])
-    ≡ gives 0 6 (sheet 50 12 (line 0 4 4 1 0 1 6 2 0 0 ∷ noNamespace ∷ line 2 0 1 1 1 0 0 0 0 0 ∷ line 2 2 1 3 1 0 0 0 0 0 ∷ []) "DTEU")
+    ≡ gives 0 6 (sheet 50 12 (line 0 4 4 1 0 1 6 2 0 0 ∷ noNamespace ∷ line 2 0 1 1 1 0 0 0 0 1 ∷ line 2 2 1 3 1 0 0 0 0 5 ∷ []) "DTEU")
 unfolding taped
 schema-again = refl
 
 -- an empty `schema` sets the namespace too
 empty-schema-again :
     reads (blank 50 12) (schema ∷ empty "element" (typed "D" "T") ∷ close ∷ empty "schema" (("targetNamespace", "ns") ∷ []) ∷ [])
-    ≡ gives 0 4 (sheet 50 12 (line 0 3 4 0 0 1 4 0 0 0 ∷ line 1 0 2 0 0 0 0 0 0 0 ∷ line 2 2 1 3 1 0 0 0 0 0 ∷ []) "nsDT")
+    ≡ gives 0 4 (sheet 50 12 (line 0 3 4 0 0 1 4 0 0 0 ∷ line 1 0 2 0 0 0 0 0 0 0 ∷ line 2 2 1 3 1 0 0 0 0 1 ∷ []) "nsDT")
 unfolding taped
 empty-schema-again = refl
 
@@ -123,7 +123,7 @@ close-in-0 = refl
 -- the close of a type returns to context 1, so the next type is read
 close-of-type :
     reads (blank 50 12) (schema ∷ simpleType "S" ∷ close ∷ simpleType "R" ∷ close ∷ [])
-    ≡ gives 0 5 (sheet 50 12 (line 0 4 2 1 0 1 5 1 0 0 ∷ noNamespace ∷ line 3 0 1 1 0 0 0 0 0 0 ∷ line 3 1 1 2 0 0 0 0 0 0 ∷ []) "SR")
+    ≡ gives 0 5 (sheet 50 12 (line 0 4 2 1 0 1 5 1 0 0 ∷ noNamespace ∷ line 3 0 1 1 0 0 0 0 0 1 ∷ line 3 1 1 2 0 0 0 0 0 3 ∷ []) "SR")
 unfolding taped
 close-of-type = refl
 
@@ -132,21 +132,21 @@ close-of-type = refl
 -- in one piece
 one-piece :
     reads (blank 50 12) (schema ∷ empty "element" (typed "D" "T") ∷ empty "element" (typed "E" "U") ∷ close ∷ [])
-    ≡ gives 0 4 (sheet 50 12 (line 0 4 4 0 0 1 4 0 0 0 ∷ noNamespace ∷ line 2 0 1 1 1 0 0 0 0 0 ∷ line 2 2 1 3 1 0 0 0 0 0 ∷ []) "DTEU")
+    ≡ gives 0 4 (sheet 50 12 (line 0 4 4 0 0 1 4 0 0 0 ∷ noNamespace ∷ line 2 0 1 1 1 0 0 0 0 1 ∷ line 2 2 1 3 1 0 0 0 0 2 ∷ []) "DTEU")
 unfolding taped
 one-piece = refl
 
 -- in two: the place counts the second piece alone
 two-pieces :
     reads (reads (blank 50 12) (schema ∷ empty "element" (typed "D" "T") ∷ []) .sheet) (empty "element" (typed "E" "U") ∷ close ∷ [])
-    ≡ gives 0 2 (sheet 50 12 (line 0 4 4 0 0 1 4 0 0 0 ∷ noNamespace ∷ line 2 0 1 1 1 0 0 0 0 0 ∷ line 2 2 1 3 1 0 0 0 0 0 ∷ []) "DTEU")
+    ≡ gives 0 2 (sheet 50 12 (line 0 4 4 0 0 1 4 0 0 0 ∷ noNamespace ∷ line 2 0 1 1 1 0 0 0 0 1 ∷ line 2 2 1 3 1 0 0 0 0 2 ∷ []) "DTEU")
 unfolding taped
 two-pieces = refl
 
 -- the first refused event: "place is the event's number in the piece, from 0"
 refused-in-second :
     reads (reads (blank 50 12) (schema ∷ empty "element" (typed "D" "T") ∷ []) .sheet) (close ∷ close ∷ [])
-    ≡ gives 6 1 (sheet 50 12 (line 0 3 2 0 0 1 3 0 0 0 ∷ noNamespace ∷ line 2 0 1 1 1 0 0 0 0 0 ∷ []) "DT")
+    ≡ gives 6 1 (sheet 50 12 (line 0 3 2 0 0 1 3 0 0 0 ∷ noNamespace ∷ line 2 0 1 1 1 0 0 0 0 1 ∷ []) "DT")
 unfolding taped
 refused-in-second = refl
 
@@ -154,6 +154,6 @@ refused-in-second = refl
 piece-after-refusal :
     reads (reads (blank 50 12) (schema ∷ start "simpleType" []
     ∷ empty "element" (typed "D" "T") ∷ []) .sheet) (empty "element" (typed "E" "U") ∷ close ∷ [])
-    ≡ gives 0 2 (sheet 50 12 (line 0 3 2 0 0 1 3 0 0 0 ∷ noNamespace ∷ line 2 0 1 1 1 0 0 0 0 0 ∷ []) "EU")
+    ≡ gives 0 2 (sheet 50 12 (line 0 3 2 0 0 1 3 0 0 0 ∷ noNamespace ∷ line 2 0 1 1 1 0 0 0 0 1 ∷ []) "EU")
 unfolding taped
 piece-after-refusal = refl

@@ -10,56 +10,56 @@ use Rattle.xsd_parser.specs.Examples.Tapes.{start, empty, close, named, 
 -- simple content, flag 0, an empty base
 simple-content :
     reads (blank 60 12) (schema ∷ complexType "C" ∷ start "simpleContent" [] ∷ [])
-    ≡ gives 0 3 (sheet 60 12 (line 0 3 1 3 1 1 3 3 0 0 ∷ noNamespace ∷ line 14 0 1 1 0 0 0 0 0 0 ∷ []) "C")
+    ≡ gives 0 3 (sheet 60 12 (line 0 3 1 3 1 1 3 3 0 0 ∷ noNamespace ∷ line 14 0 1 1 0 0 0 0 0 1 ∷ []) "C")
 unfolding taped
 simple-content = refl
 
 -- "start `extension` at 2 inside simple content sets base and flag"
 extension :
     reads (blank 60 12) (schema ∷ complexType "C" ∷ start "simpleContent" [] ∷ start "extension" (based "b") ∷ [])
-    ≡ gives 0 4 (sheet 60 12 (line 0 3 2 3 2 1 4 4 1 0 ∷ noNamespace ∷ line 14 0 1 1 1 0 0 0 0 0 ∷ []) "Cb")
+    ≡ gives 0 4 (sheet 60 12 (line 0 3 2 3 2 1 4 4 1 0 ∷ noNamespace ∷ line 14 0 1 1 1 0 0 0 0 1 ∷ []) "Cb")
 unfolding taped
 extension = refl
 
 -- not at 1 (E4)
 extension-at-1 :
     reads (blank 60 12) (schema ∷ complexType "C" ∷ start "simpleContent" [] ∷ close ∷ start "extension" (based "b") ∷ [])
-    ≡ gives 0 5 (sheet 60 12 (line 0 3 1 3 1 1 5 3 0 0 ∷ noNamespace ∷ line 14 0 1 1 0 0 0 0 0 0 ∷ []) "C")
+    ≡ gives 0 5 (sheet 60 12 (line 0 3 1 3 1 1 5 3 0 0 ∷ noNamespace ∷ line 14 0 1 1 0 0 0 0 0 1 ∷ []) "C")
 unfolding taped
 extension-at-1 = refl
 
 -- not at 3
 extension-at-3 :
     reads (blank 60 12) (schema ∷ complexType "C" ∷ start "simpleContent" [] ∷ start "a" [] ∷ start "extension" (based "b") ∷ [])
-    ≡ gives 0 5 (sheet 60 12 (line 0 3 1 3 3 1 5 5 0 0 ∷ noNamespace ∷ line 14 0 1 1 0 0 0 0 0 0 ∷ []) "C")
+    ≡ gives 0 5 (sheet 60 12 (line 0 3 1 3 3 1 5 5 0 0 ∷ noNamespace ∷ line 14 0 1 1 0 0 0 0 0 1 ∷ []) "C")
 unfolding taped
 extension-at-3 = refl
 
 -- "inside simple content": the content as it stands, not the tag around it (E5)
 extension-elsewhere :
     reads (blank 60 12) (schema ∷ complexType "C" ∷ start "simpleContent" [] ∷ close ∷ start "a" [] ∷ start "extension" (based "b") ∷ [])
-    ≡ gives 0 6 (sheet 60 12 (line 0 3 2 3 2 1 6 4 1 0 ∷ noNamespace ∷ line 14 0 1 1 1 0 0 0 0 0 ∷ []) "Cb")
+    ≡ gives 0 6 (sheet 60 12 (line 0 3 2 3 2 1 6 4 1 0 ∷ noNamespace ∷ line 14 0 1 1 1 0 0 0 0 1 ∷ []) "Cb")
 unfolding taped
 extension-elsewhere = refl
 
 -- not in a sequence
 extension-in-sequence :
     reads (blank 60 12) (schema ∷ complexType "C" ∷ start "sequence" [] ∷ start "extension" (based "b") ∷ [])
-    ≡ gives 0 4 (sheet 60 12 (line 0 3 1 3 2 1 4 4 0 0 ∷ noNamespace ∷ line 12 0 1 0 0 0 0 0 0 0 ∷ []) "C")
+    ≡ gives 0 4 (sheet 60 12 (line 0 3 1 3 2 1 4 4 0 0 ∷ noNamespace ∷ line 12 0 1 0 0 0 0 0 0 1 ∷ []) "C")
 unfolding taped
 extension-in-sequence = refl
 
 -- an empty one does nothing
 empty-extension :
     reads (blank 60 12) (schema ∷ complexType "C" ∷ start "simpleContent" [] ∷ empty "extension" (based "b") ∷ [])
-    ≡ gives 0 4 (sheet 60 12 (line 0 3 1 3 1 1 4 3 0 0 ∷ noNamespace ∷ line 14 0 1 1 0 0 0 0 0 0 ∷ []) "C")
+    ≡ gives 0 4 (sheet 60 12 (line 0 3 1 3 1 1 4 3 0 0 ∷ noNamespace ∷ line 14 0 1 1 0 0 0 0 0 1 ∷ []) "C")
 unfolding taped
 empty-extension = refl
 
 -- an absent base is empty text, and the flag is set
 extension-no-base :
     reads (blank 60 12) (schema ∷ complexType "C" ∷ start "simpleContent" [] ∷ start "extension" [] ∷ [])
-    ≡ gives 0 4 (sheet 60 12 (line 0 3 1 3 2 1 4 4 1 0 ∷ noNamespace ∷ line 14 0 1 1 0 0 0 0 0 0 ∷ []) "C")
+    ≡ gives 0 4 (sheet 60 12 (line 0 3 1 3 2 1 4 4 1 0 ∷ noNamespace ∷ line 14 0 1 1 0 0 0 0 0 1 ∷ []) "C")
 unfolding taped
 extension-no-base = refl
 
@@ -69,7 +69,7 @@ extension-no-base = refl
 attribute :
     reads (blank 60 12) (schema ∷ complexType "C" ∷ start "simpleContent" [] ∷ start "extension" (based "b")
     ∷ empty "attribute" (("name", "x") ∷ ("type", "t") ∷ ("use", "required") ∷ []) ∷ [])
-    ≡ gives 0 5 (sheet 60 12 (line 0 4 4 3 2 1 5 4 1 0 ∷ noNamespace ∷ line 14 0 1 1 1 0 0 0 0 0 ∷ line 20 2 1 3 1 0 0 1 0 0 ∷ []) "Cbxt")
+    ≡ gives 0 5 (sheet 60 12 (line 0 4 4 3 2 1 5 4 1 0 ∷ noNamespace ∷ line 14 0 1 1 1 0 0 0 0 1 ∷ line 20 2 1 3 1 0 0 1 0 0 ∷ []) "Cbxt")
 unfolding taped
 attribute = refl
 
@@ -77,7 +77,7 @@ attribute = refl
 attribute-before :
     reads (blank 60 12) (schema ∷ complexType "C" ∷ start "simpleContent" []
     ∷ empty "attribute" (("name", "x") ∷ ("type", "t") ∷ ("use", "required") ∷ []) ∷ start "extension" (based "b") ∷ [])
-    ≡ gives 0 5 (sheet 60 12 (line 0 3 2 3 2 1 5 4 1 0 ∷ noNamespace ∷ line 14 0 1 1 1 0 0 0 0 0 ∷ []) "Cb")
+    ≡ gives 0 5 (sheet 60 12 (line 0 3 2 3 2 1 5 4 1 0 ∷ noNamespace ∷ line 14 0 1 1 1 0 0 0 0 1 ∷ []) "Cb")
 unfolding taped
 attribute-before = refl
 
@@ -85,7 +85,7 @@ attribute-before = refl
 attribute-after :
     reads (blank 60 12) (schema ∷ complexType "C" ∷ start "simpleContent" [] ∷ start "extension" (based "b") ∷ close ∷ close
     ∷ empty "attribute" (("name", "x") ∷ ("type", "t") ∷ ("use", "required") ∷ []) ∷ [])
-    ≡ gives 0 7 (sheet 60 12 (line 0 4 4 3 0 1 7 2 1 0 ∷ noNamespace ∷ line 14 0 1 1 1 0 0 0 0 0 ∷ line 20 2 1 3 1 0 0 1 0 0 ∷ []) "Cbxt")
+    ≡ gives 0 7 (sheet 60 12 (line 0 4 4 3 0 1 7 2 1 0 ∷ noNamespace ∷ line 14 0 1 1 1 0 0 0 0 1 ∷ line 20 2 1 3 1 0 0 1 0 0 ∷ []) "Cbxt")
 unfolding taped
 attribute-after = refl
 
@@ -93,7 +93,7 @@ attribute-after = refl
 attribute-no-type :
     reads (blank 60 12) (schema ∷ complexType "C" ∷ start "simpleContent" [] ∷ start "extension" (based "b") ∷ empty "attribute" (named "x")
     ∷ empty "attribute" (("type", "t") ∷ []) ∷ [])
-    ≡ gives 0 6 (sheet 60 12 (line 0 3 2 3 2 1 6 4 1 0 ∷ noNamespace ∷ line 14 0 1 1 1 0 0 0 0 0 ∷ []) "Cb")
+    ≡ gives 0 6 (sheet 60 12 (line 0 3 2 3 2 1 6 4 1 0 ∷ noNamespace ∷ line 14 0 1 1 1 0 0 0 0 1 ∷ []) "Cb")
 unfolding taped
 attribute-no-type = refl
 
@@ -101,7 +101,7 @@ attribute-no-type = refl
 started-attribute :
     reads (blank 60 12) (schema ∷ complexType "C" ∷ start "simpleContent" [] ∷ start "extension" (based "b")
     ∷ start "attribute" (typed "x" "t") ∷ [])
-    ≡ gives 0 5 (sheet 60 12 (line 0 3 2 3 3 1 5 5 1 0 ∷ noNamespace ∷ line 14 0 1 1 1 0 0 0 0 0 ∷ []) "Cb")
+    ≡ gives 0 5 (sheet 60 12 (line 0 3 2 3 3 1 5 5 1 0 ∷ noNamespace ∷ line 14 0 1 1 1 0 0 0 0 1 ∷ []) "Cb")
 unfolding taped
 started-attribute = refl
 
@@ -110,7 +110,7 @@ required :
     reads (blank 60 12) (schema ∷ complexType "C" ∷ start "simpleContent" [] ∷ start "extension" (based "b")
     ∷ empty "attribute" (typed "y" "t") ∷ empty "attribute" (("name", "x") ∷ ("type", "t") ∷ ("use", "Required") ∷ [])
     ∷ empty "attribute" (("name", "z") ∷ ("type", "t") ∷ ("use", "optional") ∷ ("use", "required") ∷ []) ∷ [])
-    ≡ gives 0 7 (sheet 60 12 (line 0 6 8 3 2 1 7 4 1 0 ∷ noNamespace ∷ line 14 0 1 1 1 0 0 0 0 0 ∷ line 20 2 1 3 1 0 0 0 0 0
+    ≡ gives 0 7 (sheet 60 12 (line 0 6 8 3 2 1 7 4 1 0 ∷ noNamespace ∷ line 14 0 1 1 1 0 0 0 0 1 ∷ line 20 2 1 3 1 0 0 0 0 0
     ∷ line 20 4 1 5 1 0 0 0 0 0 ∷ line 20 6 1 7 1 0 0 0 0 0 ∷ []) "Cbytxtzt")
 unfolding taped
 required = refl
@@ -119,7 +119,7 @@ required = refl
 finished :
     reads (blank 60 12) (schema ∷ complexType "C" ∷ start "simpleContent" [] ∷ start "extension" (based "b")
     ∷ empty "attribute" (("name", "x") ∷ ("type", "t") ∷ ("use", "required") ∷ []) ∷ close ∷ close ∷ close ∷ [])
-    ≡ gives 0 8 (sheet 60 12 (line 0 4 4 1 0 1 8 1 0 0 ∷ noNamespace ∷ line 14 0 1 1 1 0 0 0 0 0 ∷ line 20 2 1 3 1 0 0 1 0 0 ∷ []) "Cbxt")
+    ≡ gives 0 8 (sheet 60 12 (line 0 4 4 1 0 1 8 1 0 0 ∷ noNamespace ∷ line 14 0 1 1 1 0 0 0 0 1 ∷ line 20 2 1 3 1 0 0 1 0 0 ∷ []) "Cbxt")
 unfolding taped
 finished = refl
 
@@ -129,7 +129,7 @@ finished = refl
 extension-again :
     reads (blank 60 12) (schema ∷ complexType "C" ∷ start "simpleContent" [] ∷ start "extension" (based "b")
     ∷ empty "attribute" (("name", "x") ∷ ("type", "t") ∷ ("use", "required") ∷ []) ∷ close ∷ start "extension" (based "ab") ∷ [])
-    ≡ gives 0 7 (sheet 60 12 (line 0 4 5 3 2 1 7 4 1 0 ∷ noNamespace ∷ line 14 0 1 1 2 0 0 0 0 0 ∷ line 20 3 1 4 1 0 0 1 0 0 ∷ []) "Cabxt")
+    ≡ gives 0 7 (sheet 60 12 (line 0 4 5 3 2 1 7 4 1 0 ∷ noNamespace ∷ line 14 0 1 1 2 0 0 0 0 1 ∷ line 20 3 1 4 1 0 0 1 0 0 ∷ []) "Cabxt")
 unfolding taped
 extension-again = refl
 
@@ -138,7 +138,7 @@ simple-content-again :
     reads (blank 60 12) (schema ∷ complexType "C" ∷ start "simpleContent" [] ∷ start "extension" (based "b")
     ∷ empty "attribute" (("name", "x") ∷ ("type", "t") ∷ ("use", "required") ∷ []) ∷ close ∷ close ∷ start "simpleContent" []
     ∷ empty "attribute" (("name", "x") ∷ ("type", "t") ∷ ("use", "required") ∷ []) ∷ [])
-    ≡ gives 0 9 (sheet 60 12 (line 0 3 1 3 1 1 9 3 0 0 ∷ noNamespace ∷ line 14 0 1 1 0 0 0 0 0 0 ∷ []) "C")
+    ≡ gives 0 9 (sheet 60 12 (line 0 3 1 3 1 1 9 3 0 0 ∷ noNamespace ∷ line 14 0 1 1 0 0 0 0 0 1 ∷ []) "C")
 unfolding taped
 simple-content-again = refl
 
@@ -146,7 +146,7 @@ simple-content-again = refl
 any-flag-0 :
     reads (blank 60 12) (schema ∷ complexType "C" ∷ start "simpleContent" [] ∷ start "extension" (based "b")
     ∷ empty "attribute" (("name", "x") ∷ ("type", "t") ∷ ("use", "required") ∷ []) ∷ empty "any" [] ∷ [])
-    ≡ gives 0 6 (sheet 60 12 (line 0 3 1 3 2 1 6 4 0 0 ∷ noNamespace ∷ line 15 0 1 0 0 0 0 0 0 0 ∷ []) "C")
+    ≡ gives 0 6 (sheet 60 12 (line 0 3 1 3 2 1 6 4 0 0 ∷ noNamespace ∷ line 15 0 1 0 0 0 0 0 0 1 ∷ []) "C")
 unfolding taped
 any-flag-0 = refl
 
@@ -154,7 +154,7 @@ any-flag-0 = refl
 sequence-flag-0 :
     reads (blank 60 12) (schema ∷ complexType "C" ∷ start "simpleContent" [] ∷ start "extension" (based "b")
     ∷ empty "attribute" (("name", "x") ∷ ("type", "t") ∷ ("use", "required") ∷ []) ∷ close ∷ close ∷ start "sequence" [] ∷ [])
-    ≡ gives 0 8 (sheet 60 12 (line 0 3 1 3 1 1 8 3 0 0 ∷ noNamespace ∷ line 12 0 1 0 0 0 0 0 0 0 ∷ []) "C")
+    ≡ gives 0 8 (sheet 60 12 (line 0 3 1 3 1 1 8 3 0 0 ∷ noNamespace ∷ line 12 0 1 0 0 0 0 0 0 1 ∷ []) "C")
 unfolding taped
 sequence-flag-0 = refl
 

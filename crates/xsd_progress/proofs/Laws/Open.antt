@@ -39,17 +39,17 @@ pub context-group : (c : Context) → 2 ≤ contextNumber c → isGroup (context
 unfolding contextNumber contextRows
 context-group Context.noContext h = absurd (omega arith)
 context-group (Context.inSchema n) h = absurd (omega arith)
-context-group (Context.inSimpleType t) h = group-simple (t .name) (t .base) (t .facets)
-context-group (Context.inComplexType t) h = group-complex (t .name) (t .content)
+context-group (Context.inSimpleType t) h = group-simple (t .event) (t .name) (t .base) (t .facets)
+context-group (Context.inComplexType t) h = group-complex (t .event) (t .name) (t .content)
 
-pub content-tag : (name : Text) (c : ComplexContentBuilder) → firstTag (complexTypeRows name c) ≡ contentTag c
+pub content-tag : (event : ℕ) (name : Text) (c : ComplexContentBuilder) → firstTag (complexTypeRows event name c) ≡ contentTag c
 unfolding firstTag complexTypeRows row contentTag
-content-tag name ComplexContentBuilder.empty = refl
-content-tag name (ComplexContentBuilder.sequence es) = refl
-content-tag name (ComplexContentBuilder.choice vs) = refl
-content-tag name (ComplexContentBuilder.simpleContent base xs flag) = refl
-content-tag name (ComplexContentBuilder.any none) = refl
-content-tag name (ComplexContentBuilder.any (some n)) = refl
+content-tag event name ComplexContentBuilder.empty = refl
+content-tag event name (ComplexContentBuilder.sequence es) = refl
+content-tag event name (ComplexContentBuilder.choice vs) = refl
+content-tag event name (ComplexContentBuilder.simpleContent base xs flag) = refl
+content-tag event name (ComplexContentBuilder.any none) = refl
+content-tag event name (ComplexContentBuilder.any (some n)) = refl
 
 -- the first of the open type's rows has the tag that the context says, 0 where there is none
 pub head-tag : (c : Context) → firstTag (contextRows c) ≡ headTag c
@@ -57,7 +57,7 @@ unfolding firstTag contextRows simpleTypeRows row headTag
 head-tag Context.noContext = refl
 head-tag (Context.inSchema n) = refl
 head-tag (Context.inSimpleType t) = refl
-head-tag (Context.inComplexType t) = content-tag (t .name) (t .content)
+head-tag (Context.inComplexType t) = content-tag (t .event) (t .name) (t .content)
 
 -- rows that begin with a head of a tag
 pub record FirstRow (rs : List Row) (tag : ℕ) : Type 0 where

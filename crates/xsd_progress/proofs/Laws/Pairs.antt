@@ -56,24 +56,24 @@ pub right-attribute : (x : Attribute) → RightPairs (attributeRow x)
 unfolding attributeRow usedPairs between
 right-attribute x = right-row _ _ _ _ _ refl refl
 
-pub paired-simple : (name base : Text) (fs : List Facet) → Paired (simpleTypeRows name base fs)
+pub paired-simple : (event : ℕ) (name base : Text) (fs : List Facet) → Paired (simpleTypeRows event name base fs)
 unfolding simpleTypeRows usedPairs between
-paired-simple name base fs = Paired.more (right-row _ _ _ _ _ refl refl) (paired-map facetRow right-facet fs)
+paired-simple event name base fs = Paired.more (right-row _ _ _ _ _ refl refl) (paired-map facetRow right-facet fs)
 
-pub paired-complex : (name : Text) (c : ComplexContentBuilder) → Paired (complexTypeRows name c)
+pub paired-complex : (event : ℕ) (name : Text) (c : ComplexContentBuilder) → Paired (complexTypeRows event name c)
 unfolding complexTypeRows usedPairs between
-paired-complex name ComplexContentBuilder.empty = Paired.more (right-row _ _ _ _ _ refl refl) Paired.none
-paired-complex name (ComplexContentBuilder.sequence es) = Paired.more (right-row _ _ _ _ _ refl refl) (paired-map elementRow right-element es)
-paired-complex name (ComplexContentBuilder.choice vs) = Paired.more (right-row _ _ _ _ _ refl refl) (paired-map variantRow right-variant vs)
-paired-complex name (ComplexContentBuilder.simpleContent base xs flag) = Paired.more (right-row _ _ _ _ _ refl refl) (paired-map attributeRow right-attribute xs)
-paired-complex name (ComplexContentBuilder.any none) = Paired.more (right-row _ _ _ _ _ refl refl) Paired.none
-paired-complex name (ComplexContentBuilder.any (some n)) = Paired.more (right-row _ _ _ _ _ refl refl) Paired.none
+paired-complex event name ComplexContentBuilder.empty = Paired.more (right-row _ _ _ _ _ refl refl) Paired.none
+paired-complex event name (ComplexContentBuilder.sequence es) = Paired.more (right-row _ _ _ _ _ refl refl) (paired-map elementRow right-element es)
+paired-complex event name (ComplexContentBuilder.choice vs) = Paired.more (right-row _ _ _ _ _ refl refl) (paired-map variantRow right-variant vs)
+paired-complex event name (ComplexContentBuilder.simpleContent base xs flag) = Paired.more (right-row _ _ _ _ _ refl refl) (paired-map attributeRow right-attribute xs)
+paired-complex event name (ComplexContentBuilder.any none) = Paired.more (right-row _ _ _ _ _ refl refl) Paired.none
+paired-complex event name (ComplexContentBuilder.any (some n)) = Paired.more (right-row _ _ _ _ _ refl refl) Paired.none
 
 pub paired-item : (i : Item) → Paired (itemRows i)
 unfolding itemRows usedPairs between
 paired-item (Item.element e) = Paired.more (right-row _ _ _ _ _ refl refl) Paired.none
-paired-item (Item.simpleType t) = paired-simple (t .name) (t .base) (t .facets)
-paired-item (Item.complexType t) = paired-complex (t .name) (started (t .content))
+paired-item (Item.simpleType t) = paired-simple (t .event) (t .name) (t .base) (t .facets)
+paired-item (Item.complexType t) = paired-complex (t .event) (t .name) (started (t .content))
 
 pub paired-items : (is : List Item) → Paired (itemsRows is)
 unfolding itemsRows
@@ -84,8 +84,8 @@ pub paired-context : (c : Context) → Paired (contextRows c)
 unfolding contextRows
 paired-context Context.noContext = Paired.none
 paired-context (Context.inSchema n) = Paired.none
-paired-context (Context.inSimpleType t) = paired-simple (t .name) (t .base) (t .facets)
-paired-context (Context.inComplexType t) = paired-complex (t .name) (t .content)
+paired-context (Context.inSimpleType t) = paired-simple (t .event) (t .name) (t .base) (t .facets)
+paired-context (Context.inComplexType t) = paired-complex (t .event) (t .name) (t .content)
 
 pub paired-rows : (s : State) → Paired (rowsOf s)
 unfolding rowsOf namespaceRow usedPairs between

@@ -41,7 +41,7 @@ counted-as text marks t n o f q = ap (λ (e : Event). tagsAfter e n) (record-as 
 pub record Told (rows : List ℕ) (text : Text) (marks : List ℕ) (p : Progress) (e : Event) (d : Decision) : Type 0 where
   pub head : ℕ
   pub headIs : TagOfHead rows (p .mode .context) (p .head) head
-  pub decidedIs : decision text marks d ≡ decided e (p .mode) head
+  pub decidedIs : decision text marks d ≡ decided (p .events) e (p .mode) head
 
 head-at : {s : State} {rows names : List ℕ} {p : Progress} {head : ℕ} → At s rows names p → TagOfHead rows (p .mode .context) (p .head) head → head ≡ headTag (s .reader .context)
 unfolding rowsOf behind modeOf
@@ -50,34 +50,34 @@ head-at {s} {rows} {names} {p} at h =
     h .is names (p .used) (at .z) (s .reader .schema .targetNamespace) (s .reader) (at .holds) context (λ k. at .head (rw context at k))
 
 -- what `Decides` says of each outcome
-pub record Handled (byStandard : Bool) (e : Event) (r : Reader) (a : Action) : Type 0 where
+pub record Handled (byStandard : Bool) (n : ℕ) (e : Event) (r : Reader) (a : Action) : Type 0 where
   pub r′ : Reader
-  pub handles : handled byStandard e r ≡ ok r′
+  pub handles : handled byStandard n e r ≡ ok r′
   pub acted : Acted byStandard e r a r′
 
-abbrev HandledOr : Bool → Event → Reader → Outcome Action → Type 0
-HandledOr byStandard e r (ok a) = Handled byStandard e r a
-HandledOr byStandard e r (refuse n) = handled byStandard e r ≡ refuse n
+abbrev HandledOr : Bool → ℕ → Event → Reader → Outcome Action → Type 0
+HandledOr byStandard n e r (ok a) = Handled byStandard n e r a
+HandledOr byStandard n e r (refuse k) = handled byStandard n e r ≡ refuse k
 
-handled-or : {byStandard : Bool} {e : Event} {r : Reader} {o : Outcome Action} → Decides byStandard e r o → HandledOr byStandard e r o
+handled-or : {byStandard : Bool} {n : ℕ} {e : Event} {r : Reader} {o : Outcome Action} → Decides byStandard n e r o → HandledOr byStandard n e r o
 handled-or (acts a r′ h x) = record { r′ = r′; handles = h; acted = x }
 handled-or (refuses n h) = h
 
 told-at : {rows names : List ℕ} {text : Text} {marks : List ℕ} {p : Progress} {e : Event} {d : Decision} {s : State} (o : Outcome Action)
-    → Told rows text marks p e d → At s rows names p → decision text marks d ≡ o → HandledOr (s .byStandard) e (s .reader) o
+    → Told rows text marks p e d → At s rows names p → decision text marks d ≡ o → HandledOr (s .byStandard) (s .events) e (s .reader) o
 told-at {rows} {names} {text} {marks} {p} {e} {d} {s} o w at q =
-    let same = sym q ∙ w .decidedIs ∙ ap₂ (decided e) (at .mode) (head-at at (w .headIs)) in
-    handled-or (subst (Decides (s .byStandard) e (s .reader)) (sym same) (decides (s .byStandard) e (s .reader)))
+    let same = sym q ∙ w .decidedIs ∙ ap (λ (n : ℕ). decided n e (p .mode) (w .head)) (at .events) ∙ ap₂ (decided (s .events) e) (at .mode) (head-at at (w .headIs)) in
+    handled-or (subst (Decides (s .byStandard) (s .events) e (s .reader)) (sym same) (decides (s .byStandard) (s .events) e (s .reader)))
 
 -- a refused decision is the handlers' refusal
 pub told-refused : {rows names : List ℕ} {text : Text} {marks : List ℕ} {p : Progress} {e : Event} {d : Decision} {s : State} (r : Refusal)
-    → Told rows text marks p e d → At s rows names p → d ≡ Decision.Refuse r → handled (s .byStandard) e (s .reader) ≡ refuse (refusalNumber r)
+    → Told rows text marks p e d → At s rows names p → d ≡ Decision.Refuse r → handled (s .byStandard) (s .events) e (s .reader) ≡ refuse (refusalNumber r)
 unfolding decision
 told-refused {text = text} {marks = marks} r w at q = told-at (refuse (refusalNumber r)) w at (ap (decision text marks) q)
 
 -- an accepted one is what they do
 pub told-accepted : {rows names : List ℕ} {text : Text} {marks : List ℕ} {p : Progress} {e : Event} {d : Decision} {s : State} (a : Action)
-    → Told rows text marks p e d → At s rows names p → decision text marks d ≡ ok a → Handled (s .byStandard) e (s .reader) a
+    → Told rows text marks p e d → At s rows names p → decision text marks d ≡ ok a → Handled (s .byStandard) (s .events) e (s .reader) a
 told-accepted a w at q = told-at (ok a) w at q
 
 -- a decision that is no refusal is an action

@@ -16,6 +16,7 @@ use Rattle.xsd_parser.specs.EventText.{eventOk}
 use Rattle.xsd_parser.specs.Handlers.{Outcome, ok, refuse, _andThen_}
 use Rattle.xsd_parser.specs.Step.{handled, tagsAfter, counted, roomFor, step}
 use Rattle.xsd_parser.proofs.Laws.Steps.{proper-parts, tags-kept, reader-kept, counted-proper}
+use Rattle.xsd_parser.proofs.Laws.Numbers.{numbers-kept}
 use Rattle.xsd_actions.specs.declared.Decision.{Decision}
 use Rattle.xsd_actions.specs.Actions.{Action}
 use Rattle.xsd_actions.specs.Answers.{decision}
@@ -37,7 +38,7 @@ unfolding step _andThen_
 step-tags lent s e k h q = rw (lt-ltb (s .events) eventsLimit h, q)
 
 step-on : (lent : Lengths) (s : State) (e : Event) (n : ℕ) → s .events < eventsLimit → tagsAfter e (s .openTags) ≡ ok n
-    → step lent s e ≡ (handled (s .byStandard) e (s .reader) andThen (λ r. roomFor lent (counted s n r)))
+    → step lent s e ≡ (handled (s .byStandard) (s .events) e (s .reader) andThen (λ r. roomFor lent (counted s n r)))
 unfolding step _andThen_
 step-on lent s e n h q = rw (lt-ltb (s .events) eventsLimit h, q)
 
@@ -66,7 +67,7 @@ pub record Arrives (rows : List ℕ) (text : Text) (marks : List ℕ) (p : Progr
   pub told : Told rows text marks p e (x .decision)
 
 arrives-on : {rows names : List ℕ} {text : Text} {marks : List ℕ} {p : Progress} {e : Event} {x : Arrival} {s : State} → Arrives rows text marks p e x → At s rows names p
-    → step (lentTo rows names) s e ≡ (handled (s .byStandard) e (s .reader) andThen (λ r. roomFor (lentTo rows names) (counted s (x .«open_tags») r)))
+    → step (lentTo rows names) s e ≡ (handled (s .byStandard) (s .events) e (s .reader) andThen (λ r. roomFor (lentTo rows names) (counted s (x .«open_tags») r)))
 arrives-on {rows} {names} {e = e} {x = x} {s = s} w at = step-on (lentTo rows names) s e (x .«open_tags») (omega (arith, w .more, at .events)) (ap (tagsAfter e) (sym (at .tags)) ∙ w .tagged)
 
 -- 9 and 10
@@ -77,7 +78,7 @@ taken-decided r w q = taken-refused r (λ s at. arrives-on w at ∙ rw (told-ref
 
 -- every other event is due
 pub due-at : {rows names : List ℕ} {text : Text} {marks : List ℕ} {p : Progress} {e : Event} {x : Arrival} {s : State} {a : Action}
-    → Arrives rows text marks p e x → decision text marks (x .decision) ≡ ok a → At s rows names p → eventOk e ≡ true → (done : Handled (s .byStandard) e (s .reader) a) → Due rows names text marks p x s e (done .r′)
+    → Arrives rows text marks p e x → decision text marks (x .decision) ≡ ok a → At s rows names p → eventOk e ≡ true → (done : Handled (s .byStandard) (s .events) e (s .reader) a) → Due rows names text marks p x s e (done .r′)
 due-at {e = e} {x = x} {s = s} {a = a} w q at k done =
     let o = proper-parts s (at .proper) in
     let tagged = ap (tagsAfter e) (sym (at .tags)) ∙ w .tagged in
@@ -90,7 +91,7 @@ due-at {e = e} {x = x} {s = s} {a = a} w q at k done =
       decided = q;
       choice = w .choice ∙ at .choice;
       acted = done .acted;
-      properAfter = counted-proper s n (done .r′) (omega (arith, w .more, at .events)) (tags-kept e (s .openTags) n tagged (o .tags)) (reader-kept (s .byStandard) e (s .reader) (done .r′) (s .openTags) n tagged (done .handles) k (o .reader));
+      properAfter = counted-proper s n (done .r′) (omega (arith, w .more, at .events)) (tags-kept e (s .openTags) n tagged (o .tags)) (reader-kept (s .byStandard) (s .events) e (s .reader) (done .r′) (s .openTags) n tagged (done .handles) k (o .reader)) (numbers-kept (s .byStandard) (s .events) e (s .reader) (done .r′) (o .numbers) (done .handles));
     }
 
 pub due-room : {rows names : List ℕ} {text : Text} {marks : List ℕ} {p : Progress} {e : Event} {x : Arrival} → EventRoom rows names text p e → Arrives rows text marks p e x → Accepted (decision text marks (x .decision))

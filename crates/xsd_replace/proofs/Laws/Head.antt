@@ -64,6 +64,17 @@ head-numbers {rows} {names} {z} {used} {place} {rs} {name} h =
       rowsRoom = rw (h .holds .rowsUsed) (rows-fit p);
     }
 
+-- c of a row
+pub last-number : (k : ℕ) (r : Row) → getD (numbersOf k r) 9 0 ≡ r .c
+unfolding numbersOf numbers packRow
+last-number k r = refl
+
+pub head-last : {rows names z : List ℕ} {used : Used} {place : ℕ} {rs : List Row} {name : Text} (h : HeadAt rows names used place z rs name) → getD rows (10 * place + 9) 0 ≡ h .c
+unfolding row
+head-last {place = place} {rs = rs} {name = name} h =
+    let old = row (h .tag) (name ∷ h .more) (h .a) (h .b) (h .c) in
+    number-at rs (h .kids) old 9 (10 * place + 9) (h .holds .packs) (omega (arith, h .here)) (omega arith) ∙ last-number (length (namesOf rs)) old
+
 module _ {rows names z : List ℕ} {used : Used} {place : ℕ} {rs : List Row} {name : Text} (h : HeadAt rows names used place z rs name) where
   -- the rows from the head's place on are freed
   head-freed-rows : {rows₁ : List ℕ} (m : ℕ) → m ≡ 10 * (used .rows - place) → rows₁ ≡ paste rows (10 * place) (zeros m) m → rows₁ ≡ filled (length rows) (z ++ numbers (pack 0 rs))

@@ -8,14 +8,14 @@ use native.Mathlib.Omega.{arith}
 use lib.Dec.{eqb, leb, leb·zero, eqb·suc-zero}
 use borrow.Author.Tests.{le-leb, eqb-true}
 use Rattle.text.specs.Text.{if_then_else_}
-use Rattle.text.proofs.Laws.Tests.{and-true-right, eleven}
+use Rattle.text.proofs.Laws.Tests.{and-true-left, and-true-right, eleven}
 use Rattle.sheet.specs.Rows.{Sheet, bit, numbers, filled, sheetOfRows}
 use Rattle.sheet.specs.Form.{isFlag, tensOf, usedParts, zerosBehind}
 use Rattle.xsd_types.specs.State.{State}
 use Rattle.xsd_types.specs.Row0.{Row0, row0In}
 use Rattle.xsd_types.specs.Rows.{rowsOf, rowsUsed, namesUsed, row0}
 use Rattle.xsd_types.specs.Sheet.{stateFits, sheetOf}
-use Rattle.xsd_types.specs.Good.{row0Form, rowsForm, namesForm, namesTest, limits, rootTest, openTagsTest, nestingZero, nestingTest, contextTest, extensionTest, headOf, good}
+use Rattle.xsd_types.specs.Good.{row0Form, rowsForm, namesForm, namesTest, limits, rootTest, openTagsTest, nestingZero, nestingTest, contextTest, extensionTest, headOf, eventsTest, good}
 use Rattle.xsd_types.specs.Back.{stateOfRows, stateOf}
 use Rattle.xsd_types.specs.Choice.{paperForm, paperNesting, paperGood, chosen, sheetChosen}
 use Rattle.xsd_types.proofs.Laws.Rows.{bit-again}
@@ -55,7 +55,8 @@ unfolding paperGood paperForm
 paper-choice x g =
     let z = row0In x in
     let ts = tensOf x in
-    let e = eleven (usedParts x) (paperForm z) (rowsForm ts) (namesForm (z .namesUsed) ts) (zerosBehind x) (namesTest x) (limits z) (rootTest z) (paperNesting z) (contextTest (z .context) (headOf ts)) (extensionTest z (headOf ts)) g in
+    let before = usedParts x && paperForm z && rowsForm ts && namesForm (z .namesUsed) ts && zerosBehind x && namesTest x && limits z && rootTest z && paperNesting z && contextTest (z .context) (headOf ts) && extensionTest z (headOf ts) in
+    let e = eleven (usedParts x) (paperForm z) (rowsForm ts) (namesForm (z .namesUsed) ts) (zerosBehind x) (namesTest x) (limits z) (rootTest z) (paperNesting z) (contextTest (z .context) (headOf ts)) (extensionTest z (headOf ts)) (and-true-left before (eventsTest (z .events) ts) g) in
     eqb-true (z .choice) 0 (and-true-right (eqb (z .first) 0 && leb (z .context) 3 && isFlag (z .rootSeen) && isFlag (z .extension)) _ (e .1))
 
 -- every sheet good before is good now, with choice 0, and these are all of that choice

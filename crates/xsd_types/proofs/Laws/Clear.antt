@@ -8,7 +8,7 @@ use Rattle.text.specs.Text.{every, isText, join}
 use Rattle.text.proofs.Laws.Tests.{four, and-true-left, and-true}
 use Rattle.sheet.specs.Rows.{Sheet, namesOf, row}
 use Rattle.sheet.specs.Lengths.{sheetLengths, fits}
-use Rattle.xsd_types.specs.State.{firstState, schemaOk, contextOk, isNoContext, isEmpty, rootOk, countersOk, proper}
+use Rattle.xsd_types.specs.State.{firstState, schemaOk, contextOk, isNoContext, isEmpty, rootOk, countersOk, openPasses, headsPass, eventsOk, proper}
 use Rattle.xsd_types.specs.Rows.{namespaceRow, itemsRows, contextRows, rowsOf, rowsUsed, namesUsed}
 use Rattle.xsd_types.specs.Sheet.{stateFits, sheetOf}
 use Rattle.xsd_types.specs.Good.{good}
@@ -17,7 +17,7 @@ use Rattle.xsd_types.specs.Clear.{clear}
 use Rattle.xsd_types.proofs.Laws.SheetOf.{good-sheetOf, stateOf-sheetOf}
 
 pub first-proper : (byStandard : Bool) → proper (firstState byStandard) ≡ true
-unfolding firstState proper countersOk rootOk contextOk schemaOk isNoContext isEmpty isText every
+unfolding firstState proper countersOk eventsOk headsPass openPasses rootOk contextOk schemaOk isNoContext isEmpty isText every
 first-proper b = refl
 
 pub first-fits : (byStandard : Bool) (r n : ℕ) → sheetLengths r n ≡ true → stateFits r n (firstState byStandard) ≡ true

@@ -39,39 +39,39 @@ unfolding every
 every-tags p f step [] = refl
 every-tags p f step (x ∷ xs) = and-true (step x) (every-tags p f step xs)
 
-pub group-simple : (name base : Text) (fs : List Facet) → isGroup (simpleTypeRows name base fs) ≡ true
+pub group-simple : (event : ℕ) (name base : Text) (fs : List Facet) → isGroup (simpleTypeRows event name base fs) ≡ true
 unfolding isGroup simpleTypeRows row isHead between
-group-simple name base fs = every-tags (isChild 3) facetRow facet-child fs
+group-simple event name base fs = every-tags (isChild 3) facetRow facet-child fs
 
-pub group-complex : (name : Text) (c : ComplexContentBuilder) → isGroup (complexTypeRows name c) ≡ true
+pub group-complex : (event : ℕ) (name : Text) (c : ComplexContentBuilder) → isGroup (complexTypeRows event name c) ≡ true
 unfolding isGroup complexTypeRows row isHead isChild between every elementRow variantRow attributeRow
-group-complex name ComplexContentBuilder.empty = refl
-group-complex name (ComplexContentBuilder.sequence es) = every-tags (isChild 12) elementRow (λ e. occurs-child (e .name) (e .typeName) (e .minOccurs) (e .maxOccurs)) es
-group-complex name (ComplexContentBuilder.choice vs) = every-tags (isChild 13) variantRow (λ v. refl) vs
-group-complex name (ComplexContentBuilder.simpleContent base xs flag) = every-tags (isChild 14) attributeRow (λ x. refl) xs
-group-complex name (ComplexContentBuilder.any none) = refl
-group-complex name (ComplexContentBuilder.any (some n)) = refl
+group-complex event name ComplexContentBuilder.empty = refl
+group-complex event name (ComplexContentBuilder.sequence es) = every-tags (isChild 12) elementRow (λ e. occurs-child (e .name) (e .typeName) (e .minOccurs) (e .maxOccurs)) es
+group-complex event name (ComplexContentBuilder.choice vs) = every-tags (isChild 13) variantRow (λ v. refl) vs
+group-complex event name (ComplexContentBuilder.simpleContent base xs flag) = every-tags (isChild 14) attributeRow (λ x. refl) xs
+group-complex event name (ComplexContentBuilder.any none) = refl
+group-complex event name (ComplexContentBuilder.any (some n)) = refl
 
 pub group-item : (i : Item) → isGroup (itemRows i) ≡ true
 unfolding itemRows isGroup row isHead between every
 group-item (Item.element e) = refl
-group-item (Item.simpleType t) = group-simple (t .name) (t .base) (t .facets)
-group-item (Item.complexType t) = group-complex (t .name) (started (t .content))
+group-item (Item.simpleType t) = group-simple (t .event) (t .name) (t .base) (t .facets)
+group-item (Item.complexType t) = group-complex (t .event) (t .name) (started (t .content))
 
 -- only content that is still absent has a head 16
-pub head-started : (name : Text) (c : ComplexContent) → not (eqb (headTag (complexTypeRows name (started c))) 16) ≡ true
+pub head-started : (event : ℕ) (name : Text) (c : ComplexContent) → not (eqb (headTag (complexTypeRows event name (started c))) 16) ≡ true
 unfolding complexTypeRows started headTag row
-head-started name (ComplexContent.sequence es) = refl
-head-started name (ComplexContent.choice vs) = refl
-head-started name (ComplexContent.simpleContent base xs) = refl
-head-started name (ComplexContent.any none) = refl
-head-started name (ComplexContent.any (some n)) = refl
+head-started event name (ComplexContent.sequence es) = refl
+head-started event name (ComplexContent.choice vs) = refl
+head-started event name (ComplexContent.simpleContent base xs) = refl
+head-started event name (ComplexContent.any none) = refl
+head-started event name (ComplexContent.any (some n)) = refl
 
 pub head-item : (i : Item) → not (eqb (headTag (itemRows i)) 16) ≡ true
 unfolding itemRows simpleTypeRows row headTag
 head-item (Item.element e) = refl
 head-item (Item.simpleType t) = refl
-head-item (Item.complexType t) = head-started (t .name) (t .content)
+head-item (Item.complexType t) = head-started (t .event) (t .name) (t .content)
 
 pub map-back : {A B : Type 0} (f : A → B) (g : B → A) → ((x : A) → g (f x) ≡ x) → (xs : List A) → map g (map f xs) ≡ xs
 map-back f g step [] = refl
@@ -122,37 +122,46 @@ flagIn (ComplexContentBuilder.choice vs) = false
 flagIn (ComplexContentBuilder.simpleContent base xs flag) = flag
 flagIn (ComplexContentBuilder.any n) = false
 
-pub content-back : (name : Text) (c : ComplexContentBuilder) → contentOf (flagIn c) (asGroup (complexTypeRows name c)) ≡ c
+pub content-back : (event : ℕ) (name : Text) (c : ComplexContentBuilder) → contentOf (flagIn c) (asGroup (complexTypeRows event name c)) ≡ c
 unfolding contentOf flagIn asGroup complexTypeRows row text1
-content-back name ComplexContentBuilder.empty = refl
-content-back name (ComplexContentBuilder.sequence es) = ap ComplexContentBuilder.sequence (map-back elementRow elementOf element-back es)
-content-back name (ComplexContentBuilder.choice vs) = ap ComplexContentBuilder.choice (map-back variantRow variantOf variant-back vs)
-content-back name (ComplexContentBuilder.simpleContent base xs flag) = ap (λ (l : List Attribute). ComplexContentBuilder.simpleContent base l flag) (map-back attributeRow attributeOf attribute-back xs)
-content-back name (ComplexContentBuilder.any none) = refl
-content-back name (ComplexContentBuilder.any (some n)) = refl
+content-back event name ComplexContentBuilder.empty = refl
+content-back event name (ComplexContentBuilder.sequence es) = ap ComplexContentBuilder.sequence (map-back elementRow elementOf element-back es)
+content-back event name (ComplexContentBuilder.choice vs) = ap ComplexContentBuilder.choice (map-back variantRow variantOf variant-back vs)
+content-back event name (ComplexContentBuilder.simpleContent base xs flag) = ap (λ (l : List Attribute). ComplexContentBuilder.simpleContent base l flag) (map-back attributeRow attributeOf attribute-back xs)
+content-back event name (ComplexContentBuilder.any none) = refl
+content-back event name (ComplexContentBuilder.any (some n)) = refl
 
-pub name-back : (name : Text) (c : ComplexContentBuilder) → text0 (asGroup (complexTypeRows name c) .head) ≡ name
+pub name-back : (event : ℕ) (name : Text) (c : ComplexContentBuilder) → text0 (asGroup (complexTypeRows event name c) .head) ≡ name
 unfolding asGroup complexTypeRows row text0
-name-back name ComplexContentBuilder.empty = refl
-name-back name (ComplexContentBuilder.sequence es) = refl
-name-back name (ComplexContentBuilder.choice vs) = refl
-name-back name (ComplexContentBuilder.simpleContent base xs flag) = refl
-name-back name (ComplexContentBuilder.any none) = refl
-name-back name (ComplexContentBuilder.any (some n)) = refl
+name-back event name ComplexContentBuilder.empty = refl
+name-back event name (ComplexContentBuilder.sequence es) = refl
+name-back event name (ComplexContentBuilder.choice vs) = refl
+name-back event name (ComplexContentBuilder.simpleContent base xs flag) = refl
+name-back event name (ComplexContentBuilder.any none) = refl
+name-back event name (ComplexContentBuilder.any (some n)) = refl
 
-unfoldable pub finished : Text → ComplexContentBuilder → Item
-finished name c = Item.complexType (record { name = name; content = finish c })
+pub event-back : (event : ℕ) (name : Text) (c : ComplexContentBuilder) → asGroup (complexTypeRows event name c) .head .c ≡ event
+unfolding asGroup complexTypeRows row
+event-back event name ComplexContentBuilder.empty = refl
+event-back event name (ComplexContentBuilder.sequence es) = refl
+event-back event name (ComplexContentBuilder.choice vs) = refl
+event-back event name (ComplexContentBuilder.simpleContent base xs flag) = refl
+event-back event name (ComplexContentBuilder.any none) = refl
+event-back event name (ComplexContentBuilder.any (some n)) = refl
 
-pub complex-back : (name : Text) (c : ComplexContent) → itemOf (asGroup (complexTypeRows name (started c))) ≡ Item.complexType (record { name = name; content = c })
+unfoldable pub finished : ℕ → Text → ComplexContentBuilder → Item
+finished event name c = Item.complexType (record { name = name; content = finish c; event = event })
+
+pub complex-back : (event : ℕ) (name : Text) (c : ComplexContent) → itemOf (asGroup (complexTypeRows event name (started c))) ≡ Item.complexType (record { name = name; content = c; event = event })
 unfolding itemOf complexTypeRows started finish finished flagIn asGroup row text0
-complex-back name (ComplexContent.sequence es) = ap (finished name) (content-back name (ComplexContentBuilder.sequence es))
-complex-back name (ComplexContent.choice vs) = ap (finished name) (content-back name (ComplexContentBuilder.choice vs))
-complex-back name (ComplexContent.simpleContent base xs) = ap (finished name) (content-back name (ComplexContentBuilder.simpleContent base xs false))
-complex-back name (ComplexContent.any none) = ap (finished name) (content-back name (ComplexContentBuilder.any none))
-complex-back name (ComplexContent.any (some n)) = ap (finished name) (content-back name (ComplexContentBuilder.any (some n)))
+complex-back event name (ComplexContent.sequence es) = ap (finished event name) (content-back event name (ComplexContentBuilder.sequence es))
+complex-back event name (ComplexContent.choice vs) = ap (finished event name) (content-back event name (ComplexContentBuilder.choice vs))
+complex-back event name (ComplexContent.simpleContent base xs) = ap (finished event name) (content-back event name (ComplexContentBuilder.simpleContent base xs false))
+complex-back event name (ComplexContent.any none) = ap (finished event name) (content-back event name (ComplexContentBuilder.any none))
+complex-back event name (ComplexContent.any (some n)) = ap (finished event name) (content-back event name (ComplexContentBuilder.any (some n)))
 
 pub item-back : (i : Item) → itemOf (asGroup (itemRows i)) ≡ i
 unfolding itemOf itemRows simpleTypeRows asGroup row text0 text1
 item-back (Item.element e) = refl
-item-back (Item.simpleType t) = ap (λ (fs : List Facet). Item.simpleType (record { name = t .name; base = t .base; facets = fs })) (map-back facetRow facetOf facet-back (t .facets))
-item-back (Item.complexType t) = complex-back (t .name) (t .content)
+item-back (Item.simpleType t) = ap (λ (fs : List Facet). Item.simpleType (record { name = t .name; base = t .base; facets = fs; event = t .event })) (map-back facetRow facetOf facet-back (t .facets))
+item-back (Item.complexType t) = complex-back (t .event) (t .name) (t .content)

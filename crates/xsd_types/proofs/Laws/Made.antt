@@ -43,8 +43,8 @@ pub order-context : (n : ℕ) (c : Context) → not (eqb n 16) ≡ true → inOr
 unfolding contextRows inOrder
 order-context n Context.noContext o = refl
 order-context n (Context.inSchema depth) o = refl
-order-context n (Context.inSimpleType t) o = inOrder-group n (simpleTypeRows (t .name) (t .base) (t .facets)) o (group-simple (t .name) (t .base) (t .facets))
-order-context n (Context.inComplexType t) o = inOrder-group n (complexTypeRows (t .name) (t .content)) o (group-complex (t .name) (t .content))
+order-context n (Context.inSimpleType t) o = inOrder-group n (simpleTypeRows (t .event) (t .name) (t .base) (t .facets)) o (group-simple (t .event) (t .name) (t .base) (t .facets))
+order-context n (Context.inComplexType t) o = inOrder-group n (complexTypeRows (t .event) (t .name) (t .content)) o (group-complex (t .event) (t .name) (t .content))
 
 pub order-body : (n : ℕ) (s : State) → not (eqb n 16) ≡ true → inOrder n (tags (bodyRows s)) ≡ true
 unfolding bodyRows
@@ -59,37 +59,37 @@ order-body n s o =
 pub head-behind : (n : ℕ) (rs gs : List Row) → isGroup gs ≡ true → lastHead n (tags (rs ++ gs)) ≡ headTag gs
 head-behind n rs gs g = rw (tags-append rs gs, lastHead-append n (tags rs) (tags gs)) (lastHead-group (lastHead n (tags rs)) gs g)
 
-pub head-complex : (name : Text) (c : ComplexContentBuilder) → between 12 16 (headTag (complexTypeRows name c)) ≡ true
+pub head-complex : (event : ℕ) (name : Text) (c : ComplexContentBuilder) → between 12 16 (headTag (complexTypeRows event name c)) ≡ true
 unfolding headTag complexTypeRows row between
-head-complex name ComplexContentBuilder.empty = refl
-head-complex name (ComplexContentBuilder.sequence es) = refl
-head-complex name (ComplexContentBuilder.choice vs) = refl
-head-complex name (ComplexContentBuilder.simpleContent base xs flag) = refl
-head-complex name (ComplexContentBuilder.any none) = refl
-head-complex name (ComplexContentBuilder.any (some n)) = refl
+head-complex event name ComplexContentBuilder.empty = refl
+head-complex event name (ComplexContentBuilder.sequence es) = refl
+head-complex event name (ComplexContentBuilder.choice vs) = refl
+head-complex event name (ComplexContentBuilder.simpleContent base xs flag) = refl
+head-complex event name (ComplexContentBuilder.any none) = refl
+head-complex event name (ComplexContentBuilder.any (some n)) = refl
 
 -- the last head is what the context says
 pub test-context : (n : ℕ) (is : List Item) (c : Context) → not (eqb n 16) ≡ true → contextTest (contextNumber c) (lastHead n (tags (itemsRows is ++ contextRows c))) ≡ true
 unfolding contextTest contextNumber contextRows headTag simpleTypeRows row
 test-context n is Context.noContext o = rw (append-nil (itemsRows is)) (and-true-right (inOrder n (tags (itemsRows is))) _ (order-items n is o))
 test-context n is (Context.inSchema depth) o = rw (append-nil (itemsRows is)) (and-true-right (inOrder n (tags (itemsRows is))) _ (order-items n is o))
-test-context n is (Context.inSimpleType t) o = rw (head-behind n (itemsRows is) (simpleTypeRows (t .name) (t .base) (t .facets)) (group-simple (t .name) (t .base) (t .facets)))
-test-context n is (Context.inComplexType t) o = rw (head-behind n (itemsRows is) (complexTypeRows (t .name) (t .content)) (group-complex (t .name) (t .content))) (head-complex (t .name) (t .content))
+test-context n is (Context.inSimpleType t) o = rw (head-behind n (itemsRows is) (simpleTypeRows (t .event) (t .name) (t .base) (t .facets)) (group-simple (t .event) (t .name) (t .base) (t .facets)))
+test-context n is (Context.inComplexType t) o = rw (head-behind n (itemsRows is) (complexTypeRows (t .event) (t .name) (t .content)) (group-complex (t .event) (t .name) (t .content))) (head-complex (t .event) (t .name) (t .content))
 
-pub flag-complex : (name : Text) (c : ComplexContentBuilder) → eqb (contentFlag c) 0 || eqb (headTag (complexTypeRows name c)) 14 ≡ true
+pub flag-complex : (event : ℕ) (name : Text) (c : ComplexContentBuilder) → eqb (contentFlag c) 0 || eqb (headTag (complexTypeRows event name c)) 14 ≡ true
 unfolding headTag complexTypeRows row contentFlag
-flag-complex name ComplexContentBuilder.empty = refl
-flag-complex name (ComplexContentBuilder.sequence es) = refl
-flag-complex name (ComplexContentBuilder.choice vs) = refl
-flag-complex name (ComplexContentBuilder.simpleContent base xs flag) = or-right (eqb (bit flag) 0) refl
-flag-complex name (ComplexContentBuilder.any n) = refl
+flag-complex event name ComplexContentBuilder.empty = refl
+flag-complex event name (ComplexContentBuilder.sequence es) = refl
+flag-complex event name (ComplexContentBuilder.choice vs) = refl
+flag-complex event name (ComplexContentBuilder.simpleContent base xs flag) = or-right (eqb (bit flag) 0) refl
+flag-complex event name (ComplexContentBuilder.any n) = refl
 
 pub test-extension : (n : ℕ) (is : List Item) (c : Context) → eqb (extensionFlag c) 0 || (eqb (contextNumber c) 3 && eqb (lastHead n (tags (itemsRows is ++ contextRows c))) 14) ≡ true
 unfolding extensionFlag contextNumber contextRows
 test-extension n is Context.noContext = refl
 test-extension n is (Context.inSchema depth) = refl
 test-extension n is (Context.inSimpleType t) = refl
-test-extension n is (Context.inComplexType t) = rw (head-behind n (itemsRows is) (complexTypeRows (t .name) (t .content)) (group-complex (t .name) (t .content))) (flag-complex (t .name) (t .content))
+test-extension n is (Context.inComplexType t) = rw (head-behind n (itemsRows is) (complexTypeRows (t .event) (t .name) (t .content)) (group-complex (t .event) (t .name) (t .content))) (flag-complex (t .event) (t .name) (t .content))
 
 pub test-nesting : (byStandard : Bool) (c : Context) (openTags : ℕ) → contextOk byStandard c openTags ≡ true → nestedOk byStandard (contextNumber c) (nesting c) openTags ≡ true
 unfolding contextOk contextNumber nesting nestedOk

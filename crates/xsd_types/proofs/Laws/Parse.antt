@@ -17,16 +17,17 @@ use Rattle.xsd_types.proofs.Laws.Order.{tags, after-child, after-head}
 use Rattle.xsd_types.proofs.Laws.Heads.{fullRow, full-sound, full-word, looseRow, headTags, Headed, headed}
 use Rattle.text.proofs.Laws.Every.{every-head, every-tail}
 
-unfoldable pub stillRows : Option Text → List Row
-stillRows none = []
-stillRows (some name) = complexTypeRows name ComplexContentBuilder.empty
+unfoldable pub stillRows : ℕ → Option Text → List Row
+stillRows event none = []
+stillRows event (some name) = complexTypeRows event name ComplexContentBuilder.empty
 
 -- the rows behind a head h: children of it, then items, then at most one type with no content yet
 pub record Parsed (h : ℕ) (rs : List Row) : Type 0 where
   pub loose : List Row
   pub items : List Item
+  pub event : ℕ
   pub still : Option Text
-  pub same : rs ≡ loose ++ (itemsRows items ++ stillRows still)
+  pub same : rs ≡ loose ++ (itemsRows items ++ stillRows event still)
   pub looseOk : every (looseRow h) loose ≡ true
   pub itemsOk : every itemOk items ≡ true
   pub stillOk : namespaceOk still ≡ true
@@ -42,25 +43,25 @@ module _ (h : ℕ) (r : Row) (rs : List Row) (full : fullRow r ≡ true) where
   unfolding every looseRow
   parse-child c p =
       let same = ap (λ (l : List Row). r ∷ l) (p .same) in
-      record { loose = r ∷ p .loose; items = p .items; still = p .still; same = same; looseOk = and-true (and-true full c) (p .looseOk); itemsOk = p .itemsOk; stillOk = p .stillOk }
+      record { loose = r ∷ p .loose; items = p .items; event = p .event; still = p .still; same = same; looseOk = and-true (and-true full c) (p .looseOk); itemsOk = p .itemsOk; stillOk = p .stillOk }
 
   -- a new head: an item, or a type with no content yet
   pub parse-item : (p : Parsed (r .tag) rs) (i : Item) → itemOk i ≡ true → r ∷ p .loose ≡ itemRows i → Parsed h (r ∷ rs)
   unfolding every itemsRows
   parse-item p i ok e =
-      let rest = itemsRows (p .items) ++ stillRows (p .still) in
-      let same = ap (λ (l : List Row). r ∷ l) (p .same) ∙ ap (λ (l : List Row). l ++ rest) e ∙ sym (append-assoc (itemRows i) (itemsRows (p .items)) (stillRows (p .still))) in
-      record { loose = []; items = i ∷ p .items; still = p .still; same = same; looseOk = refl; itemsOk = and-true ok (p .itemsOk); stillOk = p .stillOk }
+      let rest = itemsRows (p .items) ++ stillRows (p .event) (p .still) in
+      let same = ap (λ (l : List Row). r ∷ l) (p .same) ∙ ap (λ (l : List Row). l ++ rest) e ∙ sym (append-assoc (itemRows i) (itemsRows (p .items)) (stillRows (p .event) (p .still))) in
+      record { loose = []; items = i ∷ p .items; event = p .event; still = p .still; same = same; looseOk = refl; itemsOk = and-true ok (p .itemsOk); stillOk = p .stillOk }
 
-  pub parse-still : inOrder (r .tag) (tags rs) ≡ true → (name : Text) → isText name ≡ true → r .tag ≡ 16 → r ∷ [] ≡ complexTypeRows name ComplexContentBuilder.empty → Parsed h (r ∷ rs)
+  pub parse-still : inOrder (r .tag) (tags rs) ≡ true → (event : ℕ) (name : Text) → isText name ≡ true → r .tag ≡ 16 → r ∷ [] ≡ complexTypeRows event name ComplexContentBuilder.empty → Parsed h (r ∷ rs)
   unfolding every itemsRows stillRows namespaceOk
-  parse-still o name ok t e =
+  parse-still o event name ok t e =
       let same = ap (λ (l : List Row). r ∷ l) (nothing-behind rs (rw t at o)) ∙ e in
-      record { loose = []; items = []; still = some name; same = same; looseOk = refl; itemsOk = refl; stillOk = ok }
+      record { loose = []; items = []; event = event; still = some name; same = same; looseOk = refl; itemsOk = refl; stillOk = ok }
 
   pub parse-head : inOrder (r .tag) (tags rs) ≡ true → (p : Parsed (r .tag) rs) → Headed r (p .loose) → Parsed h (r ∷ rs)
   parse-head o p (Headed.item i ok e) = parse-item p i ok e
-  parse-head o p (Headed.still name ok t e) = parse-still o name ok t e
+  parse-head o p (Headed.still event name ok t e) = parse-still o event name ok t e
 
   -- the row decides which
   pub parse-row : mayFollow h (r .tag) ≡ true → inOrder (headAfter h (r .tag)) (tags rs) ≡ true → Parsed (headAfter h (r .tag)) rs → (isHead (r .tag) ≡ true) ⊎ (isHead (r .tag) ≡ false) → Parsed h (r ∷ rs)
@@ -74,7 +75,7 @@ module _ (h : ℕ) (r : Row) (rs : List Row) (full : fullRow r ≡ true) where
 
 pub parse : (h : ℕ) (rs : List Row) → every fullRow rs ≡ true → inOrder h (tags rs) ≡ true → Parsed h rs
 unfolding inOrder itemsRows stillRows every namespaceOk
-parse h [] f o = record { loose = []; items = []; still = none; same = refl; looseOk = refl; itemsOk = refl; stillOk = refl }
+parse h [] f o = record { loose = []; items = []; event = 0; still = none; same = refl; looseOk = refl; itemsOk = refl; stillOk = refl }
 parse h (r ∷ rs) f o =
     let m : mayFollow h (r .tag) ≡ true = and-true-left _ _ o in
     let n = and-true-right (mayFollow h (r .tag)) (inOrder (headAfter h (r .tag)) (tags rs)) o in

@@ -1,6 +1,6 @@
 -- What a good sheet says, part by part, of its numbers. Assumes nothing.
 use mathlib.Core.Path.{_≡_, refl}
-use mathlib.Core.Bool.{Bool, true, false, _||_, false≢true}
+use mathlib.Core.Bool.{Bool, true, false, _&&_, _||_, false≢true}
 use mathlib.Core.List.{List, [], _∷_, map}
 use Prim.Native.Nat.{ℕ, _+_, _*_, _≤_}
 use native.Mathlib.Omega.{arith}
@@ -8,13 +8,13 @@ use lib.Dec.{eqb, leb}
 use lib.ListN.{length, drop}
 use borrow.Author.Tests.{eqb-true, leb-true, le-leb}
 use Rattle.text.specs.Text.{every, between, if_then_else_}
-use Rattle.text.proofs.Laws.Tests.{six, eleven, and-true-left, and-true-right, and-true}
+use Rattle.text.proofs.Laws.Tests.{two, six, eleven, and-true-left, and-true-right, and-true}
 use Rattle.sheet.specs.Rows.{Ten, Sheet, allZero}
 use Rattle.sheet.specs.Form.{isFlag, covers, covered, rowsUsedOf, namesUsedOf, tensOf, usedParts, zerosBehind}
 use Rattle.sheet.specs.Lengths.{fits}
 use Rattle.sheet.proofs.Laws.Unpacks.{few}
 use Rattle.xsd_types.specs.Row0.{Row0, row0In}
-use Rattle.xsd_types.specs.Good.{usedPairs, rowForm, inOrder, row0Form, tenForm, rowsForm, namesForm, namesTest, limits, rootTest, nestingTest, contextTest, extensionTest, headOf, good}
+use Rattle.xsd_types.specs.Good.{usedPairs, rowForm, inOrder, row0Form, tenForm, rowsForm, namesForm, namesTest, limits, rootTest, nestingTest, contextTest, extensionTest, headOf, eventsTest, good}
 use Rattle.xsd_types.proofs.Laws.Shapes.{form-parts}
 use Rattle.xsd_types.proofs.Laws.Rows.{flag-of}
 use Rattle.text.proofs.Laws.Every.{every-weaken}
@@ -32,14 +32,17 @@ pub record Parts (x : Sheet) : Type 0 where
   pub nest : nestingTest (row0In x) ≡ true
   pub context : contextTest (row0In x .context) (headOf (tensOf x)) ≡ true
   pub extension : extensionTest (row0In x) (headOf (tensOf x)) ≡ true
+  pub events : eventsTest (row0In x .events) (tensOf x) ≡ true
 
 pub parts-of : (x : Sheet) → good x ≡ true → Parts x
 unfolding good
 parts-of x g =
     let z = row0In x in
     let ts = tensOf x in
-    let e = eleven (usedParts x) (row0Form z) (rowsForm ts) (namesForm (z .namesUsed) ts) (zerosBehind x) (namesTest x) (limits z) (rootTest z) (nestingTest z) (contextTest (z .context) (headOf ts)) (extensionTest z (headOf ts)) g in
-    record { parts = e .0; row0 = e .1; rows = e .2; names = e .3; zeros = e .4; text = e .5; limit = e .6; root = e .7; nest = e .8; context = e .9; extension = e .10 }
+    let before = usedParts x && row0Form z && rowsForm ts && namesForm (z .namesUsed) ts && zerosBehind x && namesTest x && limits z && rootTest z && nestingTest z && contextTest (z .context) (headOf ts) && extensionTest z (headOf ts) in
+    let both = two before (eventsTest (z .events) ts) g in
+    let e = eleven (usedParts x) (row0Form z) (rowsForm ts) (namesForm (z .namesUsed) ts) (zerosBehind x) (namesTest x) (limits z) (rootTest z) (nestingTest z) (contextTest (z .context) (headOf ts)) (extensionTest z (headOf ts)) (both .0) in
+    record { parts = e .0; row0 = e .1; rows = e .2; names = e .3; zeros = e .4; text = e .5; limit = e .6; root = e .7; nest = e .8; context = e .9; extension = e .10; events = both .1 }
 
 -- row 1 and the rows behind it
 pub record Behind (ts : List Ten) : Type 0 where

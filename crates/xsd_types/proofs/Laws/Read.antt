@@ -22,6 +22,7 @@ use Rattle.xsd_types.proofs.Laws.Order.{tags}
 use Rattle.xsd_types.proofs.Laws.Sound.{formedRow, textRow, soundRow}
 use Rattle.xsd_types.proofs.Laws.Rows.{wordRow}
 use Rattle.xsd_types.proofs.Laws.Heads.{fullRow, no-loose}
+use Rattle.xsd_types.proofs.Laws.Events.{eventRow, events-unpack}
 use Rattle.xsd_types.proofs.Laws.Parse.{parse, stillRows}
 use Rattle.xsd_types.proofs.Laws.Open.{Opened, opened}
 use Rattle.xsd_types.proofs.Laws.Parts.{Parts, behind, few-rows, rows-two, rows-room, names-room, pairs-cover, names-end, zero-rows, zero-names, first-of}
@@ -108,6 +109,10 @@ module _ (x : Sheet) (p : Parts x) where
       let three = every-both (λ (r : Row). formedRow r && counted usedPairs r) textRow soundRow (λ r e f. and-true e f) (bodyIn x p) two (body-every textRow (names-text x p)) in
       every-both soundRow wordRow fullRow (λ r e f. and-true e f) (bodyIn x p) three (body-every wordRow (words-rows x p w))
 
+  pub body-numbered : every (eventRow (row0In x .events)) (bodyIn x p) ≡ true
+  unfolding rowsIn
+  body-numbered = body-every (eventRow (row0In x .events)) (events-unpack (row0In x .events) (x .names) (tensOf x) (p .events))
+
   pub body-order : inOrder 1 (tags (bodyIn x p)) ≡ true
   unfolding bodyIn
   body-order = rw (tags-unpack (x .names) (behind (tensOf x) (p .rows) .body)) (behind (tensOf x) (p .rows) .ordered)
@@ -122,5 +127,5 @@ module _ (x : Sheet) (p : Parts x) where
       let z = row0In x in
       let q = parse 1 (bodyIn x p) (body-full w) body-order in
       let f = first-of z (p .row0) in
-      let same : bodyIn x p ≡ itemsRows (q .items) ++ stillRows (q .still) = q .same ∙ ap (λ (l : List Row). l ++ (itemsRows (q .items) ++ stillRows (q .still))) (no-loose 1 (λ n. refl) (q .loose) (q .looseOk)) in
-      opened (eqb (z .choice) 1) (z .nesting) (z .openTags) (z .extension) (bodyIn x p) (q .items) (q .itemsOk) (q .still) (q .stillOk) same (f .flagIs) (z .context) (f .contextIs) (sym (nesting-both z) ∙ p .nest) (rw body-head at (p .context)) (rw body-head at (p .extension))
+      let same : bodyIn x p ≡ itemsRows (q .items) ++ stillRows (q .event) (q .still) = q .same ∙ ap (λ (l : List Row). l ++ (itemsRows (q .items) ++ stillRows (q .event) (q .still))) (no-loose 1 (λ n. refl) (q .loose) (q .looseOk)) in
+      opened (eqb (z .choice) 1) (z .nesting) (z .openTags) (z .extension) (bodyIn x p) (q .items) (q .itemsOk) (q .event) (q .still) (q .stillOk) same (f .flagIs) (z .context) (f .contextIs) (sym (nesting-both z) ∙ p .nest) (rw body-head at (p .context)) (rw body-head at (p .extension))

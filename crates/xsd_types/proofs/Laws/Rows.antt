@@ -12,10 +12,10 @@ use Rattle.sheet.specs.Form.{isFlag}
 use Rattle.xsd_types.specs.Types.{Facet, MaxOccurs}
 use Rattle.xsd_types.specs.State.{facetOk, maxOccursOk, sequenceElementOk, choiceVariantOk, attributeOk}
 use Rattle.xsd_types.specs.Rows.{facetRow, occursRow, elementRow, variantRow, attributeRow}
-use Rattle.xsd_types.specs.Good.{usedPairs}
+use Rattle.xsd_types.specs.Good.{usedPairs, isHead}
 use Rattle.xsd_types.specs.Back.{text0, text1}
 use Rattle.xsd_types.proofs.Laws.Sound.{soundRow}
-use Rattle.xsd_types.proofs.Laws.Shapes.{usesA, usesB, text-getD, tag-form, form-parts, zero-a, zero-b, shape, none-used, one-used, two-used}
+use Rattle.xsd_types.proofs.Laws.Shapes.{usesA, usesB, text-getD, tag-form, form-parts, zero-a, zero-b, zero-c, shape, none-used, one-used, two-used}
 use Rattle.text.proofs.Laws.Tests.{and-true-left, and-true-right, and-true}
 use Rattle.text.proofs.Laws.Every.{EachFrom, between-each}
 
@@ -41,15 +41,15 @@ text1-ok r s = text-getD r 1 s
 
 module _ (r : Row) (s : soundRow r ≡ true) (w : wordRow r ≡ true) where
   -- a row of one text, of two, with no numbers
-  pub plain-one : (k : ℕ) → r .tag ≡ k → usesA k ≡ false → usesB k ≡ false → usedPairs k 0 ≡ 1 → r ≡ row k (text0 r ∷ []) 0 0 0
-  plain-one k t f g u =
+  pub plain-one : (k c : ℕ) → r .tag ≡ k → r .c ≡ c → usesA k ≡ false → usesB k ≡ false → usedPairs k 0 ≡ 1 → r ≡ row k (text0 r ∷ []) 0 0 c
+  plain-one k c t h f g u =
       let a = zero-a r k t s f in
-      shape r k t s (text0 r ∷ []) 0 0 (one-used r k t s (rw a u)) a (zero-b r k t s g)
+      shape r k t s (text0 r ∷ []) 0 0 c (one-used r k t s (rw a u)) a (zero-b r k t s g) h
 
-  pub plain-two : (k : ℕ) → r .tag ≡ k → usesA k ≡ false → usesB k ≡ false → usedPairs k 0 ≡ 2 → r ≡ row k (text0 r ∷ text1 r ∷ []) 0 0 0
-  plain-two k t f g u =
+  pub plain-two : (k c : ℕ) → r .tag ≡ k → r .c ≡ c → usesA k ≡ false → usesB k ≡ false → usedPairs k 0 ≡ 2 → r ≡ row k (text0 r ∷ text1 r ∷ []) 0 0 c
+  plain-two k c t h f g u =
       let a = zero-a r k t s f in
-      shape r k t s (text0 r ∷ text1 r ∷ []) 0 0 (two-used r k t s (rw a u)) a (zero-b r k t s g)
+      shape r k t s (text0 r ∷ text1 r ∷ []) 0 0 c (two-used r k t s (rw a u)) a (zero-b r k t s g) h
 
   pub low-half : (r .a + r .b * 2 ^ 32) % 2 ^ 32 ≡ r .a
   low-half = omega (arith, word-a r w)
@@ -94,32 +94,32 @@ flag-of (suc a) e = rw (eqb·suc-zero a) at e
 
 module _ (r : Row) (s : soundRow r ≡ true) (w : wordRow r ≡ true) where
   pub facet-row : {k : ℕ} → FacetTag k → r .tag ≡ k → RowOf facetOk facetRow r
-  unfolding facetRow facetOk usesA usesB usedPairs between
-  facet-row enumeration t = record { value = Facet.enumeration (text0 r); valueOk = text0-ok r s; same = plain-one r s w 4 t refl refl refl }
-  facet-row pattern t = record { value = Facet.pattern (text0 r); valueOk = text0-ok r s; same = plain-one r s w 5 t refl refl refl }
-  facet-row minLength t = record { value = Facet.minLength (r .a + r .b * 2 ^ 32); valueOk = whole r s w; same = rw (low-half r s w, high-half r s w) (shape r 6 t s [] (r .a) (r .b) (none-used r 6 t s refl) refl refl) }
-  facet-row maxLength t = record { value = Facet.maxLength (r .a + r .b * 2 ^ 32); valueOk = whole r s w; same = rw (low-half r s w, high-half r s w) (shape r 7 t s [] (r .a) (r .b) (none-used r 7 t s refl) refl refl) }
-  facet-row minInclusive t = record { value = Facet.minInclusive (text0 r); valueOk = text0-ok r s; same = plain-one r s w 8 t refl refl refl }
-  facet-row maxInclusive t = record { value = Facet.maxInclusive (text0 r); valueOk = text0-ok r s; same = plain-one r s w 9 t refl refl refl }
-  facet-row totalDigits t = record { value = Facet.totalDigits (r .a); valueOk = lt-ltb (r .a) (2 ^ 32) (word-a r w); same = shape r 10 t s [] (r .a) 0 (none-used r 10 t s refl) refl (zero-b r 10 t s refl) }
-  facet-row fractionDigits t = record { value = Facet.fractionDigits (r .a); valueOk = lt-ltb (r .a) (2 ^ 32) (word-a r w); same = shape r 11 t s [] (r .a) 0 (none-used r 11 t s refl) refl (zero-b r 11 t s refl) }
+  unfolding facetRow facetOk usesA usesB usedPairs isHead between
+  facet-row enumeration t = record { value = Facet.enumeration (text0 r); valueOk = text0-ok r s; same = plain-one r s w 4 0 t (zero-c r 4 t s refl) refl refl refl }
+  facet-row pattern t = record { value = Facet.pattern (text0 r); valueOk = text0-ok r s; same = plain-one r s w 5 0 t (zero-c r 5 t s refl) refl refl refl }
+  facet-row minLength t = record { value = Facet.minLength (r .a + r .b * 2 ^ 32); valueOk = whole r s w; same = rw (low-half r s w, high-half r s w) (shape r 6 t s [] (r .a) (r .b) 0 (none-used r 6 t s refl) refl refl (zero-c r 6 t s refl)) }
+  facet-row maxLength t = record { value = Facet.maxLength (r .a + r .b * 2 ^ 32); valueOk = whole r s w; same = rw (low-half r s w, high-half r s w) (shape r 7 t s [] (r .a) (r .b) 0 (none-used r 7 t s refl) refl refl (zero-c r 7 t s refl)) }
+  facet-row minInclusive t = record { value = Facet.minInclusive (text0 r); valueOk = text0-ok r s; same = plain-one r s w 8 0 t (zero-c r 8 t s refl) refl refl refl }
+  facet-row maxInclusive t = record { value = Facet.maxInclusive (text0 r); valueOk = text0-ok r s; same = plain-one r s w 9 0 t (zero-c r 9 t s refl) refl refl refl }
+  facet-row totalDigits t = record { value = Facet.totalDigits (r .a); valueOk = lt-ltb (r .a) (2 ^ 32) (word-a r w); same = shape r 10 t s [] (r .a) 0 0 (none-used r 10 t s refl) refl (zero-b r 10 t s refl) (zero-c r 10 t s refl) }
+  facet-row fractionDigits t = record { value = Facet.fractionDigits (r .a); valueOk = lt-ltb (r .a) (2 ^ 32) (word-a r w); same = shape r 11 t s [] (r .a) 0 0 (none-used r 11 t s refl) refl (zero-b r 11 t s refl) (zero-c r 11 t s refl) }
 
   pub bounded-row : r .tag ≡ 17 → RowOf sequenceElementOk elementRow r
-  unfolding sequenceElementOk maxOccursOk elementRow occursRow usedPairs between
+  unfolding sequenceElementOk maxOccursOk elementRow occursRow usedPairs isHead between
   bounded-row t =
       record {
         value = record { name = text0 r; typeName = text1 r; minOccurs = r .a; maxOccurs = MaxOccurs.bounded (r .b) };
         valueOk = and-true (and-true (and-true (text0-ok r s) (text1-ok r s)) (lt-ltb (r .a) (2 ^ 32) (word-a r w))) (lt-ltb (r .b) (2 ^ 32) (word-b r w));
-        same = shape r 17 t s (text0 r ∷ text1 r ∷ []) (r .a) (r .b) (two-used r 17 t s refl) refl refl;
+        same = shape r 17 t s (text0 r ∷ text1 r ∷ []) (r .a) (r .b) 0 (two-used r 17 t s refl) refl refl (zero-c r 17 t s refl);
       }
 
   pub unbounded-row : r .tag ≡ 18 → RowOf sequenceElementOk elementRow r
-  unfolding sequenceElementOk maxOccursOk elementRow occursRow usedPairs between usesB
+  unfolding sequenceElementOk maxOccursOk elementRow occursRow usedPairs isHead between usesB
   unbounded-row t =
       record {
         value = record { name = text0 r; typeName = text1 r; minOccurs = r .a; maxOccurs = MaxOccurs.unbounded };
         valueOk = and-true (and-true (and-true (text0-ok r s) (text1-ok r s)) (lt-ltb (r .a) (2 ^ 32) (word-a r w))) refl;
-        same = shape r 18 t s (text0 r ∷ text1 r ∷ []) (r .a) 0 (two-used r 18 t s refl) refl (zero-b r 18 t s refl);
+        same = shape r 18 t s (text0 r ∷ text1 r ∷ []) (r .a) 0 0 (two-used r 18 t s refl) refl (zero-b r 18 t s refl) (zero-c r 18 t s refl);
       }
 
   pub element-row : between 17 18 (r .tag) ≡ true → RowOf sequenceElementOk elementRow r
@@ -127,14 +127,14 @@ module _ (r : Row) (s : soundRow r ≡ true) (w : wordRow r ≡ true) where
   element-row e = between-each (λ k. r .tag ≡ k → RowOf sequenceElementOk elementRow r) 17 1 18 (r .tag) refl (bounded-row, unbounded-row) e refl
 
   pub variant-row : r .tag ≡ 19 → RowOf choiceVariantOk variantRow r
-  unfolding choiceVariantOk variantRow usedPairs between usesA usesB
-  variant-row t = record { value = record { name = text0 r; typeName = text1 r }; valueOk = and-true (text0-ok r s) (text1-ok r s); same = plain-two r s w 19 t refl refl refl }
+  unfolding choiceVariantOk variantRow usedPairs isHead between usesA usesB
+  variant-row t = record { value = record { name = text0 r; typeName = text1 r }; valueOk = and-true (text0-ok r s) (text1-ok r s); same = plain-two r s w 19 0 t (zero-c r 19 t s refl) refl refl refl }
 
   pub attribute-row : r .tag ≡ 20 → RowOf attributeOk attributeRow r
-  unfolding attributeOk attributeRow usedPairs between usesB
+  unfolding attributeOk attributeRow usedPairs isHead between usesB
   attribute-row t =
       record {
         value = record { name = text0 r; typeName = text1 r; required = eqb (r .a) 1 };
         valueOk = and-true (text0-ok r s) (text1-ok r s);
-        same = rw (bit-again (r .a) (flag-of (r .a) (form-parts 20 (r .a) (r .b) (r .c) (tag-form r 20 t s) .3))) (shape r 20 t s (text0 r ∷ text1 r ∷ []) (r .a) 0 (two-used r 20 t s refl) refl (zero-b r 20 t s refl));
+        same = rw (bit-again (r .a) (flag-of (r .a) (form-parts 20 (r .a) (r .b) (r .c) (tag-form r 20 t s) .3))) (shape r 20 t s (text0 r ∷ text1 r ∷ []) (r .a) 0 0 (two-used r 20 t s refl) refl (zero-b r 20 t s refl) (zero-c r 20 t s refl));
       }

@@ -12,16 +12,16 @@ use Rattle.text.proofs.Laws.Tests.{four}
 use Rattle.sheet.specs.Rows.{Row, row}
 use Rattle.sheet.specs.Form.{isFlag}
 use Rattle.sheet.proofs.Laws.Packs.{counted-used}
-use Rattle.xsd_types.specs.Good.{usedPairs, rowForm}
+use Rattle.xsd_types.specs.Good.{usedPairs, rowForm, isHead}
 use Rattle.xsd_types.specs.Back.{text0, text1}
 use Rattle.xsd_types.proofs.Laws.Sound.{formedRow, textRow, soundRow, sound-formed, sound-counted, sound-text}
 use Rattle.text.proofs.Laws.Every.{every-getD}
 
 -- the parts of a row's form
 module _ (tag a b c : ℕ) (e : rowForm tag a b c ≡ true) where
-  pub form-parts : (between 2 20 tag ≡ true) × (eqb c 0 ≡ true) × (eqb b 0 || between 6 7 tag || eqb tag 17 ≡ true) × (eqb a 0 || between 6 7 tag || between 10 11 tag || between 17 18 tag || ((eqb tag 15 || eqb tag 20) && isFlag a) ≡ true)
+  pub form-parts : (between 2 20 tag ≡ true) × (isHead tag || eqb c 0 ≡ true) × (eqb b 0 || between 6 7 tag || eqb tag 17 ≡ true) × (eqb a 0 || between 6 7 tag || between 10 11 tag || between 17 18 tag || ((eqb tag 15 || eqb tag 20) && isFlag a) ≡ true)
   unfolding rowForm
-  form-parts = four (between 2 20 tag) (eqb c 0) (eqb b 0 || between 6 7 tag || eqb tag 17) (eqb a 0 || between 6 7 tag || between 10 11 tag || between 17 18 tag || ((eqb tag 15 || eqb tag 20) && isFlag a)) e
+  form-parts = four (between 2 20 tag) (isHead tag || eqb c 0) (eqb b 0 || between 6 7 tag || eqb tag 17) (eqb a 0 || between 6 7 tag || between 10 11 tag || between 17 18 tag || ((eqb tag 15 || eqb tag 20) && isFlag a)) e
 
   pub form-b : between 6 7 tag || eqb tag 17 ≡ false → b ≡ 0
   form-b f = eqb-true b 0 (rw (or-assoc (eqb b 0) (between 6 7 tag) (eqb tag 17), f, or-false (eqb b 0)) at (form-parts .2))
@@ -77,11 +77,13 @@ module _ (r : Row) (k : ℕ) (t : r .tag ≡ k) (s : soundRow r ≡ true) where
   unfolding usesB
   zero-b f = form-b k (r .a) (r .b) (r .c) tag-form f
 
-  pub shape : (ts : List Text) (a b : ℕ) → r .texts ≡ ts → r .a ≡ a → r .b ≡ b → r ≡ row k ts a b 0
+  -- c of a row that is no head
+  pub zero-c : isHead k ≡ false → r .c ≡ 0
+  zero-c f = eqb-true (r .c) 0 (rw f at (form-parts k (r .a) (r .b) (r .c) tag-form .1))
+
+  pub shape : (ts : List Text) (a b c : ℕ) → r .texts ≡ ts → r .a ≡ a → r .b ≡ b → r .c ≡ c → r ≡ row k ts a b c
   unfolding row
-  shape ts a b e f g =
-      let h = eqb-true (r .c) 0 (form-parts k (r .a) (r .b) (r .c) tag-form .1) in
-      λ i. record { tag = t i; texts = e i; a = f i; b = g i; c = h i }
+  shape ts a b c e f g h = λ i. record { tag = t i; texts = e i; a = f i; b = g i; c = h i }
 
   pub none-used : usedPairs k (r .a) ≡ 0 → r .texts ≡ []
   none-used u = no-text (r .texts) (sym tag-used ∙ u)

@@ -7,22 +7,23 @@ use native.Mathlib.Omega.{arith}
 use lib.Dec.{leb}
 use lib.ListN.{length}
 use borrow.Author.Tests.{leb-true, le-leb, eq-eqb}
-use Rattle.text.specs.Text.{between, join}
+use Rattle.text.specs.Text.{between, join, every}
 use Rattle.sheet.specs.Rows.{row, packRow, pack, namesOf}
 use Rattle.sheet.specs.Lengths.{fits}
 use Rattle.sheet.proofs.Laws.Packs.{covers-pack, covered-pack, isText-namesOf}
 use Rattle.sheet.proofs.Laws.Sheets.{first-ten, tens-behind, length-rows, length-names, zeros-rows, zeros-names, used-names, rows-read}
-use Rattle.xsd_types.specs.State.{State, rootOk, countersOk, proper}
+use Rattle.xsd_types.specs.State.{State, rootOk, countersOk, eventNumberOk, headsPass, eventsOk, proper}
 use Rattle.xsd_types.specs.Rows.{namespaceRow, namespaceA, itemsRows, contextRows, rowsOf, rowsUsed, namesUsed, row0}
 use Rattle.xsd_types.specs.Row0.{row0Ten, row0In}
 use Rattle.xsd_types.specs.Sheet.{stateFits, sheetOf}
-use Rattle.xsd_types.specs.Good.{usedPairs, isHead, headAfter, lastHead, row0Form, rowsForm, namesForm, namesTest, limits, rootTest, nestingTest, contextTest, extensionTest, headOf, good}
+use Rattle.xsd_types.specs.Good.{usedPairs, isHead, headAfter, lastHead, row0Form, rowsForm, namesForm, namesTest, limits, rootTest, nestingTest, contextTest, extensionTest, headOf, eventsTest, good}
 use Rattle.xsd_types.specs.Back.{rowsIn, stateOf}
 use Rattle.xsd_types.proofs.Laws.Row0.{nesting-both}
 use Rattle.xsd_types.proofs.Laws.Items.{bit-back}
 use Rattle.xsd_types.proofs.Laws.Order.{tags}
 use Rattle.xsd_types.proofs.Laws.Sound.{formedRow, textRow, soundRow, sound-formed, bodyRows, sound-body, proper-parts, counted-rows, text-rows}
 use Rattle.xsd_types.proofs.Laws.Back.{state-back}
+use Rattle.xsd_types.proofs.Laws.Events.{eventRow, events-pack, body-events}
 use Rattle.xsd_types.proofs.Laws.Made.{tags-pack, form-pack, order-body, test-context, test-extension, test-nesting, test-root, small-context, flag-bit, flag-context}
 use Rattle.text.proofs.Laws.Tests.{and-true-left, and-true-right, and-true}
 use Rattle.text.proofs.Laws.Every.{every-weaken}
@@ -118,8 +119,12 @@ module _ (s : State) (r n : ℕ) (ok : proper s ≡ true) (fit : stateFits r n s
   unfolding extensionTest row0
   made-extension = rw (row0-made s r n, made-head) (test-extension 0 (s .reader .schema .items) (s .reader .context))
 
+  pub made-events : eventsTest (row0In (sheetOf s r n) .events) (tensOf (sheetOf s r n)) ≡ true
+  unfolding row0 rowsOf namespaceRow row every eventsOk headsPass eventRow eventNumberOk
+  made-events = rw (row0-made s r n, tens-made s r n, events-pack (s .events) 0 (rowsOf s), body-events (s .events) (s .reader .schema .items) (s .reader .context)) (proper-parts s ok .4)
+
   pub good-sheetOf : good (sheetOf s r n) ≡ true
   unfolding good
   good-sheetOf =
       let form = and-true (and-true (and-true (and-true (and-true made-parts made-row0) made-rows) made-names) made-zeros) made-text in
-      and-true (and-true (and-true (and-true (and-true form made-limits) made-root) made-nesting) made-context) made-extension
+      and-true (and-true (and-true (and-true (and-true (and-true form made-limits) made-root) made-nesting) made-context) made-extension) made-events

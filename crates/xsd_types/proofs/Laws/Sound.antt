@@ -6,13 +6,13 @@ use mathlib.Core.Option.{some, none}
 use Prim.Native.Nat.{ℕ, _+_, _%_, _/_, _^_}
 use lib.Dec.{eqb, leb, ltb}
 use Rattle.text.specs.Text.{Text, every, isText, between}
-use Rattle.text.proofs.Laws.Tests.{three, four, and-true-left, and-true-right, and-true}
+use Rattle.text.proofs.Laws.Tests.{two, three, four, and-true-left, and-true-right, and-true}
 use Rattle.sheet.specs.Rows.{Row, row, bit}
 use Rattle.sheet.specs.Form.{isFlag, counted}
 use Rattle.xsd_types.specs.Types.{Facet, MaxOccurs, SequenceElement, ChoiceVariant, Attribute, Item}
-use Rattle.xsd_types.specs.State.{ComplexContentBuilder, Context, State, elementOk, facetOk, maxOccursOk, sequenceElementOk, choiceVariantOk, attributeOk, namespaceOk, contentOk, started, itemOk, contextOk, schemaOk, rootOk, countersOk, proper}
-use Rattle.xsd_types.specs.Rows.{headC, namespaceRow, facetRow, occursRow, elementRow, variantRow, attributeRow, simpleTypeRows, complexTypeRows, itemRows, itemsRows, contextRows, rowsOf}
-use Rattle.xsd_types.specs.Good.{usedPairs, rowForm}
+use Rattle.xsd_types.specs.State.{ComplexContentBuilder, Context, State, elementOk, facetOk, maxOccursOk, sequenceElementOk, choiceVariantOk, attributeOk, namespaceOk, contentOk, started, itemOk, contextOk, schemaOk, rootOk, countersOk, eventsOk, proper}
+use Rattle.xsd_types.specs.Rows.{namespaceRow, facetRow, occursRow, elementRow, variantRow, attributeRow, simpleTypeRows, complexTypeRows, itemRows, itemsRows, contextRows, rowsOf}
+use Rattle.xsd_types.specs.Good.{usedPairs, rowForm, isHead}
 use Rattle.text.proofs.Laws.Every.{every-map, every-weaken, every-append, every-head, every-tail}
 
 unfoldable pub formedRow : Row → Bool
@@ -25,7 +25,7 @@ unfoldable pub soundRow : Row → Bool
 soundRow r = formedRow r && counted usedPairs r && textRow r
 
 pub sound-facet : (f : Facet) → facetOk f ≡ true → soundRow (facetRow f) ≡ true
-unfolding soundRow formedRow textRow counted facetOk facetRow row rowForm usedPairs between every
+unfolding soundRow formedRow textRow counted facetOk facetRow row rowForm isHead usedPairs between every
 sound-facet (Facet.enumeration v) e = and-true e refl
 sound-facet (Facet.pattern v) e = and-true e refl
 sound-facet (Facet.minLength n) e = rw (or-true (eqb (n / 2 ^ 32) 0), or-true (eqb (n % 2 ^ 32) 0))
@@ -41,7 +41,7 @@ unfolding every
 both-texts s t p q = and-true p (and-true q refl)
 
 pub sound-occurs : (name typeName : Text) (min : ℕ) (max : MaxOccurs) → isText name ≡ true → isText typeName ≡ true → soundRow (occursRow name typeName min max) ≡ true
-unfolding soundRow formedRow textRow counted occursRow row rowForm usedPairs between
+unfolding soundRow formedRow textRow counted occursRow row rowForm isHead usedPairs between
 sound-occurs name typeName min (MaxOccurs.bounded max) p q = simp (or-false, or-true) (both-texts name typeName p q)
 sound-occurs name typeName min MaxOccurs.unbounded p q = simp (or-false, or-true) (both-texts name typeName p q)
 
@@ -52,11 +52,11 @@ sound-element e ok =
     sound-occurs (e .name) (e .typeName) (e .minOccurs) (e .maxOccurs) (w .0) (w .1)
 
 pub sound-variant : (v : ChoiceVariant) → choiceVariantOk v ≡ true → soundRow (variantRow v) ≡ true
-unfolding soundRow formedRow textRow counted variantRow row rowForm usedPairs between choiceVariantOk
+unfolding soundRow formedRow textRow counted variantRow row rowForm isHead usedPairs between choiceVariantOk
 sound-variant v ok = both-texts (v .name) (v .typeName) (and-true-left _ _ ok) (and-true-right (isText (v .name)) _ ok)
 
 pub sound-flagged : (name typeName : Text) (flag : Bool) → isText name ≡ true → isText typeName ≡ true → soundRow (row 20 (name ∷ typeName ∷ []) (bit flag) 0 0) ≡ true
-unfolding soundRow formedRow textRow counted row bit rowForm usedPairs between isFlag
+unfolding soundRow formedRow textRow counted row bit rowForm isHead usedPairs between isFlag
 sound-flagged name typeName true p q = both-texts name typeName p q
 sound-flagged name typeName false p q = both-texts name typeName p q
 
@@ -65,27 +65,27 @@ unfolding attributeRow attributeOk
 sound-attribute x ok = sound-flagged (x .name) (x .typeName) (x .required) (and-true-left _ _ ok) (and-true-right (isText (x .name)) _ ok)
 
 -- heads of one text and of two
-pub sound-simple : (name base : Text) (fs : List Facet) → isText name ≡ true → isText base ≡ true → every facetOk fs ≡ true → every soundRow (simpleTypeRows name base fs) ≡ true
-unfolding simpleTypeRows headC soundRow formedRow textRow counted row rowForm usedPairs between every
-sound-simple name base fs p q ok = and-true (both-texts name base p q) (every-map facetOk soundRow facetRow sound-facet fs ok)
+pub sound-simple : (event : ℕ) (name base : Text) (fs : List Facet) → isText name ≡ true → isText base ≡ true → every facetOk fs ≡ true → every soundRow (simpleTypeRows event name base fs) ≡ true
+unfolding simpleTypeRows soundRow formedRow textRow counted row rowForm isHead usedPairs between every
+sound-simple event name base fs p q ok = and-true (both-texts name base p q) (every-map facetOk soundRow facetRow sound-facet fs ok)
 
-pub sound-complex : (name : Text) (c : ComplexContentBuilder) → isText name ≡ true → contentOk c ≡ true → every soundRow (complexTypeRows name c) ≡ true
-unfolding complexTypeRows headC soundRow formedRow textRow counted row rowForm usedPairs between every isFlag contentOk namespaceOk
-sound-complex name ComplexContentBuilder.empty p ok = and-true (and-true p refl) refl
-sound-complex name (ComplexContentBuilder.sequence es) p ok = and-true (and-true p refl) (every-map sequenceElementOk soundRow elementRow sound-element es ok)
-sound-complex name (ComplexContentBuilder.choice vs) p ok = and-true (and-true p refl) (every-map choiceVariantOk soundRow variantRow sound-variant vs ok)
-sound-complex name (ComplexContentBuilder.simpleContent base xs flag) p ok =
+pub sound-complex : (event : ℕ) (name : Text) (c : ComplexContentBuilder) → isText name ≡ true → contentOk c ≡ true → every soundRow (complexTypeRows event name c) ≡ true
+unfolding complexTypeRows soundRow formedRow textRow counted row rowForm isHead usedPairs between every isFlag contentOk namespaceOk
+sound-complex event name ComplexContentBuilder.empty p ok = and-true (and-true p refl) refl
+sound-complex event name (ComplexContentBuilder.sequence es) p ok = and-true (and-true p refl) (every-map sequenceElementOk soundRow elementRow sound-element es ok)
+sound-complex event name (ComplexContentBuilder.choice vs) p ok = and-true (and-true p refl) (every-map choiceVariantOk soundRow variantRow sound-variant vs ok)
+sound-complex event name (ComplexContentBuilder.simpleContent base xs flag) p ok =
     and-true (both-texts name base p (and-true-left _ _ ok)) (every-map attributeOk soundRow attributeRow sound-attribute xs (and-true-right (isText base) _ ok))
-sound-complex name (ComplexContentBuilder.any none) p ok = and-true (and-true p refl) refl
-sound-complex name (ComplexContentBuilder.any (some n)) p ok = and-true (both-texts name n p ok) refl
+sound-complex event name (ComplexContentBuilder.any none) p ok = and-true (and-true p refl) refl
+sound-complex event name (ComplexContentBuilder.any (some n)) p ok = and-true (both-texts name n p ok) refl
 
 pub sound-item : (i : Item) → itemOk i ≡ true → every soundRow (itemRows i) ≡ true
-unfolding itemRows headC soundRow formedRow textRow counted row rowForm usedPairs between every itemOk elementOk
+unfolding itemRows soundRow formedRow textRow counted row rowForm isHead usedPairs between every itemOk elementOk
 sound-item (Item.element e) ok = and-true (both-texts (e .name) (e .typeName) (and-true-left _ _ ok) (and-true-right (isText (e .name)) _ ok)) refl
 sound-item (Item.simpleType t) ok =
     let w = three (isText (t .name)) (isText (t .base)) (every facetOk (t .facets)) ok in
-    sound-simple (t .name) (t .base) (t .facets) (w .0) (w .1) (w .2)
-sound-item (Item.complexType t) ok = sound-complex (t .name) (started (t .content)) (and-true-left _ _ ok) (and-true-right (isText (t .name)) _ ok)
+    sound-simple (t .event) (t .name) (t .base) (t .facets) (w .0) (w .1) (w .2)
+sound-item (Item.complexType t) ok = sound-complex (t .event) (t .name) (started (t .content)) (and-true-left _ _ ok) (and-true-right (isText (t .name)) _ ok)
 
 pub sound-items : (is : List Item) → every itemOk is ≡ true → every soundRow (itemsRows is) ≡ true
 unfolding itemsRows every
@@ -99,10 +99,10 @@ sound-context b Context.noContext n ok = refl
 sound-context b (Context.inSchema depth) n ok = refl
 sound-context b (Context.inSimpleType t) n ok =
     let w = four (leb (t .nestingDepth + 2) n) (isText (t .name)) (isText (t .base)) (every facetOk (t .facets)) ok in
-    sound-simple (t .name) (t .base) (t .facets) (w .1) (w .2) (w .3)
+    sound-simple (t .event) (t .name) (t .base) (t .facets) (w .1) (w .2) (w .3)
 sound-context b (Context.inComplexType t) n ok =
     let w = three (leb (t .nestingDepth + 2) n) (isText (t .name)) (contentOk (t .content)) ok in
-    sound-complex (t .name) (t .content) (w .1) (w .2)
+    sound-complex (t .event) (t .name) (t .content) (w .1) (w .2)
 
 module _ (r : Row) (e : soundRow r ≡ true) where
   pub sound-formed : formedRow r ≡ true
@@ -122,9 +122,13 @@ unfoldable pub bodyRows : State → List Row
 bodyRows s = itemsRows (s .reader .schema .items) ++ contextRows (s .reader .context)
 
 module _ (s : State) (ok : proper s ≡ true) where
-  pub proper-parts : (countersOk s ≡ true) × (rootOk (s .reader) ≡ true) × (contextOk (s .byStandard) (s .reader .context) (s .openTags) ≡ true) × (schemaOk (s .reader .schema) ≡ true)
+  pub proper-parts : (countersOk s ≡ true) × (rootOk (s .reader) ≡ true) × (contextOk (s .byStandard) (s .reader .context) (s .openTags) ≡ true) × (schemaOk (s .reader .schema) ≡ true) × (eventsOk (s .reader) (s .events) ≡ true)
   unfolding proper
-  proper-parts = four (countersOk s) (rootOk (s .reader)) (contextOk (s .byStandard) (s .reader .context) (s .openTags)) (schemaOk (s .reader .schema)) ok
+  proper-parts =
+      let before = countersOk s && rootOk (s .reader) && contextOk (s .byStandard) (s .reader .context) (s .openTags) && schemaOk (s .reader .schema) in
+      let both = two before (eventsOk (s .reader) (s .events)) ok in
+      let w = four (countersOk s) (rootOk (s .reader)) (contextOk (s .byStandard) (s .reader .context) (s .openTags)) (schemaOk (s .reader .schema)) (both .0) in
+      (w .0, w .1, w .2, w .3, both .1)
 
   pub proper-namespace : isText (s .reader .schema .targetNamespace) ≡ true
   unfolding schemaOk

@@ -12,7 +12,7 @@ use Rattle.text.specs.Text.{Text, every, isText, join}
 use Rattle.text.proofs.Laws.Tests.{three, or-left, or-right, or-cases, and-true-left, and-true}
 use Rattle.sheet.specs.Rows.{Row, Sheet, row, namesOf}
 use Rattle.xsd_types.specs.Types.{Item}
-use Rattle.xsd_types.specs.State.{Context, State, schemaOk, isNoContext, isEmpty, rootOk, countersOk, proper}
+use Rattle.xsd_types.specs.State.{Context, State, schemaOk, isNoContext, isEmpty, rootOk, countersOk, headsPass, eventsOk, proper}
 use Rattle.xsd_types.specs.Rows.{namespaceRow, itemRows, itemsRows, contextRows, rowsOf, contextNumber, rowsUsed, namesUsed, row0}
 use Rattle.xsd_types.specs.Row0.{Row0, row0In}
 use Rattle.xsd_types.specs.Sheet.{stateFits, sheetOf}
@@ -22,8 +22,9 @@ use Rattle.xsd_types.proofs.Laws.Groups.{isGroup}
 use Rattle.xsd_types.proofs.Laws.Items.{group-item}
 use Rattle.xsd_types.proofs.Laws.Sound.{textRow}
 use Rattle.xsd_types.proofs.Laws.Rows.{bit-again}
+use Rattle.xsd_types.proofs.Laws.Events.{body-events}
 use Rattle.xsd_types.proofs.Laws.Parts.{Parts, parts-of, used-fits, first-of}
-use Rattle.xsd_types.proofs.Laws.Read.{names-length, names-text, sheet-again, rows-length, bodyIn, namespaceAt, rows-split, body-opened}
+use Rattle.xsd_types.proofs.Laws.Read.{names-length, names-text, sheet-again, rows-length, bodyIn, namespaceAt, rows-split, body-numbered, body-opened}
 use Rattle.xsd_types.proofs.Laws.SheetOf.{good-sheetOf, stateOf-sheetOf}
 use Rattle.text.proofs.Laws.Every.{every-head}
 use Rattle.sheet.specs.Form.{rowsUsedOf, namesUsedOf, words}
@@ -112,11 +113,17 @@ module _ (x : Sheet) (p : Parts x) (w : words (x .rows) ≡ true) where
   unfolding rootOk rootTest held stateWith
   held-root = ⊎-elim (λ e. or-left _ e) (λ e. or-right (eqb (row0In x .rootSeen) 1) (held-nothing e)) (or-cases (eqb (row0In x .rootSeen) 1) (eqb (row0In x .context) 0 && eqb (rowsUsedOf x) 2 && eqb (namesUsedOf x) 0) (p .root))
 
+  pub held-events : eventsOk (held .reader) (held .events) ≡ true
+  unfolding eventsOk headsPass held stateWith
+  held-events =
+      let o = body-opened x p w in
+      sym (body-events (row0In x .events) (o .items) (o .context)) ∙ (rw (o .same) at (body-numbered x p))
+
   pub held-proper : proper held ≡ true
   unfolding proper countersOk limits schemaOk held stateWith
   held-proper =
       let o = body-opened x p w in
-      and-true (and-true (and-true (p .limit) held-root) (o .contextIsOk)) (and-true held-namespace (o .itemsOk))
+      and-true (and-true (and-true (and-true (p .limit) held-root) (o .contextIsOk)) (and-true held-namespace (o .itemsOk))) held-events
 
 -- the state of a good sheet: its sheet is the sheet, it is proper, it has room
 module _ (x : Sheet) (w : words (x .rows) ≡ true) (g : good x ≡ true) where

@@ -80,7 +80,7 @@ row1-b : verdict (sheet 20 0 (line 0 2 0 0 0 1 0 0 0 0 ∷ line 1 0 0 0 0 0 0 0 
 unfolding judged
 row1-b = refl
 
-row1-c : verdict (sheet 20 0 (line 0 2 0 0 0 1 0 0 0 0 ∷ line 1 0 0 0 0 0 0 0 0 1 ∷ []) "") ≡ badBy Part.row1
+row1-c : verdict (sheet 20 0 (line 0 2 0 0 0 1 9 0 0 0 ∷ line 1 0 0 0 0 0 0 0 0 1 ∷ []) "") ≡ badBy Part.row1
 unfolding judged
 row1-c = refl
 
@@ -204,21 +204,33 @@ b-of-20 :
 unfolding judged
 b-of-20 = refl
 
--- c of 3
-c-of-3 : verdict (sheet 30 2 (line 0 3 2 0 0 1 0 0 0 0 ∷ noNamespace ∷ line 3 0 1 1 1 0 0 0 0 1 ∷ []) "SB") ≡ badBy Part.numbers
+-- order 5: "in a good sheet any other c is below events done". With 0 events done: 0 and 0 good (last-14-in-1 and others), 1 and 0 not
+c-of-3 : verdict (sheet 30 2 (line 0 3 2 0 0 1 0 0 0 0 ∷ noNamespace ∷ line 3 0 1 1 1 0 0 0 0 1 ∷ []) "SB") ≡ badBy Part.events
 unfolding judged
 c-of-3 = refl
 
--- c of 6
+-- with 9 events done and two heads: c 9 and 0
+c-at-events :
+    verdict (sheet 40 3 (line 0 4 3 1 0 1 9 1 0 0 ∷ noNamespace ∷ line 2 0 1 1 1 0 0 0 0 9 ∷ line 12 2 1 0 0 0 0 0 0 0 ∷ []) "DTC")
+    ≡ badBy Part.events
+unfolding judged
+c-at-events = refl
+
+-- with 9 events done, c of an open 16 above them
+c-of-16 : verdict (sheet 30 1 (line 0 3 1 3 0 1 9 2 0 0 ∷ noNamespace ∷ line 16 0 1 0 0 0 0 0 0 10 ∷ []) "C") ≡ badBy Part.events
+unfolding judged
+c-of-16 = refl
+
+-- c of a child is unused, whatever the events done: c of 6
 c-of-6 :
     verdict (sheet 40 2 (line 0 4 2 0 0 1 0 0 0 0 ∷ noNamespace ∷ line 3 0 1 1 1 0 0 0 0 0 ∷ line 6 0 0 0 0 0 0 1 1 1 ∷ []) "SB")
-    ≡ badBy Part.numbers
+    ≡ badByBoth Part.numbers Part.events
 unfolding judged
 c-of-6 = refl
 
 -- c of 17
 c-of-17 :
-    verdict (sheet 40 3 (line 0 4 3 0 0 1 0 0 0 0 ∷ noNamespace ∷ line 12 0 1 0 0 0 0 0 0 0 ∷ line 17 1 1 2 1 0 0 1 1 1 ∷ []) "Cet")
+    verdict (sheet 40 3 (line 0 4 3 0 0 1 9 0 0 0 ∷ noNamespace ∷ line 12 0 1 0 0 0 0 0 0 0 ∷ line 17 1 1 2 1 0 0 1 1 1 ∷ []) "Cet")
     ≡ badBy Part.numbers
 unfolding judged
 c-of-17 = refl

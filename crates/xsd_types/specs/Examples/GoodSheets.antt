@@ -65,6 +65,28 @@ byte-127 : verdict byte-127-sheet ≡ fine
 unfolding byte-127-sheet judged
 byte-127 = refl
 
+-- ---- order 5, event numbers
+
+-- with 9 events done and two heads: c 8 and 0
+events-8-0 : verdict (sheet 40 3 (line 0 4 3 1 0 1 9 1 0 0 ∷ noNamespace ∷ line 2 0 1 1 1 0 0 0 0 8 ∷ line 12 2 1 0 0 0 0 0 0 0 ∷ []) "DTC") ≡ fine
+unfolding judged
+events-8-0 = refl
+
+-- nothing is asked of an order among them: c 5 and 2
+events-5-2 : verdict (sheet 40 3 (line 0 4 3 1 0 1 9 1 0 0 ∷ noNamespace ∷ line 2 0 1 1 1 0 0 0 0 5 ∷ line 12 2 1 0 0 0 0 0 0 2 ∷ []) "DTC") ≡ fine
+unfolding judged
+events-5-2 = refl
+
+-- c 5 and 5
+events-5-5 : verdict (sheet 40 3 (line 0 4 3 1 0 1 9 1 0 0 ∷ noNamespace ∷ line 2 0 1 1 1 0 0 0 0 5 ∷ line 12 2 1 0 0 0 0 0 0 5 ∷ []) "DTC") ≡ fine
+unfolding judged
+events-5-5 = refl
+
+-- the open type too, and the largest number that there is
+events-open : verdict (sheet 30 1 (line 0 3 1 3 0 1 1000000 2 0 0 ∷ noNamespace ∷ line 16 0 1 0 0 0 0 0 0 999999 ∷ []) "C") ≡ fine
+unfolding judged
+events-open = refl
+
 -- ---- counters and contexts
 
 -- "events are at most 1,000,000" (S12), "open tags at most 255", also without root seen (S8)

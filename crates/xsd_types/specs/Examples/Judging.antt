@@ -14,11 +14,11 @@ use Rattle.sheet.specs.Form.{covers, covered, tensOf, usedParts, zerosBehind}
 use Rattle.sheet.specs.Unfold.{computes as sheets}
 use Rattle.xsd_types.specs.Unfold.{computes as schemas}
 use Rattle.xsd_types.specs.Row0.{row0In}
-use Rattle.xsd_types.specs.Good.{usedPairs, inOrder, row0Form, tenForm, namesTest, limits, rootTest, nestingTest, contextTest, extensionTest, headOf, good}
+use Rattle.xsd_types.specs.Good.{usedPairs, inOrder, row0Form, tenForm, namesTest, limits, rootTest, nestingTest, contextTest, extensionTest, headOf, eventsTest, good}
 use Rattle.xsd_types.specs.Examples.Sheets.{written}
 
 pub data Part : Type 0 where
-  lent row0 row1 numbers order pairs namesUsed zeros ascii counts root nesting context extension : Part
+  lent row0 row1 numbers order pairs namesUsed zeros ascii counts root nesting context extension events : Part
 
 unfoldable pub unless : Bool → Part → List Part → List Part
 unless true p ps = ps
@@ -49,7 +49,8 @@ broken x =
     (unless (rootTest z) root
     (unless (nestingTest z) nesting
     (unless (contextTest (z .context) (headOf ts)) context
-    (unless (extensionTest z (headOf ts)) extension [])))))))))))))
+    (unless (extensionTest z (headOf ts)) extension
+    (unless (eventsTest (z .events) ts) events []))))))))))))))
 
 pub record Verdict : Type 0 where
   pub isGood : Bool

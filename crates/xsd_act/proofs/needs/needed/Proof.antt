@@ -39,7 +39,7 @@ with-row-requires c κs =
     let start = c .before .before .before .before .before .before .before in
     let a = start .args in
     let new = ap length (c .pair-part2 .ensures) in
-    omega (arith, start .pre .1, textAtMark-bound (a .text .now) (a .marks .now) (c .before .before .d2 .given .0 .0))
+    omega (arith, start .pre .1, textAtMark-bound (a .text .now) (a .marks .now) (c .before .before .d2 .given .0 .0 .name))
 
 with-row-requires-2 : tie.Need-with-row-requires-2
 unfolding textAtMark
@@ -47,7 +47,7 @@ with-row-requires-2 c κs =
     let start = c .before .before .before .before .before .before .before in
     let a = start .args in
     let new = ap length (c .pair-part3 .ensures) in
-    omega (arith, start .pre .1, textAtMark-bound (a .text .now) (a .marks .now) (c .before .before .d3 .given .0 .0))
+    omega (arith, start .pre .1, textAtMark-bound (a .text .now) (a .marks .now) (c .before .before .d3 .given .0 .0 .name))
 
 needed-content-requires : tie.Need-needed-content-requires
 unfolding decision Fitting
@@ -93,18 +93,18 @@ unfolding decision textAtMark rowsAfterAll namespaceAfter rowsAfter
 returns-4 c =
     let start = c .before .before .before .before .before .before .before .before in
     let a = start .args in
-    let t = textAtMark (a .text .now) (a .marks .now) (c .before .before .before .d2 .given .0 .0) in
-    found-as start _ _ (c .before .before .before .d2 .given .1) (needed-more (Action.openSimple t) (openSimpleRow t) (λ namespace done last. refl) (start .pre .1 .rowsUsed)
-    (subst (λ (n : ℕ). RowNeeded (a .used) n (c .with-row .result)) (ap length (c .before .pair-part2 .ensures) ∙ sym (openSimple-bytes t)) (c .with-row .ensures)))
+    let t = textAtMark (a .text .now) (a .marks .now) (c .before .before .before .d2 .given .0 .0 .name) in
+    found-as start _ _ (c .before .before .before .d2 .given .1) (needed-more (Action.openSimple _ t) (openSimpleRow _ t) (λ namespace done last. refl) (start .pre .1 .rowsUsed)
+    (subst (λ (n : ℕ). RowNeeded (a .used) n (c .with-row .result)) (ap length (c .before .pair-part2 .ensures) ∙ sym (openSimple-bytes _ t)) (c .with-row .ensures)))
 
 returns-5 : tie.Need-returns-5
 unfolding decision textAtMark rowsAfterAll namespaceAfter rowsAfter
 returns-5 c =
     let start = c .before .before .before .before .before .before .before .before in
     let a = start .args in
-    let t = textAtMark (a .text .now) (a .marks .now) (c .before .before .before .d3 .given .0 .0) in
-    found-as start _ _ (c .before .before .before .d3 .given .1) (needed-more (Action.openComplex t) (openComplexRow t) (λ namespace done last. refl) (start .pre .1 .rowsUsed)
-    (subst (λ (n : ℕ). RowNeeded (a .used) n (c .with-row2 .result)) (ap length (c .before .pair-part3 .ensures) ∙ sym (openComplex-bytes t)) (c .with-row2 .ensures)))
+    let t = textAtMark (a .text .now) (a .marks .now) (c .before .before .before .d3 .given .0 .0 .name) in
+    found-as start _ _ (c .before .before .before .d3 .given .1) (needed-more (Action.openComplex _ t) (openComplexRow _ t) (λ namespace done last. refl) (start .pre .1 .rowsUsed)
+    (subst (λ (n : ℕ). RowNeeded (a .used) n (c .with-row2 .result)) (ap length (c .before .pair-part3 .ensures) ∙ sym (openComplex-bytes _ t)) (c .with-row2 .ensures)))
 
 returns-6 : tie.Need-returns-6
 unfolding decision rowsAfterAll namespaceAfter rowsAfter

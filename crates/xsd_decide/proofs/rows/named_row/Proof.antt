@@ -18,7 +18,7 @@ returns c =
     let a = called .before .before .before .args in
     let t = recordTag (a .text .now) (a .marks .now) (a .t) in
     c .typed-row .ensures (a .text .now) (a .marks .now)
-    ∙ ap ok (sym (typed-told (a .text .now) (a .marks .now) (attrValue t "name") (attrValue t "type") (called .name-and-type .ensures) (c .before .before .p .given .1) (typedRow (a .tag) 0 0)))
+    ∙ ap ok (sym (typed-told (a .text .now) (a .marks .now) (attrValue t "name") (attrValue t "type") (called .name-and-type .ensures) (c .before .before .p .given .1) (typedRow (a .tag) 0 0 (a .c))))
 
 returns-2 : tie.Need-returns-2
 unfolding decision named typedValues forBoth
@@ -26,7 +26,7 @@ returns-2 c =
     let called = c .before .before in
     let a = called .before .before .before .args in
     let t = recordTag (a .text .now) (a .marks .now) (a .t) in
-    ap ok (sym (typed-told (a .text .now) (a .marks .now) (attrValue t "name") (attrValue t "type") (called .name-and-type .ensures) (c .enum-told .given .1) (typedRow (a .tag) 0 0)))
+    ap ok (sym (typed-told (a .text .now) (a .marks .now) (attrValue t "name") (attrValue t "type") (called .name-and-type .ensures) (c .enum-told .given .1) (typedRow (a .tag) 0 0 (a .c))))
 
 pub named-row-spec : {M : Type 1} → statement M
 named-row-spec =

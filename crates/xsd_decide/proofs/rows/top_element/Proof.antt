@@ -1,5 +1,4 @@
 -- `xsd_decide::rows::top_element` meets its contract: a row with the tag 2 is added. Assumes nothing.
-use Rattle.xsd_types.specs.Rows.{headC}
 use Rattle.xsd_actions.specs.Decided.{topElement}
 use Rattle.xsd_decide.specs.Rows.{typedRow}
 use borrow.Author.Needs.{needs}
@@ -7,7 +6,7 @@ use Rattle.xsd_decide.proofs.rows.top_element.Statement.{statement}
 use Rattle.xsd_decide.proofs.rows.top_element.Tie as tie
 
 returns : tie.Need-returns
-unfolding topElement headC typedRow
+unfolding topElement typedRow
 returns c = c .named-row .ensures
 
 pub top-element-spec : {M : Type 1} → statement M

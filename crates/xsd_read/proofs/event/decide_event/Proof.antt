@@ -17,14 +17,14 @@ unfolding decided
 returns c =
     let a = c .before .before .before .before .before .args in
     let is = record-as (a .text .now) (a .marks .now) (a .t) ∙ as-start (a .t .kind) _ (c .before .if1 .taken) in
-    c .on-start .ensures ∙ sym (ap (λ (e : Event). decided e (a .m) (a .head)) is)
+    c .on-start .ensures ∙ sym (ap (λ (e : Event). decided (a .event) e (a .m) (a .head)) is)
 
 returns-2 : tie.Need-returns-2
 unfolding decided
 returns-2 c =
     let a = c .before .before .before .before .before .before .before .args in
     let is = record-as (a .text .now) (a .marks .now) (a .t) ∙ as-close (a .t .kind) _ (c .before .if2 .taken) in
-    c .on-close .ensures (a .text .now) (a .marks .now) ∙ sym (ap (λ (e : Event). decided e (a .m) (a .head)) is)
+    c .on-close .ensures (a .text .now) (a .marks .now) ∙ sym (ap (λ (e : Event). decided (a .event) e (a .m) (a .head)) is)
 
 on-empty-requires : tie.Need-on-empty-requires
 on-empty-requires c κs = c .before .before .before .before .before .before .pre (c .if2 .left)
@@ -34,7 +34,7 @@ unfolding decided
 returns-3 c =
     let a = c .before .before .before .before .before .before .before .args in
     let is = record-as (a .text .now) (a .marks .now) (a .t) ∙ as-empty (a .t .kind) _ (c .before .before .before .if1 .left) (c .before .if2 .left) in
-    c .on-empty .ensures ∙ sym (ap (λ (e : Event). decided e (a .m) (a .head)) is)
+    c .on-empty .ensures ∙ sym (ap (λ (e : Event). decided (a .event) e (a .m) (a .head)) is)
 
 pub decide-event-spec : {M : Type 1} → statement M
 decide-event-spec =

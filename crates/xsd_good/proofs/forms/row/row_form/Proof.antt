@@ -1,7 +1,4 @@
 -- `xsd_good::forms::row::row_form` meets its contract: the code is the definition, test by test. Assumes nothing.
-use mathlib.Core.Bool.{Bool, _&&_, _||_}
-use mathlib.Core.Path.{ap₂}
-use lib.Dec.{eqb}
 use borrow.Author.Needs.{needs}
 use Rattle.xsd_types.specs.Good.{rowForm}
 use Rattle.xsd_good.specs.Forms.{aForm}
@@ -10,9 +7,7 @@ use Rattle.xsd_good.proofs.forms.row.row_form.Tie as tie
 
 returns : tie.Need-returns
 unfolding rowForm aForm
-returns c =
-    let a = c .before .before .before .args in
-    ap₂ _&&_ (ap₂ (λ (x y : Bool). x && eqb (a .c) 0 && (eqb (a .b) 0 || y || eqb (a .tag) 17)) (c .before .before .in-range .ensures) (c .before .in-range2 .ensures)) (c .a-form .ensures)
+returns c = rw (c .before .before .before .in-range .ensures, c .before .before .is-head .ensures, c .before .in-range2 .ensures, c .a-form .ensures)
 
 pub row-form-spec : {M : Type 1} → statement M
-row-form-spec = tie.close (tie.spec (λ c κs. search needs) (λ c κs. search needs) (λ c κs. search needs) returns)
+row-form-spec = tie.close (tie.spec (λ c κs. search needs) (λ c κs. search needs) (λ c κs. search needs) (λ c κs. search needs) returns)
