@@ -146,7 +146,7 @@ pub fn is_xml(name: &[u8]) -> bool
     x & m & l
 }
 
-pub fn target(text: &[u8], at: usize) -> Moved
+pub fn pi_target(text: &[u8], at: usize) -> Moved
     ensures { λ r. ⌜ moved (now (text .entry)) r ≡ target at (drop at (now (text .entry))) ⌝ }
 {
     let Moved::To(end) = name(text, at) else {
@@ -174,7 +174,7 @@ pub fn instruction(text: &[u8], at: usize) -> Moved
     let Moved::To(inside) = literal(text, at, b"<?") else {
         return Moved::Bad;
     };
-    let Moved::To(end) = target(text, inside) else {
+    let Moved::To(end) = pi_target(text, inside) else {
         return Moved::Bad;
     };
     instruction_end(text, end)

@@ -2,21 +2,22 @@
 -- (`Passes`). Assumes nothing.
 use Prim.Native.Nat.{ℕ, zero, suc, _+_, _-_, _≤_, _<_}
 use Prim.Native.Char.{code}
-use mathlib.Core.Path.{_≡_, refl, sym, ap, _∙_}
-use mathlib.Core.List.{List, [], _∷_}
-use mathlib.Core.Bool.{Bool, true, false, not, _&&_, _||_}
+use mathlib.Core.Path.{_≡_, refl, ap, _∙_}
+use mathlib.Core.List.{[], _∷_, _++_}
+use mathlib.Core.Bool.{Bool, true, false, not, _&&_}
 use mathlib.Core.Logic.{⊎-elim}
 use native.Mathlib.Omega.{arith}
 use lib.Dec.{eqb}
-use lib.ListN.{length, drop, length-drop}
-use Rattle.text.specs.Text.{Text, if_then_else_, bytes, first}
+use lib.ListN.{length, drop, length-drop, length-append}
+use borrow.Author.Tests.{eqb-true}
+use Rattle.text.specs.Text.{Text, bytes, first, contains}
 use Rattle.text.proofs.Laws.Tests.{bool-cases, or-cases}
 use Rattle.text.specs.Trim.{isWhiteSpace}
 use Rattle.xml_text.specs.Classes.{isChar, isNameStart, isName}
 use Rattle.xml_text.specs.Steps.{Step, bad, behind, _andThen_, startsWith, literal, many, oneThen, spaces, name, nameOf, until, comment, isXml, target, instructionEnd, instruction, section}
 use Rattle.xml_text.specs.Values.{isPlain, isQuote, valueEnd, value, charData}
 use Rattle.xml_text.specs.Prolog.{eq, isMisc, miscPart, miscFrom}
-use Rattle.xml_text.proofs.Laws.Steps.{starts-length, literal-no}
+use Rattle.xml_text.proofs.Laws.Steps.{starts-length}
 use Rattle.xml_text.proofs.Laws.Names.{behind-at, behind-rest, bad-not}
 
 abbrev pub Moves : (ℕ → Text → Step) → Type 0
@@ -179,12 +180,13 @@ eq-passes at s e r q =
     let c = spaces-moves (y .0) (y .1) e r (y .3) in
     (omega arith, omega arith)
 
-pub value-end-passes : (quote : ℕ) → Passes (valueEnd quote)
-unfolding valueEnd
-value-end-passes quote at [] e r q = absurd (bad-not q)
-value-end-passes quote at (b ∷ s) e r q =
+-- a value stands before its quote, and has no such quote in it
+pub value-end-stands : (quote at : ℕ) (s : Text) (e : ℕ) (r : Text) → valueEnd quote at s ≡ behind e r → (v : Text) × (s ≡ v ++ quote ∷ r) × (contains quote v ≡ false) × (e ≡ at + length v + 1)
+unfolding valueEnd contains
+value-end-stands quote at [] e r q = absurd (bad-not q)
+value-end-stands quote at (b ∷ s) e r q =
     bool-cases (eqb b quote)
-    (λ y. let h = stays (suc at) s e r (rw y at q) in (omega arith, omega arith))
+    (λ y. let p = rw y at q in let n = behind-at p in ([], rw (eqb-true b quote y, behind-rest p), refl, omega arith))
     (λ y.
     let p = rw y at q in
     bool-cases (eqb b (code "<"))
@@ -192,8 +194,14 @@ value-end-passes quote at (b ∷ s) e r q =
     (λ z.
     let o = rw z at p in
     bool-cases (isPlain (b ∷ s))
-    (λ x. let h = value-end-passes quote (suc at) s e r (rw x at o) in (omega arith, omega arith))
+    (λ x. let i = value-end-stands quote (suc at) s e r (rw x at o) in (b ∷ i .0, ap (λ (t : Text). b ∷ t) (i .1), rw y (i .2), omega (arith, i .3)))
     (λ x. absurd (bad-not (rw x at o)))))
+
+pub value-end-passes : (quote : ℕ) → Passes (valueEnd quote)
+value-end-passes quote at s e r q =
+    let h = value-end-stands quote at s e r q in
+    let long = ap length (h .1) ∙ length-append (h .0) (quote ∷ r) in
+    (omega (arith, h .3), omega (arith, h .3, long))
 
 -- a value has two quotes
 pub value-two : (at : ℕ) (s : Text) (e : ℕ) (r : Text) → value at s ≡ behind e r → (at + 2 ≤ e) × (e + length r ≡ at + length s)

@@ -4,25 +4,25 @@ use Prim.Native.Nat.{ℕ, zero, suc, _+_, _-_, _≤_, _<_}
 use Prim.Native.Char.{code}
 use mathlib.Core.Path.{_≡_, refl, sym, ap, _∙_}
 use mathlib.Core.List.{List, [], _∷_, _++_, append-nil, append-assoc}
-use mathlib.Core.Bool.{Bool, true, false, _&&_, _||_}
+use mathlib.Core.Bool.{true, false}
 use native.Mathlib.Omega.{arith}
 use lib.Dec.{eqb}
 use lib.ListN.{length, getD, take, drop, length-drop}
 use lib.Seq.{drop-drop, take-at}
 use borrow.Author.Tests.{eqb-true}
-use Rattle.text.specs.Text.{Text, if_then_else_, bytes, first, contains}
+use Rattle.text.specs.Text.{Text, bytes, first, contains}
 use Rattle.text.proofs.Laws.Tests.{bool-cases, if-either}
 use Rattle.text.proofs.Laws.Texts.{first-drop}
-use Rattle.xsd_parser.specs.Tape.{Pair, pairText}
+use Rattle.xsd_parser.specs.Tape.{pairText}
 use Rattle.xml_text.specs.Classes.{isNameStart}
 use Rattle.xml_text.specs.Steps.{Step, bad, behind, startsWith, literal, oneThen, spaces, name, nameOf}
-use Rattle.xml_text.specs.Values.{isPlain, isQuote, valueEnd, value}
+use Rattle.xml_text.specs.Values.{isQuote, value}
 use Rattle.xml_text.specs.Prolog.{eq}
 use Rattle.xml_text.specs.Tape.{AttributePairs, TapeEvent}
-use Rattle.xml_text.specs.Tags.{Part, wrong, last, more, span, attributeFrom, attributeBehind, valueBehind, eqBehind, attribute, partBehind, partOf, isAmong, Ended, unended, ended, onPart, attributesFrom, attributes, Tagged, untagged, tagged, taggedBy, attributesBehind, nameBehind, tag}
+use Rattle.xml_text.specs.Tags.{Part, wrong, last, more, span, attributeBehind, valueBehind, eqBehind, attribute, partBehind, partOf, isAmong, Ended, unended, ended, onPart, attributesFrom, attributes, Tagged, untagged, tagged, taggedBy, attributesBehind, nameBehind, tag}
 use Rattle.xml_text.specs.Accepted.{endOf, NameAt, ValueAt, AttributesAt, EventAt}
-use Rattle.xml_text.proofs.Laws.Names.{behind-at, behind-rest, bad-not, name-part}
-use Rattle.xml_text.proofs.Laws.Moves.{name-passes, spaces-moves, eq-passes, value-two}
+use Rattle.xml_text.proofs.Laws.Names.{behind-at, bad-not, name-part}
+use Rattle.xml_text.proofs.Laws.Moves.{name-passes, spaces-moves, eq-passes, value-end-stands, value-two}
 use Rattle.xml_text.proofs.Laws.Here.{here-next, literal-keeps, spaces-keeps, name-keeps, eq-keeps, value-keeps}
 
 -- a name
@@ -38,22 +38,6 @@ name-at text at s e r h q =
     record { starts = name-starts at (drop at text) e r k; whole = name-part at (drop at text) e r k }
 
 -- a value
-pub value-end-stands : (quote at : ℕ) (s : Text) (e : ℕ) (r : Text) → valueEnd quote at s ≡ behind e r → (v : Text) × (s ≡ v ++ quote ∷ r) × (contains quote v ≡ false) × (e ≡ at + length v + 1)
-unfolding valueEnd contains
-value-end-stands quote at [] e r q = absurd (bad-not q)
-value-end-stands quote at (b ∷ s) e r q =
-    bool-cases (eqb b quote)
-    (λ y. let p = rw y at q in let n = behind-at p in ([], rw (eqb-true b quote y, behind-rest p), refl, omega arith))
-    (λ y.
-    let p = rw y at q in
-    bool-cases (eqb b (code "<"))
-    (λ z. absurd (bad-not (rw z at p)))
-    (λ z.
-    let o = rw z at p in
-    bool-cases (isPlain (b ∷ s))
-    (λ x. let i = value-end-stands quote (suc at) s e r (rw x at o) in (b ∷ i .0, ap (λ (t : Text). b ∷ t) (i .1), rw y (i .2), omega (arith, i .3)))
-    (λ x. absurd (bad-not (rw x at o)))))
-
 pub value-stands : (at : ℕ) (s : Text) (e : ℕ) (r : Text) → value at s ≡ behind e r → (b : ℕ) × (v : Text) × (isQuote b ≡ true) × (s ≡ b ∷ v ++ b ∷ r) × (contains b v ≡ false) × (e ≡ at + length v + 2)
 unfolding value
 value-stands at [] e r q = absurd (bad-not q)

@@ -2,9 +2,9 @@
 -- the walk's depth is told by the context. Assumes nothing.
 --     depthIn       the walk's depth in a context
 --     Walked        an event that the reader and the walk answer alike
-use mathlib.Core.Path.{_≡_, refl, sym, ap, _∙_}
-use mathlib.Core.Bool.{Bool, true, false, _&&_}
-use mathlib.Core.List.{List, [], _∷_, _++_, map, append-nil, append-assoc, map-append}
+use mathlib.Core.Path.{_≡_, refl, sym, ap}
+use mathlib.Core.Bool.{Bool, true, _&&_}
+use mathlib.Core.List.{List, [], _∷_, _++_, map, append-nil, map-append}
 use mathlib.Core.Option.{Option, some, none}
 use Prim.Native.Nat.{ℕ, zero, suc}
 use lib.Dec.{eqb, eqb·suc-zero, eqb·suc-suc}
@@ -13,11 +13,11 @@ use Rattle.text.proofs.Laws.Tests.{if-cases, if-either}
 use Rattle.number.specs.Number.{number}
 use Rattle.xsd_types.specs.Types.{Item, Facet, Schema}
 use Rattle.xsd_types.specs.State.{SimpleTypeBuilder, ComplexTypeBuilder, Context, Reader}
-use Rattle.xsd_parser.specs.Event.{Tag, Event, tagIs, attrValue, orEmpty}
-use Rattle.xsd_parser.specs.Handlers.{Outcome, ok, refuse, onParsed, inContext, withItem, foundRoot, keptElement, onTopLevelElement, withBase, withFacet, withContent, openSimpleType, openComplexType, belowSchema, onDirectChild, onStartInSchema, raisedSimple, onStartInSimpleType, raisedComplex, onStartInComplexType, onStart, facetValue, onEmptyInSimpleType, onEmptyInComplexType, onEmpty, closeSimpleType, closeComplexType, closeInSchema, onEnd}
+use Rattle.xsd_parser.specs.Event.{Tag, Event, tagIs, attrValue}
+use Rattle.xsd_parser.specs.Handlers.{onParsed, inContext, withItem, foundRoot, keptElement, onTopLevelElement, withBase, withFacet, withContent, openSimpleType, openComplexType, belowSchema, onDirectChild, onStartInSchema, raisedSimple, onStartInSimpleType, raisedComplex, onStartInComplexType, onStart, facetValue, onEmptyInSimpleType, onEmptyInComplexType, onEmpty, closeSimpleType, closeComplexType, closeInSchema, onEnd}
 use Rattle.xsd_parser.specs.Step.{handled}
 use Rattle.xsd_parser.specs.Children.{Head, depthAfter, namedHead, elementHead, childHead, headAt, itemHead, openHead, heads}
-use Rattle.xsd_parser.proofs.Laws.Outcomes.{Gives, value, refusal, Any, gives-if, gives-andThen, gives-parsed, gives-name}
+use Rattle.xsd_parser.proofs.Laws.Outcomes.{Gives, value, Any, gives-if, gives-andThen, gives-parsed, gives-name, gives-any}
 
 abbrev pub depthIn : Context → ℕ
 depthIn Context.noContext = 0
@@ -57,11 +57,6 @@ unfolding keptElement withItem
 kept-context m none typeName r = refl
 kept-context m (some name) none r = refl
 kept-context m (some name) (some typeName) r = refl
-
--- whatever an outcome is
-pub gives-any : {A : Type 0} (o : Outcome A) → Gives Any Any o
-gives-any (ok x) = value tt
-gives-any (refuse r) = refusal tt
 
 -- a reader by its parts
 abbrev pub at : Schema → Bool → Context → Reader

@@ -1,7 +1,7 @@
 -- The heads of what was read with choice 1, from any state on: those kept before and the direct children among the events read. Assumes nothing.
-use mathlib.Core.Path.{_≡_, refl, sym, ap, _∙_}
+use mathlib.Core.Path.{_≡_, refl, sym, _∙_}
 use mathlib.Core.Bool.{true}
-use mathlib.Core.List.{List, [], _∷_, _++_, append-nil, append-assoc}
+use mathlib.Core.List.{List, _∷_, _++_, append-nil, append-assoc}
 use Prim.Native.Nat.{ℕ, _+_}
 use native.Mathlib.Omega.{arith}
 use lib.ListN.{length, take}
@@ -10,21 +10,16 @@ use Rattle.text.specs.Text.{Text}
 use Rattle.sheet.specs.Lengths.{Lengths}
 use Rattle.xsd_types.specs.State.{State, firstState}
 use Rattle.xsd_parser.specs.Event.{Event}
-use Rattle.xsd_parser.specs.Tape.{Judged, event, records}
+use Rattle.xsd_parser.specs.Tape.{Judged, records}
 use Rattle.xsd_parser.specs.Handlers.{ok}
-use Rattle.xsd_parser.specs.Step.{counted, step}
+use Rattle.xsd_parser.specs.Step.{step}
 use Rattle.xsd_parser.specs.Read.{readRecords, readState}
 use Rattle.xsd_parser.specs.Accepted.{Accepted, noneLeft, oneMore}
 use Rattle.xsd_parser.specs.Children.{headAt, childrenFrom, directChildren, openHead, heads}
 use Rattle.xsd_parser.proofs.Laws.Outcomes.{gives-value}
-use Rattle.xsd_parser.proofs.Laws.Steps.{step-parts, step-reader}
+use Rattle.xsd_parser.proofs.Laws.Steps.{step-reader, step-choice}
 use Rattle.xsd_parser.proofs.Laws.Accepts.{Viewed, allAccepted, firstRefused, records-view, readRecords-accepted, readRecords-refused}
 use Rattle.xsd_parser.proofs.Laws.Children.{depthIn, Walked, handled-walked}
-
--- "kept as the last number of row 0": no event changes the choice
-pub step-choice : (lent : Lengths) (s : State) (e : Event) (s′ : State) → step lent s e ≡ ok s′ → s′ .byStandard ≡ s .byStandard
-unfolding counted
-step-choice lent s e s′ h = sym (ap (λ x. x .byStandard) (step-parts lent s e s′ h .state))
 
 pub step-walked : (lent : Lengths) (s : State) (e : Event) (s′ : State) → s .byStandard ≡ true → step lent s e ≡ ok s′ → Walked e (s .reader) (s′ .reader)
 step-walked lent s e s′ b h = gives-value (handled-walked (s .events) e (s .reader)) (rw b at (step-reader lent s e s′ h))

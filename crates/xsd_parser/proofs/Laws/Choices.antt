@@ -8,7 +8,7 @@ use mathlib.Core.List.{List, [], _∷_}
 use Prim.Native.Nat.{ℕ, zero, suc}
 use native.Mathlib.Omega.{arith}
 use lib.Dec.{eqb, ltb}
-use Rattle.text.specs.Text.{Text, if_then_else_}
+use Rattle.text.specs.Text.{Text}
 use Rattle.text.proofs.Laws.Tests.{two, bool-cases, if-either}
 use Rattle.sheet.specs.Lengths.{Lengths}
 use Rattle.xsd_types.specs.Types.{Schema}
@@ -18,16 +18,15 @@ use Rattle.xsd_types.specs.Choice.{chosen}
 use Rattle.xsd_types.proofs.Laws.Choice.{fits-chosen}
 use Rattle.xsd_parser.specs.Event.{Tag, Event, tagIs, attrValue}
 use Rattle.xsd_parser.specs.Tape.{Judged, event, refused, records}
-use Rattle.xsd_parser.specs.Handlers.{Outcome, ok, refuse, _andThen_, inContext, withItem, foundRoot, onTopLevelElement, openSimpleType, openComplexType, belowSchema, onDirectChild, onStartInSchema, raisedComplex, onStartInComplexType, onStart, onEmptyInSimpleType, onEmptyInComplexType, onEmpty, closeSimpleType, closeComplexType, closeInSchema, onEnd}
+use Rattle.xsd_parser.specs.Handlers.{Outcome, ok, refuse, _andThen_, inContext, foundRoot, onTopLevelElement, openSimpleType, openComplexType, belowSchema, onDirectChild, onStartInSchema, raisedComplex, onStartInComplexType, onStart, onEmptyInSimpleType, onEmptyInComplexType, onEmpty, closeSimpleType, closeComplexType, closeInSchema, onEnd}
 use Rattle.xsd_parser.specs.Step.{handled, tagsAfter, counted, roomFor, step}
 use Rattle.xsd_parser.specs.Read.{Reading, readRecords, readState}
 use Rattle.xsd_parser.specs.Children.{depthAfter, startsNoOther, onlyTypesFrom}
-use Rattle.xsd_parser.proofs.Laws.Outcomes.{Gives, value, Any, gives-if, gives-andThen, gives-name, gives-value, outcome-cases}
+use Rattle.xsd_parser.proofs.Laws.Outcomes.{Gives, value, Any, gives-if, gives-andThen, gives-name, gives-value, gives-any, outcome-cases}
 use Rattle.xsd_parser.proofs.Laws.EventTexts.{events-are-text}
-use Rattle.xsd_parser.proofs.Laws.Steps.{step-reader}
+use Rattle.xsd_parser.proofs.Laws.Steps.{step-reader, step-choice}
 use Rattle.xsd_parser.proofs.Laws.Reads.{read-ok, read-refuse, reads-keep}
-use Rattle.xsd_parser.proofs.Laws.Children.{depthIn, at, gives-any, kept-context, handled-walked}
-use Rattle.xsd_parser.proofs.Laws.ChildrenRead.{step-choice}
+use Rattle.xsd_parser.proofs.Laws.Children.{depthIn, at, kept-context, handled-walked}
 
 -- "kept as the last number of row 0"
 pub readState-choice : (lent : Lengths) (s : State) (text : Text) (marks : List ℕ) → readState lent s text marks .state .byStandard ≡ s .byStandard

@@ -13,16 +13,12 @@ use Rattle.number.specs.Number.{number}
 use Rattle.xsd_types.specs.Types.{Item}
 use Rattle.xsd_types.specs.State.{SimpleTypeBuilder, ComplexTypeBuilder, Context, Reader, eventNumberOk, itemPasses, openPasses, headsPass, eventsOk}
 use Rattle.xsd_parser.specs.Event.{Tag, Event, tagIs, attrValue, eventName}
-use Rattle.xsd_parser.specs.Handlers.{Outcome, ok, refuse, inContext, withItem, foundRoot, keptElement, onTopLevelElement, withBase, withFacet, withContent, openSimpleType, openComplexType, belowSchema, onDirectChild, onStartInSchema, raisedSimple, onStartInSimpleType, raisedComplex, onStartInComplexType, onStart, facetValue, onEmptyInSimpleType, onEmptyInComplexType, onEmpty, closeSimpleType, closeComplexType, closeInSchema, onEnd}
+use Rattle.xsd_parser.specs.Handlers.{ok, inContext, withItem, foundRoot, keptElement, onTopLevelElement, withBase, withFacet, withContent, openSimpleType, openComplexType, belowSchema, onDirectChild, onStartInSchema, raisedSimple, onStartInSimpleType, raisedComplex, onStartInComplexType, onStart, facetValue, onEmptyInSimpleType, onEmptyInComplexType, onEmpty, closeSimpleType, closeComplexType, closeInSchema, onEnd}
 use Rattle.xsd_parser.specs.Step.{handled}
-use Rattle.xsd_parser.proofs.Laws.Outcomes.{Gives, value, refusal, Any, gives-if, gives-andThen, gives-parsed, gives-name, gives-value}
+use Rattle.xsd_parser.proofs.Laws.Outcomes.{Gives, value, Any, gives-if, gives-andThen, gives-parsed, gives-name, gives-value, gives-any}
 use Rattle.xsd_types.proofs.Laws.Events.{passing-parts, heads-weaken}
 use Rattle.text.proofs.Laws.Tests.{and-true, or-left, or-right, or-cases, if-either}
 use Rattle.text.proofs.Laws.Every.{every-one-more}
-
-pub gives-any : {A : Type 0} (o : Outcome A) → Gives Any Any o
-gives-any (ok x) = value tt
-gives-any (refuse r) = refusal tt
 
 module _ (p : Text → ℕ → Bool) where
   abbrev pub Passing : Reader → Type 0

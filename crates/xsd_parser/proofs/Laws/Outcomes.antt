@@ -78,3 +78,8 @@ then-value (refuse r) f e = let z : _≡_ {A = ℕ} 0 1 = cc in absurd (omega ar
 pub outcome-cases : {A C : Type 0} (o : Outcome A) → ((x : A) → o ≡ ok x → C) → ((r : ℕ) → o ≡ refuse r → C) → C
 outcome-cases (ok x) f g = f x refl
 outcome-cases (refuse r) f g = g r refl
+
+-- whatever an outcome is
+pub gives-any : {A : Type 0} (o : Outcome A) → Gives Any Any o
+gives-any (ok x) = value tt
+gives-any (refuse r) = refusal tt

@@ -1,4 +1,4 @@
--- `xml_text::steps::target` meets its contract: the name that was read is the name that the bytes left begin with. Assumes nothing.
+-- `xml_text::steps::pi_target` meets its contract: the name that was read is the name that the bytes left begin with. Assumes nothing.
 use borrow.Author.Needs.{needs}
 use native.Mathlib.Omega.{arith}
 use mathlib.Core.Path.{sym, ap, _∙_}
@@ -6,8 +6,8 @@ use lib.ListN.{length-drop}
 use Rattle.xml_text.specs.Steps.{isXml}
 use Rattle.xml_text.proofs.Laws.Moved.{to-of, bad-of}
 use Rattle.xml_text.proofs.Laws.Names.{name-size, name-length, name-part, target-bad, target-xml, target-name}
-use Rattle.xml_text.proofs.steps.target.Statement.{statement}
-use Rattle.xml_text.proofs.steps.target.Tie as tie
+use Rattle.xml_text.proofs.steps.pi_target.Statement.{statement}
+use Rattle.xml_text.proofs.steps.pi_target.Tie as tie
 
 returns : tie.Need-returns
 returns c = sym (target-bad (c .before .before .before .before .args .at) _ (bad-of (c .before .before .before .before .args .text .now) (c .enum-told .given .1) (c .before .before .name .ensures)))
@@ -36,5 +36,5 @@ returns-3 c =
     let part = name-part _ _ _ _ read in
     sym (target-name (a .at) _ (sym (c .before .is-xml .ensures ∙ ap isXml part) ∙ c .if1 .left) ∙ read)
 
-pub target-spec : {M : Type 1} → statement M
-target-spec = tie.close (tie.spec (λ c κs. search needs) (λ c. search needs) (λ c. search needs) returns sub-is-xml part-is-xml-start part-is-xml-end (λ c κs. search needs) returns-2 returns-3)
+pub pi-target-spec : {M : Type 1} → statement M
+pi-target-spec = tie.close (tie.spec (λ c κs. search needs) (λ c. search needs) (λ c. search needs) returns sub-is-xml part-is-xml-start part-is-xml-end (λ c κs. search needs) returns-2 returns-3)
