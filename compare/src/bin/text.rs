@@ -175,13 +175,31 @@ impl Lent {
 
     /// Tape, clear, read, lower; the four numbers. The marks behind the tape are not lent to reading.
     fn graph(&mut self) -> [u32; 4] {
+        let taped = self.tape();
+        let cleared = self.clear();
+        let read = self.read();
+        let lowered = self.lower();
+        [taped, cleared, read, lowered]
+    }
+
+    fn tape(&mut self) -> u32 {
         self.tape.marks.resize(self.marks, 0);
         let taped = reader::tape(&self.tape.text, &mut self.tape.marks);
         self.tape.marks.truncate(taped.place as usize);
-        let cleared = reader::clear(&mut self.sheet, 0);
-        let read = reader::read(&mut self.sheet, &self.tape);
+        taped.number
+    }
+
+    fn clear(&mut self) -> u32 {
+        reader::clear(&mut self.sheet, 0).number
+    }
+
+    fn read(&mut self) -> u32 {
+        reader::read(&mut self.sheet, &self.tape).number
+    }
+
+    fn lower(&mut self) -> u32 {
         grapher::lower(&self.sheet, &mut self.lowered);
-        [taped, cleared, read, self.lowered.answer].map(|answer| answer.number)
+        self.lowered.answer.number
     }
 }
 
@@ -191,7 +209,7 @@ fn schema(name: &str, text: &str) {
     let mut about = Lent::about(text, &largest);
     let same = numbers == about.graph();
     let mut marks = vec![0; MARKS];
-    let mut times: [Vec<Duration>; 6] = Default::default();
+    let mut times: [Vec<Duration>; 10] = Default::default();
     for _ in 0..ROUNDS {
         times[0].push(timed(|| reader::tape(text.as_bytes(), &mut marks)));
         times[1].push(timed(|| events_in_place(text)));
@@ -201,8 +219,12 @@ fn schema(name: &str, text: &str) {
         times[5].push(timed(|| {
             parse_str(text).map(|schema| (lower(&schema), schema))
         }));
+        times[6].push(timed(|| about.tape()));
+        times[7].push(timed(|| about.clear()));
+        times[8].push(timed(|| about.read()));
+        times[9].push(timed(|| about.lower()));
     }
-    let [tape, in_place, copied, about, largest, rust] = times.map(median);
+    let [tape, in_place, copied, about, largest, rust, parts @ ..] = times.map(median);
     let each = |time: Duration| time.as_secs_f64() * 1e9 / text.len() as f64;
     println!(
         "{name}: {} bytes; tape, clear, read, lower give {numbers:?} (in both rooms: {same})",
@@ -221,6 +243,7 @@ fn schema(name: &str, text: &str) {
         ratio(about, rust),
         ratio(largest, rust)
     );
+    println!("  one by one, tape, clear, read, lower: {parts:?}");
 }
 
 /// Keys of `length` bytes that begin alike, as many as a text holds.

@@ -7,7 +7,7 @@
 --     HeadAt        a finished type's head stands at place p
 --     EntryOf       an entry's place is a head's, and its fingerprint that of the name there
 --     Entries       the first n numbers are entries
---     Flagged       there is a flag for each fingerprint, and that of each entry is set
+--     Flagged       where there is a flag for an entry's fingerprint, it is set: a flag that is 0 says that no entry has its fingerprint
 --     Known         both
 --     Added         the type at place p is one entry more, and its name is new
 --     Entered       that, or its name came before
@@ -59,8 +59,7 @@ pub record Entries (rows names scratch : List ℕ) (n : ℕ) : Type 0 where
   pub each : (k : ℕ) → k < n → EntryOf rows names (getD scratch k 0)
 
 pub record Flagged (scratch : List ℕ) (n : ℕ) (flags : List ℕ) : Type 0 where
-  pub all : 65536 ≤ length flags
-  pub each : (k : ℕ) → k < n → getD flags (getD scratch k 0 / 65536) 0 ≡ 1
+  pub each : (k : ℕ) → k < n → getD scratch k 0 / 65536 < length flags → getD flags (getD scratch k 0 / 65536) 0 ≡ 1
 
 pub record Known (rows names scratch : List ℕ) (n : ℕ) (flags : List ℕ) : Type 0 where
   pub entries : Entries rows names scratch n

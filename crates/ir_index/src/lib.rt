@@ -1,8 +1,10 @@
 // The finished types in lowering's order, one number for each, up to the first whose name came before (order 4: "Lowering refuses when
 // two finished types normalise to the same name").
 ghost use mathlib.Core.Path.{_≡_};
+ghost use mathlib.Core.Bool.{_&&_};
 ghost use Prim.Native.Nat.{_+_, _*_, _/_, _%_, _≤_, _<_};
-ghost use lib.ListN.{length};
+ghost use lib.Dec.{ltb, eqb};
+ghost use lib.ListN.{length, getD, set};
 ghost use Rattle.text.specs.Text.{same};
 ghost use Rattle.names.specs.Names.{normalizeTypeName};
 ghost use Rattle.sheet.specs.Limits.{rowsLimit};
@@ -115,6 +117,26 @@ fn has_print(entries: &[u32], print: u32) -> bool
     found
 }
 
+// Whether a flag says that no entry has the fingerprint f. Where there is no flag for it, nothing is said.
+fn unseen(flags: &[u8], f: usize) -> bool
+    ensures { λ r. ⌜ r ≡ ltb f (length (now (flags .entry))) && eqb (getD (now (flags .entry)) f 0) 0 ⌝ }
+{
+    if f < flags.len() {
+        flags[f] == 0
+    } else {
+        false
+    }
+}
+
+// Sets the flag of the fingerprint f, where there is one.
+fn set_flag(flags: &mut [u8], f: usize)
+    ensures { λ _. ⌜ now (flags .exit) ≡ set (now (flags .entry)) f 1 ⌝ }
+{
+    if f < flags.len() {
+        flags[f] = 1;
+    }
+}
+
 // A flag that is not set says that there is no entry with its fingerprint.
 fn name_came(
     rows: &[u32],
@@ -130,8 +152,7 @@ fn name_came(
     requires { ⌜ print ≡ fingerprint (nameAt (now rows) (now names) place) ⌝ }
     ensures { λ r. ⌜ r ≡ among (nameAt (now (rows .entry)) (now (names .entry)) place) (namesIn (now (rows .entry)) (now (names .entry)) n (now (scratch .entry))) ⌝ }
 {
-    let f = wide(print);
-    if flags[f] == 0 {
+    if unseen(flags, wide(print)) {
         return false;
     }
     if !has_print(&scratch[..n], print) {
@@ -158,9 +179,8 @@ fn enter(
     if name_came(rows, names, place, print, scratch, n, flags) {
         return false;
     }
-    let f = wide(print);
     scratch[n] = place as u32 + 65536 * print;
-    flags[f] = 1;
+    set_flag(flags, wide(print));
     true
 }
 
@@ -191,15 +211,36 @@ fn enter_kind(
     Indexed::All(count)
 }
 
-// "Only finished types are lowered, simple ones before complex."
+// "Only finished types are lowered, simple ones before complex." The answer is the same whatever the flags hold and however many there are; those that
+// are 0 save work.
+fn index_over(
+    rows: &[u32],
+    names: &[u8],
+    end: usize,
+    scratch: &mut [u32],
+    flags: &mut [u8],
+) -> Indexed
+    requires { ⌜ (10 * end ≤ length (now rows)) × (length (now rows) ≤ rowsLimit) × (length (finishedPlaces (now rows) (now names) end) ≤ length (now scratch)) ⌝ }
+    ensures { λ r. ⌜ IndexIs (now (rows .entry)) (now (names .entry)) end (now (scratch .exit)) r ⌝ }
+{
+    let simple = enter_kind(rows, names, end, false, scratch, 0, flags);
+    match simple {
+        Indexed::All(n) => enter_kind(rows, names, end, true, scratch, n, flags),
+        Indexed::Repeated(place) => Indexed::Repeated(place),
+    }
+}
+
+// Below place 64 stand at most 62 types: to look for a fingerprint among so few takes less time than to clear 65,536 flags.
+const FEW: usize = 64;
+
 pub fn index_types(rows: &[u32], names: &[u8], end: usize, scratch: &mut [u32]) -> Indexed
     requires { ⌜ (2 ≤ end) × (10 * end ≤ length (now rows)) × (length (now rows) ≤ rowsLimit) × (length (finishedPlaces (now rows) (now names) end) ≤ length (now scratch)) ⌝ }
     ensures { λ r. ⌜ IndexIs (now (rows .entry)) (now (names .entry)) end (now (scratch .exit)) r ⌝ }
 {
-    let mut flags = [0u8; 65536];
-    let simple = enter_kind(rows, names, end, false, scratch, 0, &mut flags);
-    match simple {
-        Indexed::All(n) => enter_kind(rows, names, end, true, scratch, n, &mut flags),
-        Indexed::Repeated(place) => Indexed::Repeated(place),
+    if end <= FEW {
+        let mut few = [0u8; 1];
+        return index_over(rows, names, end, scratch, &mut few);
     }
+    let mut flags = [0u8; 65536];
+    index_over(rows, names, end, scratch, &mut flags)
 }

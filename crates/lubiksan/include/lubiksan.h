@@ -185,7 +185,7 @@ uint32_t lubiksan_same_normalized(const uint8_t *a, size_t a_length, const uint8
    over the whole text; the place in *place. The pairs point into the text, which is read with lubiksan_read together with the
    first *place marks; the marks behind them are 0. Comments, instructions, CDATA and text give no event, references and white
    space in values stay as written, and tags with more than LUBIKSAN_ATTRIBUTES_MAX attributes are written too. The call keeps its
-   open tags on the stack: 87,384 bytes, and less than 90,000 with all else. */
+   open tags on the stack: 43,692 bytes, and less than 46,000 with all else. */
 uint32_t lubiksan_tape(const uint8_t *text, size_t text_length, uint32_t *marks, size_t marks_length, size_t *place);
 
 /* Makes a schema sheet empty, whatever it held: LUBIKSAN_ACCEPTED or LUBIKSAN_LENGTHS. *place is set to 0. The choice says where the

@@ -3,5 +3,6 @@ pub mod Tests
 pub mod Texts
 pub mod Every
 pub mod Local
+pub mod Bits
 pub mod Table
 pub mod Trim

@@ -11,13 +11,13 @@ ghost use lib.ListN.{drop};
 pub fn is_text(s: &[u8]) -> bool
     ensures { λ r. ⌜ r ≡ isText (now (s .entry)) ⌝ }
 {
-    let mut ok = true;
+    let mut all = 0;
     let mut i = 0;
     while i < s.len() {
-        ok = ok & (s[i] < 128);
+        all = all | s[i];
         i += 1;
     }
-    ok
+    all < 128
 }
 
 pub fn has_byte(s: &[u8], c: u8) -> bool

@@ -1,16 +1,8 @@
 -- Laws of the definitions in specs/. No contract cites them.
-pub mod Classes
-pub mod Steps
-pub mod Moved
-pub mod Names
-pub mod Values
-pub mod Prolog
-pub mod Moves
 pub mod Tags
 pub mod Marks
 pub mod Root
 pub mod Call
-pub mod Here
 pub mod Pairs
 pub mod Events
 pub mod Records

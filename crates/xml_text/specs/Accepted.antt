@@ -23,9 +23,9 @@ use Rattle.xsd_parser.specs.Kinds.{startKind, emptyKind}
 use Rattle.xsd_parser.specs.Event.{Event}
 use Rattle.xsd_parser.specs.Tape.{Pair, pairText, tagOf, eventOf, Judged, event}
 use Rattle.xsd_parser.specs.Read.{Reading}
-use Rattle.xml_text.specs.Classes.{isNameStart}
-use Rattle.xml_text.specs.Steps.{nameOf}
-use Rattle.xml_text.specs.Values.{isQuote}
+use Rattle.xml_parts.specs.Classes.{isNameStart}
+use Rattle.xml_parts.specs.Steps.{nameOf}
+use Rattle.xml_parts.specs.Values.{isQuote}
 use Rattle.xml_text.specs.Tape.{AttributePairs, TapeEvent}
 
 abbrev pub endOf : Pair → ℕ

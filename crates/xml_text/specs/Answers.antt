@@ -1,33 +1,20 @@
 -- What the code's enums say in the terms of the definitions.
---     isInText      a character that stands in text without a look at its neighbours; isInValue: in a value
---     classOf       the class of a `Class`
---     lowOf, highOf, isWide    the bytes of a class as bits of two words; wordOf: the word that has a byte's bit; hasBit: a word has a bit
---     moved         where a step ends, with the bytes left there
---     bodyOf        the step of a `Body`
 --     nextPart      the part of a tag of a `Next`; nextPiece: the piece of content of a `Content`
 --     namesUpTo     the names at the offsets of the first slots, the last one first
 --     PartIn        where a part of a tag lies in a text of a length, from an offset on; PieceIn: where a piece of content lies
 --     EndsTag, IsTag, GoesOn, IsRoot, FoundIs    an answer with the marks before and behind it says what the definition gives, and where it lies
-use Prim.Native.Nat.{ℕ, zero, suc, _+_, _-_, _*_, _/_, _%_, _^_, _≤_, _<_}
+use Prim.Native.Nat.{ℕ, zero, suc, _+_, _-_, _*_, _≤_, _<_}
 use mathlib.Core.Path.{_≡_}
 use mathlib.Core.List.{List, [], _∷_}
-use mathlib.Core.Bool.{Bool, true, false, not, _&&_}
-use Prim.Native.Char.{code}
-use lib.ListN.{length, getD, drop}
+use lib.ListN.{length, getD, take, drop}
+use Rattle.sheet.specs.Rows.{filled}
 use lib.Seq.{sets}
-use Rattle.text.specs.Text.{Text, isDigit}
-use Rattle.text.specs.Trim.{isWhiteSpace}
-use Rattle.xml_text.specs.Classes.{isChar, isLetter, isNameStart, isName, isEncoding}
-use Rattle.xml_text.specs.Steps.{Step, bad, behind, nameOf}
-use Rattle.xml_text.specs.Values.{isQuote}
-use Rattle.xml_text.specs.Prolog.{versionNumber, encodingName, yesOrNo}
+use Rattle.text.specs.Text.{Text, if_then_else_}
+use Rattle.xml_parts.specs.Steps.{nameOf}
 use Rattle.xsd_parser.specs.Tape.{Pair}
 use Rattle.xml_text.specs.Tape.{AttributePairs, TapeEvent, attributeMarks, eventMarks, tapeMarks}
-use Rattle.xml_text.specs.Tags.{Part, wrong, last, more, attributeFrom, span, Ended, unended, ended, Tagged, untagged, tagged}
-use Rattle.xml_text.specs.Root.{Piece, passed, ending, starting, Level, stop, on, Rooted, unrooted, rooted}
-use Rattle.xml_text.specs.declared.classes.Class.{Class}
-use Rattle.xml_text.specs.declared.steps.Moved.{Moved}
-use Rattle.xml_text.specs.declared.prolog.Body.{Body}
+use Rattle.xml_text.specs.Tags.{Part, wrong, last, more, attributeFrom, Ended, unended, ended, Tagged, untagged, tagged}
+use Rattle.xml_text.specs.Root.{Piece, passed, starting, Level, stop, on, Rooted, unrooted, rooted}
 use Rattle.xml_text.specs.declared.tags.Next.{Next}
 use Rattle.xml_text.specs.declared.tags.EndOfTag.{EndOfTag}
 use Rattle.xml_text.specs.declared.tags.WholeTag.{WholeTag}
@@ -36,71 +23,8 @@ use Rattle.xml_text.specs.declared.root.Onward.{Onward}
 use Rattle.xml_text.specs.declared.root.WholeRoot.{WholeRoot}
 use Rattle.xml_text.specs.Call.{Document, withDoctype, notWellFormed, wellFormed, Taken, refused}
 use Rattle.sheet.specs.Returned.{accepted, malformed, doctype, shortMarks}
-use Rattle.text.specs.Text.{if_then_else_}
-use lib.Dec.{eqb, leb, ltb}
+use lib.Dec.{leb}
 use Rattle.xml_text.specs.declared.call.Found.{Found}
-
-unfoldable pub isInText : ℕ → Bool
-isInText b = isChar b && not (eqb b (code "<")) && not (eqb b (code "&")) && not (eqb b (code "]"))
-
-unfoldable pub isInValue : ℕ → Bool
-isInValue b = isChar b && not (eqb b (code "<")) && not (eqb b (code "&")) && not (isQuote b)
-
-abbrev pub classOf : Class → ℕ → Bool
-classOf Class.Space = isWhiteSpace
-classOf Class.NameStart = isNameStart
-classOf Class.Name = isName
-classOf Class.Digit = isDigit
-classOf Class.Letter = isLetter
-classOf Class.Encoding = isEncoding
-classOf Class.InText = isInText
-classOf Class.InValue = isInValue
-
--- the bytes of a class below 64, a bit for each; those from 64 to 127; and whether those from 128 on are of it
-abbrev pub lowOf : Class → ℕ
-lowOf Class.Space = 4294977024
-lowOf Class.NameStart = 288230376151711744
-lowOf Class.Name = 576284830442979328
-lowOf Class.Digit = 287948901175001088
-lowOf Class.Letter = 0
-lowOf Class.Encoding = 288054454291267584
-lowOf Class.InText = 17293822289929840128
-lowOf Class.InValue = 17293821722994157056
-
-abbrev pub highOf : Class → ℕ
-highOf Class.Space = 0
-highOf Class.NameStart = 576460745995190270
-highOf Class.Name = 576460745995190270
-highOf Class.Digit = 0
-highOf Class.Letter = 576460743847706622
-highOf Class.Encoding = 576460745995190270
-highOf Class.InText = 18446744073172680703
-highOf Class.InValue = 18446744073709551615
-
-unfoldable pub wordOf : Class → ℕ → ℕ
-wordOf class b = if ltb b 64 then lowOf class else highOf class
-
-abbrev pub isWide : Class → Bool
-isWide Class.Space = false
-isWide Class.NameStart = false
-isWide Class.Name = false
-isWide Class.Digit = false
-isWide Class.Letter = false
-isWide Class.Encoding = false
-isWide Class.InText = true
-isWide Class.InValue = true
-
-unfoldable pub hasBit : ℕ → ℕ → Bool
-hasBit word k = eqb (word / 2 ^ k % 2) 1
-
-abbrev pub moved : Text → Moved → Step
-moved text (Moved.To e) = behind e (drop e text)
-moved text Moved.Bad = bad
-
-abbrev pub bodyOf : Body → ℕ → Text → Step
-bodyOf Body.Version = versionNumber
-bodyOf Body.Encoding = encodingName
-bodyOf Body.Standalone = yesOrNo
 
 abbrev pub nextPart : Text → Next → Part
 nextPart text Next.Wrong = wrong
@@ -110,7 +34,6 @@ nextPart text (Next.More key keyEnd quote to) = more (attributeFrom key keyEnd q
 abbrev pub nextPiece : Text → Content → Piece
 nextPiece text Content.Wrong = Piece.wrong
 nextPiece text (Content.Passed a) = passed a (drop a text)
-nextPiece text (Content.Ending name a) = ending (nameOf (drop name text)) a (drop a text)
 nextPiece text (Content.Starting a) = starting a (drop a text)
 
 unfoldable pub namesUpTo : Text → List ℕ → ℕ → List Text
@@ -125,7 +48,6 @@ PartIn n at (Next.More key keyEnd quote to) = (at ≤ key) × (key < keyEnd) × 
 abbrev pub PieceIn : ℕ → ℕ → Content → Type 0
 PieceIn n at Content.Wrong = Unit {0}
 PieceIn n at (Content.Passed a) = (at < a) × (a ≤ n)
-PieceIn n at (Content.Ending name a) = (at ≤ name) × (name < a) × (a ≤ n)
 PieceIn n at (Content.Starting a) = at ≤ a
 
 abbrev pub EndsTag : Text → ℕ → List ℕ → ℕ → List ℕ → EndOfTag → Ended → Type 0
@@ -160,7 +82,9 @@ unfoldable pub answerOf : List ℕ → Found → Taken
 answerOf marks Found.Doctype = refused (length marks) doctype
 answerOf marks Found.Malformed = refused (length marks) malformed
 answerOf marks (Found.Needs n) =
-    if leb n (length marks) then record { number = accepted; place = n; marks = marks } else refused (length marks) shortMarks
+    if leb n (length marks)
+    then record { number = accepted; place = n; marks = filled (length marks) (take n marks) }
+    else refused (length marks) shortMarks
 
 abbrev pub AnswerIs : List ℕ → Found → ℕ → ℕ → List ℕ → Type 0
 AnswerIs marks found number place after = _≡_ {A = Taken} (record { number = number; place = place; marks = after }) (answerOf marks found)

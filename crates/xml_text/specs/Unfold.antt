@@ -1,9 +1,9 @@
--- One name that unfolds every definition of this crate, for examples by computation.
+-- One name that unfolds every definition of this crate and of `xml_parts`, for examples by computation.
 use Rattle.text.specs.Trim.{isWhiteSpace}
-use Rattle.xml_text.specs.Classes.{isChar, isLetter, isNameStart, isName, isEncoding}
-use Rattle.xml_text.specs.Steps.{startsWith, literal, many, oneThen, spaces, space, name, nameOf, until, comment, isXml, target, instructionEnd, instruction, section}
-use Rattle.xml_text.specs.Values.{digitOf, isNumber, isEntity, isReference, isPlain, valueEnd, isQuote, value, charData}
-use Rattle.xml_text.specs.Prolog.{eq, quoted, versionNumber, encodingName, yesOrNo, declared, optional, declaration, isMisc, miscPart, miscFrom, misc, isDeclaration, prolog}
+use Rattle.xml_parts.specs.Classes.{isChar, isLetter, isNameStart, isName, isEncoding}
+use Rattle.xml_parts.specs.Steps.{startsWith, literal, many, oneThen, spaces, space, name, nameOf, until, comment, isXml, target, instructionEnd, instruction, section}
+use Rattle.xml_parts.specs.Values.{digitOf, isNumber, isEntity, isReference, isPlain, valueEnd, isQuote, value, charData}
+use Rattle.xml_parts.specs.Prolog.{eq, quoted, versionNumber, encodingName, yesOrNo, declared, optional, declaration, isMisc, miscPart, miscFrom, misc, isDeclaration, prolog}
 use Rattle.xml_text.specs.Tape.{attributeMarks, eventMarks, tapeMarks}
 use Rattle.xml_text.specs.Tags.{attribute, partOf, isAmong, attributesFrom, attributes, tag}
 use Rattle.xml_text.specs.Root.{close, markup, piece, opened, turn, addEvents, inside, root}

@@ -1,20 +1,22 @@
 // The call.
-use crate::prolog::misc;
-use crate::prolog::prolog;
 use crate::root::WholeRoot;
 use crate::root::root;
-use crate::steps::Moved;
-use crate::steps::starts;
 use sheet::limits;
 use sheet::returned;
+use xml_parts::classes::CLASSES;
+use xml_parts::prolog::misc;
+use xml_parts::prolog::prolog;
+use xml_parts::steps::Moved;
+use xml_parts::steps::starts;
 use xsd_good::clear::Answer;
 ghost use mathlib.Core.Path.{_≡_};
 ghost use mathlib.Core.List.{[]};
 ghost use Prim.Native.Nat.{_≤_};
-ghost use lib.ListN.{length, drop};
+ghost use lib.ListN.{length, take, drop};
 ghost use Rattle.sheet.specs.Rows.{filled};
 ghost use Rattle.sheet.specs.Lengths.{tapeLengths};
 ghost use Rattle.xml_text.specs.Call.{documentFrom, document, TapeIs};
+ghost use Rattle.xml_parts.specs.Answers.{classTable};
 ghost use Rattle.xml_text.specs.Answers.{FoundIs, AnswerIs};
 
 // What a text is found to be: begun by a DOCTYPE, not well formed, or well formed with so many marks needed.
@@ -30,28 +32,31 @@ fn tape_lengths(text: usize, marks: usize) -> bool
     (text <= limits::TEXT) & (marks <= limits::MARKS)
 }
 
-fn zero_marks(marks: &mut [u32])
-    ensures { λ _. ⌜ now (marks .exit) ≡ filled (length (now (marks .entry))) [] ⌝ }
+// Zeros from a place on.
+fn zero_marks(marks: &mut [u32], from: usize)
+    requires { ⌜ from ≤ length (now marks) ⌝ }
+    ensures { λ _. ⌜ now (marks .exit) ≡ filled (length (now (marks .entry))) (take from (now (marks .entry))) ⌝ }
 {
-    let n = marks.len();
-    buffer::zero_rows(marks, 0, n);
+    let n = marks.len() - from;
+    buffer::zero_rows(marks, from, n);
 }
 
 fn refused(marks: &mut [u32], number: u32) -> Answer
     ensures { λ r. ⌜ (r .number ≡ number) × (r .place ≡ 0) × (now (marks .exit) ≡ filled (length (now (marks .entry))) []) ⌝ }
 {
-    zero_marks(marks);
+    zero_marks(marks, 0);
     Answer { number, place: 0 }
 }
 
-fn document_from(text: &[u8], marks: &mut [u32], at: usize) -> Found
+fn document_from(classes: &[u8; 256], text: &[u8], marks: &mut [u32], at: usize) -> Found
     requires { ⌜ length (now text) ≤ 65536 ⌝ }
+    requires { ⌜ now classes ≡ classTable ⌝ }
     ensures { λ r. ⌜ FoundIs (now (marks .entry)) (now (marks .exit)) r (documentFrom at (drop at (now (text .entry)))) ⌝ }
 {
-    let WholeRoot::To(used, behind) = root(text, marks, at) else {
+    let WholeRoot::To(used, behind) = root(classes, text, marks, at) else {
         return Found::Malformed;
     };
-    let Moved::To(end) = misc(text, behind) else {
+    let Moved::To(end) = misc(classes, text, behind) else {
         return Found::Malformed;
     };
     if end < text.len() {
@@ -60,17 +65,18 @@ fn document_from(text: &[u8], marks: &mut [u32], at: usize) -> Found
     Found::Needs(used)
 }
 
-fn document(text: &[u8], marks: &mut [u32]) -> Found
+fn document(classes: &[u8; 256], text: &[u8], marks: &mut [u32]) -> Found
     requires { ⌜ length (now text) ≤ 65536 ⌝ }
+    requires { ⌜ now classes ≡ classTable ⌝ }
     ensures { λ r. ⌜ FoundIs (now (marks .entry)) (now (marks .exit)) r (document (now (text .entry))) ⌝ }
 {
-    let Moved::To(at) = prolog(text) else {
+    let Moved::To(at) = prolog(classes, text) else {
         return Found::Malformed;
     };
     if starts(text, at, b"<!DOCTYPE") {
         return Found::Doctype;
     }
-    document_from(text, marks, at)
+    document_from(classes, text, marks, at)
 }
 
 // The answer where the text is found to be so, with the marks stored so far.
@@ -84,6 +90,7 @@ fn answer_of(marks: &mut [u32], found: Found) -> Answer
             if marks.len() < used {
                 return refused(marks, returned::SHORT_MARKS);
             }
+            zero_marks(marks, used);
             Answer {
                 number: returned::ACCEPTED,
                 place: used,
@@ -102,13 +109,10 @@ pub fn tape_of(text: &[u8], marks: &mut [u32]) -> Answer
             place: 0,
         };
     }
-    zero_marks(marks);
     if !text::is_text(text) {
-        return Answer {
-            number: returned::NOT_ASCII,
-            place: 0,
-        };
+        return refused(marks, returned::NOT_ASCII);
     }
-    let found = document(text, marks);
+    let classes = CLASSES;
+    let found = document(&classes, text, marks);
     answer_of(marks, found)
 }

@@ -1,32 +1,32 @@
 // The root with all inside it, by the names of the open tags.
 use crate::marks::put;
-use crate::steps::Moved;
-use crate::steps::comment;
-use crate::steps::instruction;
-use crate::steps::literal;
-use crate::steps::name;
-use crate::steps::same_name;
-use crate::steps::section;
-use crate::steps::spaces;
-use crate::steps::starts;
 use crate::tags::WholeTag;
 use crate::tags::tag;
-use crate::values::char_data;
+use xml_parts::steps::Moved;
+use xml_parts::steps::comment;
+use xml_parts::steps::instruction;
+use xml_parts::steps::literal;
+use xml_parts::steps::matched_name;
+use xml_parts::steps::section;
+use xml_parts::steps::spaces;
+use xml_parts::steps::starts;
+use xml_parts::values::char_data;
 use xsd_parser::kinds;
 ghost use mathlib.Core.Path.{_≡_};
 ghost use Prim.Native.Nat.{suc, _+_, _*_, _≤_, _<_};
 ghost use lib.ListN.{length, drop};
-ghost use Rattle.text.specs.Text.{Text};
-ghost use Rattle.xml_text.specs.Root.{passedBy, close, markup, piece, levelOfTag, levelOfClose, turn, inside, root};
-ghost use Rattle.xml_text.specs.Steps.{nameOf};
+ghost use mathlib.Core.Bool.{false, _||_};
+ghost use Rattle.text.specs.Text.{Text, bytes};
+ghost use Rattle.xml_text.specs.Root.{passedBy, close, markup, levelOf, levelOfTag, turn, inside, root};
+ghost use Rattle.xml_parts.specs.Steps.{startsWith};
 ghost use Rattle.xml_text.specs.Tags.{tag};
-ghost use Rattle.xml_text.specs.Answers.{moved, nextPiece, PieceIn, namesUpTo, GoesOn, IsRoot};
+ghost use Rattle.xml_parts.specs.Answers.{moved, classTable};
+ghost use Rattle.xml_text.specs.Answers.{nextPiece, PieceIn, namesUpTo, GoesOn, IsRoot};
 
-// What stands next inside the root: a piece without an event, an end tag by where its name starts, or another tag.
+// What stands next inside the root, but for an end tag: a piece without an event, or another tag.
 pub enum Content {
     Wrong,
     Passed(usize),
-    Ending(usize, usize),
     Starting(usize),
 }
 
@@ -39,26 +39,20 @@ fn passed(m: Moved) -> Content
     }
 }
 
-fn end_tag(text: &[u8], at: usize) -> Content
-    ensures { λ r. ⌜ (nextPiece (now (text .entry)) r ≡ close at (drop at (now (text .entry)))) × PieceIn (length (now (text .entry))) at r ⌝ }
+// Whether a comment, a section or an instruction may stand at a position.
+fn is_marked(text: &[u8], at: usize) -> bool
+    ensures { λ r. ⌜ r ≡ (startsWith (bytes "<!") (drop at (now (text .entry))) || startsWith (bytes "<?") (drop at (now (text .entry)))) ⌝ }
 {
-    let Moved::To(start) = literal(text, at, b"</") else {
-        return Content::Wrong;
-    };
-    let Moved::To(end) = name(text, start) else {
-        return Content::Wrong;
-    };
-    let Moved::To(behind) = literal(text, spaces(text, end), b">") else {
-        return Content::Wrong;
-    };
-    Content::Ending(start, behind)
+    starts(text, at, b"<!") | starts(text, at, b"<?")
 }
 
-fn markup(text: &[u8], at: usize) -> Content
+fn markup(classes: &[u8; 256], text: &[u8], at: usize) -> Content
+    requires { ⌜ startsWith (bytes "</") (drop at (now text)) ≡ false ⌝ }
+    requires { ⌜ now classes ≡ classTable ⌝ }
     ensures { λ r. ⌜ (nextPiece (now (text .entry)) r ≡ markup at (drop at (now (text .entry)))) × PieceIn (length (now (text .entry))) at r ⌝ }
 {
-    if starts(text, at, b"</") {
-        return end_tag(text, at);
+    if !is_marked(text, at) {
+        return Content::Starting(at);
     }
     if starts(text, at, b"<!--") {
         return passed(comment(text, at));
@@ -67,18 +61,9 @@ fn markup(text: &[u8], at: usize) -> Content
         return passed(section(text, at));
     }
     if starts(text, at, b"<?") {
-        return passed(instruction(text, at));
+        return passed(instruction(classes, text, at));
     }
     Content::Starting(at)
-}
-
-fn piece(text: &[u8], at: usize) -> Content
-    ensures { λ r. ⌜ (nextPiece (now (text .entry)) r ≡ piece at (drop at (now (text .entry)))) × PieceIn (length (now (text .entry))) at r ⌝ }
-{
-    let Moved::To(start) = char_data(text, at) else {
-        return Content::Wrong;
-    };
-    markup(text, start)
 }
 
 // How many tags are open behind a piece, how many marks are used, and the position behind it.
@@ -88,17 +73,20 @@ pub enum Onward {
 }
 
 fn open_tag(
+    classes: &[u8; 256],
     text: &[u8],
-    slots: &mut [u32],
+    slots: &mut [u16],
     marks: &mut [u32],
     at: usize,
     count: usize,
     used: usize,
 ) -> Onward
     requires { ⌜ (length (now text) ≤ 65536) × (length (now text) < 3 * length (now slots)) × (3 * count ≤ at) × (used ≤ 2 * at) × (count < length (now slots)) × (used ≤ 131072) ⌝ }
+    requires { ⌜ now classes ≡ classTable ⌝ }
     ensures { λ r. ⌜ GoesOn (now (text .entry)) at (now (slots .exit)) (now (marks .entry)) used (now (marks .exit)) r (levelOfTag (namesUpTo (now (text .entry)) (now (slots .entry)) count) (tag at (drop at (now (text .entry))))) ⌝ }
 {
     let WholeTag::To(kind, start, used_behind, behind) = tag(
+        classes,
         text,
         at,
         &mut slots[count..],
@@ -108,49 +96,64 @@ fn open_tag(
         return Onward::Stop;
     };
     if kind == kinds::START {
-        slots[count] = start as u32;
+        slots[count] = start as u16;
         return Onward::On(count + 1, used_behind, behind);
     }
     Onward::On(count, used_behind, behind)
 }
 
+// An end tag, whose name is held against that of the innermost open tag while it is read.
 fn close_tag(
+    classes: &[u8; 256],
     text: &[u8],
-    slots: &[u32],
+    slots: &[u16],
     marks: &mut [u32],
-    start: usize,
-    behind: usize,
+    at: usize,
     count: usize,
     used: usize,
 ) -> Onward
-    requires { ⌜ (behind ≤ length (now text)) × (length (now text) ≤ 65536) × (count ≤ length (now slots)) × (0 < count) × (start < behind) × (3 * count ≤ behind) × (used + 2 ≤ 2 * behind) ⌝ }
-    ensures { λ r. ⌜ GoesOn (now (text .entry)) start (now (slots .entry)) (now (marks .entry)) used (now (marks .exit)) r (levelOfClose (namesUpTo (now (text .entry)) (now (slots .entry)) count) (nameOf (drop start (now (text .entry)))) behind (drop behind (now (text .entry)))) ⌝ }
+    requires { ⌜ (length (now text) ≤ 65536) × (count ≤ length (now slots)) × (0 < count) × (3 * count ≤ at) × (used ≤ 2 * at) × (used ≤ 131072) ⌝ }
+    requires { ⌜ now classes ≡ classTable ⌝ }
+    ensures { λ r. ⌜ GoesOn (now (text .entry)) at (now (slots .entry)) (now (marks .entry)) used (now (marks .exit)) r (levelOf (namesUpTo (now (text .entry)) (now (slots .entry)) count) (close at (drop at (now (text .entry))))) ⌝ }
 {
-    let top = slots[count - 1] as usize;
-    if !same_name(text, start, top) {
+    let Moved::To(start) = literal(text, at, b"</") else {
         return Onward::Stop;
-    }
+    };
+    let top = slots[count - 1] as usize;
+    let Moved::To(end) = matched_name(classes, text, start, top) else {
+        return Onward::Stop;
+    };
+    let Moved::To(behind) = literal(text, spaces(classes, text, end), b">") else {
+        return Onward::Stop;
+    };
     put(marks, used, kinds::CLOSE);
     put(marks, used + 1, 0);
     Onward::On(count - 1, used + 2, behind)
 }
 
 fn turn(
+    classes: &[u8; 256],
     text: &[u8],
-    slots: &mut [u32],
+    slots: &mut [u16],
     marks: &mut [u32],
     at: usize,
     count: usize,
     used: usize,
 ) -> Onward
     requires { ⌜ (length (now text) ≤ 65536) × (length (now text) < 3 * length (now slots)) × (3 * count ≤ at) × (used ≤ 2 * at) × (at ≤ length (now text)) × (0 < count) ⌝ }
+    requires { ⌜ now classes ≡ classTable ⌝ }
     ensures { λ r. ⌜ GoesOn (now (text .entry)) at (now (slots .exit)) (now (marks .entry)) used (now (marks .exit)) r (turn (namesUpTo (now (text .entry)) (now (slots .entry)) count) at (drop at (now (text .entry)))) ⌝ }
 {
-    match piece(text, at) {
+    let Moved::To(start) = char_data(classes, text, at) else {
+        return Onward::Stop;
+    };
+    if starts(text, start, b"</") {
+        return close_tag(classes, text, slots, marks, start, count, used);
+    }
+    match markup(classes, text, start) {
         Content::Wrong => Onward::Stop,
         Content::Passed(behind) => Onward::On(count, used, behind),
-        Content::Ending(start, behind) => close_tag(text, slots, marks, start, behind, count, used),
-        Content::Starting(start) => open_tag(text, slots, marks, start, count, used),
+        Content::Starting(from) => open_tag(classes, text, slots, marks, from, count, used),
     }
 }
 
@@ -161,21 +164,24 @@ pub enum WholeRoot {
 }
 
 fn inside(
+    classes: &[u8; 256],
     text: &[u8],
-    slots: &mut [u32],
+    slots: &mut [u16],
     marks: &mut [u32],
     at: usize,
     count: usize,
     used: usize,
 ) -> WholeRoot
     requires { ⌜ (length (now text) ≤ 65536) × (length (now text) < 3 * length (now slots)) × (3 * count ≤ at) × (used ≤ 2 * at) × (at ≤ length (now text)) ⌝ }
+    requires { ⌜ now classes ≡ classTable ⌝ }
     ensures { λ r. ⌜ IsRoot (now (text .entry)) (now (marks .entry)) used (now (marks .exit)) r (inside (suc (length (drop at (now (text .entry))))) (namesUpTo (now (text .entry)) (now (slots .entry)) count) at (drop at (now (text .entry)))) ⌝ }
 {
     let mut i = at;
     let mut left = count;
     let mut n = used;
     while 0 < left {
-        let Onward::On(next_left, next_n, next) = turn(text, slots, marks, i, left, n) else {
+        let Onward::On(next_left, next_n, next) = turn(classes, text, slots, marks, i, left, n)
+        else {
             return WholeRoot::Bad;
         };
         left = next_left;
@@ -186,25 +192,41 @@ fn inside(
 }
 
 // The root, with places enough for the names of open tags and the keys of a tag: each took three bytes at least.
-fn root_over(text: &[u8], slots: &mut [u32], marks: &mut [u32], at: usize) -> WholeRoot
+fn root_over(
+    classes: &[u8; 256],
+    text: &[u8],
+    slots: &mut [u16],
+    marks: &mut [u32],
+    at: usize,
+) -> WholeRoot
     requires { ⌜ (length (now text) ≤ 65536) × (length (now text) < 3 * length (now slots)) ⌝ }
+    requires { ⌜ now classes ≡ classTable ⌝ }
     ensures { λ r. ⌜ IsRoot (now (text .entry)) (now (marks .entry)) 0 (now (marks .exit)) r (root at (drop at (now (text .entry)))) ⌝ }
 {
-    let Onward::On(count, used, behind) = open_tag(text, slots, marks, at, 0, 0) else {
+    let Onward::On(count, used, behind) = open_tag(classes, text, slots, marks, at, 0, 0) else {
         return WholeRoot::Bad;
     };
-    inside(text, slots, marks, behind, count, used)
+    inside(classes, text, slots, marks, behind, count, used)
 }
 
 // A short text takes few places, so that few have to be cleared.
-pub fn root(text: &[u8], marks: &mut [u32], at: usize) -> WholeRoot
+pub fn root(classes: &[u8; 256], text: &[u8], marks: &mut [u32], at: usize) -> WholeRoot
     requires { ⌜ length (now text) ≤ 65536 ⌝ }
+    requires { ⌜ now classes ≡ classTable ⌝ }
     ensures { λ r. ⌜ IsRoot (now (text .entry)) (now (marks .entry)) 0 (now (marks .exit)) r (root at (drop at (now (text .entry)))) ⌝ }
 {
-    if text.len() < 6144 {
-        let mut few: [u32; 2048] = [0; 2048];
-        return root_over(text, &mut few, marks, at);
+    if text.len() < 3072 {
+        let mut least: [u16; 1024] = [0; 1024];
+        return root_over(classes, text, &mut least, marks, at);
     }
-    let mut slots: [u32; 21846] = [0; 21846];
-    root_over(text, &mut slots, marks, at)
+    if text.len() < 6144 {
+        let mut few: [u16; 2048] = [0; 2048];
+        return root_over(classes, text, &mut few, marks, at);
+    }
+    if text.len() < 24576 {
+        let mut more: [u16; 8192] = [0; 8192];
+        return root_over(classes, text, &mut more, marks, at);
+    }
+    let mut slots: [u16; 21846] = [0; 21846];
+    root_over(classes, text, &mut slots, marks, at)
 }

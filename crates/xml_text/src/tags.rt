@@ -1,23 +1,24 @@
 // Start and empty tags.
 use crate::marks::put;
 use crate::marks::put_pair;
-use crate::prolog::eq;
-use crate::steps::Moved;
-use crate::steps::literal;
-use crate::steps::name;
-use crate::steps::same_name;
-use crate::steps::spaces;
-use crate::steps::starts;
-use crate::values::value;
+use xml_parts::prolog::eq;
+use xml_parts::steps::Moved;
+use xml_parts::steps::literal;
+use xml_parts::steps::name;
+use xml_parts::steps::same_name;
+use xml_parts::steps::spaces;
+use xml_parts::steps::starts;
+use xml_parts::values::value;
 use xsd_parser::kinds;
 ghost use mathlib.Core.Path.{_≡_};
 ghost use mathlib.Core.List.{[], _∷_};
 ghost use Prim.Native.Nat.{_+_, _*_, _≤_, _<_};
 ghost use lib.ListN.{length, drop};
 ghost use lib.Seq.{sets};
-ghost use Rattle.xml_text.specs.Steps.{nameOf};
+ghost use Rattle.xml_parts.specs.Steps.{nameOf};
 ghost use Rattle.xml_text.specs.Tape.{attributeMarks};
 ghost use Rattle.xml_text.specs.Tags.{attribute, partOf, attributeFrom, isAmong, attributes, tag};
+ghost use Rattle.xml_parts.specs.Answers.{classTable};
 ghost use Rattle.xml_text.specs.Answers.{nextPart, PartIn, namesUpTo, EndsTag, IsTag};
 
 // What stands next in a tag: its end with its kind, or an attribute by where its key starts and ends, and its value with the quotes.
@@ -27,25 +28,27 @@ pub enum Next {
     More(usize, usize, usize, usize),
 }
 
-pub fn attribute(text: &[u8], at: usize) -> Next
+pub fn attribute(classes: &[u8; 256], text: &[u8], at: usize) -> Next
+    requires { ⌜ now classes ≡ classTable ⌝ }
     ensures { λ r. ⌜ (nextPart (now (text .entry)) r ≡ attribute at (drop at (now (text .entry)))) × PartIn (length (now (text .entry))) at r ⌝ }
 {
-    let Moved::To(end) = name(text, at) else {
+    let Moved::To(end) = name(classes, text, at) else {
         return Next::Wrong;
     };
-    let Moved::To(quote) = eq(text, end) else {
+    let Moved::To(quote) = eq(classes, text, end) else {
         return Next::Wrong;
     };
-    let Moved::To(behind) = value(text, quote) else {
+    let Moved::To(behind) = value(classes, text, quote) else {
         return Next::Wrong;
     };
     Next::More(at, end, quote, behind)
 }
 
-pub fn part_of(text: &[u8], at: usize) -> Next
+pub fn part_of(classes: &[u8; 256], text: &[u8], at: usize) -> Next
+    requires { ⌜ now classes ≡ classTable ⌝ }
     ensures { λ r. ⌜ (nextPart (now (text .entry)) r ≡ partOf at (drop at (now (text .entry)))) × PartIn (length (now (text .entry))) at r ⌝ }
 {
-    let start = spaces(text, at);
+    let start = spaces(classes, text, at);
     if starts(text, start, b"/>") {
         return Next::Last(kinds::EMPTY, start + 2);
     }
@@ -55,18 +58,19 @@ pub fn part_of(text: &[u8], at: usize) -> Next
     if start == at {
         return Next::Wrong;
     }
-    attribute(text, start)
+    attribute(classes, text, start)
 }
 
 // Whether the name at a position is the name at one of the first `count` places of the keys.
-pub fn is_among(text: &[u8], key: usize, keys: &[u32], count: usize) -> bool
+pub fn is_among(classes: &[u8; 256], text: &[u8], key: usize, keys: &[u16], count: usize) -> bool
     requires { ⌜ count ≤ length (now keys) ⌝ }
+    requires { ⌜ now classes ≡ classTable ⌝ }
     ensures { λ r. ⌜ r ≡ isAmong (nameOf (drop key (now (text .entry)))) (namesUpTo (now (text .entry)) (now (keys .entry)) count) ⌝ }
 {
     let mut k = count;
     while 0 < k {
         k -= 1;
-        if same_name(text, key, keys[k] as usize) {
+        if same_name(classes, text, key, keys[k] as usize) {
             return true;
         }
     }
@@ -96,26 +100,28 @@ fn put_attribute(
 
 // The attributes of a tag, whose keys are kept while it is read, up to its end.
 pub fn attributes(
+    classes: &[u8; 256],
     text: &[u8],
     at: usize,
-    keys: &mut [u32],
+    keys: &mut [u16],
     marks: &mut [u32],
     from: usize,
 ) -> EndOfTag
     requires { ⌜ (length (now text) ≤ 65536) × (length (now text) ≤ at + 3 * length (now keys)) × (from ≤ 200000) ⌝ }
+    requires { ⌜ now classes ≡ classTable ⌝ }
     ensures { λ r. ⌜ EndsTag (now (text .entry)) at (now (marks .entry)) from (now (marks .exit)) r (attributes at (drop at (now (text .entry)))) ⌝ }
 {
     let mut i = at;
     let mut count = 0;
     loop {
-        match part_of(text, i) {
+        match part_of(classes, text, i) {
             Next::Wrong => return EndOfTag::Bad,
             Next::Last(kind, behind) => return EndOfTag::To(kind, count, behind),
             Next::More(key, key_end, quote, behind) => {
-                if is_among(text, key, keys, count) {
+                if is_among(classes, text, key, keys, count) {
                     return EndOfTag::Bad;
                 }
-                keys[count] = key as u32;
+                keys[count] = key as u16;
                 put_attribute(marks, from + 4 * count, key, key_end, quote, behind);
                 count += 1;
                 i = behind;
@@ -130,17 +136,26 @@ pub enum WholeTag {
     To(u32, usize, usize, usize),
 }
 
-pub fn tag(text: &[u8], at: usize, keys: &mut [u32], marks: &mut [u32], used: usize) -> WholeTag
+pub fn tag(
+    classes: &[u8; 256],
+    text: &[u8],
+    at: usize,
+    keys: &mut [u16],
+    marks: &mut [u32],
+    used: usize,
+) -> WholeTag
     requires { ⌜ (length (now text) ≤ 65536) × (length (now text) ≤ at + 3 * length (now keys)) × (used ≤ 131072) ⌝ }
+    requires { ⌜ now classes ≡ classTable ⌝ }
     ensures { λ r. ⌜ IsTag (now (text .entry)) at (now (marks .entry)) used (now (marks .exit)) r (tag at (drop at (now (text .entry)))) ⌝ }
 {
     let Moved::To(start) = literal(text, at, b"<") else {
         return WholeTag::Bad;
     };
-    let Moved::To(end) = name(text, start) else {
+    let Moved::To(end) = name(classes, text, start) else {
         return WholeTag::Bad;
     };
-    let EndOfTag::To(kind, count, behind) = attributes(text, end, keys, marks, used + 4) else {
+    let EndOfTag::To(kind, count, behind) = attributes(classes, text, end, keys, marks, used + 4)
+    else {
         return WholeTag::Bad;
     };
     put(marks, used, kind);

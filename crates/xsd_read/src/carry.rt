@@ -1,13 +1,17 @@
 // An event that is counted and decided, done to a schema sheet where it has room.
 use sheet::refusal::Refusal;
 use xsd_act::needs;
+use xsd_actions::Decision;
 use xsd_progress::Progress;
 use xsd_progress::open_tags::Arrival;
 use xsd_progress::open_tags::event_after;
+use xsd_rows::numbers::Used;
 use xsd_rows::numbers::has_room;
 use xsd_types::contexts;
 ghost use mathlib.Core.Path.{_≡_};
-ghost use Rattle.xsd_read.specs.Due.{headAfter, DueRoom, Stepped};
+ghost use Prim.Native.Nat.{_≤_};
+ghost use Rattle.sheet.specs.Limits.{eventsLimit, openTagsLimit};
+ghost use Rattle.xsd_read.specs.Due.{headAfter, StandsAfter, DueRoom, Stepped};
 
 // An event that is refused, or where the reading stands after it.
 pub enum Step {
@@ -26,7 +30,25 @@ fn head_after(p: Progress) -> usize
     }
 }
 
-// 11 where the rows and names after the event have no room; else what was decided is done, the record is changed and the event counted.
+// Where the reading stands after an event that leaves so much used: the record is changed and the event counted.
+fn stands_after(p: Progress, a: Arrival, used: Used) -> Progress
+    requires { ⌜ (p .mode .nesting ≤ openTagsLimit) × (p .events ≤ eventsLimit) ⌝ }
+    ensures { λ r. ⌜ StandsAfter p a used r ⌝ }
+{
+    let head = head_after(p);
+    let after = event_after(a, p.mode, p.open_tags);
+    let mode = after.mode;
+    Progress {
+        mode,
+        events: p.events + 1,
+        open_tags: after.open_tags,
+        by_standard: p.by_standard,
+        used,
+        head,
+    }
+}
+
+// What was decided is done, or 11 where the rows and names after it have no room. Where the sheet is kept, as for most events, it has room.
 pub fn carry_out(
     rows: &mut [u32],
     names: &mut [u8],
@@ -39,20 +61,13 @@ pub fn carry_out(
     ensures { λ r. ⌜ Stepped (now (rows .entry)) (now (names .entry)) (now (text .entry)) (now (marks .entry)) p a r (now (rows .exit)) (now (names .exit)) ⌝ }
 {
     let d = a.decision;
+    if let Decision::Keep = d {
+        return Step::Done(stands_after(p, a, p.used));
+    }
     let need = needs::needed(rows, p.used, p.head, d, text, marks);
     if !has_room(need, rows.len(), names.len()) {
         return Step::Refused(Refusal::NoRoom);
     }
-    let head = head_after(p);
     let used = xsd_act::act(rows, names, p.used, p.head, d, text, marks);
-    let after = event_after(a, p.mode, p.open_tags);
-    let mode = after.mode;
-    Step::Done(Progress {
-        mode,
-        events: p.events + 1,
-        open_tags: after.open_tags,
-        by_standard: p.by_standard,
-        used,
-        head,
-    })
+    Step::Done(stands_after(p, a, used))
 }

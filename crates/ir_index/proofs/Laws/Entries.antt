@@ -1,17 +1,17 @@
 -- Laws of the entries: whether one of them has the name of a place, and what one entry more leaves known. An entry whose fingerprint is
--- another has another name, and an entry whose flag is not set is not there. Assumes nothing.
+-- another has another name, and an entry whose flag is there and not set is not there. Assumes nothing.
 use Prim.Native.Nat.{ℕ, suc, _+_, _*_, _/_, _%_, _≤_, _<_}
 use mathlib.Core.Path.{_≡_, refl, sym, ap, _∙_, subst}
-use mathlib.Core.Bool.{Bool, true, false}
+use mathlib.Core.Bool.{Bool, true, false, _&&_}
 use mathlib.Core.List.{List, [], _∷_, map}
 use native.Mathlib.Omega.{arith}
 use native.Mathlib.Nat.{not-suc-le-zero}
-use lib.Dec.{eqb}
-use lib.ListN.{length, getD, take, drop, set, replicate, length-set, length-replicate, drop-of-length-le}
+use lib.Dec.{eqb, ltb}
+use lib.ListN.{length, getD, take, drop, set, length-set, drop-of-length-le}
 use lib.Seq.{length-take-le, getD-take, getD-set-same, getD-set-other}
-use borrow.Author.Tests.{eqb-true, eqb-false}
+use borrow.Author.Tests.{ltb-true, eqb-true, eqb-false}
 use Rattle.text.specs.Text.{Text, same}
-use Rattle.text.proofs.Laws.Tests.{bool-cases}
+use Rattle.text.proofs.Laws.Tests.{two, bool-cases}
 use Rattle.text.proofs.Laws.Texts.{same-differ}
 use Rattle.sheet.specs.Limits.{rowsLimit}
 use Rattle.ir_types.specs.Distinct.{among}
@@ -59,33 +59,34 @@ module _ (rows names : List ℕ) (p : ℕ) (scratch : List ℕ) (n : ℕ) where
       let i : k < n = omega (arith, places-length n scratch (w .inside)) in
       rw (places-at n scratch k i) (prints-differ _ _ (λ e. h k i (w .each k i .print ∙ e))))
 
-  pub flag-none : (flags : List ℕ) → Known rows names scratch n flags → getD flags (fingerprint (nameAt rows names p)) 0 ≡ 0 → among (nameAt rows names p) (namesIn rows names n scratch) ≡ false
+  pub flag-none : (flags : List ℕ) → Known rows names scratch n flags → ltb (fingerprint (nameAt rows names p)) (length flags) && eqb (getD flags (fingerprint (nameAt rows names p)) 0) 0 ≡ true → among (nameAt rows names p) (namesIn rows names n scratch) ≡ false
   flag-none flags w e =
+      let both = two _ _ e in
       same-none
       (w .entries)
       (λ k h g.
-      let one : getD flags (getD scratch k 0 / 65536) 0 ≡ 1 = w .flagged .each k h in
-      let z : _≡_ {A = ℕ} 0 1 = sym e ∙ ap (λ (f : ℕ). getD flags f 0) (sym g) ∙ one in
+      let there : getD scratch k 0 / 65536 < length flags = rw g (ltb-true _ _ (both .0)) in
+      let z : _≡_ {A = ℕ} 0 1 = sym (eqb-true _ _ (both .1)) ∙ ap (λ (f : ℕ). getD flags f 0) (sym g) ∙ w .flagged .each k h there in
       omega arith)
 
   pub print-none : Entries rows names scratch n → hasPrint (fingerprint (nameAt rows names p)) (take n scratch) ≡ false → among (nameAt rows names p) (namesIn rows names n scratch) ≡ false
   print-none w e =
       same-none w (λ k h g. no-print (fingerprint (nameAt rows names p)) (take n scratch) e k (omega (arith, length-take-le n scratch (w .inside))) (rw (getD-take n scratch k 0 h) g))
 
--- a flag set leaves the others
-pub flag-set : (flags : List ℕ) (f g : ℕ) → g < length flags → getD flags f 0 ≡ 1 → getD (set flags g 1) f 0 ≡ 1
+-- a flag set leaves the others that are there
+flag-set : (flags : List ℕ) (f g : ℕ) → f < length flags → getD flags f 0 ≡ 1 → getD (set flags g 1) f 0 ≡ 1
 flag-set flags f g h e =
     bool-cases
     (eqb f g)
-    (λ t. rw (eqb-true f g t) (getD-set-same flags g 1 0 h))
+    (λ t. rw (sym (eqb-true f g t)) (getD-set-same flags f 1 0 h))
     (λ t. getD-set-other flags g f 1 0 (eqb-false f g t) ∙ e)
 
--- no entries and no flags
-pub known-none : (rows names scratch : List ℕ) (m : ℕ) → 65536 ≤ m → Known rows names scratch 0 (replicate m 0)
-known-none rows names scratch m h =
+-- no entries: any flags do
+pub known-none : (rows names scratch flags : List ℕ) → Known rows names scratch 0 flags
+known-none rows names scratch flags =
     record {
       entries = record { inside = omega arith; each = λ k l. absurd (not-suc-le-zero l) };
-      flagged = record { all = rw length-replicate h; each = λ k l. absurd (not-suc-le-zero l) };
+      flagged = record { each = λ k l i. absurd (not-suc-le-zero l) };
     }
 
 -- what is known where the type at a place, with its fingerprint f, is one entry more
@@ -113,9 +114,6 @@ module _ {rows names scratch : List ℕ} {n : ℕ} {flags : List ℕ} {p f : ℕ
   put-entry : EntryOf rows names (p + 65536 * f)
   put-entry = record { head = rw put-low (w .head); print = rw (put-low, put-high) (w .print) }
 
-  put-flags : f < length flags
-  put-flags = omega (arith, put-print, w .known .flagged .all)
-
   put-each : (k : ℕ) → k < n + 1 → EntryOf rows names (getD (set scratch n (p + 65536 * f)) k 0)
   put-each k l =
       bool-cases
@@ -123,12 +121,12 @@ module _ {rows names scratch : List ℕ} {n : ℕ} {flags : List ℕ} {p f : ℕ
       (λ t. rw (eqb-true k n t, getD-set-same scratch n (p + 65536 * f) 0 (w .room)) put-entry)
       (λ t. rw (getD-set-other scratch n k (p + 65536 * f) 0 (eqb-false k n t)) (w .known .entries .each k (omega (arith, eqb-false k n t))))
 
-  put-flagged : (k : ℕ) → k < n + 1 → getD (set flags f 1) (getD (set scratch n (p + 65536 * f)) k 0 / 65536) 0 ≡ 1
+  put-flagged : (k : ℕ) → k < n + 1 → getD (set scratch n (p + 65536 * f)) k 0 / 65536 < length flags → getD (set flags f 1) (getD (set scratch n (p + 65536 * f)) k 0 / 65536) 0 ≡ 1
   put-flagged k l =
       bool-cases
       (eqb k n)
-      (λ t. rw (eqb-true k n t, getD-set-same scratch n (p + 65536 * f) 0 (w .room), put-high) (getD-set-same flags f 1 0 put-flags))
-      (λ t. rw (getD-set-other scratch n k (p + 65536 * f) 0 (eqb-false k n t)) (flag-set flags _ f put-flags (w .known .flagged .each k (omega (arith, eqb-false k n t)))))
+      (λ t. rw (eqb-true k n t, getD-set-same scratch n (p + 65536 * f) 0 (w .room), put-high) (λ i. getD-set-same flags f 1 0 i))
+      (λ t. rw (getD-set-other scratch n k (p + 65536 * f) 0 (eqb-false k n t)) (λ i. flag-set flags _ f i (w .known .flagged .each k (omega (arith, eqb-false k n t)) i)))
 
   pub put-new : Added rows names scratch n p (set scratch n (p + 65536 * f)) (set flags f 1)
   put-new =
@@ -138,7 +136,7 @@ module _ {rows names scratch : List ℕ} {n : ℕ} {flags : List ℕ} {p f : ℕ
         known =
             record {
               entries = record { inside = rw length-set (omega (arith, w .room)); each = put-each };
-              flagged = record { all = rw length-set (w .known .flagged .all); each = put-flagged };
+              flagged = record { each = rw length-set put-flagged };
             };
       }
 

@@ -1,4 +1,4 @@
--- `ir_index::enter` meets its contract: where the name is new, the entry goes behind the others and its flag is set. Assumes nothing.
+-- `ir_index::enter` meets its contract: where the name is new, the entry goes behind the others and its flag, where there is one, is set. Assumes nothing.
 use mathlib.Core.Path.{_≡_, sym, ap, _∙_}
 use native.Mathlib.Omega.{arith}
 use Rattle.text.specs.Text.{Text}
@@ -24,15 +24,15 @@ print-is c =
     ∙ ap fingerprint (sym (name-at (a .rows .now) (a .names .now) (a .place) (start .pre .1 .0 .isHead)))
 
 -- behind the fingerprint, where the name is new
-abbrev printed : tie.After-wide → tie.After-print-of
-printed c = c .before .before .before .before .before
+abbrev printed : tie.Else1 → tie.After-print-of
+printed c = c .before .before .before .before
 
-abbrev PuttingAt : tie.After-wide → Type 0
+abbrev PuttingAt : tie.Else1 → Type 0
 PuttingAt c =
     let a = atEntry (printed c) .args in
     Putting (a .rows .now) (a .names .now) (a .scratch .now) (a .n) (a .flags .now) (a .place) (printed c .print-of .result)
 
-putting : (c : tie.After-wide) → PuttingAt c
+putting : (c : tie.Else1) → PuttingAt c
 putting c =
     let start = atEntry (printed c) in
     record {
@@ -41,7 +41,7 @@ putting c =
       small = start .pre .1 .1 .0;
       room = start .pre .1 .1 .1;
       print = print-is (printed c);
-      new = sym (c .before .before .name-came .ensures) ∙ c .before .if1 .left;
+      new = sym (c .before .name-came .ensures) ∙ c .if1 .left;
     }
 
 name-came-requires : tie.Need-name-came-requires
@@ -58,11 +58,10 @@ mul-scratch c = omega (arith, put-print (putting c))
 add-scratch : tie.Need-add-scratch
 add-scratch c = omega (arith, put-print (putting c), put-place (putting c))
 
-slice-write-flags : tie.Need-slice-write-flags
-slice-write-flags c = omega (arith, put-print (putting c), putting c .known .flagged .all)
-
 returns-2 : tie.Need-returns-2
-returns-2 c = rw (c .wide .ensures) (put-new (putting c))
+returns-2 c =
+    let called = c .before .before in
+    rw (called .set-flag .ensures, called .before .wide .ensures) (put-new (putting (called .before .before .before)))
 
 pub enter-spec : {M : Type 1} → statement M
 enter-spec =
@@ -74,13 +73,13 @@ enter-spec =
     (λ c. search needs)
     (λ c. search needs)
     returns
-    (λ c κs. search needs)
     (λ c. search needs)
     mul-scratch
     add-scratch
     (λ c. search needs)
     (λ c. search needs)
-    slice-write-flags
+    (λ c κs. search needs)
+    (λ c κs. search needs)
     (λ c. search needs)
     (λ c. search needs)
     returns-2)

@@ -1,29 +1,21 @@
--- `ir_index::name_came` meets its contract: where the fingerprint's flag is not set, or no entry has the fingerprint, the name is new.
+-- `ir_index::name_came` meets its contract: where the fingerprint has a flag that is not set, or no entry has the fingerprint, the name is new.
 -- Assumes nothing.
 use mathlib.Core.Path.{_≡_, sym, _∙_}
-use native.Mathlib.Omega.{arith}
 use borrow.Author.Tests.{not-true}
 use lib.Seq.{length-take-le}
 use Rattle.ir_rows.specs.Places.{nameAt}
 use Rattle.ir_index.specs.Prints.{fingerprint}
-use Rattle.ir_index.proofs.Laws.Prints.{fingerprint-below}
 use Rattle.ir_index.proofs.Laws.Entries.{flag-none, print-none}
 use borrow.Author.Needs.{needs}
 use Rattle.ir_index.proofs.name_came.Statement.{statement}
 use Rattle.ir_index.proofs.name_came.Tie as tie
-
-shared-slice-read-if1 : tie.Need-shared-slice-read-if1
-shared-slice-read-if1 c =
-    let start = c .before .before .before .before .before .before in
-    let a = start .args in
-    omega (arith, fingerprint-below (nameAt (a .rows .now) (a .names .now) (a .place)), start .pre .1 .1, start .pre .0 .flagged .all)
 
 returns : tie.Need-returns
 returns c =
     let start = c .before .before .before .before .before .before .before in
     let a = start .args in
     let f : c .before .before .wide .result ≡ fingerprint (nameAt (a .rows .now) (a .names .now) (a .place)) = c .before .before .wide .ensures ∙ start .pre .1 .1 in
-    sym (flag-none (a .rows .now) (a .names .now) (a .place) (a .scratch .now) (a .n) (a .flags .now) (start .pre .0) (rw f at (c .if1 .taken)))
+    sym (flag-none (a .rows .now) (a .names .now) (a .place) (a .scratch .now) (a .n) (a .flags .now) (start .pre .0) (rw f at (sym (c .before .unseen .ensures) ∙ c .if1 .taken)))
 
 slice-aggregate-has-print : tie.Need-slice-aggregate-has-print
 slice-aggregate-has-print c =
@@ -41,7 +33,7 @@ name-came-spec =
     tie.close
     (tie.spec
     (λ c κs. search needs)
-    shared-slice-read-if1
+    (λ c κs. search needs)
     returns
     slice-aggregate-has-print
     (λ c κs. search needs)

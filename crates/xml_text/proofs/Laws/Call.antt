@@ -1,18 +1,17 @@
 -- Laws of the call (specs/Call.antt). Assumes nothing.
 use Prim.Native.Nat.{ℕ, suc, _+_, _-_, _≤_, _<_}
 use mathlib.Core.Path.{_≡_, refl, sym, ap, _∙_}
-use mathlib.Core.List.{List, [], _∷_, _++_}
+use mathlib.Core.List.{List, [], _∷_, _++_, append-nil}
 use native.Mathlib.Omega.{arith}
 use lib.Dec.{leb}
 use lib.ListN.{length, getD, take, drop, replicate, length-replicate, drop-of-length-le}
 use borrow.Author.Tests.{leb-true}
 use Rattle.sheet.specs.Rows.{filled}
-use Rattle.buffer.proofs.Laws.Buffer.{filled-append}
 use Rattle.text.proofs.Laws.Tests.{bool-cases}
-use lib.Seq.{sets, sets-eq, take-length, drop-cons}
+use lib.Seq.{sets, sets-eq, paste, take-at, take-all, length-take-le, drop-cons}
 use Rattle.text.specs.Text.{Text}
-use Rattle.xml_text.specs.Steps.{Step, bad, behind}
-use Rattle.xml_text.specs.Prolog.{misc}
+use Rattle.xml_parts.specs.Steps.{Step, bad, behind}
+use Rattle.xml_parts.specs.Prolog.{misc}
 use Rattle.xml_text.specs.Tape.{TapeEvent, tapeMarks}
 use Rattle.xml_text.specs.Root.{Rooted, unrooted, rooted, root}
 use Rattle.xml_text.specs.Call.{Document, notWellFormed, wellFormed, toEnd, documentFrom, Taken, refused, written, takenOf}
@@ -44,28 +43,26 @@ pub document-whole : (text : Text) (at : ℕ) (s : Text) (events : List TapeEven
 unfolding documentFrom toEnd
 document-whole text at s events a end e m h = rw (e, m, drop-of-length-le text h)
 
-pub filled-none : (n : ℕ) → replicate n 0 ≡ filled n []
+-- zeros from a place on
+pub zeros-behind : (m : List ℕ) (from : ℕ) → from ≤ length m → paste m from (replicate (length m - from) 0) (length m - from) ≡ filled (length m) (take from m)
 unfolding filled
-filled-none n = let e : n ≡ n - 0 = omega arith in ap (λ (k : ℕ). replicate k 0) e
+zeros-behind m from h =
+    let n = length m - from in
+    let end : length m ≤ from + n = omega arith in
+    ap (λ (t : List ℕ). take from m ++ take n (replicate n 0) ++ t) (drop-of-length-le m end) ∙ append-nil _
+    ∙ ap (λ (t : List ℕ). take from m ++ t) (take-all n (replicate n 0) (omega (arith, length-replicate {A = ℕ} n 0)))
+    ∙ ap (λ (k : ℕ). take from m ++ replicate (length m - k) 0) (sym (length-take-le from m h))
 
-pub filled-length : (n : ℕ) → length (filled n []) ≡ n
-filled-length n = ap length (sym (filled-none n)) ∙ length-replicate n 0
-
--- a tape stored over zeros
-pub sets-filled : (n : ℕ) (tape : List ℕ) → length tape ≤ n → sets (filled n []) 0 tape ≡ filled n tape
-sets-filled n tape h =
-    let zeroed = filled n [] in
-    let fits : 0 + length tape ≤ length zeroed = omega (arith, filled-length n) in
-    sets-eq tape zeroed 0 fits
-    ∙ ap (λ (t : List ℕ). take 0 zeroed ++ t ++ drop (0 + length tape) zeroed) (sym (take-length tape))
-    ∙ filled-append n [] tape 0 (length tape) refl refl (omega arith)
+-- a tape that is stored is what stands there
+pub tape-stored : (m tape : List ℕ) → length tape ≤ length m → take (length tape) (sets m 0 tape) ≡ tape
+tape-stored m tape h = ap (take (length tape)) (sets-eq tape m 0 (omega arith)) ∙ take-at tape _ (length tape) refl
 
 pub taken-refused : (number place : ℕ) (after : List ℕ) (lent k : ℕ) → number ≡ k → place ≡ 0 → after ≡ filled lent [] → _≡_ {A = Taken} (record { number = number; place = place; marks = after }) (refused lent k)
 unfolding refused
 taken-refused number place after lent k e f g = rw (e, f, g)
 
--- what was found, with the marks stored over zeros, is the definition's answer
-pub found-taken : (lent : ℕ) (marks after : List ℕ) (found : Found) (d : Document) → marks ≡ filled lent [] → length after ≡ lent → FoundIs marks after found d → answerOf after found ≡ takenOf lent d
+-- what was found, with the marks stored so far, is the definition's answer
+pub found-taken : (lent : ℕ) (marks after : List ℕ) (found : Found) (d : Document) → length marks ≡ lent → length after ≡ lent → FoundIs marks after found d → answerOf after found ≡ takenOf lent d
 unfolding answerOf takenOf written
 found-taken lent marks after Found.Doctype d m h p = rw (p, h)
 found-taken lent marks after Found.Malformed d m h p = rw (p, h)
@@ -73,5 +70,5 @@ found-taken lent marks after (Found.Needs n) d m h p =
     let tape = tapeMarks (p .0) in
     rw (p .1, h, p .2)
     (bool-cases (leb (length tape) lent)
-    (λ y. rw (y, p .3 ∙ ap (λ (l : List ℕ). sets l 0 tape) m ∙ sets-filled lent tape (leb-true (length tape) lent y)))
+    (λ y. rw (y, ap (take (length tape)) (p .3) ∙ tape-stored marks tape (omega (arith, leb-true (length tape) lent y))))
     (λ y. rw y))

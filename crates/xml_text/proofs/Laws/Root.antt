@@ -8,18 +8,22 @@ use native.Mathlib.Numerals.{add-one}
 use lib.ListN.{length, getD, set, take, drop, length-append}
 use lib.Seq.{sets}
 use borrow.Author.Tests.{eq-eqb, ne-eqb}
-use Rattle.text.specs.Text.{Text, same}
+use Rattle.text.specs.Text.{Text, bytes, same}
+use Rattle.text.proofs.Laws.Tests.{bool-cases}
 use Rattle.xsd_parser.specs.Tape.{Pair}
-use Rattle.xml_text.specs.Steps.{Step, bad, behind, nameOf}
+use Rattle.xml_parts.specs.Steps.{Step, bad, behind, _andThen_, startsWith, literal, spaces, name, nameOf}
+use Rattle.xml_parts.specs.Values.{charData}
 use Rattle.xml_text.specs.Tape.{AttributePairs, TapeEvent, tapeMarks, eventMarks}
 use Rattle.xml_text.specs.Tags.{Tagged, untagged, tagged, tag}
-use Rattle.xml_text.specs.Root.{Piece, passed, ending, starting, passedBy, piece, Level, stop, on, opened, levelOfTag, levelOfClose, levelOf, turn, Rooted, unrooted, rooted, addEvents, noneOpen, inside, onLevel, insideAll, root}
+use Rattle.xml_text.specs.Root.{Piece, passed, starting, passedBy, endingBy, close, markup, piece, Level, stop, on, opened, levelOfTag, levelOfClose, levelOf, turn, Rooted, unrooted, rooted, addEvents, noneOpen, inside, onLevel, insideAll, root}
+use Rattle.xml_parts.specs.Answers.{matched}
 use Rattle.xml_text.specs.Answers.{namesUpTo, nextPiece, PieceIn, IsTag, GoesOn, IsRoot}
 use Rattle.xml_text.specs.declared.root.WholeRoot.{WholeRoot}
 use Rattle.xml_text.specs.declared.root.Content.{Content}
 use Rattle.xml_text.specs.declared.root.Onward.{Onward}
 use Rattle.xml_text.specs.declared.tags.WholeTag.{WholeTag}
 use Rattle.xml_text.proofs.Laws.Marks.{sets-append}
+use Rattle.xml_parts.proofs.Laws.Names.{bad-not}
 use Rattle.xml_text.proofs.Laws.Tags.{names-push, names-cong}
 
 -- an end tag is held against the innermost open tag
@@ -71,16 +75,8 @@ pub passed-in : (text : Text) (at : ℕ) (r : Content) (d : Step) → ((e : ℕ)
 passed-in text at Content.Wrong d h q = tt
 passed-in text at (Content.Passed a) bad h q = let z : _≡_ {A = ℕ} 0 1 = cc in absurd (omega arith)
 passed-in text at (Content.Passed a) (behind e r) h q = h a (cc)
-passed-in text at (Content.Ending n a) bad h q = let z : _≡_ {A = ℕ} 0 1 = cc in absurd (omega arith)
-passed-in text at (Content.Ending n a) (behind e r) h q = let z : _≡_ {A = ℕ} 0 1 = cc in absurd (omega arith)
 passed-in text at (Content.Starting a) bad h q = let z : _≡_ {A = ℕ} 0 1 = cc in absurd (omega arith)
 passed-in text at (Content.Starting a) (behind e r) h q = let z : _≡_ {A = ℕ} 0 1 = cc in absurd (omega arith)
-
-pub piece-weaken : (n at a : ℕ) (r : Content) → at ≤ a → PieceIn n a r → PieceIn n at r
-piece-weaken n at a Content.Wrong h p = tt
-piece-weaken n at a (Content.Passed e) h p = (omega arith, omega arith)
-piece-weaken n at a (Content.Ending name e) h p = (omega arith, omega arith, omega arith)
-piece-weaken n at a (Content.Starting e) h p = omega arith
 
 pub goes-weaken : (text : Text) (at start : ℕ) (slots marks : List ℕ) (used : ℕ) (after : List ℕ) (r : Onward) (d : Level) → at ≤ start → GoesOn text start slots marks used after r d → GoesOn text at slots marks used after r d
 goes-weaken text at start slots marks used after Onward.Stop d h p = p
@@ -93,25 +89,64 @@ piece-wrong text t q = sym q ∙ ap (nextPiece text) t
 pub piece-passed : (text : Text) {m : Content} {d : Piece} {a : ℕ} → m ≡ Content.Passed a → nextPiece text m ≡ d → d ≡ passed a (drop a text)
 piece-passed text t q = sym q ∙ ap (nextPiece text) t
 
-pub piece-ending : (text : Text) {m : Content} {d : Piece} {n a : ℕ} → m ≡ Content.Ending n a → nextPiece text m ≡ d → d ≡ ending (nameOf (drop n text)) a (drop a text)
-piece-ending text t q = sym q ∙ ap (nextPiece text) t
-
 pub piece-starting : (text : Text) {m : Content} {d : Piece} {a : ℕ} → m ≡ Content.Starting a → nextPiece text m ≡ d → d ≡ starting a (drop a text)
 piece-starting text t q = sym q ∙ ap (nextPiece text) t
 
 pub in-passed : (n at : ℕ) {m : Content} {a : ℕ} → m ≡ Content.Passed a → PieceIn n at m → (at < a) × (a ≤ n)
 in-passed n at t p = rw t at p
 
-pub in-ending : (n at : ℕ) {m : Content} {s a : ℕ} → m ≡ Content.Ending s a → PieceIn n at m → (at ≤ s) × (s < a) × (a ≤ n)
-in-ending n at t p = rw t at p
-
 pub in-starting : (n at : ℕ) {m : Content} {a : ℕ} → m ≡ Content.Starting a → PieceIn n at m → at ≤ a
 in-starting n at t p = rw t at p
 
--- a turn by its piece
-pub turn-of : (tags : List Text) (at : ℕ) (s : Text) (d : Piece) → piece at s ≡ d → turn tags at s ≡ levelOf tags d
-unfolding turn
-turn-of tags at s d e = rw e
+-- a turn by what stands behind the text before it
+pub turn-bad : (tags : List Text) (at : ℕ) (s : Text) → charData at s ≡ bad → turn tags at s ≡ stop
+unfolding turn piece
+turn-bad tags at s e = rw e
+
+pub turn-of : (tags : List Text) (at : ℕ) (s : Text) (a : ℕ) (r : Text) (d : Piece) → charData at s ≡ behind a r → markup a r ≡ d → turn tags at s ≡ levelOf tags d
+unfolding turn piece
+turn-of tags at s a r d e h = rw (e, h)
+
+pub markup-close : (at : ℕ) (s : Text) → startsWith (bytes "</") s ≡ true → markup at s ≡ close at s
+unfolding markup
+markup-close at s e = rw e
+
+-- an end tag, by its parts
+abbrev pub closing : ℕ → Text → Step
+closing n t = name n t andThen spaces andThen literal (bytes ">")
+
+pub closing-of : (n : ℕ) (t : Text) {e f : ℕ} {r u : Text} {d : Step} → name n t ≡ behind e r → behind f u ≡ spaces e r → literal (bytes ">") f u ≡ d → closing n t ≡ d
+closing-of n t h k q = rw (h, sym k) q
+
+pub close-bad : (at : ℕ) (s : Text) → literal (bytes "</") at s ≡ bad → close at s ≡ Piece.wrong
+unfolding close
+close-bad at s e = rw e
+
+pub close-of : (at : ℕ) (s : Text) (n : ℕ) (t : Text) (d : Step) → literal (bytes "</") at s ≡ behind n t → closing n t ≡ d → close at s ≡ endingBy (nameOf t) d
+unfolding close
+close-of at s n t d e h = rw (e, h)
+
+-- a name that does not match, or is none, leaves no level
+unmatched : (m : Text) (tags : List Text) (n : Text) (d : Step) → same n m ≡ false → levelOf (m ∷ tags) (endingBy n d) ≡ stop
+unmatched m tags n bad e = refl
+unmatched m tags n (behind a r) e = rw e
+
+pub level-bad : (text : Text) (slots : List ℕ) (count j n : ℕ) → count ≡ suc j → matched text n (getD slots j 0) ≡ bad
+    → levelOf (namesUpTo text slots count) (endingBy (nameOf (drop n text)) (closing n (drop n text))) ≡ stop
+unfolding matched namesUpTo
+level-bad text slots count j n k e =
+    rw k
+    (bool-cases (same (nameOf (drop n text)) (nameOf (drop (getD slots j 0) text)))
+    (λ h. let b : name n (drop n text) ≡ bad = rw h at e in rw b)
+    (λ h. unmatched _ (namesUpTo text slots j) _ (closing n (drop n text)) h))
+
+pub matched-to : (text : Text) (n top e : ℕ) → matched text n top ≡ behind e (drop e text)
+    → (same (nameOf (drop n text)) (nameOf (drop top text)) ≡ true) × (name n (drop n text) ≡ behind e (drop e text))
+unfolding matched
+matched-to text n top e q =
+    bool-cases (same (nameOf (drop n text)) (nameOf (drop top text)))
+    (λ h. (h, rw h at q))
+    (λ h. absurd (bad-not (rw h at q)))
 
 -- events in front of events
 pub add-none : (d : Rooted) → addEvents [] d ≡ d

@@ -7,7 +7,7 @@ use native.Mathlib.Omega.{arith}
 use lib.ListN.{length, getD, set, take, drop}
 use lib.Seq.{sets, getD-set-same, getD-set-other, getD-take}
 use Rattle.text.specs.Text.{Text, bytes, same}
-use Rattle.xml_text.specs.Steps.{behind, literal, name, nameOf}
+use Rattle.xml_parts.specs.Steps.{behind, literal, name, nameOf}
 use Rattle.xml_text.specs.Tape.{AttributePairs, attributeMarks}
 use Rattle.xml_text.specs.Tags.{Part, wrong, last, more, attributeFrom, partOf, isAmong, Ended, unended, ended, attributesFrom, attributes, Tagged, tagged, span, tag}
 use Rattle.xml_text.specs.Answers.{namesUpTo, nextPart, PartIn, EndsTag}

@@ -21,6 +21,7 @@ use Rattle.xsd_parser.specs.Handlers.{ok, refuse}
 use Rattle.xsd_parser.specs.Step.{counted, roomFor}
 use Rattle.xsd_rows.specs.declared.numbers.Used.{Used}
 use Rattle.xsd_rows.specs.Packing.{Holds}
+use Rattle.xsd_actions.specs.declared.Decision.{Decision}
 use Rattle.xsd_actions.specs.declared.Mode.{Mode}
 use Rattle.xsd_actions.specs.Actions.{Action, Acted, modeOf, modeAfter, behind}
 use Rattle.xsd_actions.specs.Answers.{decision}
@@ -30,12 +31,14 @@ use Rattle.xsd_progress.specs.Change.{EventAfter}
 use Rattle.xsd_act.specs.Ready.{rowsAfterAll}
 use Rattle.xsd_act.specs.Needs.{Needed}
 use Rattle.xsd_act.specs.Acts.{Done}
+use Rattle.xsd_act.proofs.Laws.Needs.{needed-keep}
+use Rattle.xsd_act.proofs.Laws.Done.{done-keep}
 use Rattle.xsd_act.proofs.Laws.Room.{counted-fits}
 use Rattle.xsd_progress.specs.declared.Progress.{Progress}
 use Rattle.xsd_progress.specs.Progress.{At, lentTo}
 use Rattle.xsd_read.specs.declared.carry.Step.{Step}
-use Rattle.xsd_read.specs.Due.{headAfter, Due, Ended, Stepped}
-use Rattle.xsd_read.proofs.Laws.Ready.{ready-at}
+use Rattle.xsd_read.specs.Due.{headAfter, standsAt, StandsAfter, Due, DueRoom, Ended, Stepped}
+use Rattle.xsd_read.proofs.Laws.Ready.{ready-at, due-small, used-fits}
 
 -- the rows after an action, for the parts of a state
 abbrev pub allAfter : Action → State → List Row
@@ -81,14 +84,10 @@ mode-due {rows} {names} {text} {marks} {p} {x} {s} {e} due w =
     ∙ ap₂ (λ (b : Bool) (ev : Event). modeAfter b ev (due .action) (p .mode)) (due .choice) (sym (due .eventIs))
     ∙ ap (modeAfter (s .byStandard) e (due .action)) (due .at .mode) ∙ sym (due .acted .mode)
 
--- where a reading stands after an event
-abbrev standsAt : Progress → Arrived → Used → ℕ → Progress
-standsAt p after used head = record { mode = after .mode; events = p .events + 1; «open_tags» = after .«open_tags»; «by_standard» = p .«by_standard»; used = used; head = head }
-
 -- the sheet after the action holds the state after the event
 pub at-after : {rows names rows′ names′ : List ℕ} {text : Text} {marks : List ℕ} {p : Progress} {x : Arrival} {s : State} {e : Event} {r : Reader} {used : Used} {after : Arrived}
     → Due rows names text marks p x s e r → Done rows names (p .used) (p .head) (decision text marks (x .decision)) rows′ names′ used → EventAfter x (p .mode) after
-    → At (counted s (x .«open_tags») r) rows′ names′ (standsAt p after used (headAfter p))
+    → At (counted s (x .«open_tags») r) rows′ names′ (standsAt p after used)
 unfolding counted
 at-after {rows} {names} {rows′} {names′} {text} {marks} {p} {x} {s} {e} {r} {used} {after} due y w =
     let at = due .at in
@@ -134,18 +133,26 @@ stepped-refused {rows} {names} {text} {marks} {p} {x} y e =
     }
 
 -- what has room is done
-pub stepped-done : {rows names rows′ names′ : List ℕ} {text : Text} {marks : List ℕ} {p : Progress} {x : Arrival} {need used : Used} {head : ℕ} {after : Arrived}
+pub stepped-done : {rows names rows′ names′ : List ℕ} {text : Text} {marks : List ℕ} {p p′ : Progress} {x : Arrival} {need used : Used}
     → Needed rows (p .used) (p .head) (decision text marks (x .decision)) need → fits (need .rows) (need .names) (length rows) (length names) ≡ true
-    → Done rows names (p .used) (p .head) (decision text marks (x .decision)) rows′ names′ used → head ≡ headAfter p → EventAfter x (p .mode) after
-    → Stepped rows names text marks p x (Step.Done (standsAt p after used head)) rows′ names′
+    → Done rows names (p .used) (p .head) (decision text marks (x .decision)) rows′ names′ used → StandsAfter p x used p′
+    → Stepped rows names text marks p x (Step.Done p′) rows′ names′
 unfolding Ended
-stepped-done {rows} {names} {rows′} {names′} {text} {marks} {p} {x} {need} {used} {head} {after} y e done h w =
+stepped-done {rows} {names} {rows′} {names′} {x = x} y e done w =
     record {
       rowsLength = done .rowsLength;
       namesLength = done .namesLength;
       ended = λ s ev r due. record {
         s′ = counted s (x .«open_tags») r;
         accepted = room-given (lentTo rows names) (counted s (x .«open_tags») r) (fits-after (length rows) (length names) due y ∙ e);
-        stands = subst (λ (k : ℕ). At (counted s (x .«open_tags») r) rows′ names′ (standsAt p after used k)) (sym h) (at-after due done w);
+        stands = subst (At (counted s (x .«open_tags») r) rows′ names′) (sym (w .stands)) (at-after due done (w .arrived));
       };
     }
+
+-- a sheet that is kept needs what it uses, which has room
+pub stepped-kept : {rows names : List ℕ} {text : Text} {marks : List ℕ} {p p′ : Progress} {x : Arrival} → DueRoom rows names text marks p x → x .decision ≡ Decision.Keep
+    → StandsAfter p x (p .used) p′ → Stepped rows names text marks p x (Step.Done p′) rows names
+unfolding decision
+stepped-kept {text = text} {marks = marks} {x = x} q e w =
+    let kept : decision text marks (x .decision) ≡ ok Action.keep = ap (decision text marks) e in
+    stepped-done (rw kept (needed-keep (due-small q .rowsUsed) refl)) (used-fits (q .due .at)) (rw kept done-keep) w

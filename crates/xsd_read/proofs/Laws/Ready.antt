@@ -1,10 +1,15 @@
 -- The sheet of a state is one that what was decided for an event can be done to. Assumes nothing.
-use Prim.Native.Nat.{ℕ, _≤_}
+use Prim.Native.Nat.{ℕ, _*_, _≤_}
 use mathlib.Core.Path.{_≡_, sym, ap, subst, _∙_}
+use mathlib.Core.Bool.{true}
 use mathlib.Core.List.{List, _∷_}
 use native.Mathlib.Omega.{arith}
 use lib.ListN.{length}
+use borrow.Author.Tests.{le-leb}
 use Rattle.text.specs.Text.{Text}
+use Rattle.text.proofs.Laws.Tests.{and-true}
+use Rattle.sheet.specs.Limits.{eventsLimit, openTagsLimit}
+use Rattle.sheet.specs.Lengths.{fits}
 use Rattle.sheet.specs.Rows.{Row}
 use Rattle.xsd_types.specs.State.{Context, State}
 use Rattle.xsd_types.specs.Rows.{rowsOf, itemsRows, contextRows, contextNumber}
@@ -17,7 +22,7 @@ use Rattle.xsd_act.specs.Needs.{Small}
 use Rattle.xsd_act.proofs.Laws.Needs.{ok-back}
 use Rattle.xsd_progress.specs.declared.open_tags.Arrival.{Arrival}
 use Rattle.xsd_progress.proofs.Laws.Pairs.{paired-rows}
-use Rattle.xsd_progress.proofs.Laws.Bounds.{proper-nesting}
+use Rattle.xsd_progress.proofs.Laws.Bounds.{proper-events, proper-nesting}
 use Rattle.xsd_progress.specs.declared.Progress.{Progress}
 use Rattle.xsd_progress.specs.Progress.{At}
 use Rattle.xsd_progress.proofs.Laws.States.{at-small}
@@ -57,7 +62,17 @@ due-small q =
     let small = at-small (q .due .at) in
     record { rowsUsed = omega (arith, small .0, q .lent .fewRows); namesUsed = omega (arith, small .1, q .lent .fewNames); textLength = q .lent .fewBytes }
 
--- the nesting has room for one more
-pub due-nesting : {rows names : List ℕ} {text : Text} {marks : List ℕ} {p : Progress} {x : Arrival} → DueRoom rows names text marks p x → p .mode .nesting ≤ 255
+-- nesting and events have room for one more
+pub due-counters : {rows names : List ℕ} {text : Text} {marks : List ℕ} {p : Progress} {x : Arrival} → DueRoom rows names text marks p x
+    → (p .mode .nesting ≤ openTagsLimit) × (p .events ≤ eventsLimit)
 unfolding modeOf
-due-nesting q = omega (arith, ap (λ (m : Mode). m .nesting) (q .due .at .mode), proper-nesting (q .s) (q .due .at .proper))
+due-counters q =
+    let at = q .due .at in
+    (omega (arith, ap (λ (m : Mode). m .nesting) (at .mode), proper-nesting (q .s) (at .proper)), omega (arith, at .events, proper-events (q .s) (at .proper)))
+
+-- what is used has room
+pub used-fits : {s : State} {rows names : List ℕ} {p : Progress} → At s rows names p → fits (p .used .rows) (p .used .names) (length rows) (length names) ≡ true
+unfolding fits
+used-fits {rows = rows} {names = names} {p = p} at =
+    let small = at-small at in
+    and-true (le-leb (10 * p .used .rows) (length rows) (small .0)) (le-leb (p .used .names) (length names) (small .1))

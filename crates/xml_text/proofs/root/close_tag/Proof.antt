@@ -1,55 +1,102 @@
--- `xml_text::root::close_tag` meets its contract: the name is held against that of the last slot. Assumes nothing.
+-- `xml_text::root::close_tag` meets its contract: the steps one behind the other, each inside the text; the name is held against that of the last slot.
+-- Assumes nothing.
 use borrow.Author.Needs.{needs}
 use native.Mathlib.Omega.{arith}
 use Prim.Native.Nat.{ℕ, _+_, _-_}
-use mathlib.Core.Path.{sym, ap, _∙_}
+use mathlib.Core.Path.{refl, sym, ap, _∙_}
 use mathlib.Core.List.{List, [], _∷_}
 use lib.ListN.{length, set, drop}
-use borrow.Author.Tests.{not-true, not-false}
-use Rattle.xml_text.specs.Steps.{nameOf}
+use Rattle.text.specs.Text.{bytes}
+use Rattle.xml_parts.specs.Steps.{nameOf}
 use Rattle.xml_text.specs.Tape.{TapeEvent}
-use Rattle.xml_text.proofs.Laws.Root.{close-other, close-same, put-close, close-size}
+use Rattle.xml_parts.proofs.Laws.Moved.{to-of, bad-of}
+use Rattle.xml_parts.proofs.Laws.Moves.{inside-text, literal-passes, name-passes, spaces-moves}
+use Rattle.xml_text.proofs.Laws.Root.{close-bad, close-of, closing-of, level-bad, matched-to, close-same, put-close, close-size}
 use Rattle.xml_text.proofs.root.close_tag.Statement.{statement}
 use Rattle.xml_text.proofs.root.close_tag.Tie as tie
 
-sub-top : tie.Need-sub-top
-sub-top c = omega (arith, c .before .before .before .pre)
-
-mul-top : tie.Need-mul-top
-mul-top c = omega (arith, c .before .before .before .pre)
-
-shared-slice-read-top : tie.Need-shared-slice-read-top
-shared-slice-read-top c = omega (arith, c .before .before .before .before .pre)
+returns : tie.Need-returns
+unfolding bytes
+returns c = let a = c .before .before .before .before .before .before .before .args in rw (close-bad (a .at) _ (bad-of (a .text .now) (c .enum-told .given .1) (c .before .before .literal .ensures)))
 
 cast-top : tie.Need-cast-top
-cast-top c = omega (arith, c .shared-slice-known3 .given (c .before .before .before .before .args .count - 1))
-
-returns : tie.Need-returns
-returns c =
-    let a = c .before .before .before .before .before .before .args in
-    close-other (a .text .now) (a .slots .now) (a .count) (a .count - 1) (nameOf (drop (a .start) (a .text .now))) (a .behind) _ (omega (arith, c .before .before .before .before .before .before .pre)) (sym (c .before .same-name .ensures) ∙ not-true _ (c .if1 .taken))
-
-add-put : tie.Need-add-put
-add-put c = omega (arith, c .before .before .before .before .before .before .before .before .before .before .before .pre)
-
-sub-t10 : tie.Need-sub-t10
-sub-t10 c = omega (arith, c .before .before .before .before .before .before .before .before .before .before .before .before .before .before .pre)
-
-add-t9 : tie.Need-add-t9
-add-t9 c = omega (arith, c .before .before .before .before .before .before .before .before .before .before .before .before .before .before .pre)
+cast-top c = omega (arith, c .shared-slice-known3 .given (c .before .before .before .before .before .before .before .before .before .args .count - 1))
 
 returns-2 : tie.Need-returns-2
+unfolding bytes
 returns-2 c =
-    let a = c .before .before .before .before .before .before .before .before .before .before .before .before .before .before .args in (
+    let a = c .before .before .before .before .before .before .before .before .before .before .before .before .args in
+    let l = to-of (a .text .now) (c .before .before .before .before .before .start .given .1) (c .before .before .before .before .before .before .before .literal .ensures) in
+    rw (close-of (a .at) _ _ _ _ l refl)
+    (level-bad (a .text .now) (a .slots .now) (a .count) (a .count - 1) _ (omega (arith, c .before .before .before .before .before .before .before .before .before .before .before .before .pre)) (bad-of (a .text .now) (c .enum-told2 .given .1) (c .before .before .matched-name .ensures)))
+
+returns-3 : tie.Need-returns-3
+unfolding bytes
+returns-3 c =
+    let a = c .before .before .before .before .before .before .before .before .before .before .before .before .before .before .before .before .before .before .args in
+    let l = to-of (a .text .now) (c .before .before .before .before .before .before .before .before .before .before .before .start .given .1) (c .before .before .before .before .before .before .before .before .before .before .before .before .before .literal .ensures) in
+    let m = matched-to (a .text .now) _ _ _ (to-of (a .text .now) (c .before .before .before .before .before .before .end .given .1) (c .before .before .before .before .before .before .before .before .matched-name .ensures)) in
+    rw (close-of (a .at) _ _ _ _ l (closing-of _ _ (m .1) (c .before .before .before .before .spaces .ensures) (bad-of (a .text .now) (c .enum-told3 .given .1) (c .before .before .literal2 .ensures))))
+
+add-put : tie.Need-add-put
+add-put c = omega (arith, c .before .before .before .before .before .before .before .before .before .before .before .before .before .before .before .before .before .before .before .before .before .before .before .before .pre)
+
+sub-t17 : tie.Need-sub-t17
+sub-t17 c = omega (arith, c .before .before .before .before .before .before .before .before .before .before .before .before .before .before .before .before .before .before .before .before .before .before .before .before .before .before .before .pre)
+
+add-t18 : tie.Need-add-t18
+add-t18 c = omega (arith, c .before .before .before .before .before .before .before .before .before .before .before .before .before .before .before .before .before .before .before .before .before .before .before .before .before .before .before .pre)
+
+returns-4 : tie.Need-returns-4
+unfolding bytes
+returns-4 c =
+    let start = c .before .before .before .before .before .before .before .before .before .before .before .before .before .before .before .before .before .before .before .before .before .before .before .before .before .before .before in
+    let a = start .args in
+    let text = a .text .now in
+    let l = to-of text (c .before .before .before .before .before .before .before .before .before .before .before .before .before .before .before .before .before .before .before .before .start .given .1) (c .before .before .before .before .before .before .before .before .before .before .before .before .before .before .before .before .before .before .before .before .before .before .literal .ensures) in
+    let m = matched-to text _ _ _ (to-of text (c .before .before .before .before .before .before .before .before .before .before .before .before .before .before .before .end .given .1) (c .before .before .before .before .before .before .before .before .before .before .before .before .before .before .before .before .before .matched-name .ensures)) in
+    let g = to-of text (c .before .before .before .before .before .before .before .before .before .behind .given .1) (c .before .before .before .before .before .before .before .before .before .before .before .literal2 .ensures) in
+    let li = inside-text (literal-passes (60 ∷ 47 ∷ []) (omega arith)) text (a .at) _ l in
+    let ni = inside-text name-passes text _ _ (m .1) in
+    let si = spaces-moves _ _ _ _ (sym (c .before .before .before .before .before .before .before .before .before .before .before .before .before .spaces .ensures)) in
+    let gi = inside-text (literal-passes (62 ∷ []) (omega arith)) text _ _ g in (
       TapeEvent.close ∷ [],
-      close-same (a .text .now) (a .slots .now) (a .count) (a .count - 1) (nameOf (drop (a .start) (a .text .now))) (a .behind) _ (omega (arith, c .before .before .before .before .before .before .before .before .before .before .before .before .before .before .pre)) (sym (c .before .before .before .before .before .before .before .before .before .same-name .ensures) ∙ not-false _ (c .before .before .before .before .before .before .before .before .if1 .left)),
+      (rw (close-of (a .at) _ _ _ _ l (closing-of _ _ (m .1) (c .before .before .before .before .before .before .before .before .before .before .before .before .before .spaces .ensures) g)) (close-same text (a .slots .now) (a .count) (a .count - 1) _ _ _ (omega (arith, start .pre)) (m .0))),
       omega (arith, close-size),
-      c .before .before .put2 .ensures ∙ ap (λ (m : List ℕ). set m (a .used + 1) 0) (c .before .before .before .before .before .before .put .ensures) ∙ put-close (a .marks .now) (a .used),
-      omega (arith, c .before .before .before .before .before .before .before .before .before .before .before .before .before .before .pre),
-      omega (arith, c .before .before .before .before .before .before .before .before .before .before .before .before .before .before .pre),
-      omega (arith, c .before .before .before .before .before .before .before .before .before .before .before .before .before .before .pre),
-      omega (arith, c .before .before .before .before .before .before .before .before .before .before .before .before .before .before .pre),
+      c .before .before .put2 .ensures ∙ ap (λ (k : List ℕ). set k (a .used + 1) 0) (c .before .before .before .before .before .before .put .ensures) ∙ put-close (a .marks .now) (a .used),
+      omega arith,
+      omega arith,
+      omega (arith, start .pre),
+      omega (arith, start .pre),
     )
 
 pub close-tag-spec : {M : Type 1} → statement M
-close-tag-spec = tie.close (tie.spec sub-top mul-top shared-slice-read-top cast-top (λ c κs. search needs) returns (λ c κs. search needs) add-put (λ c κs. search needs) sub-t10 add-t9 (λ c. search needs) returns-2)
+close-tag-spec =
+    tie.close
+    (tie.spec
+    (λ c. search needs)
+    (λ c κs. search needs)
+    (λ c. search needs)
+    (λ c. search needs)
+    returns
+    (λ c. search needs)
+    (λ c. search needs)
+    (λ c. search needs)
+    cast-top
+    (λ c κs. search needs)
+    (λ c. search needs)
+    (λ c. search needs)
+    returns-2
+    (λ c κs. search needs)
+    (λ c. search needs)
+    (λ c κs. search needs)
+    (λ c. search needs)
+    (λ c. search needs)
+    returns-3
+    (λ c κs. search needs)
+    add-put
+    (λ c κs. search needs)
+    sub-t17
+    add-t18
+    (λ c. search needs)
+    returns-4)

@@ -14,22 +14,22 @@ use Rattle.xml_text.proofs.root.inside.Statement.{statement}
 use Rattle.xml_text.proofs.root.inside.Tie as tie
 
 abbrev Inv-loop : tie.InvT-loop
-Inv-loop text slots₀ marks₀ at count used i₀ left₀ n₀ slots marks i left n =
+Inv-loop classes text slots₀ marks₀ at count used i₀ left₀ n₀ slots marks i left n =
     (turns : ℕ) × (events : List TapeEvent) × (length text - i < turns) × (addEvents events (inside turns (namesUpTo text slots left) i (drop i text)) ≡ inside (suc (length (drop at text))) (namesUpTo text slots₀ count) at (drop at text))
     × (n ≡ used + length (tapeMarks events)) × (marks ≡ sets marks₀ used (tapeMarks events)) × (length slots ≡ length slots₀) × (3 * left ≤ i) × (n ≤ 2 * i) × (i ≤ length text) × (length marks ≡ length marks₀)
 
 abbrev μ-loop : tie.MeasureT-loop
-μ-loop text slots₀ marks₀ at count used i₀ left₀ n₀ slots marks i left n = length text - i
+μ-loop classes text slots₀ marks₀ at count used i₀ left₀ n₀ slots marks i left n = length text - i
 
 loop-holds : tie.Need-loop-holds Inv-loop μ-loop
 unfolding tapeMarks
 loop-holds c =
     let a = c .before .before .before .args in
     let p = c .before .before .before .pre in
-    (suc (length (drop (a .at) (a .text .now))), [], omega (arith, length-drop (a .at) (a .text .now)), add-none _, omega arith, refl, refl, p .2, p .3, p .4, refl)
+    (suc (length (drop (a .at) (a .text .now))), [], omega (arith, length-drop (a .at) (a .text .now)), add-none _, omega arith, refl, refl, p .0 .2, p .0 .3, p .0 .4, refl)
 
 turn-requires : tie.Need-turn-requires Inv-loop μ-loop
-turn-requires c κs = (c .before .before .before .before .before .before .before .pre .0, omega (arith, c .before .before .before .before .before .before .before .pre .1, c .before .before .before .loop .inv .6), c .before .before .before .loop .inv .7, c .before .before .before .loop .inv .8, c .before .before .before .loop .inv .9, omega arith)
+turn-requires c κs = ((c .before .before .before .before .before .before .before .pre .0 .0, omega (arith, c .before .before .before .before .before .before .before .pre .0 .1, c .before .before .before .loop .inv .6), c .before .before .before .loop .inv .7, c .before .before .before .loop .inv .8, c .before .before .before .loop .inv .9, omega arith), search needs)
 
 enum-known-next-left : tie.Need-enum-known-next-left Inv-loop μ-loop
 enum-known-next-left c = omega arith

@@ -1,33 +1,55 @@
--- `xml_text::root::markup` meets its contract: the words of the definition. Assumes nothing.
+-- `xml_text::root::markup` meets its contract: the words of the definition, behind that of an end tag; where neither `<!` nor `<?` stands, none of the other words does. Assumes nothing.
 use borrow.Author.Needs.{needs}
 use native.Mathlib.Omega.{arith}
 use mathlib.Core.Path.{sym, ap, _∙_}
+use borrow.Author.Tests.{not-true}
+use lib.ListN.{drop}
 use Rattle.text.specs.Text.{bytes}
+use Rattle.text.proofs.Laws.Tests.{or-false-left, or-false-right}
+use Rattle.xml_parts.specs.Steps.{startsWith}
 use Rattle.xml_text.specs.Root.{passedBy, markup}
-use Rattle.xml_text.proofs.Laws.Moves.{inside-text, comment-passes, section-passes, instruction-passes}
+use Rattle.xml_parts.proofs.Laws.Moves.{inside-text, comment-passes, section-passes, instruction-passes}
 use Rattle.xml_text.proofs.Laws.Root.{passed-in}
+use Rattle.xml_parts.proofs.Laws.Steps.{starts-longer}
 use Rattle.xml_text.proofs.root.markup.Statement.{statement}
 use Rattle.xml_text.proofs.root.markup.Tie as tie
 
 returns : tie.Need-returns
 unfolding markup bytes
-returns c = (rw (sym (c .before .before .starts .ensures) ∙ c .before .if1 .taken) (c .end-tag .ensures .0), c .end-tag .ensures .1)
+returns c =
+    let start = c .before .before .before in
+    let s = drop (start .args .at) (start .args .text .now) in
+    let e = sym (c .before .is-marked .ensures) ∙ not-true _ (c .if1 .taken) in
+    let f = or-false-left (startsWith (bytes "<!") s) (startsWith (bytes "<?") s) e in
+    (rw (start .pre .0, starts-longer (bytes "<!") (bytes "--") s f, starts-longer (bytes "<!") (bytes "[CDATA[") s f, or-false-right (startsWith (bytes "<!") s) (startsWith (bytes "<?") s) e), omega arith)
 
 returns-2 : tie.Need-returns-2
 unfolding markup bytes
-returns-2 c = (rw (sym (c .before .before .before .before .before .before .starts .ensures) ∙ c .before .before .before .before .before .if1 .left, sym (c .before .before .before .starts2 .ensures) ∙ c .before .before .if2 .taken) (c .passed .ensures (c .before .before .before .before .before .before .before .before .before .args .text .now) ∙ ap passedBy (c .before .comment .ensures)), passed-in (c .before .before .before .before .before .before .before .before .before .args .text .now) (c .before .before .before .before .before .before .before .before .before .args .at) (c .passed .result) _ (λ e q. inside-text comment-passes (c .before .before .before .before .before .before .before .before .before .args .text .now) (c .before .before .before .before .before .before .before .before .before .args .at) e q) (c .passed .ensures (c .before .before .before .before .before .before .before .before .before .args .text .now) ∙ ap passedBy (c .before .comment .ensures)))
+returns-2 c =
+    let start = c .before .before .before .before .before .before .before .before in
+    let text = start .args .text .now in
+    let q = c .passed .ensures text ∙ ap passedBy (c .before .comment .ensures) in
+    (rw (start .pre .0, sym (c .before .before .before .starts .ensures) ∙ c .before .before .if2 .taken) q, passed-in text (start .args .at) (c .passed .result) _ (λ e p. inside-text comment-passes text (start .args .at) e p) q)
 
 returns-3 : tie.Need-returns-3
 unfolding markup bytes
-returns-3 c = (rw (sym (c .before .before .before .before .before .before .before .before .before .starts .ensures) ∙ c .before .before .before .before .before .before .before .before .if1 .left, sym (c .before .before .before .before .before .before .starts2 .ensures) ∙ c .before .before .before .before .before .if2 .left, sym (c .before .before .before .starts3 .ensures) ∙ c .before .before .if3 .taken) (c .passed2 .ensures (c .before .before .before .before .before .before .before .before .before .before .before .before .args .text .now) ∙ ap passedBy (c .before .section .ensures)), passed-in (c .before .before .before .before .before .before .before .before .before .before .before .before .args .text .now) (c .before .before .before .before .before .before .before .before .before .before .before .before .args .at) (c .passed2 .result) _ (λ e q. inside-text section-passes (c .before .before .before .before .before .before .before .before .before .before .before .before .args .text .now) (c .before .before .before .before .before .before .before .before .before .before .before .before .args .at) e q) (c .passed2 .ensures (c .before .before .before .before .before .before .before .before .before .before .before .before .args .text .now) ∙ ap passedBy (c .before .section .ensures)))
+returns-3 c =
+    let start = c .before .before .before .before .before .before .before .before .before .before .before in
+    let text = start .args .text .now in
+    let q = c .passed2 .ensures text ∙ ap passedBy (c .before .section .ensures) in
+    (rw (start .pre .0, sym (c .before .before .before .before .before .before .starts .ensures) ∙ c .before .before .before .before .before .if2 .left, sym (c .before .before .before .starts2 .ensures) ∙ c .before .before .if3 .taken) q, passed-in text (start .args .at) (c .passed2 .result) _ (λ e p. inside-text section-passes text (start .args .at) e p) q)
 
 returns-4 : tie.Need-returns-4
 unfolding markup bytes
-returns-4 c = (rw (sym (c .before .before .before .before .before .before .before .before .before .before .before .before .starts .ensures) ∙ c .before .before .before .before .before .before .before .before .before .before .before .if1 .left, sym (c .before .before .before .before .before .before .before .before .before .starts2 .ensures) ∙ c .before .before .before .before .before .before .before .before .if2 .left, sym (c .before .before .before .before .before .before .starts3 .ensures) ∙ c .before .before .before .before .before .if3 .left, sym (c .before .before .before .starts4 .ensures) ∙ c .before .before .if4 .taken) (c .passed3 .ensures (c .before .before .before .before .before .before .before .before .before .before .before .before .before .before .before .args .text .now) ∙ ap passedBy (c .before .instruction .ensures)), passed-in (c .before .before .before .before .before .before .before .before .before .before .before .before .before .before .before .args .text .now) (c .before .before .before .before .before .before .before .before .before .before .before .before .before .before .before .args .at) (c .passed3 .result) _ (λ e q. inside-text instruction-passes (c .before .before .before .before .before .before .before .before .before .before .before .before .before .before .before .args .text .now) (c .before .before .before .before .before .before .before .before .before .before .before .before .before .before .before .args .at) e q) (c .passed3 .ensures (c .before .before .before .before .before .before .before .before .before .before .before .before .before .before .before .args .text .now) ∙ ap passedBy (c .before .instruction .ensures)))
+returns-4 c =
+    let start = c .before .before .before .before .before .before .before .before .before .before .before .before .before .before in
+    let text = start .args .text .now in
+    let q = c .passed3 .ensures text ∙ ap passedBy (c .before .instruction .ensures) in
+    (rw (start .pre .0, sym (c .before .before .before .before .before .before .before .before .before .starts .ensures) ∙ c .before .before .before .before .before .before .before .before .if2 .left, sym (c .before .before .before .before .before .before .starts2 .ensures) ∙ c .before .before .before .before .before .if3 .left, sym (c .before .before .before .starts3 .ensures) ∙ c .before .before .if4 .taken) q, passed-in text (start .args .at) (c .passed3 .result) _ (λ e p. inside-text instruction-passes text (start .args .at) e p) q)
 
 returns-5 : tie.Need-returns-5
 unfolding markup bytes
-returns-5 c = (rw (sym (c .before .before .before .before .before .before .before .before .before .before .starts .ensures) ∙ c .before .before .before .before .before .before .before .before .before .if1 .left, sym (c .before .before .before .before .before .before .before .starts2 .ensures) ∙ c .before .before .before .before .before .before .if2 .left, sym (c .before .before .before .before .starts3 .ensures) ∙ c .before .before .before .if3 .left, sym (c .before .starts4 .ensures) ∙ c .if4 .left), omega arith)
+returns-5 c = (rw (c .before .before .before .before .before .before .before .before .before .before .before .before .pre .0, sym (c .before .before .before .before .before .before .before .starts .ensures) ∙ c .before .before .before .before .before .before .if2 .left, sym (c .before .before .before .before .starts2 .ensures) ∙ c .before .before .before .if3 .left, sym (c .before .starts3 .ensures) ∙ c .if4 .left), omega arith)
 
 pub markup-spec : {M : Type 1} → statement M
-markup-spec = tie.close (tie.spec (λ c. search needs) (λ c κs. search needs) (λ c κs. search needs) returns (λ c. search needs) (λ c κs. search needs) (λ c κs. search needs) (λ c κs. search needs) returns-2 (λ c. search needs) (λ c κs. search needs) (λ c κs. search needs) (λ c κs. search needs) returns-3 (λ c. search needs) (λ c κs. search needs) (λ c κs. search needs) (λ c κs. search needs) returns-4 returns-5)
+markup-spec = tie.close (tie.spec (λ c κs. search needs) returns (λ c. search needs) (λ c κs. search needs) (λ c κs. search needs) (λ c κs. search needs) returns-2 (λ c. search needs) (λ c κs. search needs) (λ c κs. search needs) (λ c κs. search needs) returns-3 (λ c. search needs) (λ c κs. search needs) (λ c κs. search needs) (λ c κs. search needs) returns-4 returns-5)

@@ -7,7 +7,7 @@ use mathlib.Core.List.{List, [], _∷_}
 use lib.ListN.{length, set, drop, length-take, length-drop}
 use lib.Seq.{sets}
 use borrow.Rule.Slice.PartMut.{putMid, take-put, same-len-mid}
-use Rattle.xml_text.specs.Steps.{nameOf}
+use Rattle.xml_parts.specs.Steps.{nameOf}
 use Rattle.xml_text.specs.Tape.{TapeEvent}
 use Rattle.xml_text.specs.Root.{levelOfTag}
 use Rattle.xml_text.specs.Answers.{namesUpTo}
@@ -25,7 +25,7 @@ part-tag-start : tie.Need-part-tag-start
 part-tag-start c = omega (arith, c .before .before .before .pre)
 
 tag-requires : tie.Need-tag-requires
-tag-requires c κs = (omega (arith, c .before .before .before .before .before .pre), simp (length-take, length-drop) (omega (arith, c .before .before .before .before .before .pre)), omega (arith, c .before .before .before .before .before .pre))
+tag-requires c κs = ((omega (arith, c .before .before .before .before .before .pre), simp (length-take, length-drop) (omega (arith, c .before .before .before .before .before .pre)), omega (arith, c .before .before .before .before .before .pre)), search needs)
 
 returns : tie.Need-returns
 returns c = ap (levelOfTag _) (tag-bad (c .before .before .before .before .before .before .before .before .before .before .before .before .args .text .now) _ _ _ _ (c .enum-told .given .1) (c .before .before .before .before .before .before .tag .ensures))
@@ -36,8 +36,8 @@ cast-slots c = omega (arith, (tag-to (c .before .before .before .before .before 
 mul-slots : tie.Need-mul-slots
 mul-slots c = omega (arith, c .before .before .before .before .before .before .before .before .before .before .before .before .before .before .pre)
 
-add-t21 : tie.Need-add-t21
-add-t21 c = omega (arith, c .before .before .before .before .before .before .before .before .before .before .before .before .before .before .pre)
+add-t22 : tie.Need-add-t22
+add-t22 c = omega (arith, c .before .before .before .before .before .before .before .before .before .before .before .before .before .before .pre)
 
 returns-2 : tie.Need-returns-2
 returns-2 c =
@@ -46,7 +46,7 @@ returns-2 c =
     let kind = c .before .before .kind .given .0 .0 in
     let event = TapeEvent.tag kind (e .0) (e .1) in (
       event ∷ [],
-      ap (levelOfTag (namesUpTo (a .text .now) (a .slots .now) (a .count))) (e .2) ∙ open-start (a .text .now) (a .slots .now) (putMid (c .before .before .before .before .before .before .before .before .before .before .before .before .before .before .args .count) (length (c .before .before .before .before .before .before .before .before .before .before .before .before .before .before .args .slots .now) - c .before .before .before .before .before .before .before .before .before .before .before .before .before .before .args .count) (c .before .before .before .before .before .before .before .before .before .before .before .before .before .before .args .slots .now) (c .before .before .before .before .before .before .before .before .tag .last .1 .1 .0)) (a .count) _ kind (e .0) (e .1) _ _ (c .if1 .taken) (take-put (c .before .before .before .before .before .before .before .before .before .before .before .before .before .before .args .count) (length (c .before .before .before .before .before .before .before .before .before .before .before .before .before .before .args .slots .now) - c .before .before .before .before .before .before .before .before .before .before .before .before .before .before .args .count) (c .before .before .before .before .before .before .before .before .before .before .before .before .before .before .args .slots .now) (c .before .before .before .before .before .before .before .before .tag .last .1 .1 .0) (omega (arith, c .before .before .before .before .before .before .before .before .before .before .before .before .before .before .pre))) (search needs),
+      ap (levelOfTag (namesUpTo (a .text .now) (a .slots .now) (a .count))) (e .2) ∙ open-start (a .text .now) (a .slots .now) (putMid (c .before .before .before .before .before .before .before .before .before .before .before .before .before .before .args .count) (length (c .before .before .before .before .before .before .before .before .before .before .before .before .before .before .args .slots .now) - c .before .before .before .before .before .before .before .before .before .before .before .before .before .before .args .count) (c .before .before .before .before .before .before .before .before .before .before .before .before .before .before .args .slots .now) (c .before .before .before .before .before .before .before .before .tag .last .1 .1 .1 .0)) (a .count) _ kind (e .0) (e .1) _ _ (c .if1 .taken) (take-put (c .before .before .before .before .before .before .before .before .before .before .before .before .before .before .args .count) (length (c .before .before .before .before .before .before .before .before .before .before .before .before .before .before .args .slots .now) - c .before .before .before .before .before .before .before .before .before .before .before .before .before .before .args .count) (c .before .before .before .before .before .before .before .before .before .before .before .before .before .before .args .slots .now) (c .before .before .before .before .before .before .before .before .tag .last .1 .1 .1 .0) (omega (arith, c .before .before .before .before .before .before .before .before .before .before .before .before .before .before .pre))) (search needs),
       omega (arith, e .3, ap length (one-event event)),
       e .4 ∙ ap (sets (a .marks .now) (a .used)) (sym (one-event event)),
       omega (arith, e .8),
@@ -62,7 +62,7 @@ returns-3 c =
     let kind = c .before .before .kind .given .0 .0 in
     let event = TapeEvent.tag kind (e .0) (e .1) in (
       event ∷ [],
-      ap (levelOfTag (namesUpTo (a .text .now) (a .slots .now) (a .count))) (e .2) ∙ open-empty (a .text .now) (a .slots .now) (putMid (c .before .before .before .before .before .before .before .before .before .before .before .before .before .before .args .count) (length (c .before .before .before .before .before .before .before .before .before .before .before .before .before .before .args .slots .now) - c .before .before .before .before .before .before .before .before .before .before .before .before .before .before .args .count) (c .before .before .before .before .before .before .before .before .before .before .before .before .before .before .args .slots .now) (c .before .before .before .before .before .before .before .before .tag .last .1 .1 .0)) (a .count) (c .before .before .kind .given .0 .1 .0) kind (e .0) (e .1) _ _ (c .if1 .left) (take-put (c .before .before .before .before .before .before .before .before .before .before .before .before .before .before .args .count) (length (c .before .before .before .before .before .before .before .before .before .before .before .before .before .before .args .slots .now) - c .before .before .before .before .before .before .before .before .before .before .before .before .before .before .args .count) (c .before .before .before .before .before .before .before .before .before .before .before .before .before .before .args .slots .now) (c .before .before .before .before .before .before .before .before .tag .last .1 .1 .0) (omega (arith, c .before .before .before .before .before .before .before .before .before .before .before .before .before .before .pre))),
+      ap (levelOfTag (namesUpTo (a .text .now) (a .slots .now) (a .count))) (e .2) ∙ open-empty (a .text .now) (a .slots .now) (putMid (c .before .before .before .before .before .before .before .before .before .before .before .before .before .before .args .count) (length (c .before .before .before .before .before .before .before .before .before .before .before .before .before .before .args .slots .now) - c .before .before .before .before .before .before .before .before .before .before .before .before .before .before .args .count) (c .before .before .before .before .before .before .before .before .before .before .before .before .before .before .args .slots .now) (c .before .before .before .before .before .before .before .before .tag .last .1 .1 .1 .0)) (a .count) (c .before .before .kind .given .0 .1 .0) kind (e .0) (e .1) _ _ (c .if1 .left) (take-put (c .before .before .before .before .before .before .before .before .before .before .before .before .before .before .args .count) (length (c .before .before .before .before .before .before .before .before .before .before .before .before .before .before .args .slots .now) - c .before .before .before .before .before .before .before .before .before .before .before .before .before .before .args .count) (c .before .before .before .before .before .before .before .before .before .before .before .before .before .before .args .slots .now) (c .before .before .before .before .before .before .before .before .tag .last .1 .1 .1 .0) (omega (arith, c .before .before .before .before .before .before .before .before .before .before .before .before .before .before .pre))),
       omega (arith, e .3, ap length (one-event event)),
       e .4 ∙ ap (sets (a .marks .now) (a .used)) (sym (one-event event)),
       omega (arith, e .8),
@@ -72,4 +72,4 @@ returns-3 c =
     )
 
 pub open-tag-spec : {M : Type 1} → statement M
-open-tag-spec = tie.close (tie.spec mul-tag sub-tag part-tag-start (λ c. search needs) tag-requires (λ c. search needs) (λ c. search needs) (λ c. search needs) (λ c. search needs) returns cast-slots mul-slots (λ c. search needs) add-t21 (λ c. search needs) (λ c. search needs) returns-2 (λ c. search needs) (λ c. search needs) returns-3)
+open-tag-spec = tie.close (tie.spec mul-tag sub-tag part-tag-start (λ c. search needs) tag-requires (λ c. search needs) (λ c. search needs) (λ c. search needs) (λ c. search needs) returns cast-slots mul-slots (λ c. search needs) add-t22 (λ c. search needs) (λ c. search needs) returns-2 (λ c. search needs) (λ c. search needs) returns-3)

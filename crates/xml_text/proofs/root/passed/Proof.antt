@@ -1,7 +1,7 @@
 -- `xml_text::root::passed` meets its contract: by the cases of the step. Assumes nothing.
 use borrow.Author.Needs.{needs}
 use mathlib.Core.Path.{ap}
-use Rattle.xml_text.specs.Answers.{moved}
+use Rattle.xml_parts.specs.Answers.{moved}
 use Rattle.xml_text.specs.Root.{passedBy}
 use Rattle.xml_text.proofs.root.passed.Statement.{statement}
 use Rattle.xml_text.proofs.root.passed.Tie as tie

@@ -7,7 +7,7 @@ use Rattle.xml_text.proofs.root.root_over.Statement.{statement}
 use Rattle.xml_text.proofs.root.root_over.Tie as tie
 
 open-tag-requires : tie.Need-open-tag-requires
-open-tag-requires c κs = let p = c .before .before .before .before .before .pre in (p .0, p .1, omega arith, omega arith, omega (arith, p .1), omega arith)
+open-tag-requires c κs = let p = c .before .before .before .before .before .pre .0 in ((p .0, p .1, omega arith, omega arith, omega (arith, p .1), omega arith), search needs)
 
 returns : tie.Need-returns
 unfolding namesUpTo
@@ -20,7 +20,7 @@ inside-requires c κs =
     let start = c .before .before .before .before .before .before .before .before .before .before .before .before .before .before .before in
     let opened = c .before .before .before .before .before .before .before .before .before in
     let g = goes-on (start .args .text .now) (start .args .at) _ _ _ _ (c .before .before .before .count .given .1) (opened .open-tag .ensures) in
-    (start .pre .0, omega (arith, start .pre .1), g .6, g .7, g .5)
+    ((start .pre .0 .0, omega (arith, start .pre .0 .1), g .6, g .7, g .5), search needs)
 
 returns-2 : tie.Need-returns-2
 unfolding namesUpTo

@@ -15,12 +15,12 @@ use Rattle.xml_text.proofs.tags.attributes.Statement.{statement}
 use Rattle.xml_text.proofs.tags.attributes.Tie as tie
 
 abbrev Inv-loop : tie.InvT-loop
-Inv-loop text at keys₀ marks₀ from i₀ count₀ keys marks i count =
+Inv-loop classes text at keys₀ marks₀ from i₀ count₀ keys marks i count =
     (turns : ℕ) × (xs : List AttributePairs) × (length text - i < turns) × (attributesFrom turns (namesUpTo text keys count) xs i (drop i text) ≡ attributes at (drop at text)) × (count ≡ length xs)
     × (marks ≡ sets marks₀ from (attributeMarks xs)) × (at + 3 * count ≤ i) × (length keys ≡ length keys₀) × (length marks ≡ length marks₀)
 
 abbrev μ-loop : tie.MeasureT-loop
-μ-loop text at keys₀ marks₀ from i₀ count₀ keys marks i count = length text - i
+μ-loop classes text at keys₀ marks₀ from i₀ count₀ keys marks i count = length text - i
 
 loop-holds : tie.Need-loop-holds Inv-loop μ-loop
 unfolding attributes namesUpTo attributeMarks
@@ -62,7 +62,7 @@ enum-known-key : tie.Need-enum-known-key Inv-loop μ-loop
 enum-known-key c = omega arith
 
 is-among-requires : tie.Need-is-among-requires Inv-loop μ-loop
-is-among-requires c κs = omega (arith, part-in-more (length (c .before .before .before .before .before .before .before .before .before .args .text .now)) (c .before .before .before .before .before .loop .i) (c .before .before .key .given .1) (c .before .before .before .before .part-of .ensures .1), c .before .before .before .before .before .loop .inv .6, c .before .before .before .before .before .loop .inv .7, c .before .before .before .before .before .before .before .before .before .pre)
+is-among-requires c κs = (omega (arith, part-in-more (length (c .before .before .before .before .before .before .before .before .before .args .text .now)) (c .before .before .before .before .before .loop .i) (c .before .before .key .given .1) (c .before .before .before .before .part-of .ensures .1), c .before .before .before .before .before .loop .inv .6, c .before .before .before .before .before .loop .inv .7, c .before .before .before .before .before .before .before .before .before .pre), search needs)
 
 same-length-5 : tie.Need-same-length-5 Inv-loop μ-loop
 same-length-5 c = omega arith

@@ -4,7 +4,7 @@ use native.Mathlib.Omega.{arith}
 use Prim.Native.Nat.{suc, _-_, _≤_}
 use mathlib.Core.Path.{_≡_, refl, sym, _∙_}
 use lib.ListN.{length, getD, drop}
-use Rattle.xml_text.specs.Steps.{nameOf}
+use Rattle.xml_parts.specs.Steps.{nameOf}
 use Rattle.xml_text.specs.Tags.{isAmong}
 use Rattle.xml_text.specs.Answers.{namesUpTo}
 use Rattle.xml_text.proofs.Laws.Tags.{among-none, among-hit, among-on}
@@ -12,10 +12,10 @@ use Rattle.xml_text.proofs.tags.is_among.Statement.{statement}
 use Rattle.xml_text.proofs.tags.is_among.Tie as tie
 
 abbrev Inv-loop : tie.InvT-loop
-Inv-loop text key keys count k₀ k = (k ≤ count) × (isAmong (nameOf (drop key text)) (namesUpTo text keys k) ≡ isAmong (nameOf (drop key text)) (namesUpTo text keys count))
+Inv-loop classes text key keys count k₀ k = (k ≤ count) × (isAmong (nameOf (drop key text)) (namesUpTo text keys k) ≡ isAmong (nameOf (drop key text)) (namesUpTo text keys count))
 
 abbrev μ-loop : tie.MeasureT-loop
-μ-loop text key keys count k₀ k = k
+μ-loop classes text key keys count k₀ k = k
 
 loop-holds : tie.Need-loop-holds Inv-loop μ-loop
 loop-holds c = (omega arith, refl)

@@ -8,14 +8,14 @@ use lib.Seq.{drop-drop}
 use borrow.Author.Tests.{eq-eqb, ne-eqb}
 use Rattle.text.specs.Text.{bytes}
 use Rattle.xml_text.specs.Tags.{partOf, last}
-use Rattle.xml_text.proofs.Laws.Steps.{starts-length}
-use Rattle.xml_text.proofs.Laws.Moves.{spaces-moves}
+use Rattle.xml_parts.proofs.Laws.Steps.{starts-length}
+use Rattle.xml_parts.proofs.Laws.Moves.{spaces-moves}
 use Rattle.xml_text.proofs.Laws.Tags.{part-weaken}
 use Rattle.xml_text.proofs.tags.part_of.Statement.{statement}
 use Rattle.xml_text.proofs.tags.part_of.Tie as tie
 
-add-t9 : tie.Need-add-t9
-add-t9 c =
+add-t10 : tie.Need-add-t10
+add-t10 c =
     let at = c .before .before .before .spaces .result in
     omega (arith, starts-length _ _ (sym (c .before .starts .ensures) ∙ c .if1 .taken), length-drop at (c .before .before .before .before .before .args .text .now))
 
@@ -28,8 +28,8 @@ returns c =
     let w = starts-length _ _ (sym (c .before .starts .ensures) ∙ c .if1 .taken) in
     (rw (sym (c .before .before .before .spaces .ensures), sym (c .before .starts .ensures) ∙ c .if1 .taken) (ap (last 2 (start + 2)) (sym (drop-drop 2 start (c .before .before .before .before .before .args .text .now)))), (omega arith, omega arith))
 
-add-t13 : tie.Need-add-t13
-add-t13 c =
+add-t14 : tie.Need-add-t14
+add-t14 c =
     let at = c .before .before .before .before .before .before .spaces .result in
     omega (arith, starts-length _ _ (sym (c .before .starts2 .ensures) ∙ c .if2 .taken), length-drop at (c .before .before .before .before .before .before .before .before .args .text .now))
 
@@ -53,4 +53,4 @@ returns-4 c =
     (rw (sym (c .before .before .before .before .before .before .before .before .spaces .ensures), sym (c .before .before .before .before .before .before .starts .ensures) ∙ c .before .before .before .before .before .if1 .left, sym (c .before .before .before .starts2 .ensures) ∙ c .before .before .if2 .left, ne-eqb _ _ (c .before .if3 .left)) (c .attribute .ensures .0), part-weaken _ (c .before .before .before .before .before .before .before .before .before .before .args .at) (c .before .before .before .before .before .before .before .before .spaces .result) (c .attribute .result) (m .0) (c .attribute .ensures .1))
 
 pub part-of-spec : {M : Type 1} → statement M
-part-of-spec = tie.close (tie.spec (λ c κs. search needs) (λ c. search needs) (λ c κs. search needs) add-t9 returns (λ c. search needs) (λ c κs. search needs) add-t13 returns-2 returns-3 (λ c κs. search needs) returns-4)
+part-of-spec = tie.close (tie.spec (λ c κs. search needs) (λ c. search needs) (λ c κs. search needs) add-t10 returns (λ c. search needs) (λ c κs. search needs) add-t14 returns-2 returns-3 (λ c κs. search needs) returns-4)

@@ -9,8 +9,8 @@ use lib.Seq.{sets}
 use Rattle.text.specs.Text.{bytes}
 use Rattle.xml_text.specs.Tape.{attributeMarks, eventMarks}
 use Rattle.xml_text.specs.Tags.{tag, span}
-use Rattle.xml_text.proofs.Laws.Moved.{to-of, bad-of}
-use Rattle.xml_text.proofs.Laws.Moves.{inside-text, literal-passes, name-passes}
+use Rattle.xml_parts.proofs.Laws.Moved.{to-of, bad-of}
+use Rattle.xml_parts.proofs.Laws.Moves.{inside-text, literal-passes, name-passes}
 use Rattle.xml_text.proofs.Laws.Marks.{put-tag}
 use Rattle.xml_text.proofs.Laws.Tags.{ends-bad, ends-to, marks-length, tag-found}
 use Rattle.xml_text.proofs.tags.tag.Statement.{statement}
@@ -28,7 +28,7 @@ add-attributes : tie.Need-add-attributes
 add-attributes c = omega (arith, inside-text (literal-passes (60 ∷ []) (omega arith)) (c .before .before .before .before .before .before .before .before .before .before .before .before .before .before .args .text .now) (c .before .before .before .before .before .before .before .before .before .before .before .before .before .before .args .at) _ (to-of (c .before .before .before .before .before .before .before .before .before .before .before .before .before .before .args .text .now) (c .before .before .before .before .before .before .before .start .given .1) (c .before .before .before .before .before .before .before .before .before .literal .ensures)), inside-text name-passes (c .before .before .before .before .before .before .before .before .before .before .before .before .before .before .args .text .now) _ _ (to-of (c .before .before .before .before .before .before .before .before .before .before .before .before .before .before .args .text .now) (c .before .before .before .end .given .1) (c .before .before .before .before .before .name .ensures)), c .before .before .before .before .before .before .before .before .before .before .before .before .before .before .pre)
 
 attributes-requires : tie.Need-attributes-requires
-attributes-requires c κs = (omega (arith, inside-text (literal-passes (60 ∷ []) (omega arith)) (c .before .before .before .before .before .before .before .before .before .before .before .before .before .before .args .text .now) (c .before .before .before .before .before .before .before .before .before .before .before .before .before .before .args .at) _ (to-of (c .before .before .before .before .before .before .before .before .before .before .before .before .before .before .args .text .now) (c .before .before .before .before .before .before .before .start .given .1) (c .before .before .before .before .before .before .before .before .before .literal .ensures)), inside-text name-passes (c .before .before .before .before .before .before .before .before .before .before .before .before .before .before .args .text .now) _ _ (to-of (c .before .before .before .before .before .before .before .before .before .before .before .before .before .before .args .text .now) (c .before .before .before .end .given .1) (c .before .before .before .before .before .name .ensures)), c .before .before .before .before .before .before .before .before .before .before .before .before .before .before .pre), omega (arith, inside-text (literal-passes (60 ∷ []) (omega arith)) (c .before .before .before .before .before .before .before .before .before .before .before .before .before .before .args .text .now) (c .before .before .before .before .before .before .before .before .before .before .before .before .before .before .args .at) _ (to-of (c .before .before .before .before .before .before .before .before .before .before .before .before .before .before .args .text .now) (c .before .before .before .before .before .before .before .start .given .1) (c .before .before .before .before .before .before .before .before .before .literal .ensures)), inside-text name-passes (c .before .before .before .before .before .before .before .before .before .before .before .before .before .before .args .text .now) _ _ (to-of (c .before .before .before .before .before .before .before .before .before .before .before .before .before .before .args .text .now) (c .before .before .before .end .given .1) (c .before .before .before .before .before .name .ensures)), c .before .before .before .before .before .before .before .before .before .before .before .before .before .before .pre), omega (arith, inside-text (literal-passes (60 ∷ []) (omega arith)) (c .before .before .before .before .before .before .before .before .before .before .before .before .before .before .args .text .now) (c .before .before .before .before .before .before .before .before .before .before .before .before .before .before .args .at) _ (to-of (c .before .before .before .before .before .before .before .before .before .before .before .before .before .before .args .text .now) (c .before .before .before .before .before .before .before .start .given .1) (c .before .before .before .before .before .before .before .before .before .literal .ensures)), inside-text name-passes (c .before .before .before .before .before .before .before .before .before .before .before .before .before .before .args .text .now) _ _ (to-of (c .before .before .before .before .before .before .before .before .before .before .before .before .before .before .args .text .now) (c .before .before .before .end .given .1) (c .before .before .before .before .before .name .ensures)), c .before .before .before .before .before .before .before .before .before .before .before .before .before .before .pre))
+attributes-requires c κs = ((omega (arith, inside-text (literal-passes (60 ∷ []) (omega arith)) (c .before .before .before .before .before .before .before .before .before .before .before .before .before .before .args .text .now) (c .before .before .before .before .before .before .before .before .before .before .before .before .before .before .args .at) _ (to-of (c .before .before .before .before .before .before .before .before .before .before .before .before .before .before .args .text .now) (c .before .before .before .before .before .before .before .start .given .1) (c .before .before .before .before .before .before .before .before .before .literal .ensures)), inside-text name-passes (c .before .before .before .before .before .before .before .before .before .before .before .before .before .before .args .text .now) _ _ (to-of (c .before .before .before .before .before .before .before .before .before .before .before .before .before .before .args .text .now) (c .before .before .before .end .given .1) (c .before .before .before .before .before .name .ensures)), c .before .before .before .before .before .before .before .before .before .before .before .before .before .before .pre), omega (arith, inside-text (literal-passes (60 ∷ []) (omega arith)) (c .before .before .before .before .before .before .before .before .before .before .before .before .before .before .args .text .now) (c .before .before .before .before .before .before .before .before .before .before .before .before .before .before .args .at) _ (to-of (c .before .before .before .before .before .before .before .before .before .before .before .before .before .before .args .text .now) (c .before .before .before .before .before .before .before .start .given .1) (c .before .before .before .before .before .before .before .before .before .literal .ensures)), inside-text name-passes (c .before .before .before .before .before .before .before .before .before .before .before .before .before .before .args .text .now) _ _ (to-of (c .before .before .before .before .before .before .before .before .before .before .before .before .before .before .args .text .now) (c .before .before .before .end .given .1) (c .before .before .before .before .before .name .ensures)), c .before .before .before .before .before .before .before .before .before .before .before .before .before .before .pre), omega (arith, inside-text (literal-passes (60 ∷ []) (omega arith)) (c .before .before .before .before .before .before .before .before .before .before .before .before .before .before .args .text .now) (c .before .before .before .before .before .before .before .before .before .before .before .before .before .before .args .at) _ (to-of (c .before .before .before .before .before .before .before .before .before .before .before .before .before .before .args .text .now) (c .before .before .before .before .before .before .before .start .given .1) (c .before .before .before .before .before .before .before .before .before .literal .ensures)), inside-text name-passes (c .before .before .before .before .before .before .before .before .before .before .before .before .before .before .args .text .now) _ _ (to-of (c .before .before .before .before .before .before .before .before .before .before .before .before .before .before .args .text .now) (c .before .before .before .end .given .1) (c .before .before .before .before .before .name .ensures)), c .before .before .before .before .before .before .before .before .before .before .before .before .before .before .pre)), search needs)
 
 returns-3 : tie.Need-returns-3
 unfolding tag bytes
@@ -46,14 +46,14 @@ add-put-pair c = omega (arith, inside-text (literal-passes (60 ∷ []) (omega ar
 put-pair-requires : tie.Need-put-pair-requires
 put-pair-requires c κs = (omega (arith, inside-text (literal-passes (60 ∷ []) (omega arith)) (c .before .before .before .before .before .before .before .before .before .before .before .before .before .before .before .before .before .before .before .before .before .before .before .before .before .before .before .before .before .before .before .args .text .now) (c .before .before .before .before .before .before .before .before .before .before .before .before .before .before .before .before .before .before .before .before .before .before .before .before .before .before .before .before .before .before .before .args .at) _ (to-of (c .before .before .before .before .before .before .before .before .before .before .before .before .before .before .before .before .before .before .before .before .before .before .before .before .before .before .before .before .before .before .before .args .text .now) (c .before .before .before .before .before .before .before .before .before .before .before .before .before .before .before .before .before .before .before .before .before .before .before .before .start .given .1) (c .before .before .before .before .before .before .before .before .before .before .before .before .before .before .before .before .before .before .before .before .before .before .before .before .before .before .literal .ensures)), inside-text name-passes (c .before .before .before .before .before .before .before .before .before .before .before .before .before .before .before .before .before .before .before .before .before .before .before .before .before .before .before .before .before .before .before .args .text .now) _ _ (to-of (c .before .before .before .before .before .before .before .before .before .before .before .before .before .before .before .before .before .before .before .before .before .before .before .before .before .before .before .before .before .before .before .args .text .now) (c .before .before .before .before .before .before .before .before .before .before .before .before .before .before .before .before .before .before .before .before .end .given .1) (c .before .before .before .before .before .before .before .before .before .before .before .before .before .before .before .before .before .before .before .before .before .before .name .ensures)), (ends-to (c .before .before .before .before .before .before .before .before .before .before .before .before .before .before .before .before .before .before .before .before .before .before .before .before .before .before .before .before .before .before .before .args .text .now) _ _ _ _ (c .before .before .before .before .before .before .before .before .before .before .kind .given .1) (c .before .before .before .before .before .before .before .before .before .before .before .before .before .before .before .before .attributes .ensures)) .4, (ends-to (c .before .before .before .before .before .before .before .before .before .before .before .before .before .before .before .before .before .before .before .before .before .before .before .before .before .before .before .before .before .before .before .args .text .now) _ _ _ _ (c .before .before .before .before .before .before .before .before .before .before .kind .given .1) (c .before .before .before .before .before .before .before .before .before .before .before .before .before .before .before .before .attributes .ensures)) .5, c .before .before .before .before .before .before .before .before .before .before .before .before .before .before .before .before .before .before .before .before .before .before .before .before .before .before .before .before .before .before .before .pre), omega (arith, inside-text (literal-passes (60 ∷ []) (omega arith)) (c .before .before .before .before .before .before .before .before .before .before .before .before .before .before .before .before .before .before .before .before .before .before .before .before .before .before .before .before .before .before .before .args .text .now) (c .before .before .before .before .before .before .before .before .before .before .before .before .before .before .before .before .before .before .before .before .before .before .before .before .before .before .before .before .before .before .before .args .at) _ (to-of (c .before .before .before .before .before .before .before .before .before .before .before .before .before .before .before .before .before .before .before .before .before .before .before .before .before .before .before .before .before .before .before .args .text .now) (c .before .before .before .before .before .before .before .before .before .before .before .before .before .before .before .before .before .before .before .before .before .before .before .before .start .given .1) (c .before .before .before .before .before .before .before .before .before .before .before .before .before .before .before .before .before .before .before .before .before .before .before .before .before .before .literal .ensures)), inside-text name-passes (c .before .before .before .before .before .before .before .before .before .before .before .before .before .before .before .before .before .before .before .before .before .before .before .before .before .before .before .before .before .before .before .args .text .now) _ _ (to-of (c .before .before .before .before .before .before .before .before .before .before .before .before .before .before .before .before .before .before .before .before .before .before .before .before .before .before .before .before .before .before .before .args .text .now) (c .before .before .before .before .before .before .before .before .before .before .before .before .before .before .before .before .before .before .before .before .end .given .1) (c .before .before .before .before .before .before .before .before .before .before .before .before .before .before .before .before .before .before .before .before .before .before .name .ensures)), (ends-to (c .before .before .before .before .before .before .before .before .before .before .before .before .before .before .before .before .before .before .before .before .before .before .before .before .before .before .before .before .before .before .before .args .text .now) _ _ _ _ (c .before .before .before .before .before .before .before .before .before .before .kind .given .1) (c .before .before .before .before .before .before .before .before .before .before .before .before .before .before .before .before .attributes .ensures)) .4, (ends-to (c .before .before .before .before .before .before .before .before .before .before .before .before .before .before .before .before .before .before .before .before .before .before .before .before .before .before .before .before .before .before .before .args .text .now) _ _ _ _ (c .before .before .before .before .before .before .before .before .before .before .kind .given .1) (c .before .before .before .before .before .before .before .before .before .before .before .before .before .before .before .before .attributes .ensures)) .5, c .before .before .before .before .before .before .before .before .before .before .before .before .before .before .before .before .before .before .before .before .before .before .before .before .before .before .before .before .before .before .before .pre), omega (arith, inside-text (literal-passes (60 ∷ []) (omega arith)) (c .before .before .before .before .before .before .before .before .before .before .before .before .before .before .before .before .before .before .before .before .before .before .before .before .before .before .before .before .before .before .before .args .text .now) (c .before .before .before .before .before .before .before .before .before .before .before .before .before .before .before .before .before .before .before .before .before .before .before .before .before .before .before .before .before .before .before .args .at) _ (to-of (c .before .before .before .before .before .before .before .before .before .before .before .before .before .before .before .before .before .before .before .before .before .before .before .before .before .before .before .before .before .before .before .args .text .now) (c .before .before .before .before .before .before .before .before .before .before .before .before .before .before .before .before .before .before .before .before .before .before .before .before .start .given .1) (c .before .before .before .before .before .before .before .before .before .before .before .before .before .before .before .before .before .before .before .before .before .before .before .before .before .before .literal .ensures)), inside-text name-passes (c .before .before .before .before .before .before .before .before .before .before .before .before .before .before .before .before .before .before .before .before .before .before .before .before .before .before .before .before .before .before .before .args .text .now) _ _ (to-of (c .before .before .before .before .before .before .before .before .before .before .before .before .before .before .before .before .before .before .before .before .before .before .before .before .before .before .before .before .before .before .before .args .text .now) (c .before .before .before .before .before .before .before .before .before .before .before .before .before .before .before .before .before .before .before .before .end .given .1) (c .before .before .before .before .before .before .before .before .before .before .before .before .before .before .before .before .before .before .before .before .before .before .name .ensures)), (ends-to (c .before .before .before .before .before .before .before .before .before .before .before .before .before .before .before .before .before .before .before .before .before .before .before .before .before .before .before .before .before .before .before .args .text .now) _ _ _ _ (c .before .before .before .before .before .before .before .before .before .before .kind .given .1) (c .before .before .before .before .before .before .before .before .before .before .before .before .before .before .before .before .attributes .ensures)) .4, (ends-to (c .before .before .before .before .before .before .before .before .before .before .before .before .before .before .before .before .before .before .before .before .before .before .before .before .before .before .before .before .before .before .before .args .text .now) _ _ _ _ (c .before .before .before .before .before .before .before .before .before .before .kind .given .1) (c .before .before .before .before .before .before .before .before .before .before .before .before .before .before .before .before .attributes .ensures)) .5, c .before .before .before .before .before .before .before .before .before .before .before .before .before .before .before .before .before .before .before .before .before .before .before .before .before .before .before .before .before .before .before .pre))
 
-add-t21 : tie.Need-add-t21
-add-t21 c = omega (arith, inside-text (literal-passes (60 ∷ []) (omega arith)) (c .before .before .before .before .before .before .before .before .before .before .before .before .before .before .before .before .before .before .before .before .before .before .before .before .before .before .before .before .before .before .before .before .before .before .args .text .now) (c .before .before .before .before .before .before .before .before .before .before .before .before .before .before .before .before .before .before .before .before .before .before .before .before .before .before .before .before .before .before .before .before .before .before .args .at) _ (to-of (c .before .before .before .before .before .before .before .before .before .before .before .before .before .before .before .before .before .before .before .before .before .before .before .before .before .before .before .before .before .before .before .before .before .before .args .text .now) (c .before .before .before .before .before .before .before .before .before .before .before .before .before .before .before .before .before .before .before .before .before .before .before .before .before .before .before .start .given .1) (c .before .before .before .before .before .before .before .before .before .before .before .before .before .before .before .before .before .before .before .before .before .before .before .before .before .before .before .before .before .literal .ensures)), inside-text name-passes (c .before .before .before .before .before .before .before .before .before .before .before .before .before .before .before .before .before .before .before .before .before .before .before .before .before .before .before .before .before .before .before .before .before .before .args .text .now) _ _ (to-of (c .before .before .before .before .before .before .before .before .before .before .before .before .before .before .before .before .before .before .before .before .before .before .before .before .before .before .before .before .before .before .before .before .before .before .args .text .now) (c .before .before .before .before .before .before .before .before .before .before .before .before .before .before .before .before .before .before .before .before .before .before .before .end .given .1) (c .before .before .before .before .before .before .before .before .before .before .before .before .before .before .before .before .before .before .before .before .before .before .before .before .before .name .ensures)), (ends-to (c .before .before .before .before .before .before .before .before .before .before .before .before .before .before .before .before .before .before .before .before .before .before .before .before .before .before .before .before .before .before .before .before .before .before .args .text .now) _ _ _ _ (c .before .before .before .before .before .before .before .before .before .before .before .before .before .kind .given .1) (c .before .before .before .before .before .before .before .before .before .before .before .before .before .before .before .before .before .before .before .attributes .ensures)) .4, (ends-to (c .before .before .before .before .before .before .before .before .before .before .before .before .before .before .before .before .before .before .before .before .before .before .before .before .before .before .before .before .before .before .before .before .before .before .args .text .now) _ _ _ _ (c .before .before .before .before .before .before .before .before .before .before .before .before .before .kind .given .1) (c .before .before .before .before .before .before .before .before .before .before .before .before .before .before .before .before .before .before .before .attributes .ensures)) .5, c .before .before .before .before .before .before .before .before .before .before .before .before .before .before .before .before .before .before .before .before .before .before .before .before .before .before .before .before .before .before .before .before .before .before .pre)
+add-t22 : tie.Need-add-t22
+add-t22 c = omega (arith, inside-text (literal-passes (60 ∷ []) (omega arith)) (c .before .before .before .before .before .before .before .before .before .before .before .before .before .before .before .before .before .before .before .before .before .before .before .before .before .before .before .before .before .before .before .before .before .before .args .text .now) (c .before .before .before .before .before .before .before .before .before .before .before .before .before .before .before .before .before .before .before .before .before .before .before .before .before .before .before .before .before .before .before .before .before .before .args .at) _ (to-of (c .before .before .before .before .before .before .before .before .before .before .before .before .before .before .before .before .before .before .before .before .before .before .before .before .before .before .before .before .before .before .before .before .before .before .args .text .now) (c .before .before .before .before .before .before .before .before .before .before .before .before .before .before .before .before .before .before .before .before .before .before .before .before .before .before .before .start .given .1) (c .before .before .before .before .before .before .before .before .before .before .before .before .before .before .before .before .before .before .before .before .before .before .before .before .before .before .before .before .before .literal .ensures)), inside-text name-passes (c .before .before .before .before .before .before .before .before .before .before .before .before .before .before .before .before .before .before .before .before .before .before .before .before .before .before .before .before .before .before .before .before .before .before .args .text .now) _ _ (to-of (c .before .before .before .before .before .before .before .before .before .before .before .before .before .before .before .before .before .before .before .before .before .before .before .before .before .before .before .before .before .before .before .before .before .before .args .text .now) (c .before .before .before .before .before .before .before .before .before .before .before .before .before .before .before .before .before .before .before .before .before .before .before .end .given .1) (c .before .before .before .before .before .before .before .before .before .before .before .before .before .before .before .before .before .before .before .before .before .before .before .before .before .name .ensures)), (ends-to (c .before .before .before .before .before .before .before .before .before .before .before .before .before .before .before .before .before .before .before .before .before .before .before .before .before .before .before .before .before .before .before .before .before .before .args .text .now) _ _ _ _ (c .before .before .before .before .before .before .before .before .before .before .before .before .before .kind .given .1) (c .before .before .before .before .before .before .before .before .before .before .before .before .before .before .before .before .before .before .before .attributes .ensures)) .4, (ends-to (c .before .before .before .before .before .before .before .before .before .before .before .before .before .before .before .before .before .before .before .before .before .before .before .before .before .before .before .before .before .before .before .before .before .before .args .text .now) _ _ _ _ (c .before .before .before .before .before .before .before .before .before .before .before .before .before .kind .given .1) (c .before .before .before .before .before .before .before .before .before .before .before .before .before .before .before .before .before .before .before .attributes .ensures)) .5, c .before .before .before .before .before .before .before .before .before .before .before .before .before .before .before .before .before .before .before .before .before .before .before .before .before .before .before .before .before .before .before .before .before .before .pre)
 
-mul-t30 : tie.Need-mul-t30
-mul-t30 c = omega (arith, inside-text (literal-passes (60 ∷ []) (omega arith)) (c .before .before .before .before .before .before .before .before .before .before .before .before .before .before .before .before .before .before .before .before .before .before .before .before .before .before .before .before .before .before .before .before .before .before .args .text .now) (c .before .before .before .before .before .before .before .before .before .before .before .before .before .before .before .before .before .before .before .before .before .before .before .before .before .before .before .before .before .before .before .before .before .before .args .at) _ (to-of (c .before .before .before .before .before .before .before .before .before .before .before .before .before .before .before .before .before .before .before .before .before .before .before .before .before .before .before .before .before .before .before .before .before .before .args .text .now) (c .before .before .before .before .before .before .before .before .before .before .before .before .before .before .before .before .before .before .before .before .before .before .before .before .before .before .before .start .given .1) (c .before .before .before .before .before .before .before .before .before .before .before .before .before .before .before .before .before .before .before .before .before .before .before .before .before .before .before .before .before .literal .ensures)), inside-text name-passes (c .before .before .before .before .before .before .before .before .before .before .before .before .before .before .before .before .before .before .before .before .before .before .before .before .before .before .before .before .before .before .before .before .before .before .args .text .now) _ _ (to-of (c .before .before .before .before .before .before .before .before .before .before .before .before .before .before .before .before .before .before .before .before .before .before .before .before .before .before .before .before .before .before .before .before .before .before .args .text .now) (c .before .before .before .before .before .before .before .before .before .before .before .before .before .before .before .before .before .before .before .before .before .before .before .end .given .1) (c .before .before .before .before .before .before .before .before .before .before .before .before .before .before .before .before .before .before .before .before .before .before .before .before .before .name .ensures)), (ends-to (c .before .before .before .before .before .before .before .before .before .before .before .before .before .before .before .before .before .before .before .before .before .before .before .before .before .before .before .before .before .before .before .before .before .before .args .text .now) _ _ _ _ (c .before .before .before .before .before .before .before .before .before .before .before .before .before .kind .given .1) (c .before .before .before .before .before .before .before .before .before .before .before .before .before .before .before .before .before .before .before .attributes .ensures)) .4, (ends-to (c .before .before .before .before .before .before .before .before .before .before .before .before .before .before .before .before .before .before .before .before .before .before .before .before .before .before .before .before .before .before .before .before .before .before .args .text .now) _ _ _ _ (c .before .before .before .before .before .before .before .before .before .before .before .before .before .kind .given .1) (c .before .before .before .before .before .before .before .before .before .before .before .before .before .before .before .before .before .before .before .attributes .ensures)) .5, c .before .before .before .before .before .before .before .before .before .before .before .before .before .before .before .before .before .before .before .before .before .before .before .before .before .before .before .before .before .before .before .before .before .before .pre)
+mul-t31 : tie.Need-mul-t31
+mul-t31 c = omega (arith, inside-text (literal-passes (60 ∷ []) (omega arith)) (c .before .before .before .before .before .before .before .before .before .before .before .before .before .before .before .before .before .before .before .before .before .before .before .before .before .before .before .before .before .before .before .before .before .before .args .text .now) (c .before .before .before .before .before .before .before .before .before .before .before .before .before .before .before .before .before .before .before .before .before .before .before .before .before .before .before .before .before .before .before .before .before .before .args .at) _ (to-of (c .before .before .before .before .before .before .before .before .before .before .before .before .before .before .before .before .before .before .before .before .before .before .before .before .before .before .before .before .before .before .before .before .before .before .args .text .now) (c .before .before .before .before .before .before .before .before .before .before .before .before .before .before .before .before .before .before .before .before .before .before .before .before .before .before .before .start .given .1) (c .before .before .before .before .before .before .before .before .before .before .before .before .before .before .before .before .before .before .before .before .before .before .before .before .before .before .before .before .before .literal .ensures)), inside-text name-passes (c .before .before .before .before .before .before .before .before .before .before .before .before .before .before .before .before .before .before .before .before .before .before .before .before .before .before .before .before .before .before .before .before .before .before .args .text .now) _ _ (to-of (c .before .before .before .before .before .before .before .before .before .before .before .before .before .before .before .before .before .before .before .before .before .before .before .before .before .before .before .before .before .before .before .before .before .before .args .text .now) (c .before .before .before .before .before .before .before .before .before .before .before .before .before .before .before .before .before .before .before .before .before .before .before .end .given .1) (c .before .before .before .before .before .before .before .before .before .before .before .before .before .before .before .before .before .before .before .before .before .before .before .before .before .name .ensures)), (ends-to (c .before .before .before .before .before .before .before .before .before .before .before .before .before .before .before .before .before .before .before .before .before .before .before .before .before .before .before .before .before .before .before .before .before .before .args .text .now) _ _ _ _ (c .before .before .before .before .before .before .before .before .before .before .before .before .before .kind .given .1) (c .before .before .before .before .before .before .before .before .before .before .before .before .before .before .before .before .before .before .before .attributes .ensures)) .4, (ends-to (c .before .before .before .before .before .before .before .before .before .before .before .before .before .before .before .before .before .before .before .before .before .before .before .before .before .before .before .before .before .before .before .before .before .before .args .text .now) _ _ _ _ (c .before .before .before .before .before .before .before .before .before .before .before .before .before .kind .given .1) (c .before .before .before .before .before .before .before .before .before .before .before .before .before .before .before .before .before .before .before .attributes .ensures)) .5, c .before .before .before .before .before .before .before .before .before .before .before .before .before .before .before .before .before .before .before .before .before .before .before .before .before .before .before .before .before .before .before .before .before .before .pre)
 
-add-t31 : tie.Need-add-t31
-add-t31 c = omega (arith, inside-text (literal-passes (60 ∷ []) (omega arith)) (c .before .before .before .before .before .before .before .before .before .before .before .before .before .before .before .before .before .before .before .before .before .before .before .before .before .before .before .before .before .before .before .before .before .before .args .text .now) (c .before .before .before .before .before .before .before .before .before .before .before .before .before .before .before .before .before .before .before .before .before .before .before .before .before .before .before .before .before .before .before .before .before .before .args .at) _ (to-of (c .before .before .before .before .before .before .before .before .before .before .before .before .before .before .before .before .before .before .before .before .before .before .before .before .before .before .before .before .before .before .before .before .before .before .args .text .now) (c .before .before .before .before .before .before .before .before .before .before .before .before .before .before .before .before .before .before .before .before .before .before .before .before .before .before .before .start .given .1) (c .before .before .before .before .before .before .before .before .before .before .before .before .before .before .before .before .before .before .before .before .before .before .before .before .before .before .before .before .before .literal .ensures)), inside-text name-passes (c .before .before .before .before .before .before .before .before .before .before .before .before .before .before .before .before .before .before .before .before .before .before .before .before .before .before .before .before .before .before .before .before .before .before .args .text .now) _ _ (to-of (c .before .before .before .before .before .before .before .before .before .before .before .before .before .before .before .before .before .before .before .before .before .before .before .before .before .before .before .before .before .before .before .before .before .before .args .text .now) (c .before .before .before .before .before .before .before .before .before .before .before .before .before .before .before .before .before .before .before .before .before .before .before .end .given .1) (c .before .before .before .before .before .before .before .before .before .before .before .before .before .before .before .before .before .before .before .before .before .before .before .before .before .name .ensures)), (ends-to (c .before .before .before .before .before .before .before .before .before .before .before .before .before .before .before .before .before .before .before .before .before .before .before .before .before .before .before .before .before .before .before .before .before .before .args .text .now) _ _ _ _ (c .before .before .before .before .before .before .before .before .before .before .before .before .before .kind .given .1) (c .before .before .before .before .before .before .before .before .before .before .before .before .before .before .before .before .before .before .before .attributes .ensures)) .4, (ends-to (c .before .before .before .before .before .before .before .before .before .before .before .before .before .before .before .before .before .before .before .before .before .before .before .before .before .before .before .before .before .before .before .before .before .before .args .text .now) _ _ _ _ (c .before .before .before .before .before .before .before .before .before .before .before .before .before .kind .given .1) (c .before .before .before .before .before .before .before .before .before .before .before .before .before .before .before .before .before .before .before .attributes .ensures)) .5, c .before .before .before .before .before .before .before .before .before .before .before .before .before .before .before .before .before .before .before .before .before .before .before .before .before .before .before .before .before .before .before .before .before .before .pre)
+add-t32 : tie.Need-add-t32
+add-t32 c = omega (arith, inside-text (literal-passes (60 ∷ []) (omega arith)) (c .before .before .before .before .before .before .before .before .before .before .before .before .before .before .before .before .before .before .before .before .before .before .before .before .before .before .before .before .before .before .before .before .before .before .args .text .now) (c .before .before .before .before .before .before .before .before .before .before .before .before .before .before .before .before .before .before .before .before .before .before .before .before .before .before .before .before .before .before .before .before .before .before .args .at) _ (to-of (c .before .before .before .before .before .before .before .before .before .before .before .before .before .before .before .before .before .before .before .before .before .before .before .before .before .before .before .before .before .before .before .before .before .before .args .text .now) (c .before .before .before .before .before .before .before .before .before .before .before .before .before .before .before .before .before .before .before .before .before .before .before .before .before .before .before .start .given .1) (c .before .before .before .before .before .before .before .before .before .before .before .before .before .before .before .before .before .before .before .before .before .before .before .before .before .before .before .before .before .literal .ensures)), inside-text name-passes (c .before .before .before .before .before .before .before .before .before .before .before .before .before .before .before .before .before .before .before .before .before .before .before .before .before .before .before .before .before .before .before .before .before .before .args .text .now) _ _ (to-of (c .before .before .before .before .before .before .before .before .before .before .before .before .before .before .before .before .before .before .before .before .before .before .before .before .before .before .before .before .before .before .before .before .before .before .args .text .now) (c .before .before .before .before .before .before .before .before .before .before .before .before .before .before .before .before .before .before .before .before .before .before .before .end .given .1) (c .before .before .before .before .before .before .before .before .before .before .before .before .before .before .before .before .before .before .before .before .before .before .before .before .before .name .ensures)), (ends-to (c .before .before .before .before .before .before .before .before .before .before .before .before .before .before .before .before .before .before .before .before .before .before .before .before .before .before .before .before .before .before .before .before .before .before .args .text .now) _ _ _ _ (c .before .before .before .before .before .before .before .before .before .before .before .before .before .kind .given .1) (c .before .before .before .before .before .before .before .before .before .before .before .before .before .before .before .before .before .before .before .attributes .ensures)) .4, (ends-to (c .before .before .before .before .before .before .before .before .before .before .before .before .before .before .before .before .before .before .before .before .before .before .before .before .before .before .before .before .before .before .before .before .before .before .args .text .now) _ _ _ _ (c .before .before .before .before .before .before .before .before .before .before .before .before .before .kind .given .1) (c .before .before .before .before .before .before .before .before .before .before .before .before .before .before .before .before .before .before .before .attributes .ensures)) .5, c .before .before .before .before .before .before .before .before .before .before .before .before .before .before .before .before .before .before .before .before .before .before .before .before .before .before .before .before .before .before .before .before .before .before .pre)
 
 returns-4 : tie.Need-returns-4
 unfolding tag bytes eventMarks
@@ -87,4 +87,4 @@ returns-4 c =
     )
 
 pub tag-spec : {M : Type 1} → statement M
-tag-spec = tie.close (tie.spec (λ c. search needs) (λ c κs. search needs) (λ c. search needs) (λ c. search needs) returns (λ c κs. search needs) (λ c. search needs) (λ c. search needs) returns-2 add-attributes attributes-requires (λ c. search needs) (λ c. search needs) (λ c. search needs) (λ c. search needs) returns-3 (λ c κs. search needs) add-put cast-put (λ c κs. search needs) add-put-pair put-pair-requires add-t21 mul-t30 add-t31 (λ c. search needs) (λ c. search needs) returns-4)
+tag-spec = tie.close (tie.spec (λ c. search needs) (λ c κs. search needs) (λ c. search needs) (λ c. search needs) returns (λ c κs. search needs) (λ c. search needs) (λ c. search needs) returns-2 add-attributes attributes-requires (λ c. search needs) (λ c. search needs) (λ c. search needs) (λ c. search needs) returns-3 (λ c κs. search needs) add-put cast-put (λ c κs. search needs) add-put-pair put-pair-requires add-t22 mul-t31 add-t32 (λ c. search needs) (λ c. search needs) returns-4)

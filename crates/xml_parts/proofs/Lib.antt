@@ -1,0 +1,2 @@
+-- Laws and proofs of the crate `xml_parts`.
+pub mod Laws

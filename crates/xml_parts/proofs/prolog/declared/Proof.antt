@@ -1,0 +1,26 @@
+-- `xml_parts::prolog::declared` meets its contract: the steps one behind the other. Assumes nothing.
+use borrow.Author.Needs.{needs}
+use Rattle.xml_parts.specs.Steps.{space}
+use Rattle.xml_parts.specs.Prolog.{declared}
+use Rattle.xml_parts.proofs.Laws.Moved.{to-of, bad-of}
+use Rattle.xml_parts.proofs.prolog.declared.Statement.{statement}
+use Rattle.xml_parts.proofs.prolog.declared.Tie as tie
+
+returns : tie.Need-returns
+unfolding declared space
+returns c = rw (bad-of (c .before .before .before .before .before .args .text .now) (c .enum-told .given .1) (c .before .before .one-then .ensures))
+
+returns-2 : tie.Need-returns-2
+unfolding declared space
+returns-2 c = rw (to-of (c .before .before .before .before .before .before .before .before .before .args .text .now) (c .before .before .before .before .start .given .1) (c .before .before .before .before .before .before .one-then .ensures), bad-of (c .before .before .before .before .before .before .before .before .before .args .text .now) (c .enum-told2 .given .1) (c .before .before .literal .ensures))
+
+returns-3 : tie.Need-returns-3
+unfolding declared space
+returns-3 c = rw (to-of (c .before .before .before .before .before .before .before .before .before .before .before .before .before .args .text .now) (c .before .before .before .before .before .before .before .before .start .given .1) (c .before .before .before .before .before .before .before .before .before .before .one-then .ensures), to-of (c .before .before .before .before .before .before .before .before .before .before .before .before .before .args .text .now) (c .before .before .before .before .sign .given .1) (c .before .before .before .before .before .before .literal .ensures), bad-of (c .before .before .before .before .before .before .before .before .before .before .before .before .before .args .text .now) (c .enum-told3 .given .1) (c .before .before .eq .ensures))
+
+returns-4 : tie.Need-returns-4
+unfolding declared space
+returns-4 c = rw (to-of (c .before .before .before .before .before .before .before .before .before .before .before .before .before .before .before .args .text .now) (c .before .before .before .before .before .before .before .before .before .before .start .given .1) (c .before .before .before .before .before .before .before .before .before .before .before .before .one-then .ensures), to-of (c .before .before .before .before .before .before .before .before .before .before .before .before .before .before .before .args .text .now) (c .before .before .before .before .before .before .sign .given .1) (c .before .before .before .before .before .before .before .before .literal .ensures), to-of (c .before .before .before .before .before .before .before .before .before .before .before .before .before .before .before .args .text .now) (c .before .before .quote .given .1) (c .before .before .before .before .eq .ensures)) (c .quoted .ensures)
+
+pub declared-spec : {M : Type 1} → statement M
+declared-spec = tie.close (tie.spec (λ c κs. search needs) (λ c. search needs) (λ c. search needs) returns (λ c κs. search needs) (λ c. search needs) (λ c. search needs) returns-2 (λ c κs. search needs) (λ c. search needs) (λ c. search needs) returns-3 (λ c κs. search needs) returns-4)
