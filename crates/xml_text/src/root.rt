@@ -203,10 +203,14 @@ fn root_over(
     requires { ⌜ now classes ≡ classTable ⌝ }
     ensures { λ r. ⌜ IsRoot (now (text .entry)) (now (marks .entry)) 0 (now (marks .exit)) r (root at (drop at (now (text .entry)))) ⌝ }
 {
-    let Onward::On(count, used, behind) = open_tag(classes, text, slots, marks, at, 0, 0) else {
+    let WholeTag::To(kind, start, used, behind) = tag(classes, text, at, slots, marks, 0) else {
         return WholeRoot::Bad;
     };
-    inside(classes, text, slots, marks, behind, count, used)
+    if kind == kinds::START {
+        slots[0] = start as u16;
+        return inside(classes, text, slots, marks, behind, 1, used);
+    }
+    WholeRoot::To(used, behind)
 }
 
 // A short text takes few places, so that few have to be cleared.
