@@ -75,7 +75,7 @@ pub record Beside (n a b r : ℕ) : Type 0 where
   pub inside : (i : ℕ) → a ≤ i → i < r → (i < n) × (b + (i - a) < n)
   pub ends : (n ≤ r) ⊎ (n ≤ b + (r - a))
 
--- the names at two places are the same where they are behind r bytes, and the run of the first goes on there: up to a byte that is no name or differs
+-- the names at a and b are the same where those at i and j are, and the run of the first goes on at i: a byte that is no name's, or differs from the one at j
 pub record SameUpTo (text : Text) (a b i j : ℕ) : Type 0 where
   pub same-names : same (nameOf (drop i text)) (nameOf (drop j text)) ≡ same (nameOf (drop a text)) (nameOf (drop b text))
   pub same-run : many isName i (drop i text) ≡ many isName a (drop a text)

@@ -61,9 +61,9 @@ pub text-run : (b : ℕ) → isTextRun b ≡ true → isInText b ≡ true
 unfolding isTextRun isInText isChar between
 text-run b e = run-in isTextRun isInText refl b (plain-small b _ (and-true-left _ _ (and-true-left _ _ (and-true-left _ _ e)))) e
 
-pub value-run : (b : ℕ) → isValueRun b ≡ true → isInValue b ≡ true
+pub run-in-value : (b : ℕ) → isValueRun b ≡ true → isInValue b ≡ true
 unfolding isValueRun isInValue isChar isQuote between
-value-run b e = run-in isValueRun isInValue refl b (omega (arith, leb-true b 127 (and-true-right (leb 40 b) (leb b 127) (and-true-left (between 40 127 b) (not (eqb b 60)) e)))) e
+run-in-value b e = run-in isValueRun isInValue refl b (omega (arith, leb-true b 127 (and-true-right (leb 40 b) (leb b 127) (and-true-left (between 40 127 b) (not (eqb b 60)) e)))) e
 
 pub comment-run : (b : ℕ) → isCommentRun b ≡ true → (isChar b ≡ true) × (b ≡ 45 → ⊥)
 unfolding isCommentRun isChar between

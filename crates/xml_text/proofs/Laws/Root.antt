@@ -27,10 +27,6 @@ use Rattle.xml_parts.proofs.Laws.Names.{bad-not}
 use Rattle.xml_text.proofs.Laws.Tags.{names-push, names-cong}
 
 -- an end tag is held against the innermost open tag
-pub close-other : (text : Text) (slots : List ℕ) (count j : ℕ) (n : Text) (a : ℕ) (r : Text) → count ≡ suc j → same n (nameOf (drop (getD slots j 0) text)) ≡ false → levelOfClose (namesUpTo text slots count) n a r ≡ stop
-unfolding namesUpTo
-close-other text slots count j n a r e h = rw (e, h)
-
 pub close-same : (text : Text) (slots : List ℕ) (count j : ℕ) (n : Text) (a : ℕ) (r : Text) → count ≡ suc j → same n (nameOf (drop (getD slots j 0) text)) ≡ true
     → levelOfClose (namesUpTo text slots count) n a r ≡ on (namesUpTo text slots j) (TapeEvent.close ∷ []) a r
 unfolding namesUpTo
