@@ -1,5 +1,5 @@
 // The tape of a schema text exported.
-ghost use Rattle.xml_text.specs.Call.{TapeIs};
+ghost use Rattle.xml.specs.Call.{TapeIs};
 
 // Writes the tape of a schema text into the marks and gives the number; the place, the marks used, is stored.
 #[no_mangle]

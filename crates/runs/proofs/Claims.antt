@@ -42,16 +42,16 @@ use Rattle.xsd_parser.proofs.Laws.Cleared.{readState-unnumbered, readRecords-nu
 use Rattle.xsd_parser.proofs.Laws.Occurs.{unbounded-exactly}
 use Rattle.xsd_parser.proofs.Laws.Steps.{step-proper}
 use Rattle.xsd_parser.proofs.Laws.Reads.{readState-place}
-use Rattle.xml_text.specs.Tape.{TapeEvent, tapeMarks}
-use Rattle.xml_text.specs.Tags.{tag}
-use Rattle.xml_text.specs.Call.{wellFormed, document, tapeOf}
-use Rattle.xml_text.specs.Accepted.{EventsAt, fewAttributes, eventRead, recordsRead, ReadsThrough}
-use Rattle.xml_text.specs.Written.{isNameText, attributeOk, newKeys, writtenTag, writtenEvent, taggedAs}
-use Rattle.xml_text.proofs.Laws.Events.{events-at}
-use Rattle.xml_text.proofs.Laws.Records.{tape-records}
-use Rattle.xml_text.proofs.Laws.Reads.{tape-reads, accepted-tape}
-use Rattle.xml_text.proofs.Laws.Written.{tag-written}
-use Rattle.xml_text.proofs.Laws.Back.{tag-back}
+use Rattle.xml.specs.Tape.{TapeEvent, tapeMarks}
+use Rattle.xml.specs.Tags.{tag}
+use Rattle.xml.specs.Call.{wellFormed, document, tapeOf}
+use Rattle.xml.specs.Accepted.{EventsAt, fewAttributes, eventRead, recordsRead, ReadsThrough}
+use Rattle.xml.specs.Written.{isNameText, attributeOk, newKeys, writtenTag, writtenEvent, taggedAs}
+use Rattle.xml.proofs.Laws.Events.{events-at}
+use Rattle.xml.proofs.Laws.Records.{tape-records}
+use Rattle.xml.proofs.Laws.Reads.{tape-reads, accepted-tape}
+use Rattle.xml.proofs.Laws.Written.{tag-written}
+use Rattle.xml.proofs.Laws.Back.{tag-back}
 use Rattle.ir_types.specs.Types.{Cardinality}
 use Rattle.ir_types.specs.Last.{insertAll}
 use Rattle.ir_types.specs.Form.{graphForm}

@@ -1,5 +1,4 @@
 -- What the code's enums say in the terms of the definitions.
---     isInText      a character that stands in text without a look at its neighbours; isInValue: in a value
 --     classOf       the class of a `Class`
 --     classTable    the classes of each byte, a bit for each class; bitOf: the bit of a class; hasBit: flags have a bit
 --     moved         where a step ends, with the bytes left there
@@ -10,25 +9,18 @@ use Prim.Native.Nat.{ℕ, _+_, _-_, _/_, _%_, _^_, _≤_, _<_}
 use mathlib.Core.Path.{_≡_}
 use mathlib.Core.Logic.{_⊎_}
 use mathlib.Core.List.{List, [], _∷_}
-use mathlib.Core.Bool.{Bool, true, not, _&&_}
-use Prim.Native.Char.{code}
+use mathlib.Core.Bool.{Bool, true}
 use lib.ListN.{getD, drop}
 use Rattle.text.specs.Text.{Text, if_then_else_, isDigit, same}
 use Rattle.text.specs.Trim.{isWhiteSpace}
-use Rattle.xml_parts.specs.Classes.{isChar, isLetter, isNameStart, isName, isEncoding}
-use Rattle.xml_parts.specs.Steps.{Step, bad, behind, many, name, nameOf}
-use Rattle.xml_parts.specs.Values.{isQuote}
-use Rattle.xml_parts.specs.Prolog.{versionNumber, encodingName, yesOrNo}
+use Rattle.xml.specs.Classes.{isLetter, isNameStart, isName, isEncoding}
+use Rattle.xml.specs.Steps.{Step, bad, behind, many, name, nameOf}
+use Rattle.xml.specs.Values.{isInText, isInValue}
+use Rattle.xml.specs.Prolog.{versionNumber, encodingName, yesOrNo}
 use Rattle.xml_parts.specs.declared.classes.Class.{Class}
 use Rattle.xml_parts.specs.declared.steps.Moved.{Moved}
 use Rattle.xml_parts.specs.declared.prolog.Body.{Body}
 use lib.Dec.{eqb}
-
-unfoldable pub isInText : ℕ → Bool
-isInText b = isChar b && not (eqb b (code "<")) && not (eqb b (code "&")) && not (eqb b (code "]"))
-
-unfoldable pub isInValue : ℕ → Bool
-isInValue b = isChar b && not (eqb b (code "<")) && not (eqb b (code "&")) && not (isQuote b)
 
 abbrev pub classOf : Class → ℕ → Bool
 classOf Class.Space = isWhiteSpace

@@ -1,6 +1,6 @@
 // The classes of characters.
 ghost use mathlib.Core.Path.{_≡_};
-ghost use Rattle.xml_parts.specs.Classes.{isChar, isName};
+ghost use Rattle.xml.specs.Classes.{isChar, isName};
 ghost use Prim.Native.Nat.{_<_};
 ghost use Rattle.xml_parts.specs.Answers.{classOf, classTable, bitOf, hasBit};
 

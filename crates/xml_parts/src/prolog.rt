@@ -12,7 +12,7 @@ use crate::values::is_quote;
 ghost use mathlib.Core.Path.{_≡_};
 ghost use mathlib.Core.List.{[], _∷_};
 ghost use lib.ListN.{length, drop};
-ghost use Rattle.xml_parts.specs.Prolog.{eq, quoted, declared, optional, declaration, isMisc, miscPart, misc, isDeclaration, prolog};
+ghost use Rattle.xml.specs.Prolog.{eq, quoted, declared, optional, declaration, isMisc, miscPart, misc, isDeclaration, prolog};
 ghost use Rattle.xml_parts.specs.Answers.{moved, bodyOf, classTable};
 
 // What stands between the quotes of a part of the declaration.

@@ -11,9 +11,9 @@ ghost use mathlib.Core.Path.{_≡_};
 ghost use mathlib.Core.Bool.{true};
 ghost use Prim.Native.Nat.{_≤_, _<_};
 ghost use lib.ListN.{length, drop};
-ghost use Rattle.xml_parts.specs.Values.{digitOf, isNumber, isEntity, isReference, isPlain, valueEnd, isQuote, value, charData};
-ghost use Rattle.xml_parts.specs.Answers.{isInText, isInValue, moved, classTable};
-ghost use Rattle.xml_parts.specs.Steps.{behind, many};
+ghost use Rattle.xml.specs.Values.{digitOf, isNumber, isEntity, isReference, isPlain, valueEnd, isQuote, value, charData, isInText, isInValue};
+ghost use Rattle.xml_parts.specs.Answers.{moved, classTable};
+ghost use Rattle.xml.specs.Steps.{behind, many};
 
 // A digit's value, 16 for any other byte.
 pub fn digit_of(b: u8) -> u32

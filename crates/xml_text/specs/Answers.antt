@@ -10,18 +10,18 @@ use lib.ListN.{length, getD, take, drop}
 use Rattle.sheet.specs.Rows.{filled}
 use lib.Seq.{sets}
 use Rattle.text.specs.Text.{Text, if_then_else_}
-use Rattle.xml_parts.specs.Steps.{nameOf}
+use Rattle.xml.specs.Steps.{nameOf}
 use Rattle.xsd_parser.specs.Tape.{Pair}
-use Rattle.xml_text.specs.Tape.{AttributePairs, TapeEvent, attributeMarks, eventMarks, tapeMarks}
-use Rattle.xml_text.specs.Tags.{Part, wrong, last, more, attributeFrom, Ended, unended, ended, Tagged, untagged, tagged}
-use Rattle.xml_text.specs.Root.{Piece, passed, starting, Level, stop, on, Rooted, unrooted, rooted}
+use Rattle.xml.specs.Tape.{AttributePairs, TapeEvent, attributeMarks, eventMarks, tapeMarks}
+use Rattle.xml.specs.Tags.{Part, wrong, last, more, attributeFrom, Ended, unended, ended, Tagged, untagged, tagged}
+use Rattle.xml.specs.Root.{Piece, passed, starting, Level, stop, on, Rooted, unrooted, rooted}
 use Rattle.xml_text.specs.declared.tags.Next.{Next}
 use Rattle.xml_text.specs.declared.tags.EndOfTag.{EndOfTag}
 use Rattle.xml_text.specs.declared.tags.WholeTag.{WholeTag}
 use Rattle.xml_text.specs.declared.root.Content.{Content}
 use Rattle.xml_text.specs.declared.root.Onward.{Onward}
 use Rattle.xml_text.specs.declared.root.WholeRoot.{WholeRoot}
-use Rattle.xml_text.specs.Call.{Document, withDoctype, notWellFormed, wellFormed, Taken, refused}
+use Rattle.xml.specs.Call.{Document, withDoctype, notWellFormed, wellFormed, Taken, refused}
 use Rattle.sheet.specs.Returned.{accepted, malformed, doctype, shortMarks}
 use lib.Dec.{leb}
 use Rattle.xml_text.specs.declared.call.Found.{Found}

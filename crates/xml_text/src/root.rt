@@ -17,9 +17,9 @@ ghost use Prim.Native.Nat.{suc, _+_, _*_, _≤_, _<_};
 ghost use lib.ListN.{length, drop};
 ghost use mathlib.Core.Bool.{false, _||_};
 ghost use Rattle.text.specs.Text.{Text, bytes};
-ghost use Rattle.xml_text.specs.Root.{passedBy, close, markup, levelOf, levelOfTag, turn, inside, root};
-ghost use Rattle.xml_parts.specs.Steps.{startsWith};
-ghost use Rattle.xml_text.specs.Tags.{tag};
+ghost use Rattle.xml.specs.Root.{passedBy, close, markup, levelOf, levelOfTag, turn, inside, root};
+ghost use Rattle.xml.specs.Steps.{startsWith};
+ghost use Rattle.xml.specs.Tags.{tag};
 ghost use Rattle.xml_parts.specs.Answers.{moved, classTable};
 ghost use Rattle.xml_text.specs.Answers.{nextPiece, PieceIn, namesUpTo, GoesOn, IsRoot};
 

@@ -15,9 +15,9 @@ ghost use mathlib.Core.List.{[], _∷_};
 ghost use Prim.Native.Nat.{_+_, _*_, _≤_, _<_};
 ghost use lib.ListN.{length, drop};
 ghost use lib.Seq.{sets};
-ghost use Rattle.xml_parts.specs.Steps.{nameOf};
-ghost use Rattle.xml_text.specs.Tape.{attributeMarks};
-ghost use Rattle.xml_text.specs.Tags.{attribute, partOf, attributeFrom, isAmong, attributes, tag};
+ghost use Rattle.xml.specs.Steps.{nameOf};
+ghost use Rattle.xml.specs.Tape.{attributeMarks};
+ghost use Rattle.xml.specs.Tags.{attribute, partOf, attributeFrom, isAmong, attributes, tag};
 ghost use Rattle.xml_parts.specs.Answers.{classTable};
 ghost use Rattle.xml_text.specs.Answers.{nextPart, PartIn, namesUpTo, EndsTag, IsTag};
 

@@ -12,9 +12,9 @@ use Rattle.text.specs.Trim.{isWhiteSpace}
 use Rattle.text.proofs.Laws.Table.{passes, at}
 use Rattle.text.proofs.Laws.Tests.{and-true-left, and-true-right}
 use Rattle.plain_bytes.specs.Scan.{isTextRun, isValueRun, isCommentRun}
-use Rattle.xml_parts.specs.Classes.{isChar, isLetter, isNameStart, isName, isEncoding}
-use Rattle.xml_parts.specs.Values.{isQuote}
-use Rattle.xml_parts.specs.Answers.{isInText, isInValue, classOf, classTable, bitOf, hasBit}
+use Rattle.xml.specs.Classes.{isChar, isLetter, isNameStart, isName, isEncoding}
+use Rattle.xml.specs.Values.{isQuote, isInText, isInValue}
+use Rattle.xml_parts.specs.Answers.{classOf, classTable, bitOf, hasBit}
 use Rattle.xml_parts.specs.declared.classes.Class.{Class}
 
 -- two tests say the same

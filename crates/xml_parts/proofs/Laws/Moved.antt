@@ -3,7 +3,7 @@ use Prim.Native.Nat.{ℕ}
 use mathlib.Core.Path.{_≡_, sym, ap, _∙_}
 use lib.ListN.{drop}
 use Rattle.text.specs.Text.{Text}
-use Rattle.xml_parts.specs.Steps.{Step, bad, behind}
+use Rattle.xml.specs.Steps.{Step, bad, behind}
 use Rattle.xml_parts.specs.Answers.{moved}
 use Rattle.xml_parts.specs.declared.steps.Moved.{Moved}
 

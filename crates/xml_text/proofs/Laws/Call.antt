@@ -1,47 +1,21 @@
 -- Laws of the call (specs/Call.antt). Assumes nothing.
-use Prim.Native.Nat.{ℕ, suc, _+_, _-_, _≤_, _<_}
+use Prim.Native.Nat.{ℕ, _+_, _-_, _≤_}
 use mathlib.Core.Path.{_≡_, refl, sym, ap, _∙_}
-use mathlib.Core.List.{List, [], _∷_, _++_, append-nil}
+use mathlib.Core.List.{List, _++_, append-nil}
 use native.Mathlib.Omega.{arith}
 use lib.Dec.{leb}
-use lib.ListN.{length, getD, take, drop, replicate, length-replicate, drop-of-length-le}
+use lib.ListN.{length, take, drop, replicate, length-replicate, drop-of-length-le}
 use borrow.Author.Tests.{leb-true}
 use Rattle.sheet.specs.Rows.{filled}
 use Rattle.text.proofs.Laws.Tests.{bool-cases}
-use lib.Seq.{sets, sets-eq, paste, take-at, take-all, length-take-le, drop-cons}
+use lib.Seq.{sets, sets-eq, paste, take-at, take-all, length-take-le}
 use Rattle.text.specs.Text.{Text}
-use Rattle.xml_parts.specs.Steps.{Step, bad, behind}
-use Rattle.xml_parts.specs.Prolog.{misc}
-use Rattle.xml_text.specs.Tape.{TapeEvent, tapeMarks}
-use Rattle.xml_text.specs.Root.{Rooted, unrooted, rooted, root}
-use Rattle.xml_text.specs.Call.{Document, notWellFormed, wellFormed, toEnd, documentFrom, Taken, refused, written, takenOf}
+use Rattle.xml.specs.Tape.{TapeEvent, tapeMarks}
+use Rattle.xml.specs.Root.{Rooted, unrooted, rooted, root}
+use Rattle.xml.specs.Call.{Document, written, takenOf}
 use Rattle.xml_text.specs.Answers.{IsRoot, FoundIs, answerOf}
 use Rattle.xml_text.specs.declared.call.Found.{Found}
 use Rattle.xml_text.specs.declared.root.WholeRoot.{WholeRoot}
-
--- what an answer says of the definition's root
-pub root-bad : (text : Text) (marks after : List ℕ) {m : WholeRoot} {d : Rooted} → m ≡ WholeRoot.Bad → IsRoot text marks 0 after m d → d ≡ unrooted
-root-bad text marks after t p = rw t at p
-
-pub root-to : (text : Text) (marks after : List ℕ) {m : WholeRoot} {d : Rooted} {n a : ℕ} → m ≡ WholeRoot.To n a → IsRoot text marks 0 after m d → (events : List TapeEvent) × (d ≡ rooted events a (drop a text)) × (n ≡ length (tapeMarks events)) × (after ≡ sets marks 0 (tapeMarks events))
-root-to text marks after t p = let q = rw t at p in (q .0, q .1, omega (arith, q .2), q .3)
-
--- a document by its root and what stands behind it
-pub document-bad : (at : ℕ) (s : Text) → root at s ≡ unrooted → documentFrom at s ≡ notWellFormed
-unfolding documentFrom
-document-bad at s e = rw e
-
-pub document-misc : (at : ℕ) (s : Text) (events : List TapeEvent) (a : ℕ) (r : Text) → root at s ≡ rooted events a r → misc a r ≡ bad → documentFrom at s ≡ notWellFormed
-unfolding documentFrom toEnd
-document-misc at s events a r e m = rw (e, m)
-
-pub document-more : (text : Text) (at : ℕ) (s : Text) (events : List TapeEvent) (a end : ℕ) → root at s ≡ rooted events a (drop a text) → misc a (drop a text) ≡ behind end (drop end text) → end < length text → documentFrom at s ≡ notWellFormed
-unfolding documentFrom toEnd
-document-more text at s events a end e m h = rw (e, m, drop-cons text end 0 h)
-
-pub document-whole : (text : Text) (at : ℕ) (s : Text) (events : List TapeEvent) (a end : ℕ) → root at s ≡ rooted events a (drop a text) → misc a (drop a text) ≡ behind end (drop end text) → length text ≤ end → documentFrom at s ≡ wellFormed events
-unfolding documentFrom toEnd
-document-whole text at s events a end e m h = rw (e, m, drop-of-length-le text h)
 
 -- zeros from a place on
 pub zeros-behind : (m : List ℕ) (from : ℕ) → from ≤ length m → paste m from (replicate (length m - from) 0) (length m - from) ≡ filled (length m) (take from m)
@@ -57,10 +31,6 @@ zeros-behind m from h =
 pub tape-stored : (m tape : List ℕ) → length tape ≤ length m → take (length tape) (sets m 0 tape) ≡ tape
 tape-stored m tape h = ap (take (length tape)) (sets-eq tape m 0 (omega arith)) ∙ take-at tape _ (length tape) refl
 
-pub taken-refused : (number place : ℕ) (after : List ℕ) (lent k : ℕ) → number ≡ k → place ≡ 0 → after ≡ filled lent [] → _≡_ {A = Taken} (record { number = number; place = place; marks = after }) (refused lent k)
-unfolding refused
-taken-refused number place after lent k e f g = rw (e, f, g)
-
 -- what was found, with the marks stored so far, is the definition's answer
 pub found-taken : (lent : ℕ) (marks after : List ℕ) (found : Found) (d : Document) → length marks ≡ lent → length after ≡ lent → FoundIs marks after found d → answerOf after found ≡ takenOf lent d
 unfolding answerOf takenOf written
@@ -72,3 +42,10 @@ found-taken lent marks after (Found.Needs n) d m h p =
     (bool-cases (leb (length tape) lent)
     (λ y. rw (y, ap (take (length tape)) (p .3) ∙ tape-stored marks tape (omega (arith, leb-true (length tape) lent y))))
     (λ y. rw y))
+
+-- what an answer says of the definition's root
+pub root-bad : (text : Text) (marks after : List ℕ) {m : WholeRoot} {d : Rooted} → m ≡ WholeRoot.Bad → IsRoot text marks 0 after m d → d ≡ unrooted
+root-bad text marks after t p = rw t at p
+
+pub root-to : (text : Text) (marks after : List ℕ) {m : WholeRoot} {d : Rooted} {n a : ℕ} → m ≡ WholeRoot.To n a → IsRoot text marks 0 after m d → (events : List TapeEvent) × (d ≡ rooted events a (drop a text)) × (n ≡ length (tapeMarks events)) × (after ≡ sets marks 0 (tapeMarks events))
+root-to text marks after t p = let q = rw t at p in (q .0, q .1, omega (arith, q .2), q .3)

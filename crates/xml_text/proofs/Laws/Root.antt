@@ -1,21 +1,20 @@
 -- Laws of the root's turns (specs/Root.antt). Assumes nothing.
-use Prim.Native.Nat.{ℕ, zero, suc, _+_, _-_, _*_, _≤_, _<_}
+use Prim.Native.Nat.{ℕ, zero, suc, _+_, _≤_, _<_}
 use mathlib.Core.Path.{_≡_, refl, sym, ap, _∙_}
-use mathlib.Core.List.{List, [], _∷_, _++_, append-nil, append-assoc}
-use mathlib.Core.Bool.{Bool, true, false}
+use mathlib.Core.List.{List, [], _∷_, _++_}
+use mathlib.Core.Bool.{true, false}
 use native.Mathlib.Omega.{arith}
 use native.Mathlib.Numerals.{add-one}
 use lib.ListN.{length, getD, set, take, drop, length-append}
 use lib.Seq.{sets}
 use borrow.Author.Tests.{eq-eqb, ne-eqb}
-use Rattle.text.specs.Text.{Text, bytes, same}
+use Rattle.text.specs.Text.{Text, same}
 use Rattle.text.proofs.Laws.Tests.{bool-cases}
 use Rattle.xsd_parser.specs.Tape.{Pair}
-use Rattle.xml_parts.specs.Steps.{Step, bad, behind, _andThen_, startsWith, literal, spaces, name, nameOf}
-use Rattle.xml_parts.specs.Values.{charData}
-use Rattle.xml_text.specs.Tape.{AttributePairs, TapeEvent, tapeMarks, eventMarks}
-use Rattle.xml_text.specs.Tags.{Tagged, untagged, tagged, tag}
-use Rattle.xml_text.specs.Root.{Piece, passed, starting, passedBy, endingBy, close, markup, piece, Level, stop, on, opened, levelOfTag, levelOfClose, levelOf, turn, Rooted, unrooted, rooted, addEvents, noneOpen, inside, onLevel, insideAll, root}
+use Rattle.xml.specs.Steps.{Step, bad, behind, name, nameOf}
+use Rattle.xml.specs.Tape.{AttributePairs, TapeEvent, tapeMarks, eventMarks}
+use Rattle.xml.specs.Tags.{Tagged, untagged, tagged, tag}
+use Rattle.xml.specs.Root.{Piece, passed, starting, passedBy, endingBy, close, piece, Level, stop, on, opened, levelOfTag, levelOfClose, levelOf, turn, Rooted, rooted, addEvents, noneOpen, inside}
 use Rattle.xml_parts.specs.Answers.{matched}
 use Rattle.xml_text.specs.Answers.{namesUpTo, nextPiece, PieceIn, IsTag, GoesOn, IsRoot}
 use Rattle.xml_text.specs.declared.root.WholeRoot.{WholeRoot}
@@ -23,7 +22,8 @@ use Rattle.xml_text.specs.declared.root.Content.{Content}
 use Rattle.xml_text.specs.declared.root.Onward.{Onward}
 use Rattle.xml_text.specs.declared.tags.WholeTag.{WholeTag}
 use Rattle.xml_text.proofs.Laws.Marks.{sets-append}
-use Rattle.xml_parts.proofs.Laws.Names.{bad-not}
+use Rattle.xml.proofs.Laws.Names.{bad-not}
+use Rattle.xml.proofs.Laws.Root.{closing, unmatched, tape-append}
 use Rattle.xml_text.proofs.Laws.Tags.{names-push, names-cong}
 
 -- an end tag is held against the innermost open tag
@@ -36,15 +36,6 @@ close-same text slots count j n a r e h = rw (e, h)
 pub put-close : (m : List ℕ) (used : ℕ) → set (set m used 3) (used + 1) 0 ≡ sets m used (tapeMarks (TapeEvent.close ∷ []))
 unfolding tapeMarks eventMarks
 put-close m used = let one : used + 1 ≡ suc used = omega arith in rw one
-
-pub close-size : length (tapeMarks (TapeEvent.close ∷ [])) ≡ 2
-unfolding tapeMarks eventMarks
-close-size = refl
-
--- the numbers of one event
-pub one-event : (e : TapeEvent) → tapeMarks (e ∷ []) ≡ eventMarks e
-unfolding tapeMarks
-one-event e = append-nil (eventMarks e)
 
 -- what an answer says of the definition's tag
 pub tag-bad : (text : Text) (at : ℕ) (marks : List ℕ) (used : ℕ) (after : List ℕ) {m : WholeTag} {d : Tagged} → m ≡ WholeTag.Bad → IsTag text at marks used after m d → d ≡ untagged
@@ -94,39 +85,6 @@ in-passed n at t p = rw t at p
 pub in-starting : (n at : ℕ) {m : Content} {a : ℕ} → m ≡ Content.Starting a → PieceIn n at m → at ≤ a
 in-starting n at t p = rw t at p
 
--- a turn by what stands behind the text before it
-pub turn-bad : (tags : List Text) (at : ℕ) (s : Text) → charData at s ≡ bad → turn tags at s ≡ stop
-unfolding turn piece
-turn-bad tags at s e = rw e
-
-pub turn-of : (tags : List Text) (at : ℕ) (s : Text) (a : ℕ) (r : Text) (d : Piece) → charData at s ≡ behind a r → markup a r ≡ d → turn tags at s ≡ levelOf tags d
-unfolding turn piece
-turn-of tags at s a r d e h = rw (e, h)
-
-pub markup-close : (at : ℕ) (s : Text) → startsWith (bytes "</") s ≡ true → markup at s ≡ close at s
-unfolding markup
-markup-close at s e = rw e
-
--- an end tag, by its parts
-abbrev pub closing : ℕ → Text → Step
-closing n t = name n t andThen spaces andThen literal (bytes ">")
-
-pub closing-of : (n : ℕ) (t : Text) {e f : ℕ} {r u : Text} {d : Step} → name n t ≡ behind e r → behind f u ≡ spaces e r → literal (bytes ">") f u ≡ d → closing n t ≡ d
-closing-of n t h k q = rw (h, sym k) q
-
-pub close-bad : (at : ℕ) (s : Text) → literal (bytes "</") at s ≡ bad → close at s ≡ Piece.wrong
-unfolding close
-close-bad at s e = rw e
-
-pub close-of : (at : ℕ) (s : Text) (n : ℕ) (t : Text) (d : Step) → literal (bytes "</") at s ≡ behind n t → closing n t ≡ d → close at s ≡ endingBy (nameOf t) d
-unfolding close
-close-of at s n t d e h = rw (e, h)
-
--- a name that does not match, or is none, leaves no level
-unmatched : (m : Text) (tags : List Text) (n : Text) (d : Step) → same n m ≡ false → levelOf (m ∷ tags) (endingBy n d) ≡ stop
-unmatched m tags n bad e = refl
-unmatched m tags n (behind a r) e = rw e
-
 pub level-bad : (text : Text) (slots : List ℕ) (count j n : ℕ) → count ≡ suc j → matched text n (getD slots j 0) ≡ bad
     → levelOf (namesUpTo text slots count) (endingBy (nameOf (drop n text)) (closing n (drop n text))) ≡ stop
 unfolding matched namesUpTo
@@ -144,54 +102,16 @@ matched-to text n top e q =
     (λ h. (h, rw h at q))
     (λ h. absurd (bad-not (rw h at q)))
 
--- events in front of events
-pub add-none : (d : Rooted) → addEvents [] d ≡ d
-unfolding addEvents
-add-none unrooted = refl
-add-none (rooted es a r) = refl
-
-pub add-add : (xs ys : List TapeEvent) (d : Rooted) → addEvents xs (addEvents ys d) ≡ addEvents (xs ++ ys) d
-unfolding addEvents
-add-add xs ys unrooted = refl
-add-add xs ys (rooted es a r) = ap (λ (l : List TapeEvent). rooted l a r) (sym (append-assoc xs ys es))
-
-pub add-bad : (xs : List TapeEvent) → addEvents xs unrooted ≡ unrooted
-unfolding addEvents
-add-bad xs = refl
-
-pub add-end : (xs : List TapeEvent) (a : ℕ) (r : Text) → addEvents xs (rooted [] a r) ≡ rooted xs a r
-unfolding addEvents
-add-end xs a r = ap (λ (l : List TapeEvent). rooted l a r) (append-nil xs)
-
-pub tape-append : (xs ys : List TapeEvent) → tapeMarks (xs ++ ys) ≡ tapeMarks xs ++ tapeMarks ys
-unfolding tapeMarks
-tape-append [] ys = refl
-tape-append (x ∷ xs) ys = ap (λ (l : List ℕ). eventMarks x ++ l) (tape-append xs ys) ∙ sym (append-assoc (eventMarks x) (tapeMarks xs) (tapeMarks ys))
-
 pub some-open : (text : Text) (slots : List ℕ) (k : ℕ) → 0 < k → noneOpen (namesUpTo text slots k) ≡ false
 unfolding namesUpTo
 some-open text slots zero h = absurd (omega arith)
 some-open text slots (suc k) h = refl
-
--- the content, by its next turn
-pub inside-stop : (turns : ℕ) (tags : List Text) (at : ℕ) (s : Text) → noneOpen tags ≡ false → turn tags at s ≡ stop → inside turns tags at s ≡ unrooted
-unfolding inside
-inside-stop zero tags at s o e = refl
-inside-stop (suc turns) tags at s o e = rw (o, e)
 
 pub inside-end : (turns : ℕ) (text : Text) (slots : List ℕ) (left at : ℕ) (s : Text) → 0 < turns → left ≤ 0 → inside turns (namesUpTo text slots left) at s ≡ rooted [] at s
 unfolding inside namesUpTo
 inside-end zero text slots left at s h k = absurd (omega arith)
 inside-end (suc turns) text slots zero at s h k = refl
 inside-end (suc turns) text slots (suc left) at s h k = absurd (omega arith)
-
-pub inside-on : (n turns : ℕ) (before : List TapeEvent) (tags : List Text) (at : ℕ) (s : Text) (left : List Text) (events : List TapeEvent) (a : ℕ) (r : Text) (whole : Rooted)
-    → n - at < turns → at < a → a ≤ n → noneOpen tags ≡ false → turn tags at s ≡ on left events a r → addEvents before (inside turns tags at s) ≡ whole
-    → (t : ℕ) × (n - a < t) × (addEvents (before ++ events) (inside t left a r) ≡ whole)
-unfolding inside
-inside-on n zero before tags at s left events a r whole h g k o e w = absurd (omega arith)
-inside-on n (suc turns) before tags at s left events a r whole h g k o e w =
-    (turns, omega arith, sym (add-add before events (inside turns left a r)) ∙ (rw (o, e) at w))
 
 -- what an answer says of the definition's turn
 pub goes-stop : (text : Text) (at : ℕ) (slots marks : List ℕ) (used : ℕ) (after : List ℕ) {m : Onward} {d : Level} → m ≡ Onward.Stop → GoesOn text at slots marks used after m d → d ≡ stop
@@ -216,7 +136,3 @@ root-joined text m m1 m2 n es (WholeRoot.To k a) inner whole w s e p = (
   omega (arith, p .2, ap length (tape-append es (p .0)), length-append (tapeMarks es) (tapeMarks (p .0))),
   p .3 ∙ ap (λ (l : List ℕ). sets l n (tapeMarks (p .0))) s ∙ tape-more m 0 n es (p .0) e,
 )
-
-pub root-found : (at : ℕ) (s : Text) (d : Level) → levelOfTag [] (tag at s) ≡ d → root at s ≡ onLevel insideAll d
-unfolding root
-root-found at s d e = rw e

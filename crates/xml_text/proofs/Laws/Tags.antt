@@ -1,18 +1,19 @@
 -- Laws of a tag's parts and of the names of the slots (specs/Tags.antt, specs/Answers.antt). Assumes nothing.
-use Prim.Native.Nat.{ℕ, zero, suc, _+_, _-_, _*_, _≤_, _<_}
+use Prim.Native.Nat.{ℕ, zero, suc, _+_, _*_, _≤_, _<_}
 use mathlib.Core.Path.{_≡_, refl, sym, ap, _∙_}
 use mathlib.Core.List.{List, [], _∷_, _++_}
-use mathlib.Core.Bool.{Bool, true, false, _||_}
+use mathlib.Core.Bool.{true, false}
 use native.Mathlib.Omega.{arith}
 use lib.ListN.{length, getD, set, take, drop}
 use lib.Seq.{sets, getD-set-same, getD-set-other, getD-take}
-use Rattle.text.specs.Text.{Text, bytes, same}
-use Rattle.xml_parts.specs.Steps.{behind, literal, name, nameOf}
-use Rattle.xml_text.specs.Tape.{AttributePairs, attributeMarks}
-use Rattle.xml_text.specs.Tags.{Part, wrong, last, more, attributeFrom, partOf, isAmong, Ended, unended, ended, attributesFrom, attributes, Tagged, tagged, span, tag}
+use Rattle.text.specs.Text.{Text, same}
+use Rattle.xml.specs.Steps.{behind, nameOf}
+use Rattle.xml.specs.Tape.{AttributePairs, attributeMarks}
+use Rattle.xml.specs.Tags.{Part, wrong, last, more, attributeFrom, isAmong, Ended, unended, tag}
 use Rattle.xml_text.specs.Answers.{namesUpTo, nextPart, PartIn, EndsTag}
 use Rattle.xml_text.specs.declared.tags.EndOfTag.{EndOfTag}
 use Rattle.xml_text.specs.declared.tags.Next.{Next}
+use Rattle.xml.proofs.Laws.Tags.{marks-length, marks-append}
 use Rattle.xml_text.proofs.Laws.Marks.{sets-append}
 
 pub among-none : (n text : Text) (slots : List ℕ) (k : ℕ) → k ≤ 0 → isAmong n (namesUpTo text slots k) ≡ false
@@ -62,39 +63,6 @@ part-in-last n at t p = rw t at p
 pub part-in-more : (n at : ℕ) {m : Next} {key keyEnd quote to : ℕ} → m ≡ Next.More key keyEnd quote to → PartIn n at m → (at ≤ key) × (key < keyEnd) × (keyEnd < quote) × (quote + 2 ≤ to) × (to ≤ n)
 part-in-more n at t p = rw t at p
 
--- the parts of a tag, by the next one
-pub attributes-wrong : (turns : ℕ) (keys : List Text) (xs : List AttributePairs) (at : ℕ) (s : Text) → partOf at s ≡ wrong → attributesFrom turns keys xs at s ≡ unended
-unfolding attributesFrom
-attributes-wrong zero keys xs at s e = refl
-attributes-wrong (suc turns) keys xs at s e = rw e
-
-pub attributes-last : (turns : ℕ) (keys : List Text) (xs : List AttributePairs) (at : ℕ) (s : Text) (kind a : ℕ) (r : Text) → 0 < turns → partOf at s ≡ last kind a r → attributesFrom turns keys xs at s ≡ ended kind xs a r
-unfolding attributesFrom
-attributes-last zero keys xs at s kind a r h e = absurd (omega arith)
-attributes-last (suc turns) keys xs at s kind a r h e = rw e
-
-pub attributes-twice : (turns : ℕ) (keys : List Text) (xs : List AttributePairs) (at : ℕ) (s : Text) (x : AttributePairs) (key : Text) (a : ℕ) (r : Text) → partOf at s ≡ more x key a r → isAmong key keys ≡ true → attributesFrom turns keys xs at s ≡ unended
-unfolding attributesFrom
-attributes-twice zero keys xs at s x key a r e m = refl
-attributes-twice (suc turns) keys xs at s x key a r e m = rw (e, m)
-
-pub attributes-on : (n turns : ℕ) (keys : List Text) (xs : List AttributePairs) (at : ℕ) (s : Text) (x : AttributePairs) (key : Text) (a : ℕ) (r : Text) (whole : Ended)
-    → n - at < turns → at < a → a ≤ n → partOf at s ≡ more x key a r → isAmong key keys ≡ false → attributesFrom turns keys xs at s ≡ whole
-    → (t : ℕ) × (n - a < t) × (attributesFrom t (key ∷ keys) (xs ++ x ∷ []) a r ≡ whole)
-unfolding attributesFrom
-attributes-on n zero keys xs at s x key a r whole h g k e m w = absurd (omega arith)
-attributes-on n (suc turns) keys xs at s x key a r whole h g k e m w = (turns, omega arith, rw (e, m) at w)
-
-pub marks-length : (xs : List AttributePairs) → length (attributeMarks xs) ≡ 4 * length xs
-unfolding attributeMarks
-marks-length [] = refl
-marks-length (x ∷ xs) = omega (arith, marks-length xs)
-
-pub marks-append : (xs ys : List AttributePairs) → attributeMarks (xs ++ ys) ≡ attributeMarks xs ++ attributeMarks ys
-unfolding attributeMarks
-marks-append [] ys = refl
-marks-append (x ∷ xs) ys = ap (λ (l : List ℕ). x .key .offset ∷ x .key .size ∷ x .value .offset ∷ x .value .size ∷ l) (marks-append xs ys)
-
 -- the numbers of one attribute more
 pub marks-more : (m : List ℕ) (from count : ℕ) (xs : List AttributePairs) (x : AttributePairs) → count ≡ length xs → sets (sets m from (attributeMarks xs)) (from + 4 * count) (attributeMarks (x ∷ [])) ≡ sets m from (attributeMarks (xs ++ x ∷ []))
 marks-more m from count xs x e =
@@ -107,11 +75,6 @@ ends-bad text at marks from after t p = rw t at p
 
 pub ends-to : (text : Text) (at : ℕ) (marks : List ℕ) (from : ℕ) (after : List ℕ) {m : EndOfTag} {d : Ended} {kind count a : ℕ} → m ≡ EndOfTag.To kind count a → EndsTag text at marks from after m d → EndsTag text at marks from after (EndOfTag.To kind count a) d
 ends-to text at marks from after t p = rw t at p
-
-pub tag-found : (at : ℕ) (s : Text) {n : ℕ} {t : Text} {e : ℕ} {r : Text} {kind : ℕ} {xs : List AttributePairs} {a : ℕ} {u : Text}
-    → literal (bytes "<") at s ≡ behind n t → name n t ≡ behind e r → attributes e r ≡ ended kind xs a u → tag at s ≡ tagged kind (span n e) xs (nameOf t) a u
-unfolding tag
-tag-found at s p q w = rw (p, q, w)
 
 -- only the slots that count are looked at
 pub names-take : (text : Text) (slots : List ℕ) (n k : ℕ) → k ≤ n → namesUpTo text (take n slots) k ≡ namesUpTo text slots k

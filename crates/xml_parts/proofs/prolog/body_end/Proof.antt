@@ -2,7 +2,7 @@
 use borrow.Author.Needs.{needs}
 use mathlib.Core.Path.{sym, _∙_}
 use Rattle.text.specs.Text.{bytes}
-use Rattle.xml_parts.specs.Prolog.{versionNumber, encodingName, yesOrNo}
+use Rattle.xml.specs.Prolog.{versionNumber, encodingName, yesOrNo}
 use Rattle.xml_parts.proofs.Laws.Moved.{to-of, bad-of}
 use Rattle.xml_parts.proofs.prolog.body_end.Statement.{statement}
 use Rattle.xml_parts.proofs.prolog.body_end.Tie as tie

@@ -2,7 +2,7 @@
 use borrow.Author.Needs.{needs}
 use mathlib.Core.Path.{sym}
 use Rattle.text.specs.Text.{bytes}
-use Rattle.xml_parts.specs.Prolog.{declaration}
+use Rattle.xml.specs.Prolog.{declaration}
 use Rattle.xml_parts.proofs.Laws.Moved.{to-of, bad-of}
 use Rattle.xml_parts.proofs.prolog.declaration.Statement.{statement}
 use Rattle.xml_parts.proofs.prolog.declaration.Tie as tie

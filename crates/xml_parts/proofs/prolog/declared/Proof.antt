@@ -1,7 +1,7 @@
 -- `xml_parts::prolog::declared` meets its contract: the steps one behind the other. Assumes nothing.
 use borrow.Author.Needs.{needs}
-use Rattle.xml_parts.specs.Steps.{space}
-use Rattle.xml_parts.specs.Prolog.{declared}
+use Rattle.xml.specs.Steps.{space}
+use Rattle.xml.specs.Prolog.{declared}
 use Rattle.xml_parts.proofs.Laws.Moved.{to-of, bad-of}
 use Rattle.xml_parts.proofs.prolog.declared.Statement.{statement}
 use Rattle.xml_parts.proofs.prolog.declared.Tie as tie

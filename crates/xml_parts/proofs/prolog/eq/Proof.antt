@@ -2,7 +2,7 @@
 use borrow.Author.Needs.{needs}
 use mathlib.Core.Path.{sym}
 use Rattle.text.specs.Text.{bytes}
-use Rattle.xml_parts.specs.Prolog.{eq}
+use Rattle.xml.specs.Prolog.{eq}
 use Rattle.xml_parts.proofs.Laws.Moved.{to-of, bad-of}
 use Rattle.xml_parts.proofs.prolog.eq.Statement.{statement}
 use Rattle.xml_parts.proofs.prolog.eq.Tie as tie

@@ -2,8 +2,8 @@
 use borrow.Author.Needs.{needs}
 use mathlib.Core.Path.{sym, ap, _∙_}
 use Rattle.text.specs.Text.{bytes}
-use Rattle.xml_parts.specs.Classes.{isName}
-use Rattle.xml_parts.specs.Prolog.{isDeclaration}
+use Rattle.xml.specs.Classes.{isName}
+use Rattle.xml.specs.Prolog.{isDeclaration}
 use Rattle.xml_parts.proofs.prolog.is_declaration.Statement.{statement}
 use Rattle.xml_parts.proofs.prolog.is_declaration.Tie as tie
 

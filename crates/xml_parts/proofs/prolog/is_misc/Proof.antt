@@ -1,7 +1,7 @@
 -- `xml_parts::prolog::is_misc` meets its contract: the words of the definition. Assumes nothing.
 use borrow.Author.Needs.{needs}
 use Rattle.text.specs.Text.{bytes}
-use Rattle.xml_parts.specs.Prolog.{isMisc}
+use Rattle.xml.specs.Prolog.{isMisc}
 use Rattle.xml_parts.proofs.prolog.is_misc.Statement.{statement}
 use Rattle.xml_parts.proofs.prolog.is_misc.Tie as tie
 

@@ -4,10 +4,10 @@ use native.Mathlib.Omega.{arith}
 use Prim.Native.Nat.{ℕ, suc, _-_, _<_}
 use mathlib.Core.Path.{_≡_, sym, ap, _∙_}
 use lib.ListN.{length, drop, length-drop}
-use Rattle.xml_parts.specs.Steps.{Step, _andThen_}
-use Rattle.xml_parts.specs.Prolog.{miscFrom, miscBehind, misc}
+use Rattle.xml.specs.Steps.{Step, _andThen_}
+use Rattle.xml.specs.Prolog.{miscFrom, miscBehind, misc}
 use Rattle.xml_parts.proofs.Laws.Moved.{to-of, bad-of}
-use Rattle.xml_parts.proofs.Laws.Moves.{misc-ahead, misc-bad, misc-stop, misc-on}
+use Rattle.xml.proofs.Laws.Moves.{misc-ahead, misc-bad, misc-stop, misc-on}
 use Rattle.xml_parts.proofs.prolog.misc.Statement.{statement}
 use Rattle.xml_parts.proofs.prolog.misc.Tie as tie
 

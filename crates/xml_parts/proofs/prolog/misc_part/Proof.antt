@@ -2,7 +2,7 @@
 use borrow.Author.Needs.{needs}
 use mathlib.Core.Path.{sym, _∙_}
 use Rattle.text.specs.Text.{bytes}
-use Rattle.xml_parts.specs.Prolog.{miscPart}
+use Rattle.xml.specs.Prolog.{miscPart}
 use Rattle.xml_parts.proofs.prolog.misc_part.Statement.{statement}
 use Rattle.xml_parts.proofs.prolog.misc_part.Tie as tie
 

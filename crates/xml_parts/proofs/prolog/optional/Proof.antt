@@ -1,7 +1,7 @@
 -- `xml_parts::prolog::optional` meets its contract: the word decides. Assumes nothing.
 use borrow.Author.Needs.{needs}
 use mathlib.Core.Path.{sym, _∙_}
-use Rattle.xml_parts.specs.Prolog.{optional}
+use Rattle.xml.specs.Prolog.{optional}
 use Rattle.xml_parts.proofs.prolog.optional.Statement.{statement}
 use Rattle.xml_parts.proofs.prolog.optional.Tie as tie
 

@@ -1,7 +1,7 @@
 -- `xml_parts::prolog::prolog` meets its contract: the steps one behind the other. Assumes nothing.
 use borrow.Author.Needs.{needs}
 use mathlib.Core.Path.{sym, _∙_}
-use Rattle.xml_parts.specs.Prolog.{prolog}
+use Rattle.xml.specs.Prolog.{prolog}
 use Rattle.xml_parts.proofs.Laws.Moved.{to-of, bad-of}
 use Rattle.xml_parts.proofs.prolog.prolog.Statement.{statement}
 use Rattle.xml_parts.proofs.prolog.prolog.Tie as tie

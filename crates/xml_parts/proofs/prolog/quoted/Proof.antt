@@ -5,9 +5,9 @@ use mathlib.Core.Path.{sym, _∙_}
 use native.Mathlib.Numerals.{add-one}
 use borrow.Author.Tests.{not-true, not-false}
 use Rattle.xml_parts.specs.Answers.{bodyOf}
-use Rattle.xml_parts.specs.Prolog.{quoted}
+use Rattle.xml.specs.Prolog.{quoted}
 use Rattle.xml_parts.proofs.Laws.Moved.{to-of, bad-of}
-use Rattle.xml_parts.proofs.Laws.Prolog.{quoted-past, quoted-wrong, quoted-on}
+use Rattle.xml.proofs.Laws.Prolog.{quoted-past, quoted-wrong, quoted-on}
 use Rattle.xml_parts.proofs.prolog.quoted.Statement.{statement}
 use Rattle.xml_parts.proofs.prolog.quoted.Tie as tie
 

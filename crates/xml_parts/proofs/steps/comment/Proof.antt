@@ -1,7 +1,7 @@
 -- `xml_parts::steps::comment` meets its contract: the steps one behind the other. Assumes nothing.
 use borrow.Author.Needs.{needs}
 use Rattle.text.specs.Text.{bytes}
-use Rattle.xml_parts.specs.Steps.{comment}
+use Rattle.xml.specs.Steps.{comment}
 use Rattle.xml_parts.proofs.Laws.Moved.{to-of, bad-of}
 use Rattle.xml_parts.proofs.steps.comment.Statement.{statement}
 use Rattle.xml_parts.proofs.steps.comment.Tie as tie

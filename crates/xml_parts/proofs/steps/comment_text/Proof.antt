@@ -4,7 +4,7 @@ use mathlib.Core.Path.{_∙_}
 use mathlib.Core.List.{[], _∷_}
 use Rattle.text.specs.Text.{bytes}
 use Rattle.xml_parts.proofs.Laws.Classes.{comment-run}
-use Rattle.xml_parts.proofs.Laws.Steps.{until-over}
+use Rattle.xml_parts.proofs.Laws.Skips.{until-over}
 use Rattle.xml_parts.proofs.steps.comment_text.Statement.{statement}
 use Rattle.xml_parts.proofs.steps.comment_text.Tie as tie
 

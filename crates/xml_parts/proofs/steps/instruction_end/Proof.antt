@@ -3,7 +3,7 @@ use borrow.Author.Needs.{needs}
 use mathlib.Core.Path.{sym, ap, _∙_}
 use Rattle.text.specs.Text.{bytes}
 use Rattle.text.specs.Trim.{isWhiteSpace}
-use Rattle.xml_parts.specs.Steps.{instructionEnd}
+use Rattle.xml.specs.Steps.{instructionEnd}
 use Rattle.xml_parts.proofs.steps.instruction_end.Statement.{statement}
 use Rattle.xml_parts.proofs.steps.instruction_end.Tie as tie
 

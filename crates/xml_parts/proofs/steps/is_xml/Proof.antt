@@ -1,7 +1,7 @@
 -- `xml_parts::steps::is_xml` meets its contract: three bytes, each in either case. Assumes nothing.
 use borrow.Author.Needs.{needs}
 use mathlib.Core.Path.{sym, _∙_}
-use Rattle.xml_parts.proofs.Laws.Names.{xml-three, xml-other}
+use Rattle.xml.proofs.Laws.Names.{xml-three, xml-other}
 use Rattle.xml_parts.proofs.steps.is_xml.Statement.{statement}
 use Rattle.xml_parts.proofs.steps.is_xml.Tie as tie
 

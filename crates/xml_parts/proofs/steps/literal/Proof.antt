@@ -3,7 +3,7 @@ use borrow.Author.Needs.{needs}
 use native.Mathlib.Omega.{arith}
 use mathlib.Core.Path.{_≡_, sym, ap, _∙_}
 use lib.ListN.{length-drop}
-use Rattle.xml_parts.proofs.Laws.Steps.{starts-length, literal-yes, literal-no}
+use Rattle.xml.proofs.Laws.Steps.{starts-length, literal-yes, literal-no}
 use Rattle.xml_parts.proofs.steps.literal.Statement.{statement}
 use Rattle.xml_parts.proofs.steps.literal.Tie as tie
 

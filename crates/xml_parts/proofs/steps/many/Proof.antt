@@ -6,9 +6,9 @@ use mathlib.Core.Path.{_≡_, refl, sym, _∙_}
 use native.Mathlib.Numerals.{add-one}
 use lib.ListN.{length, drop}
 use borrow.Author.Tests.{not-true, not-false}
-use Rattle.xml_parts.specs.Steps.{many}
+use Rattle.xml.specs.Steps.{many}
 use Rattle.xml_parts.specs.Answers.{classOf}
-use Rattle.xml_parts.proofs.Laws.Steps.{many-stop, many-on, many-end}
+use Rattle.xml.proofs.Laws.Steps.{many-stop, many-on, many-end}
 use Rattle.xml_parts.proofs.steps.many.Statement.{statement}
 use Rattle.xml_parts.proofs.steps.many.Tie as tie
 

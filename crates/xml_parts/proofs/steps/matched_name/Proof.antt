@@ -2,8 +2,9 @@
 use borrow.Author.Needs.{needs}
 use mathlib.Core.Path.{sym, ap, _∙_}
 use borrow.Author.Tests.{not-true, not-false}
-use Rattle.xml_parts.specs.Classes.{isName, isNameStart}
-use Rattle.xml_parts.proofs.Laws.Names.{name-no-start, name-run, run-none, matched-differ, matched-longer, matched-same}
+use Rattle.xml.specs.Classes.{isName, isNameStart}
+use Rattle.xml.proofs.Laws.Names.{name-no-start, name-run, run-none}
+use Rattle.xml_parts.proofs.Laws.Matched.{matched-differ, matched-longer, matched-same}
 use Rattle.xml_parts.proofs.steps.matched_name.Statement.{statement}
 use Rattle.xml_parts.proofs.steps.matched_name.Tie as tie
 

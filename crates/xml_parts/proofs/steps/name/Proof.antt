@@ -1,6 +1,6 @@
 -- `xml_parts::steps::name` meets its contract: a name start, then name characters. Assumes nothing.
 use borrow.Author.Needs.{needs}
-use Rattle.xml_parts.specs.Steps.{name}
+use Rattle.xml.specs.Steps.{name}
 use Rattle.xml_parts.proofs.steps.name.Statement.{statement}
 use Rattle.xml_parts.proofs.steps.name.Tie as tie
 

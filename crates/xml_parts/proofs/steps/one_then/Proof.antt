@@ -5,7 +5,7 @@ use mathlib.Core.Path.{sym, _∙_}
 use native.Mathlib.Numerals.{add-one}
 use borrow.Author.Tests.{not-true, not-false}
 use Rattle.xml_parts.specs.Answers.{classOf}
-use Rattle.xml_parts.proofs.Laws.Steps.{one-past, one-wrong, one-on}
+use Rattle.xml.proofs.Laws.Steps.{one-past, one-wrong, one-on}
 use Rattle.xml_parts.proofs.steps.one_then.Statement.{statement}
 use Rattle.xml_parts.proofs.steps.one_then.Tie as tie
 

@@ -3,9 +3,9 @@ use borrow.Author.Needs.{needs}
 use native.Mathlib.Omega.{arith}
 use mathlib.Core.Path.{sym, ap, _∙_}
 use lib.ListN.{length-drop}
-use Rattle.xml_parts.specs.Steps.{isXml}
+use Rattle.xml.specs.Steps.{isXml}
 use Rattle.xml_parts.proofs.Laws.Moved.{to-of, bad-of}
-use Rattle.xml_parts.proofs.Laws.Names.{name-size, name-length, name-part, target-bad, target-xml, target-name}
+use Rattle.xml.proofs.Laws.Names.{name-size, name-length, name-part, target-bad, target-xml, target-name}
 use Rattle.xml_parts.proofs.steps.pi_target.Statement.{statement}
 use Rattle.xml_parts.proofs.steps.pi_target.Tie as tie
 

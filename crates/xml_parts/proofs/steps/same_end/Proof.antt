@@ -10,10 +10,10 @@ use native.Mathlib.Numerals.{add-one}
 use lib.ListN.{length, getD, drop}
 use borrow.Author.Tests.{not-true, not-false}
 use Rattle.text.specs.Text.{same}
-use Rattle.xml_parts.specs.Classes.{isName}
-use Rattle.xml_parts.specs.Steps.{many, nameOf}
-use Rattle.xml_parts.proofs.Laws.Names.{name-inside, same-name-on}
-use Rattle.xml_parts.proofs.Laws.Steps.{many-on}
+use Rattle.xml.specs.Classes.{isName}
+use Rattle.xml.specs.Steps.{many, nameOf}
+use Rattle.xml.proofs.Laws.Names.{name-inside, same-name-on}
+use Rattle.xml.proofs.Laws.Steps.{many-on}
 use Rattle.xml_parts.proofs.steps.same_end.Statement.{statement}
 use Rattle.xml_parts.proofs.steps.same_end.Tie as tie
 

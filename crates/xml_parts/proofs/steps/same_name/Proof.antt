@@ -10,9 +10,9 @@ use lib.ListN.{length, getD, drop}
 use borrow.Author.Tests.{not-true, not-false}
 use Rattle.text.specs.Text.{same}
 use Rattle.text.proofs.Laws.Texts.{first-drop}
-use Rattle.xml_parts.specs.Classes.{isName}
-use Rattle.xml_parts.specs.Steps.{nameOf}
-use Rattle.xml_parts.proofs.Laws.Names.{name-inside, same-name-on, same-name-differ, same-nothing}
+use Rattle.xml.specs.Classes.{isName}
+use Rattle.xml.specs.Steps.{nameOf}
+use Rattle.xml.proofs.Laws.Names.{name-inside, same-name-on, same-name-differ, same-nothing}
 use Rattle.xml_parts.proofs.steps.same_name.Statement.{statement}
 use Rattle.xml_parts.proofs.steps.same_name.Tie as tie
 

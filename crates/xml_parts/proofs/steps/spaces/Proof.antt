@@ -1,6 +1,6 @@
 -- `xml_parts::steps::spaces` meets its contract: a run of white space. Assumes nothing.
 use borrow.Author.Needs.{needs}
-use Rattle.xml_parts.specs.Steps.{spaces}
+use Rattle.xml.specs.Steps.{spaces}
 use Rattle.xml_parts.proofs.steps.spaces.Statement.{statement}
 use Rattle.xml_parts.proofs.steps.spaces.Tie as tie
 

@@ -4,8 +4,8 @@ use Prim.Native.Nat.{_-_, _≤_}
 use mathlib.Core.Path.{_≡_, refl, sym, _∙_}
 use native.Mathlib.Numerals.{add-one}
 use lib.ListN.{length, drop}
-use Rattle.xml_parts.specs.Steps.{startsWith}
-use Rattle.xml_parts.proofs.Laws.Steps.{starts-end, starts-past, starts-differ, starts-on}
+use Rattle.xml.specs.Steps.{startsWith}
+use Rattle.xml.proofs.Laws.Steps.{starts-end, starts-past, starts-differ, starts-on}
 use Rattle.xml_parts.proofs.steps.starts.Statement.{statement}
 use Rattle.xml_parts.proofs.steps.starts.Tie as tie
 

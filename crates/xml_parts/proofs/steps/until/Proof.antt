@@ -6,8 +6,8 @@ use mathlib.Core.Path.{_≡_, refl, sym, _∙_}
 use native.Mathlib.Numerals.{add-one}
 use lib.ListN.{length, drop}
 use borrow.Author.Tests.{not-true, not-false}
-use Rattle.xml_parts.specs.Steps.{until}
-use Rattle.xml_parts.proofs.Laws.Steps.{until-hit, until-wrong, until-on, until-end}
+use Rattle.xml.specs.Steps.{until}
+use Rattle.xml.proofs.Laws.Steps.{until-hit, until-wrong, until-on, until-end}
 use Rattle.xml_parts.proofs.steps.until.Statement.{statement}
 use Rattle.xml_parts.proofs.steps.until.Tie as tie
 

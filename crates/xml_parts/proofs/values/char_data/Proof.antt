@@ -7,11 +7,10 @@ use native.Mathlib.Numerals.{add-one}
 use lib.ListN.{length, drop}
 use borrow.Author.Tests.{not-true, not-false}
 use Rattle.text.specs.Text.{bytes}
-use Rattle.xml_parts.specs.Steps.{Step, _andThen_}
-use Rattle.xml_parts.specs.Values.{charData}
-use Rattle.xml_parts.specs.Answers.{isInText}
-use Rattle.xml_parts.proofs.Laws.Moves.{many-moves}
-use Rattle.xml_parts.proofs.Laws.Values.{data-less, data-section, data-wrong, data-on, data-end, data-run}
+use Rattle.xml.specs.Steps.{Step, _andThen_}
+use Rattle.xml.specs.Values.{charData, isInText}
+use Rattle.xml.proofs.Laws.Moves.{many-moves}
+use Rattle.xml.proofs.Laws.Values.{data-less, data-section, data-wrong, data-on, data-end, data-run}
 use Rattle.xml_parts.proofs.values.char_data.Statement.{statement}
 use Rattle.xml_parts.proofs.values.char_data.Tie as tie
 

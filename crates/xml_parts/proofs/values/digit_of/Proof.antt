@@ -4,7 +4,7 @@ use native.Mathlib.Omega.{arith}
 use mathlib.Core.Path.{sym, _∙_}
 use Rattle.text.specs.Text.{between, isDigit}
 use Rattle.text.proofs.Laws.Texts.{between-low, between-high}
-use Rattle.xml_parts.specs.Values.{digitOf}
+use Rattle.xml.specs.Values.{digitOf}
 use Rattle.xml_parts.proofs.values.digit_of.Statement.{statement}
 use Rattle.xml_parts.proofs.values.digit_of.Tie as tie
 

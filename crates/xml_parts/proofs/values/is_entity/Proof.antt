@@ -1,7 +1,7 @@
 -- `xml_parts::values::is_entity` meets its contract: the words of the definition. Assumes nothing.
 use borrow.Author.Needs.{needs}
 use Rattle.text.specs.Text.{bytes}
-use Rattle.xml_parts.specs.Values.{isEntity}
+use Rattle.xml.specs.Values.{isEntity}
 use Rattle.xml_parts.proofs.values.is_entity.Statement.{statement}
 use Rattle.xml_parts.proofs.values.is_entity.Tie as tie
 

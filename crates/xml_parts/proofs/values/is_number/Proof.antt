@@ -5,8 +5,8 @@ use Prim.Native.Nat.{suc, _-_, _≤_, _<_, _*_, _+_}
 use mathlib.Core.Path.{_≡_, refl, sym, _∙_}
 use native.Mathlib.Numerals.{add-one}
 use lib.ListN.{length, getD, drop}
-use Rattle.xml_parts.specs.Values.{isNumber, digitOf}
-use Rattle.xml_parts.proofs.Laws.Values.{number-end, number-stop, number-wrong, number-on, number-past, step-fits}
+use Rattle.xml.specs.Values.{isNumber, digitOf}
+use Rattle.xml.proofs.Laws.Values.{number-end, number-stop, number-wrong, number-on, number-past, step-fits}
 use Rattle.xml_parts.proofs.values.is_number.Statement.{statement}
 use Rattle.xml_parts.proofs.values.is_number.Tie as tie
 

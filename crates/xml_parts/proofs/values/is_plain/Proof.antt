@@ -2,7 +2,7 @@
 use borrow.Author.Needs.{needs}
 use native.Mathlib.Omega.{arith}
 use mathlib.Core.Path.{sym, _∙_}
-use Rattle.xml_parts.proofs.Laws.Values.{plain-reference, plain-char}
+use Rattle.xml.proofs.Laws.Values.{plain-reference, plain-char}
 use Rattle.xml_parts.proofs.values.is_plain.Statement.{statement}
 use Rattle.xml_parts.proofs.values.is_plain.Tie as tie
 

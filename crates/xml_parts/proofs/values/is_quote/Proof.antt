@@ -1,6 +1,6 @@
 -- `xml_parts::values::is_quote` meets its contract: the tests are those of the definition. Assumes nothing.
 use mathlib.Core.Path.{refl}
-use Rattle.xml_parts.specs.Values.{isQuote}
+use Rattle.xml.specs.Values.{isQuote}
 use Rattle.xml_parts.proofs.values.is_quote.Statement.{statement}
 use Rattle.xml_parts.proofs.values.is_quote.Tie as tie
 

@@ -5,8 +5,8 @@ use mathlib.Core.Path.{sym, ap, _∙_}
 use Rattle.text.specs.Text.{bytes}
 use lib.ListN.{drop, length-drop}
 use lib.Seq.{drop-drop}
-use Rattle.xml_parts.specs.Values.{isReference, isNumber}
-use Rattle.xml_parts.proofs.Laws.Steps.{starts-length}
+use Rattle.xml.specs.Values.{isReference, isNumber}
+use Rattle.xml.proofs.Laws.Steps.{starts-length}
 use Rattle.xml_parts.proofs.values.is_reference.Statement.{statement}
 use Rattle.xml_parts.proofs.values.is_reference.Tie as tie
 

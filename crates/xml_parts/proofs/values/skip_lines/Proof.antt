@@ -9,10 +9,11 @@ use mathlib.Core.Logic.{⊎-elim}
 use native.Mathlib.Numerals.{add-one}
 use lib.ListN.{length, getD, drop}
 use Rattle.text.proofs.Laws.Texts.{first-drop}
-use Rattle.xml_parts.specs.Steps.{many}
-use Rattle.xml_parts.specs.Answers.{isInText}
+use Rattle.xml.specs.Steps.{many}
+use Rattle.xml.specs.Values.{isInText}
 use Rattle.xml_parts.proofs.Laws.Classes.{text-run, return-in-text}
-use Rattle.xml_parts.proofs.Laws.Steps.{inside-some, many-on, many-over}
+use Rattle.xml.proofs.Laws.Steps.{inside-some, many-on}
+use Rattle.xml_parts.proofs.Laws.Skips.{many-over}
 use Rattle.xml_parts.proofs.values.skip_lines.Statement.{statement}
 use Rattle.xml_parts.proofs.values.skip_lines.Tie as tie
 

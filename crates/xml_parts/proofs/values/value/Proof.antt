@@ -4,7 +4,7 @@ use native.Mathlib.Omega.{arith}
 use mathlib.Core.Path.{sym, _∙_}
 use native.Mathlib.Numerals.{add-one}
 use borrow.Author.Tests.{not-true, not-false}
-use Rattle.xml_parts.proofs.Laws.Values.{value-past, value-unquoted, value-quoted}
+use Rattle.xml.proofs.Laws.Values.{value-past, value-unquoted, value-quoted}
 use Rattle.xml_parts.proofs.values.value.Statement.{statement}
 use Rattle.xml_parts.proofs.values.value.Tie as tie
 

@@ -6,11 +6,10 @@ use mathlib.Core.Path.{_≡_, sym, ap, _∙_}
 use native.Mathlib.Numerals.{add-one}
 use lib.ListN.{length, drop}
 use borrow.Author.Tests.{not-true, not-false}
-use Rattle.xml_parts.specs.Steps.{Step, _andThen_}
-use Rattle.xml_parts.specs.Values.{valueEnd}
-use Rattle.xml_parts.specs.Answers.{isInValue}
-use Rattle.xml_parts.proofs.Laws.Moves.{many-moves}
-use Rattle.xml_parts.proofs.Laws.Values.{value-stop, value-less, value-wrong, value-on, value-end, value-run}
+use Rattle.xml.specs.Steps.{Step, _andThen_}
+use Rattle.xml.specs.Values.{valueEnd, isInValue}
+use Rattle.xml.proofs.Laws.Moves.{many-moves}
+use Rattle.xml.proofs.Laws.Values.{value-stop, value-less, value-wrong, value-on, value-end, value-run}
 use Rattle.xml_parts.proofs.values.value_end.Statement.{statement}
 use Rattle.xml_parts.proofs.values.value_end.Tie as tie
 

@@ -1,9 +1,9 @@
 -- `xml_parts::values::value_run` meets its contract: what is passed over first is of the class. Assumes nothing.
 use borrow.Author.Needs.{needs}
 use mathlib.Core.Path.{_∙_}
-use Rattle.xml_parts.specs.Answers.{isInValue}
+use Rattle.xml.specs.Values.{isInValue}
 use Rattle.xml_parts.proofs.Laws.Classes.{run-in-value}
-use Rattle.xml_parts.proofs.Laws.Steps.{many-over}
+use Rattle.xml_parts.proofs.Laws.Skips.{many-over}
 use Rattle.xml_parts.proofs.values.value_run.Statement.{statement}
 use Rattle.xml_parts.proofs.values.value_run.Tie as tie
 

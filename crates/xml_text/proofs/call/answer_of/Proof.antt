@@ -3,7 +3,7 @@ use borrow.Author.Needs.{needs}
 use mathlib.Core.Path.{refl}
 use borrow.Author.Tests.{lt-leb, le-leb}
 use Rattle.xml_text.specs.Answers.{answerOf}
-use Rattle.xml_text.proofs.Laws.Call.{taken-refused}
+use Rattle.xml.proofs.Laws.Call.{taken-refused}
 use Rattle.xml_text.proofs.call.answer_of.Statement.{statement}
 use Rattle.xml_text.proofs.call.answer_of.Tie as tie
 

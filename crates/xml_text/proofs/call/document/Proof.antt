@@ -2,7 +2,7 @@
 use borrow.Author.Needs.{needs}
 use mathlib.Core.Path.{sym, _∙_}
 use Rattle.text.specs.Text.{bytes}
-use Rattle.xml_text.specs.Call.{document}
+use Rattle.xml.specs.Call.{document}
 use Rattle.xml_parts.proofs.Laws.Moved.{to-of, bad-of}
 use Rattle.xml_text.proofs.call.document.Statement.{statement}
 use Rattle.xml_text.proofs.call.document.Tie as tie

@@ -1,9 +1,10 @@
 -- `xml_text::call::document_from` meets its contract: the root, then Misc to the end. Assumes nothing.
 use borrow.Author.Needs.{needs}
 use mathlib.Core.Path.{sym, ap, _∙_}
-use Rattle.xml_text.specs.Call.{documentFrom}
+use Rattle.xml.specs.Call.{documentFrom}
 use Rattle.xml_parts.proofs.Laws.Moved.{to-of, bad-of}
-use Rattle.xml_text.proofs.Laws.Call.{root-bad, root-to, document-bad, document-misc, document-more, document-whole}
+use Rattle.xml_text.proofs.Laws.Call.{root-bad, root-to}
+use Rattle.xml.proofs.Laws.Call.{document-bad, document-misc, document-more, document-whole}
 use Rattle.xml_text.proofs.call.document_from.Statement.{statement}
 use Rattle.xml_text.proofs.call.document_from.Tie as tie
 

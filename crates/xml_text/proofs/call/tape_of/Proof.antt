@@ -6,8 +6,9 @@ use borrow.Author.Tests.{not-true, not-false, leb-true}
 use Rattle.text.proofs.Laws.Tests.{and-true-left}
 use Rattle.sheet.specs.Lengths.{tapeLengths}
 use Rattle.xml_parts.specs.Answers.{classTable}
-use Rattle.xml_text.specs.Call.{tapeOf}
-use Rattle.xml_text.proofs.Laws.Call.{taken-refused, found-taken}
+use Rattle.xml.specs.Call.{tapeOf}
+use Rattle.xml.proofs.Laws.Call.{taken-refused}
+use Rattle.xml_text.proofs.Laws.Call.{found-taken}
 use Rattle.xml_text.proofs.call.tape_of.Statement.{statement}
 use Rattle.xml_text.proofs.call.tape_of.Tie as tie
 

@@ -7,11 +7,12 @@ use mathlib.Core.Path.{refl, sym, ap, _∙_}
 use mathlib.Core.List.{List, [], _∷_}
 use lib.ListN.{length, set, drop}
 use Rattle.text.specs.Text.{bytes}
-use Rattle.xml_parts.specs.Steps.{nameOf}
-use Rattle.xml_text.specs.Tape.{TapeEvent}
+use Rattle.xml.specs.Steps.{nameOf}
+use Rattle.xml.specs.Tape.{TapeEvent}
 use Rattle.xml_parts.proofs.Laws.Moved.{to-of, bad-of}
-use Rattle.xml_parts.proofs.Laws.Moves.{inside-text, literal-passes, name-passes, spaces-moves}
-use Rattle.xml_text.proofs.Laws.Root.{close-bad, close-of, closing-of, level-bad, matched-to, close-same, put-close, close-size}
+use Rattle.xml.proofs.Laws.Moves.{inside-text, literal-passes, name-passes, spaces-moves}
+use Rattle.xml.proofs.Laws.Root.{close-bad, close-of, closing-of, close-size}
+use Rattle.xml_text.proofs.Laws.Root.{level-bad, matched-to, close-same, put-close}
 use Rattle.xml_text.proofs.root.close_tag.Statement.{statement}
 use Rattle.xml_text.proofs.root.close_tag.Tie as tie
 

@@ -6,10 +6,11 @@ use mathlib.Core.Path.{_≡_, refl, sym, ap, _∙_}
 use mathlib.Core.List.{List, [], _++_}
 use lib.ListN.{length, drop, length-drop, length-append}
 use lib.Seq.{sets, length-sets}
-use Rattle.xml_text.specs.Tape.{TapeEvent, tapeMarks}
-use Rattle.xml_text.specs.Root.{addEvents, inside}
+use Rattle.xml.specs.Tape.{TapeEvent, tapeMarks}
+use Rattle.xml.specs.Root.{addEvents, inside}
 use Rattle.xml_text.specs.Answers.{namesUpTo}
-use Rattle.xml_text.proofs.Laws.Root.{add-none, add-bad, add-end, tape-append, tape-more, some-open, inside-stop, inside-end, inside-on, goes-stop, goes-on}
+use Rattle.xml.proofs.Laws.Root.{add-none, add-bad, add-end, tape-append, inside-stop, inside-on}
+use Rattle.xml_text.proofs.Laws.Root.{tape-more, some-open, inside-end, goes-stop, goes-on}
 use Rattle.xml_text.proofs.root.inside.Statement.{statement}
 use Rattle.xml_text.proofs.root.inside.Tie as tie
 

@@ -6,11 +6,11 @@ use borrow.Author.Tests.{not-true}
 use lib.ListN.{drop}
 use Rattle.text.specs.Text.{bytes}
 use Rattle.text.proofs.Laws.Tests.{or-false-left, or-false-right}
-use Rattle.xml_parts.specs.Steps.{startsWith}
-use Rattle.xml_text.specs.Root.{passedBy, markup}
-use Rattle.xml_parts.proofs.Laws.Moves.{inside-text, comment-passes, section-passes, instruction-passes}
+use Rattle.xml.specs.Steps.{startsWith}
+use Rattle.xml.specs.Root.{passedBy, markup}
+use Rattle.xml.proofs.Laws.Moves.{inside-text, comment-passes, section-passes, instruction-passes}
 use Rattle.xml_text.proofs.Laws.Root.{passed-in}
-use Rattle.xml_parts.proofs.Laws.Steps.{starts-longer}
+use Rattle.xml.proofs.Laws.Steps.{starts-longer}
 use Rattle.xml_text.proofs.root.markup.Statement.{statement}
 use Rattle.xml_text.proofs.root.markup.Tie as tie
 

@@ -7,11 +7,12 @@ use mathlib.Core.List.{List, [], _∷_}
 use lib.ListN.{length, set, drop, length-take, length-drop}
 use lib.Seq.{sets}
 use borrow.Rule.Slice.PartMut.{putMid, take-put, same-len-mid}
-use Rattle.xml_parts.specs.Steps.{nameOf}
-use Rattle.xml_text.specs.Tape.{TapeEvent}
-use Rattle.xml_text.specs.Root.{levelOfTag}
+use Rattle.xml.specs.Steps.{nameOf}
+use Rattle.xml.specs.Tape.{TapeEvent}
+use Rattle.xml.specs.Root.{levelOfTag}
 use Rattle.xml_text.specs.Answers.{namesUpTo}
-use Rattle.xml_text.proofs.Laws.Root.{tag-bad, tag-to, one-event, open-start, open-empty}
+use Rattle.xml_text.proofs.Laws.Root.{tag-bad, tag-to, open-start, open-empty}
+use Rattle.xml.proofs.Laws.Root.{one-event}
 use Rattle.xml_text.proofs.root.open_tag.Statement.{statement}
 use Rattle.xml_text.proofs.root.open_tag.Tie as tie
 

@@ -2,7 +2,7 @@
 use borrow.Author.Needs.{needs}
 use mathlib.Core.Path.{ap}
 use Rattle.xml_parts.specs.Answers.{moved}
-use Rattle.xml_text.specs.Root.{passedBy}
+use Rattle.xml.specs.Root.{passedBy}
 use Rattle.xml_text.proofs.root.passed.Statement.{statement}
 use Rattle.xml_text.proofs.root.passed.Tie as tie
 

@@ -5,10 +5,11 @@ use mathlib.Core.Path.{refl, sym, ap, _∙_}
 use mathlib.Core.List.{[], _∷_}
 use lib.ListN.{length, drop, length-set}
 use lib.Seq.{sets}
-use Rattle.xml_text.specs.Tape.{TapeEvent}
-use Rattle.xml_text.specs.Root.{levelOfTag, addEvents}
+use Rattle.xml.specs.Tape.{TapeEvent}
+use Rattle.xml.specs.Root.{levelOfTag, addEvents}
 use Rattle.xml_text.specs.Answers.{namesUpTo}
-use Rattle.xml_text.proofs.Laws.Root.{tag-bad, tag-to, one-event, open-start, open-empty, root-found, root-joined, inside-end, add-end}
+use Rattle.xml_text.proofs.Laws.Root.{tag-bad, tag-to, open-start, open-empty, root-joined, inside-end}
+use Rattle.xml.proofs.Laws.Root.{one-event, root-found, add-end}
 use Rattle.xml_text.proofs.root.root_over.Statement.{statement}
 use Rattle.xml_text.proofs.root.root_over.Tie as tie
 

@@ -6,10 +6,11 @@ use mathlib.Core.Path.{refl, sym, _∙_}
 use mathlib.Core.List.{[]}
 use lib.ListN.{length}
 use Rattle.text.specs.Text.{bytes}
-use Rattle.xml_text.specs.Tape.{tapeMarks}
+use Rattle.xml.specs.Tape.{tapeMarks}
 use Rattle.xml_parts.proofs.Laws.Moved.{to-of, bad-of}
-use Rattle.xml_parts.proofs.Laws.Moves.{char-data-moves}
-use Rattle.xml_text.proofs.Laws.Root.{piece-wrong, piece-passed, piece-starting, in-passed, in-starting, turn-bad, turn-of, markup-close, goes-weaken}
+use Rattle.xml.proofs.Laws.Moves.{char-data-moves}
+use Rattle.xml_text.proofs.Laws.Root.{piece-wrong, piece-passed, piece-starting, in-passed, in-starting, goes-weaken}
+use Rattle.xml.proofs.Laws.Root.{turn-bad, turn-of, markup-close}
 use Rattle.xml_text.proofs.root.turn.Statement.{statement}
 use Rattle.xml_text.proofs.root.turn.Tie as tie
 

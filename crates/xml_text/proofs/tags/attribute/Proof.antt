@@ -1,10 +1,10 @@
 -- `xml_text::tags::attribute` meets its contract: the steps one behind the other, each inside the text. Assumes nothing.
 use borrow.Author.Needs.{needs}
 use native.Mathlib.Omega.{arith}
-use Rattle.xml_text.specs.Tags.{attribute}
+use Rattle.xml.specs.Tags.{attribute}
 use Rattle.xml_parts.proofs.Laws.Moved.{to-of, bad-of}
 use lib.ListN.{drop, length-drop}
-use Rattle.xml_parts.proofs.Laws.Moves.{inside-text, name-passes, eq-passes, value-passes, value-two}
+use Rattle.xml.proofs.Laws.Moves.{inside-text, name-passes, eq-passes, value-passes, value-two}
 use Rattle.xml_text.proofs.tags.attribute.Statement.{statement}
 use Rattle.xml_text.proofs.tags.attribute.Tie as tie
 

@@ -7,10 +7,11 @@ use mathlib.Core.List.{List, [], _∷_, _++_}
 use native.Mathlib.Numerals.{add-one}
 use lib.ListN.{length, drop, length-drop, length-set, length-append}
 use lib.Seq.{sets, length-sets}
-use Rattle.xml_text.specs.Tape.{AttributePairs, attributeMarks}
-use Rattle.xml_text.specs.Tags.{attributesFrom, attributes, attributeFrom}
+use Rattle.xml.specs.Tape.{AttributePairs, attributeMarks}
+use Rattle.xml.specs.Tags.{attributesFrom, attributes, attributeFrom}
 use Rattle.xml_text.specs.Answers.{namesUpTo}
-use Rattle.xml_text.proofs.Laws.Tags.{names-push, part-wrong, part-last, part-more, part-in-last, part-in-more, attributes-wrong, attributes-last, attributes-twice, attributes-on, marks-more}
+use Rattle.xml_text.proofs.Laws.Tags.{names-push, part-wrong, part-last, part-more, part-in-last, part-in-more, marks-more}
+use Rattle.xml.proofs.Laws.Tags.{attributes-wrong, attributes-last, attributes-twice, attributes-on}
 use Rattle.xml_text.proofs.tags.attributes.Statement.{statement}
 use Rattle.xml_text.proofs.tags.attributes.Tie as tie
 

@@ -4,8 +4,8 @@ use native.Mathlib.Omega.{arith}
 use Prim.Native.Nat.{suc, _-_, _≤_}
 use mathlib.Core.Path.{_≡_, refl, sym, _∙_}
 use lib.ListN.{length, getD, drop}
-use Rattle.xml_parts.specs.Steps.{nameOf}
-use Rattle.xml_text.specs.Tags.{isAmong}
+use Rattle.xml.specs.Steps.{nameOf}
+use Rattle.xml.specs.Tags.{isAmong}
 use Rattle.xml_text.specs.Answers.{namesUpTo}
 use Rattle.xml_text.proofs.Laws.Tags.{among-none, among-hit, among-on}
 use Rattle.xml_text.proofs.tags.is_among.Statement.{statement}

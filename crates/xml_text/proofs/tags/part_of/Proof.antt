@@ -7,9 +7,9 @@ use lib.ListN.{drop, length-drop}
 use lib.Seq.{drop-drop}
 use borrow.Author.Tests.{eq-eqb, ne-eqb}
 use Rattle.text.specs.Text.{bytes}
-use Rattle.xml_text.specs.Tags.{partOf, last}
-use Rattle.xml_parts.proofs.Laws.Steps.{starts-length}
-use Rattle.xml_parts.proofs.Laws.Moves.{spaces-moves}
+use Rattle.xml.specs.Tags.{partOf, last}
+use Rattle.xml.proofs.Laws.Steps.{starts-length}
+use Rattle.xml.proofs.Laws.Moves.{spaces-moves}
 use Rattle.xml_text.proofs.Laws.Tags.{part-weaken}
 use Rattle.xml_text.proofs.tags.part_of.Statement.{statement}
 use Rattle.xml_text.proofs.tags.part_of.Tie as tie

@@ -4,7 +4,7 @@ use Prim.Native.Nat.{ℕ, _+_, _-_}
 use mathlib.Core.Path.{ap, _∙_}
 use mathlib.Core.List.{List}
 use lib.ListN.{set}
-use Rattle.xml_text.specs.Tape.{attributeMarks}
+use Rattle.xml.specs.Tape.{attributeMarks}
 use Rattle.xml_text.proofs.Laws.Marks.{put-four}
 use Rattle.xml_text.proofs.tags.put_attribute.Statement.{statement}
 use Rattle.xml_text.proofs.tags.put_attribute.Tie as tie

@@ -14,16 +14,16 @@ use Rattle.text.specs.Text.{Text, bytes, first, contains}
 use Rattle.text.proofs.Laws.Tests.{bool-cases, if-either}
 use Rattle.text.proofs.Laws.Texts.{first-drop}
 use Rattle.xsd_parser.specs.Tape.{pairText}
-use Rattle.xml_parts.specs.Classes.{isNameStart}
-use Rattle.xml_parts.specs.Steps.{Step, bad, behind, startsWith, literal, oneThen, spaces, name, nameOf}
-use Rattle.xml_parts.specs.Values.{isQuote, value}
-use Rattle.xml_parts.specs.Prolog.{eq}
-use Rattle.xml_text.specs.Tape.{AttributePairs, TapeEvent}
-use Rattle.xml_text.specs.Tags.{Part, wrong, last, more, span, attributeBehind, valueBehind, eqBehind, attribute, partBehind, partOf, isAmong, Ended, unended, ended, onPart, attributesFrom, attributes, Tagged, untagged, tagged, taggedBy, attributesBehind, nameBehind, tag}
-use Rattle.xml_text.specs.Accepted.{endOf, NameAt, ValueAt, AttributesAt, EventAt}
-use Rattle.xml_parts.proofs.Laws.Names.{behind-at, bad-not, name-part}
-use Rattle.xml_parts.proofs.Laws.Moves.{name-passes, spaces-moves, eq-passes, value-end-stands, value-two}
-use Rattle.xml_parts.proofs.Laws.Here.{here-next, literal-keeps, spaces-keeps, name-keeps, eq-keeps, value-keeps}
+use Rattle.xml.specs.Classes.{isNameStart}
+use Rattle.xml.specs.Steps.{Step, bad, behind, startsWith, literal, oneThen, spaces, name, nameOf}
+use Rattle.xml.specs.Values.{isQuote, value}
+use Rattle.xml.specs.Prolog.{eq}
+use Rattle.xml.specs.Tape.{AttributePairs, TapeEvent}
+use Rattle.xml.specs.Tags.{Part, wrong, last, more, span, attributeBehind, valueBehind, eqBehind, attribute, partBehind, partOf, isAmong, Ended, unended, ended, onPart, attributesFrom, attributes, Tagged, untagged, tagged, taggedBy, attributesBehind, nameBehind, tag}
+use Rattle.xml.specs.Accepted.{endOf, NameAt, ValueAt, AttributesAt, EventAt}
+use Rattle.xml.proofs.Laws.Names.{behind-at, bad-not, name-part}
+use Rattle.xml.proofs.Laws.Moves.{name-passes, spaces-moves, eq-passes, value-end-stands, value-two}
+use Rattle.xml.proofs.Laws.Here.{here-next, literal-keeps, spaces-keeps, name-keeps, eq-keeps, value-keeps}
 
 -- a name
 pub name-starts : (at : ℕ) (s : Text) (e : ℕ) (r : Text) → name at s ≡ behind e r → isNameStart (first s) ≡ true

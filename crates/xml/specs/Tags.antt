@@ -15,10 +15,10 @@ use lib.ListN.{length, drop}
 use Rattle.text.specs.Text.{Text, if_then_else_, bytes, same}
 use Rattle.xsd_parser.specs.Tape.{Pair}
 use Rattle.xsd_parser.specs.Kinds.{startKind, emptyKind}
-use Rattle.xml_parts.specs.Steps.{Step, bad, behind, _andThen_, startsWith, literal, spaces, name, nameOf}
-use Rattle.xml_parts.specs.Values.{value}
-use Rattle.xml_parts.specs.Prolog.{eq}
-use Rattle.xml_text.specs.Tape.{AttributePairs, TapeEvent}
+use Rattle.xml.specs.Steps.{Step, bad, behind, _andThen_, startsWith, literal, spaces, name, nameOf}
+use Rattle.xml.specs.Values.{value}
+use Rattle.xml.specs.Prolog.{eq}
+use Rattle.xml.specs.Tape.{AttributePairs, TapeEvent}
 
 -- the pair of the bytes from one offset up to another
 abbrev pub span : ℕ → ℕ → Pair

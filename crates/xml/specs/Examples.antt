@@ -13,8 +13,8 @@ use Rattle.text.specs.Unfold.{computes as texts}
 use Rattle.sheet.specs.Unfold.{computes as sheets}
 use Rattle.sheet.specs.Rows.{filled}
 use Rattle.sheet.specs.Returned.{accepted, malformed, doctype}
-use Rattle.xml_text.specs.Call.{Taken, tapeOf}
-use Rattle.xml_text.specs.Unfold.{computes as taken}
+use Rattle.xml.specs.Call.{Taken, tapeOf}
+use Rattle.xml.specs.Unfold.{computes as taken}
 
 unfoldable pub gives : ℕ → String → Bool
 gives number text = eqb (tapeOf (bytes text) (replicate 32 7) .number) number

@@ -4,6 +4,7 @@
 --     isReference   the bytes left begin with a reference
 --     value         [10] AttValue, quotes included
 --     charData      [14] CharData and [67] Reference, as many as stand there
+--     isInText      a character that stands in text without a look at its neighbours; isInValue: in a value
 use Prim.Native.Nat.{ℕ, suc, _+_, _-_, _*_}
 use Prim.Native.Char.{code}
 use mathlib.Core.List.{List, [], _∷_}
@@ -11,8 +12,8 @@ use mathlib.Core.Bool.{Bool, true, false, not, _&&_, _||_}
 use lib.Dec.{eqb, ltb}
 use lib.ListN.{drop}
 use Rattle.text.specs.Text.{Text, if_then_else_, bytes, between, isDigit}
-use Rattle.xml_parts.specs.Classes.{isChar}
-use Rattle.xml_parts.specs.Steps.{Step, bad, behind, startsWith}
+use Rattle.xml.specs.Classes.{isChar}
+use Rattle.xml.specs.Steps.{Step, bad, behind, startsWith}
 
 unfoldable pub digitOf : ℕ → ℕ
 digitOf b =
@@ -67,3 +68,9 @@ charData at [] = behind at []
 charData at (b ∷ s) =
     if eqb b (code "<") then behind at (b ∷ s) else
     if not (startsWith (bytes "]]>") (b ∷ s)) && isPlain (b ∷ s) then charData (suc at) s else bad
+
+unfoldable pub isInText : ℕ → Bool
+isInText b = isChar b && not (eqb b (code "<")) && not (eqb b (code "&")) && not (eqb b (code "]"))
+
+unfoldable pub isInValue : ℕ → Bool
+isInValue b = isChar b && not (eqb b (code "<")) && not (eqb b (code "&")) && not (isQuote b)

@@ -16,7 +16,7 @@ use lib.Dec.{eqb}
 use lib.ListN.{length, drop}
 use Rattle.text.specs.Text.{Text, if_then_else_, bytes, first, same, lower}
 use Rattle.text.specs.Trim.{isWhiteSpace}
-use Rattle.xml_parts.specs.Classes.{isChar, isNameStart, isName}
+use Rattle.xml.specs.Classes.{isChar, isNameStart, isName}
 
 pub data Step : Type 0 where
   bad : Step

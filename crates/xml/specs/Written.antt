@@ -14,11 +14,11 @@ use lib.ListN.{length}
 use Rattle.text.specs.Text.{Text, if_then_else_, bytes, first, every, contains}
 use Rattle.xsd_parser.specs.Kinds.{startKind}
 use Rattle.xsd_parser.specs.Event.{Attr, Tag}
-use Rattle.xml_parts.specs.Classes.{isNameStart, isName}
-use Rattle.xml_parts.specs.Values.{isPlain}
+use Rattle.xml.specs.Classes.{isNameStart, isName}
+use Rattle.xml.specs.Values.{isPlain}
 use Rattle.xsd_parser.specs.Tape.{Pair}
-use Rattle.xml_text.specs.Tape.{AttributePairs, TapeEvent}
-use Rattle.xml_text.specs.Tags.{isAmong, Tagged, tagged}
+use Rattle.xml.specs.Tape.{AttributePairs, TapeEvent}
+use Rattle.xml.specs.Tags.{isAmong, Tagged, tagged}
 
 -- [5] Name ::= NameStartChar (NameChar)*
 unfoldable pub isNameText : Text → Bool

@@ -2,19 +2,18 @@
 -- Assumes nothing.
 use Prim.Native.Nat.{ℕ, suc, _+_, _-_, _≤_, _<_}
 use mathlib.Core.Path.{_≡_, refl, sym, ap, _∙_}
-use mathlib.Core.List.{List, [], _∷_}
-use mathlib.Core.Bool.{Bool, true, false, _&&_, _||_, not, false≢true}
+use mathlib.Core.List.{[], _∷_}
+use mathlib.Core.Bool.{true, false, _&&_, not, false≢true}
 use native.Mathlib.Omega.{arith}
 use lib.Dec.{eqb, ltb}
 use lib.ListN.{length, getD, take, drop, List·getD-eq-default}
 use lib.Seq.{drop-cons}
 use borrow.Author.Tests.{ltb-true, ltb-false}
-use Rattle.text.specs.Text.{Text, if_then_else_, first, same, lower, between}
-use Rattle.text.proofs.Laws.Tests.{bool-cases, or-left}
-use Rattle.text.proofs.Laws.Texts.{same-cons-on, same-cons-differ, same-differ, first-drop}
-use Rattle.xml_parts.specs.Classes.{isLetter, isNameStart, isName}
-use Rattle.xml_parts.specs.Steps.{Step, bad, behind, many, oneThen, name, nameOf, isXml, target}
-use Rattle.xml_parts.specs.Answers.{SameUpTo, matched}
+use Rattle.text.specs.Text.{Text, first, same, lower, between}
+use Rattle.text.proofs.Laws.Tests.{bool-cases}
+use Rattle.text.proofs.Laws.Texts.{same-cons-on, same-cons-differ, first-drop}
+use Rattle.xml.specs.Classes.{isLetter, isNameStart, isName}
+use Rattle.xml.specs.Steps.{bad, behind, many, oneThen, name, nameOf, isXml, target}
 
 pub nameOf-none : (s : Text) → isName (first s) ≡ false → nameOf s ≡ []
 unfolding nameOf first
@@ -168,19 +167,3 @@ pub run-none : (at : ℕ) (s : Text) → isName (first s) ≡ false → many isN
 unfolding many first
 run-none at [] e = refl
 run-none at (b ∷ s) e = rw e
-
--- two names up to where they end or differ
-module _ {text : Text} {at top i j : ℕ} (u : SameUpTo text at top i j) where
-  pub matched-differ : isName (first (drop i text)) ≡ true → matched text at top ≡ bad
-  unfolding matched
-  matched-differ e =
-      let f : isName (getD text i 0) ≡ true = ap isName (sym (first-drop text i)) ∙ e in
-      rw (sym (u .same-names) ∙ same-name-differ text i j f (u .differ f))
-
-  pub matched-longer : isName (first (drop i text)) ≡ false → isName (first (drop j text)) ≡ true → matched text at top ≡ bad
-  unfolding matched
-  matched-longer e h = rw (sym (u .same-names) ∙ same-nothing (drop i text) (drop j text) e, h)
-
-  pub matched-same : isName (first (drop i text)) ≡ false → isName (first (drop j text)) ≡ false → matched text at top ≡ name at (drop at text)
-  unfolding matched
-  matched-same e h = rw (sym (u .same-names) ∙ same-nothing (drop i text) (drop j text) e, h)

@@ -23,11 +23,11 @@ use Rattle.xsd_parser.specs.Read.{readRecords, readState}
 use Rattle.xsd_parser.proofs.Laws.Outcomes.{Gives, value, refusal, gives-if, gives-andThen, gives-wider, gives-value, gives-refusal, outcome-cases}
 use Rattle.xsd_parser.proofs.Laws.Refusals.{handled-refusal}
 use Rattle.xsd_parser.proofs.Laws.Reads.{read-ok, read-refuse}
-use Rattle.xml_text.specs.Tape.{TapeEvent, tapeMarks}
-use Rattle.xml_text.specs.Call.{Document, withDoctype, notWellFormed, wellFormed, document, Taken, refused, written, takenOf, tapeOf}
-use Rattle.xml_text.specs.Accepted.{Closes, fewAttributes, eventRead, recordsRead, ReadsThrough}
-use Rattle.xml_text.proofs.Laws.Events.{events-close}
-use Rattle.xml_text.proofs.Laws.Records.{tape-records}
+use Rattle.xml.specs.Tape.{TapeEvent, tapeMarks}
+use Rattle.xml.specs.Call.{Document, withDoctype, notWellFormed, wellFormed, document, Taken, refused, written, takenOf, tapeOf}
+use Rattle.xml.specs.Accepted.{Closes, fewAttributes, eventRead, recordsRead, ReadsThrough}
+use Rattle.xml.proofs.Laws.Events.{events-close}
+use Rattle.xml.proofs.Laws.Records.{tape-records}
 
 -- so many tags open, or a refusal from 7 on
 abbrev pub Opens : ℕ → ℕ → Type 0

@@ -7,16 +7,16 @@ use lib.Dec.{eqb}
 use lib.ListN.{length, drop}
 use Rattle.text.specs.Text.{Text, if_then_else_, bytes, same}
 use Rattle.text.proofs.Laws.Tests.{if-either, if-in}
-use Rattle.xml_parts.specs.Steps.{Step, bad, behind, _andThen_, startsWith, literal, spaces, name, nameOf, comment, section, instruction}
-use Rattle.xml_parts.specs.Values.{charData}
-use Rattle.xml_parts.specs.Prolog.{misc, prolog}
-use Rattle.xml_text.specs.Tape.{TapeEvent}
-use Rattle.xml_text.specs.Tags.{Tagged, untagged, tagged, tag}
-use Rattle.xml_text.specs.Root.{Piece, wrong, passed, ending, starting, passedBy, endingBy, closeBehind, close, markup, markupBehind, piece, Level, stop, on, opened, levelOfTag, levelOfClose, levelOf, turn, Rooted, unrooted, rooted, addEvents, noneOpen, onLevel, inside, insideAll, root}
-use Rattle.xml_text.specs.Call.{Document, withDoctype, notWellFormed, wellFormed, toEnd, rootBehind, documentFrom, prologBehind, document}
-use Rattle.xml_text.specs.Accepted.{EventsAt, Closes}
-use Rattle.xml_parts.proofs.Laws.Here.{Here, three-keeps, literal-keeps, name-keeps, spaces-keeps, comment-keeps, section-keeps, instruction-keeps, char-data-keeps, misc-keeps, prolog-keeps}
-use Rattle.xml_text.proofs.Laws.Pairs.{TaggedAt, tag-at}
+use Rattle.xml.specs.Steps.{Step, bad, behind, _andThen_, startsWith, literal, spaces, name, nameOf, comment, section, instruction}
+use Rattle.xml.specs.Values.{charData}
+use Rattle.xml.specs.Prolog.{misc, prolog}
+use Rattle.xml.specs.Tape.{TapeEvent}
+use Rattle.xml.specs.Tags.{Tagged, untagged, tagged, tag}
+use Rattle.xml.specs.Root.{Piece, wrong, passed, ending, starting, passedBy, endingBy, closeBehind, close, markup, markupBehind, piece, Level, stop, on, opened, levelOfTag, levelOfClose, levelOf, turn, Rooted, unrooted, rooted, addEvents, onLevel, inside, insideAll, root}
+use Rattle.xml.specs.Call.{Document, withDoctype, notWellFormed, wellFormed, toEnd, rootBehind, documentFrom, prologBehind, document}
+use Rattle.xml.specs.Accepted.{EventsAt, Closes}
+use Rattle.xml.proofs.Laws.Here.{Here, three-keeps, literal-keeps, name-keeps, spaces-keeps, comment-keeps, section-keeps, instruction-keeps, char-data-keeps, prolog-keeps}
+use Rattle.xml.proofs.Laws.Pairs.{TaggedAt, tag-at}
 
 -- a piece of content
 abbrev pub PieceAt : Text → Piece → Type 0

@@ -14,10 +14,10 @@ use lib.Dec.{eqb}
 use lib.ListN.{length}
 use Rattle.text.specs.Text.{Text, if_then_else_, bytes, same}
 use Rattle.xsd_parser.specs.Kinds.{startKind}
-use Rattle.xml_parts.specs.Steps.{Step, bad, behind, _andThen_, startsWith, literal, spaces, name, nameOf, comment, instruction, section}
-use Rattle.xml_parts.specs.Values.{charData}
-use Rattle.xml_text.specs.Tape.{TapeEvent}
-use Rattle.xml_text.specs.Tags.{Tagged, untagged, tagged, tag}
+use Rattle.xml.specs.Steps.{Step, bad, behind, _andThen_, startsWith, literal, spaces, name, nameOf, comment, instruction, section}
+use Rattle.xml.specs.Values.{charData}
+use Rattle.xml.specs.Tape.{TapeEvent}
+use Rattle.xml.specs.Tags.{Tagged, untagged, tagged, tag}
 
 pub data Piece : Type 0 where
   wrong : Piece

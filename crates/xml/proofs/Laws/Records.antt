@@ -15,11 +15,11 @@ use Rattle.text.proofs.Laws.Every.{every-take, every-drop}
 use Rattle.xsd_parser.specs.Event.{Event}
 use Rattle.xsd_parser.specs.Tape.{Pair, pairsOf, pairText, pairCount, formTest, allInside, allAscii, tagRecord, record1, next, event, Judged, recordsFrom, records}
 use Rattle.xsd_parser.proofs.Laws.Records.{records-none, records-next}
-use Rattle.xml_text.specs.Tape.{AttributePairs, TapeEvent, attributeMarks, eventMarks, tapeMarks}
-use Rattle.xml_text.specs.Call.{wellFormed, document}
-use Rattle.xml_text.specs.Accepted.{endOf, AttributesAt, EventAt, EventsAt, fewAttributes, attributePairs, eventRead, recordsRead}
-use Rattle.xml_text.proofs.Laws.Tags.{marks-length}
-use Rattle.xml_text.proofs.Laws.Events.{events-at}
+use Rattle.xml.specs.Tape.{AttributePairs, TapeEvent, attributeMarks, eventMarks, tapeMarks}
+use Rattle.xml.specs.Call.{wellFormed, document}
+use Rattle.xml.specs.Accepted.{endOf, AttributesAt, EventAt, EventsAt, fewAttributes, attributePairs, eventRead, recordsRead}
+use Rattle.xml.proofs.Laws.Tags.{marks-length}
+use Rattle.xml.proofs.Laws.Events.{events-at}
 
 -- the pairs of a record's numbers
 pub pairs-of : (xs : List AttributePairs) (rest : List ℕ) → pairsOf (2 * length xs) (attributeMarks xs ++ rest) ≡ attributePairs xs

@@ -12,9 +12,9 @@ use mathlib.Core.List.{List, [], _∷_}
 use mathlib.Core.Bool.{Bool, false, not, _&&_, _||_}
 use lib.ListN.{length, drop}
 use Rattle.text.specs.Text.{Text, if_then_else_, bytes, first, isDigit}
-use Rattle.xml_parts.specs.Classes.{isName, isLetter, isEncoding}
-use Rattle.xml_parts.specs.Steps.{Step, bad, behind, _andThen_, startsWith, literal, oneThen, spaces, space, comment, instruction}
-use Rattle.xml_parts.specs.Values.{isQuote}
+use Rattle.xml.specs.Classes.{isName, isLetter, isEncoding}
+use Rattle.xml.specs.Steps.{Step, bad, behind, _andThen_, startsWith, literal, oneThen, spaces, space, comment, instruction}
+use Rattle.xml.specs.Values.{isQuote}
 
 -- [25] Eq ::= S? '=' S?
 unfoldable pub eq : ℕ → Text → Step

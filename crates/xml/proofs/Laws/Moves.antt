@@ -13,12 +13,12 @@ use borrow.Author.Tests.{eqb-true}
 use Rattle.text.specs.Text.{Text, bytes, first, contains}
 use Rattle.text.proofs.Laws.Tests.{bool-cases, or-cases}
 use Rattle.text.specs.Trim.{isWhiteSpace}
-use Rattle.xml_parts.specs.Classes.{isChar, isNameStart, isName}
-use Rattle.xml_parts.specs.Steps.{Step, bad, behind, _andThen_, startsWith, literal, many, oneThen, spaces, name, nameOf, until, comment, isXml, target, instructionEnd, instruction, section}
-use Rattle.xml_parts.specs.Values.{isPlain, isQuote, valueEnd, value, charData}
-use Rattle.xml_parts.specs.Prolog.{eq, isMisc, miscPart, miscFrom}
-use Rattle.xml_parts.proofs.Laws.Steps.{starts-length}
-use Rattle.xml_parts.proofs.Laws.Names.{behind-at, behind-rest, bad-not}
+use Rattle.xml.specs.Classes.{isChar, isNameStart, isName}
+use Rattle.xml.specs.Steps.{Step, bad, behind, _andThen_, startsWith, literal, many, oneThen, spaces, name, nameOf, until, comment, isXml, target, instructionEnd, instruction, section}
+use Rattle.xml.specs.Values.{isPlain, isQuote, valueEnd, value, charData}
+use Rattle.xml.specs.Prolog.{eq, isMisc, miscPart, miscFrom}
+use Rattle.xml.proofs.Laws.Steps.{starts-length}
+use Rattle.xml.proofs.Laws.Names.{behind-at, behind-rest, bad-not}
 
 abbrev pub Moves : (ℕ → Text → Step) → Type 0
 Moves f = (at : ℕ) (s : Text) (e : ℕ) (r : Text) → f at s ≡ behind e r → (at ≤ e) × (e + length r ≡ at + length s)

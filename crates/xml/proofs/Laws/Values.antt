@@ -14,10 +14,9 @@ use borrow.Author.Tests.{eqb-true, eq-eqb, ne-eqb, lt-ltb, le-ltb, lt-leb, not-t
 use Rattle.text.specs.Text.{Text, if_then_else_, bytes, between, isDigit}
 use Rattle.text.proofs.Laws.Tests.{bool-cases, four, or-cases, or-false-left, or-false-right}
 use Rattle.text.proofs.Laws.Texts.{between-above}
-use Rattle.xml_parts.specs.Classes.{isChar}
-use Rattle.xml_parts.specs.Steps.{Step, bad, behind, _andThen_, startsWith, many}
-use Rattle.xml_parts.specs.Values.{digitOf, isNumber, isPlain, isReference, valueEnd, isQuote, value, charData}
-use Rattle.xml_parts.specs.Answers.{isInText, isInValue}
+use Rattle.xml.specs.Classes.{isChar}
+use Rattle.xml.specs.Steps.{bad, behind, _andThen_, startsWith, many}
+use Rattle.xml.specs.Values.{digitOf, isNumber, isPlain, isReference, valueEnd, isQuote, value, charData, isInText, isInValue}
 
 -- the number of a reference
 pub number-end : (base v : ℕ) (s : Text) (i : ℕ) → length s ≤ i → isNumber base v (drop i s) ≡ false

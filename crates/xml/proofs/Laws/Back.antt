@@ -8,9 +8,9 @@ use lib.Seq.{drop-drop, drop-at, take-at}
 use Rattle.text.specs.Text.{Text}
 use Rattle.xsd_parser.specs.Event.{Attr, Tag}
 use Rattle.xsd_parser.specs.Tape.{Pair, pairText, attrsOf, tagOf, eventOf}
-use Rattle.xml_text.specs.Accepted.{attributePairs, eventRead}
-use Rattle.xml_text.specs.Written.{quoteOf, writtenAttributes, tagEnd, writtenTag, attributePlaces, writtenEvent}
-use Rattle.xml_text.proofs.Laws.Written.{written-more, tag-more}
+use Rattle.xml.specs.Accepted.{attributePairs, eventRead}
+use Rattle.xml.specs.Written.{quoteOf, writtenAttributes, tagEnd, writtenTag, attributePlaces, writtenEvent}
+use Rattle.xml.proofs.Laws.Written.{written-more, tag-more}
 
 -- a part of a text from a place on
 pub under-pair : (text : Text) (at o z : ℕ) (v r : Text) → drop at text ≡ v ++ r → o ≡ at → z ≡ length v → pairText text (record { offset = o; size = z }) ≡ v

@@ -11,10 +11,10 @@ use Prim.Native.Char.{code}
 use Rattle.text.specs.Text.{Text, if_then_else_, bytes, first, isDigit}
 use Rattle.text.proofs.Laws.Tests.{if-either}
 use Rattle.text.specs.Trim.{isWhiteSpace}
-use Rattle.xml_parts.specs.Classes.{isChar, isNameStart, isName, isLetter, isEncoding}
-use Rattle.xml_parts.specs.Steps.{Step, bad, behind, _andThen_, startsWith, literal, many, oneThen, spaces, space, name, nameOf, until, comment, isXml, target, instructionEnd, instruction, section}
-use Rattle.xml_parts.specs.Values.{isPlain, isQuote, valueEnd, value, charData}
-use Rattle.xml_parts.specs.Prolog.{eq, quoted, versionNumber, encodingName, yesOrNo, declared, endsAt, optional, declaration, isMisc, miscPart, miscFrom, miscBehind, misc, isDeclaration, prolog}
+use Rattle.xml.specs.Classes.{isChar, isNameStart, isName, isLetter, isEncoding}
+use Rattle.xml.specs.Steps.{Step, bad, behind, _andThen_, startsWith, literal, many, oneThen, spaces, space, name, nameOf, until, comment, isXml, target, instructionEnd, instruction, section}
+use Rattle.xml.specs.Values.{isPlain, isQuote, valueEnd, value, charData}
+use Rattle.xml.specs.Prolog.{eq, quoted, versionNumber, encodingName, yesOrNo, declared, endsAt, optional, declaration, isMisc, miscPart, miscFrom, miscBehind, misc, isDeclaration, prolog}
 
 abbrev pub Here : Text → Step → Type 0
 Here text bad = Unit {0}

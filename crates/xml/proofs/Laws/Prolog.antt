@@ -6,9 +6,9 @@ use mathlib.Core.Bool.{Bool, true, false}
 use lib.ListN.{length, getD, drop, drop-of-length-le}
 use lib.Seq.{drop-cons}
 use Rattle.text.specs.Text.{Text, if_then_else_}
-use Rattle.xml_parts.specs.Steps.{Step, bad, behind, _andThen_, literal}
-use Rattle.xml_parts.specs.Values.{isQuote}
-use Rattle.xml_parts.specs.Prolog.{quoted}
+use Rattle.xml.specs.Steps.{Step, bad, _andThen_, literal}
+use Rattle.xml.specs.Values.{isQuote}
+use Rattle.xml.specs.Prolog.{quoted}
 
 pub quoted-past : (body : ℕ → Text → Step) (s : Text) (at i : ℕ) → length s ≤ i → quoted body at (drop i s) ≡ bad
 unfolding quoted

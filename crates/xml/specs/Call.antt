@@ -14,10 +14,10 @@ use Rattle.text.specs.Text.{Text, if_then_else_, bytes, isText}
 use Rattle.sheet.specs.Rows.{filled}
 use Rattle.sheet.specs.Lengths.{tapeLengths}
 use Rattle.sheet.specs.Returned.{accepted, badLength, notAscii, malformed, doctype, shortMarks}
-use Rattle.xml_parts.specs.Steps.{Step, bad, behind, startsWith}
-use Rattle.xml_parts.specs.Prolog.{misc, prolog}
-use Rattle.xml_text.specs.Tape.{TapeEvent, tapeMarks}
-use Rattle.xml_text.specs.Root.{Rooted, unrooted, rooted, root}
+use Rattle.xml.specs.Steps.{Step, bad, behind, startsWith}
+use Rattle.xml.specs.Prolog.{misc, prolog}
+use Rattle.xml.specs.Tape.{TapeEvent, tapeMarks}
+use Rattle.xml.specs.Root.{Rooted, unrooted, rooted, root}
 
 pub data Document : Type 0 where
   withDoctype : Document

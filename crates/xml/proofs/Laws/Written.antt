@@ -16,16 +16,16 @@ use Rattle.text.proofs.Laws.Every.{every-head, every-tail}
 use Rattle.xsd_parser.specs.Event.{Attr, Tag}
 use Rattle.xsd_parser.specs.Tape.{Pair}
 use Rattle.text.specs.Trim.{isWhiteSpace}
-use Rattle.xml_parts.specs.Classes.{isLetter, isNameStart, isName}
-use Rattle.xml_parts.specs.Steps.{Step, bad, behind, _andThen_, startsWith, literal, many, oneThen, spaces, name, nameOf}
-use Rattle.xml_parts.specs.Values.{digitOf, isNumber, isEntity, isReference, isPlain, valueEnd, isQuote, value}
-use Rattle.xml_parts.specs.Prolog.{eq}
-use Rattle.xml_text.specs.Tape.{AttributePairs}
-use Rattle.xml_text.specs.Tags.{Part, last, more, span, attributeFrom, attribute, partOf, isAmong, Ended, ended, attributesFrom, attributes, Tagged, tagged, tag}
-use Rattle.xml_text.specs.Written.{isNameText, isValue, quoteOf, attributeOk, newKeys, writtenAttributes, tagEnd, writtenTag, attributePlaces, taggedAs}
-use Rattle.xml_parts.proofs.Laws.Steps.{starts-length}
-use Rattle.xml_parts.proofs.Laws.Names.{nameOf-none, nameOf-some}
-use Rattle.xml_text.proofs.Laws.Tags.{attributes-last, tag-found}
+use Rattle.xml.specs.Classes.{isLetter, isNameStart, isName}
+use Rattle.xml.specs.Steps.{behind, startsWith, literal, many, oneThen, spaces, name, nameOf}
+use Rattle.xml.specs.Values.{digitOf, isNumber, isEntity, isReference, isPlain, valueEnd, isQuote, value}
+use Rattle.xml.specs.Prolog.{eq}
+use Rattle.xml.specs.Tape.{AttributePairs}
+use Rattle.xml.specs.Tags.{last, more, attributeFrom, attribute, partOf, isAmong, ended, attributesFrom, attributes, tagged, tag}
+use Rattle.xml.specs.Written.{isNameText, isValue, quoteOf, attributeOk, newKeys, writtenAttributes, tagEnd, writtenTag, attributePlaces, taggedAs}
+use Rattle.xml.proofs.Laws.Steps.{starts-length}
+use Rattle.xml.proofs.Laws.Names.{nameOf-none, nameOf-some}
+use Rattle.xml.proofs.Laws.Tags.{attributes-last, tag-found}
 
 -- a name
 pub many-written : (p : ℕ → Bool) (at : ℕ) (n r : Text) → every p n ≡ true → p (first r) ≡ false → many p at (n ++ r) ≡ behind (at + length n) r

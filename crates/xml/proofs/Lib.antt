@@ -1,0 +1,2 @@
+-- Laws of the crate `xml`.
+pub mod Laws
