@@ -10,7 +10,7 @@ use clap::{value_parser, Arg, ArgAction, ArgMatches, Command as Parser};
 
 use lubiksan::ReadAs;
 
-use crate::failure::Failure;
+use crate::failure::{escaped_but, Failure};
 use crate::output::write_output;
 
 /// How a graph is shown.
@@ -59,6 +59,8 @@ pub enum Action {
         sheet: PathBuf,
         /// At most so many events.
         events: usize,
+        /// How long to wait for the lock.
+        wait: Duration,
         /// Begin anew.
         restart: bool,
     },
@@ -134,7 +136,7 @@ fn shown(error: &clap::Error) -> Result<Command, Failure> {
                 read_as: ReadAs::Standard,
             })
         }
-        _ => Err(Failure::Usage(text.trim_end().to_owned())),
+        _ => Err(Failure::Usage(escaped_but(text.trim_end(), |c| c == '\n'))),
     }
 }
 
@@ -204,6 +206,7 @@ fn read() -> Parser {
                 .help("The stored sheet; begun where it is not there"),
         )
         .arg(number("events").help("At most so many events more"))
+        .arg(wait("sheet"))
         .arg(flag("restart", "Begin the sheet anew"))
         .arg(as_original())
         .arg(strict())
@@ -219,11 +222,7 @@ fn shelf() -> Parser {
                 .help("XSD files; the sheet of a.xsd is DIR/a.sheet"),
         )
         .arg(number("jobs").help("How many at once [default: one for each core]"))
-        .arg(
-            number("wait")
-                .value_name("SECONDS")
-                .help("How many seconds to wait for another process on the shelf"),
-        )
+        .arg(wait("shelf or one of its sheets"))
         .arg(flag("restart", "Begin the sheets anew"))
         .arg(as_original())
         .arg(strict())
@@ -258,6 +257,12 @@ fn number(name: &'static str) -> Arg {
         .long(name)
         .value_name("N")
         .value_parser(value_parser!(u64))
+}
+
+fn wait(what: &str) -> Arg {
+    number("wait").value_name("SECONDS").help(format!(
+        "How many seconds to wait for another process on the {what}"
+    ))
 }
 
 fn flag(name: &'static str, help: &'static str) -> Arg {
@@ -323,6 +328,7 @@ fn action(name: &str, matches: &ArgMatches) -> Action {
             file: path("FILE"),
             sheet: path("sheet"),
             events: number_of(matches, "events").unwrap_or(usize::MAX),
+            wait: seconds(matches),
             restart: matches.get_flag("restart"),
         },
         "shelf" => Action::Shelf(shelf_of(matches)),
@@ -345,9 +351,13 @@ fn shelf_of(matches: &ArgMatches) -> Shelf {
             .unwrap_or_default(),
         files: files.cloned().collect(),
         jobs: number_of(matches, "jobs").unwrap_or(0),
-        wait: Duration::from_secs(number_of(matches, "wait").unwrap_or(0) as u64),
+        wait: seconds(matches),
         restart: matches.get_flag("restart"),
     }
+}
+
+fn seconds(matches: &ArgMatches) -> Duration {
+    Duration::from_secs(number_of(matches, "wait").unwrap_or(0) as u64)
 }
 
 fn number_of(matches: &ArgMatches, name: &str) -> Option<usize> {

@@ -1,14 +1,16 @@
 //! The commands but `shelf`.
 
 use std::path::{Path, PathBuf};
+use std::time::Duration;
 
 use lubiksan::{Context, Graph, Kind, ReadAs, SchemaSheet};
 
 use crate::args::{Action, Command, Format};
 use crate::document::Piece;
-use crate::failure::{say, Failure};
+use crate::failure::{named, say, though_unread, Failure};
 use crate::formats::{dot, json, rows, rust, text};
 use crate::interrupt;
+use crate::lock;
 use crate::losses;
 use crate::names::Names;
 use crate::origins::Origins;
@@ -40,8 +42,15 @@ pub fn run(command: &Command) -> Result<(), Failure> {
             file,
             sheet,
             events,
+            wait,
             restart,
-        } => read(command, file, sheet, *events, *restart),
+        } => {
+            let begin = Begin {
+                restart: *restart,
+                read_as: command.read_as,
+            };
+            read(command, file, sheet, *events, begin, *wait)
+        }
         Action::Shelf(arguments) => shelf::run(command, arguments),
         Action::Check { sheet } => check(sheet),
         Action::Tape { file, output } => tape(command, file, output),
@@ -95,14 +104,14 @@ fn of_stored(
     if !stored.is_whole() && !partial {
         let words = format!(
             "{}: only {} are done; --partial takes it so",
-            file.display(),
+            named(file),
             stored.progress()
         );
         return Err(Failure::Refused(words));
     }
     let counts = losses::compared(stored.about.counts, losses::kept(&stored.sheet), "source");
     if stored.is_whole() && !counts.is_empty() {
-        warn(command, vec![format!("{}: {counts}", file.display())])?;
+        warn(command, vec![format!("{}: {counts}", named(file))])?;
     }
     Ok(Input {
         sheet: stored.sheet,
@@ -152,8 +161,8 @@ fn graph(
     });
     match made {
         Ok(bytes) => write_output(output, &bytes),
-        Err(Failure::Answered { lines, words }) if format == Format::Rows => {
-            write_output(output, lines.as_bytes())?;
+        Err(Failure::Answered { lines, words }) if format == Format::Rows && output.is_none() => {
+            though_unread(write_output(None, lines.as_bytes()))?;
             Err(Failure::Refused(words))
         }
         Err(failure) => Err(failure),
@@ -194,12 +203,12 @@ fn do_not_meet(file: &Path, input: &Input, names: &Names) -> Result<(), Failure>
     let located = input
         .source
         .as_ref()
-        .map(|source| (source, Places::of(source, input.sheet.read_as())));
+        .map(|source| (source, Places::of(source, &input.sheet)));
     let place = |row: usize| {
         let found = located
             .as_ref()
             .and_then(|(source, places)| Some(source.at(places.of_row(row)?, "")));
-        found.unwrap_or_else(|| format!("{}: ", file.display()))
+        found.unwrap_or_else(|| format!("{}: ", named(file)))
     };
     Err(Failure::Refused(names.words(place)))
 }
@@ -209,7 +218,7 @@ fn names(command: &Command, file: &Path, partial: bool) -> Result<(), Failure> {
     let graph = lowered(file, input.source.as_ref(), &input.sheet)?;
     let names = Names::of(&input.sheet, &graph);
     let located = input.source.as_ref().map(|source| {
-        let places = Places::of(source, input.sheet.read_as());
+        let places = Places::of(source, &input.sheet);
         (Lines::of(source.document().text()), places)
     });
     let line = |row: usize| {
@@ -217,7 +226,8 @@ fn names(command: &Command, file: &Path, partial: bool) -> Result<(), Failure> {
             .as_ref()
             .and_then(|(lines, places)| Some(lines.line(places.of_row(row)?)))
     };
-    write_output(None, names.listing(line).as_bytes())?;
+    let written = write_output(None, names.listing(line).as_bytes());
+    though_unread(written)?;
     do_not_meet(file, &input, &names)
 }
 
@@ -226,25 +236,21 @@ fn read(
     file: &Path,
     sheet: &Path,
     events: usize,
-    restart: bool,
+    begin: Begin,
+    wait: Duration,
 ) -> Result<(), Failure> {
     interrupt::watch();
-    remove_left_beside(sheet);
     let source = Source::load(file)?;
     say_way(command, &source);
-    let begin = Begin {
-        restart,
-        read_as: command.read_as,
-    };
+    let _lock = lock::on_sheet(sheet, wait)?;
+    remove_left_beside(sheet);
     let mut stored = stored::resumed(sheet, &source, begin)?;
     let progress = Progress::new(source.document().events().len(), command.quiet);
     let read = advance(&source, sheet, &mut stored, events, &progress);
     progress.end();
     read?;
-    write_output(
-        None,
-        format!("{}: {}\n", sheet.display(), stored.progress()).as_bytes(),
-    )?;
+    let line = format!("{}: {}\n", named(sheet), stored.progress());
+    though_unread(write_output(None, line.as_bytes()))?;
     match stored.is_whole() {
         true => warn(command, losses::lines(&source, &stored.sheet)),
         false => Ok(()),
@@ -306,8 +312,8 @@ fn described(path: &Path, stored: &Stored) -> String {
     };
     format!(
         "{}: good\nsource: {}, {} bytes, SHA-256 {sum}\nread: {read_as}\ndone: {}, {} tags open, {state}\nholds: {} elements, {} simple types, {} complex types\nuses: {} of {} rows, {} of {} bytes of names\n",
-        path.display(),
-        about.path.display(),
+        named(path),
+        named(&about.path),
         about.length,
         stored.progress(),
         sheet.open_tags(),

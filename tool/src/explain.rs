@@ -6,7 +6,7 @@ use lubiksan::names::parse_u32;
 use lubiksan::{limits, Declared, Refusal, SchemaSheet, TypeAt};
 
 use crate::document::Document;
-use crate::failure::{quoted, Failure};
+use crate::failure::{named, quoted, Failure};
 use crate::origins::named_at;
 use crate::source::Source;
 use crate::xml::Event;
@@ -21,7 +21,7 @@ pub fn reading(source: &Source, refusal: &Refusal) -> Failure {
         let lines = format!("read {number} {}\n", refusal.place());
         return Failure::Answered {
             lines,
-            words: format!("{}: {refusal}", source.path().display()),
+            words: format!("{}: {refusal}", named(source.path())),
         };
     };
     let (at, words) = event_words(document, event, refusal);
@@ -97,8 +97,12 @@ fn bad_number(document: &Document, event: &Event) -> (usize, String) {
 }
 
 fn why_no_number(word: &str, value: &str) -> String {
-    let digits = value.strip_prefix('+').unwrap_or(value);
-    if digits.is_empty() || !digits.bytes().all(|b| b.is_ascii_digit()) {
+    let value = value.trim_matches([' ', '\t', '\n', '\r']);
+    let is_numeral = |text: &str| !text.is_empty() && text.bytes().all(|b| b.is_ascii_digit());
+    if value.strip_prefix('-').is_some_and(is_numeral) {
+        return "is below 0".to_owned();
+    }
+    if !is_numeral(value.strip_prefix('+').unwrap_or(value)) {
         return "is not a number".to_owned();
     }
     match word {
@@ -116,7 +120,7 @@ pub fn lowering(
 ) -> Failure {
     let (number, place) = (refusal.number(), refusal.place());
     let lines = format!("read 0 {}\nlower {number} {place}\n", sheet.events_done());
-    let name = file.display();
+    let name = named(file);
     let words = match refusal {
         Refusal::NoRoot => format!("{name}: there is no schema element (refused with {number})"),
         Refusal::GraphRoom => format!(
@@ -148,7 +152,7 @@ fn unknown_base(
     };
     match located(source, sheet, row) {
         Some((source, at)) => source.at(at, &words),
-        None => format!("{}: {words}", file.display()),
+        None => format!("{}: {words}", named(file)),
     }
 }
 
@@ -170,7 +174,7 @@ fn repeated_name(
     );
     match located(source, sheet, again.row) {
         Some((source, at)) => source.at(at, &words),
-        None => format!("{}: {words}", file.display()),
+        None => format!("{}: {words}", named(file)),
     }
 }
 

@@ -50,26 +50,59 @@ impl Failure {
         }
     }
 
-    /// A file could not be read. One that is not there is refused; anything else is the machine's.
+    /// A file could not be read. What trying again can't help is refused; anything else is the machine's.
     pub fn input(file: &Path, error: &io::Error) -> Failure {
-        let name = file.display();
-        match error.kind() {
-            ErrorKind::NotFound => Failure::Refused(format!("{name}: there is no such file")),
-            ErrorKind::IsADirectory => {
-                Failure::Refused(format!("{name}: it is a folder, not a file"))
-            }
-            ErrorKind::NotADirectory => Failure::Refused(format!("{name}: there is no such file")),
-            _ => Failure::Machine(format!("{name}: it can't be read: {error}")),
-        }
+        Failure::of_file(file, "read", "file", error)
     }
 
-    /// A file could not be written.
+    /// A file could not be written. What trying again can't help is refused; anything else is the machine's.
     pub fn output(file: &Path, error: &io::Error) -> Failure {
         match error.kind() {
             ErrorKind::BrokenPipe => Failure::Pipe,
-            _ => Failure::Machine(format!("{}: it can't be written: {error}", file.display())),
+            _ => Failure::of_file(file, "written", "folder", error),
         }
     }
+
+    /// `absent` is what is not there where the machine finds nothing.
+    fn of_file(file: &Path, done: &str, absent: &str, error: &io::Error) -> Failure {
+        let name = named(file);
+        let words = match error.kind() {
+            ErrorKind::NotFound | ErrorKind::NotADirectory => format!("there is no such {absent}"),
+            ErrorKind::IsADirectory => "it is a folder, not a file".to_owned(),
+            ErrorKind::AlreadyExists => "it is a file, not a folder".to_owned(),
+            ErrorKind::InvalidFilename => "its name is too long".to_owned(),
+            _ if error.raw_os_error() == Some(libc::ELOOP) => {
+                "it is a link that leads to itself".to_owned()
+            }
+            _ => return Failure::Machine(format!("{name}: it can't be {done}: {error}")),
+        };
+        Failure::Refused(format!("{name}: {words}"))
+    }
+}
+
+/// Where what reads the output has gone, the rest is done all the same, so that the exit status tells of it.
+///
+/// # Errors
+///
+/// Any other failure.
+pub fn though_unread(written: Result<(), Failure>) -> Result<(), Failure> {
+    match written {
+        Err(Failure::Pipe) => Ok(()),
+        other => other,
+    }
+}
+
+/// The name of a file as it is shown: on one line whatever it holds.
+pub fn named(file: &Path) -> String {
+    match is_standard_input(file) {
+        true => "standard input".to_owned(),
+        false => escaped(&file.to_string_lossy()),
+    }
+}
+
+/// `-` names standard input.
+pub fn is_standard_input(file: &Path) -> bool {
+    file.as_os_str() == "-"
 }
 
 /// Writes a line to standard error. Where that fails there is no one to tell.
@@ -85,11 +118,21 @@ pub fn quoted(text: &str) -> String {
     format!("\"{}{dots}\"", escaped(&shown))
 }
 
-/// A text without line breaks and other control characters.
+/// A text without line breaks, other control characters and what changes the direction of writing.
 pub fn escaped(text: &str) -> String {
+    escaped_but(text, |_| false)
+}
+
+/// The same but for the characters of `left`.
+pub fn escaped_but(text: &str, left: impl Fn(char) -> bool) -> String {
+    let unseen = |c: char| {
+        c.is_control()
+            || matches!(c, '\u{200B}'..='\u{200F}' | '\u{2028}'..='\u{202E}')
+            || matches!(c, '\u{2060}'..='\u{2069}' | '\u{FEFF}')
+    };
     let mut out = String::with_capacity(text.len());
     for c in text.chars() {
-        if c.is_control() || matches!(c, '\u{2028}' | '\u{2029}') {
+        if unseen(c) && !left(c) {
             out.extend(c.escape_default());
         } else {
             out.push(c);

@@ -8,10 +8,11 @@
 //! | [`document`] | a text read in one of the two ways; its events in pieces |
 //! | [`source`], [`reading`] | a schema file; its events read into a schema sheet |
 //! | [`explain`], [`losses`] | a refusal in words; what of the file was not kept |
+//! | [`follow`] | what the library's reader does with each tag |
 //! | [`origins`] | where a root or type comes from, by the number of its event |
 //! | [`stored`], [`output`] | stored sheets; files that are whole or as they were |
 //! | [`formats`], [`names`], [`identifier`], [`places`] | the graph as text, JSON, dot, Rust and rows; names that meet, and where |
-//! | [`shelf`], [`interrupt`], [`progress`] | many schemas side by side |
+//! | [`shelf`], [`lock`], [`interrupt`], [`progress`] | many schemas side by side |
 //! | [`args`], [`commands`], [`failure`] | the command line |
 
 #![deny(missing_docs)]
@@ -23,9 +24,11 @@ pub mod document;
 mod dtd;
 pub mod explain;
 pub mod failure;
+pub mod follow;
 pub mod formats;
 pub mod identifier;
 pub mod interrupt;
+pub mod lock;
 pub mod losses;
 pub mod names;
 pub mod origins;

@@ -90,7 +90,7 @@ fn replaced(path: &Path, bytes: &[u8]) -> io::Result<()> {
 }
 
 /// The folder of a file.
-fn folder_of(path: &Path) -> PathBuf {
+pub(crate) fn folder_of(path: &Path) -> PathBuf {
     match path.parent() {
         Some(folder) if !folder.as_os_str().is_empty() => folder.to_owned(),
         _ => PathBuf::from("."),

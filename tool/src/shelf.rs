@@ -3,26 +3,24 @@
 
 use std::collections::HashMap;
 use std::ffi::OsStr;
-use std::fs::{self, File, OpenOptions, TryLockError};
+use std::fs;
 use std::path::{Path, PathBuf};
 use std::sync::atomic::{AtomicUsize, Ordering};
 use std::sync::mpsc::{self, Sender};
 use std::thread;
-use std::time::{Duration, Instant};
 
 use crate::args::{Command, Shelf};
 use crate::commands::{advance, say_way, warn};
-use crate::failure::Failure;
+use crate::failure::{named, though_unread, Failure};
 use crate::formats::plural;
 use crate::interrupt;
+use crate::lock;
 use crate::losses;
 use crate::output::{remove_left_behind, write_output};
 use crate::progress::Progress;
 use crate::reading::lowered;
 use crate::source::Source;
 use crate::stored::{self, Begin};
-
-const LOCK: &str = ".lubiksan.lock";
 
 /// A schema and where its sheet is stored.
 struct Job {
@@ -39,7 +37,7 @@ pub fn run(command: &Command, shelf: &Shelf) -> Result<(), Failure> {
     let jobs = jobs(shelf)?;
     interrupt::watch();
     fs::create_dir_all(&shelf.folder).map_err(|error| Failure::output(&shelf.folder, &error))?;
-    let _lock = locked(shelf)?;
+    let _lock = lock::on_shelf(&shelf.folder, shelf.wait)?;
     remove_left_behind(&shelf.folder);
     let progress = Progress::new(jobs.len(), command.quiet);
     let ends = side_by_side(command, shelf, &jobs, &progress);
@@ -53,16 +51,13 @@ fn jobs(shelf: &Shelf) -> Result<Vec<Job>, Failure> {
     let mut jobs = Vec::new();
     for file in &shelf.files {
         let Some(stem) = file.file_stem() else {
-            return Err(Failure::Refused(format!(
-                "{}: it is no file",
-                file.display()
-            )));
+            return Err(Failure::Refused(format!("{}: it is no file", named(file))));
         };
         if let Some(other) = stems.insert(stem, file) {
             let words = format!(
                 "{}: it would have the sheet of {}",
-                file.display(),
-                other.display()
+                named(file),
+                named(other)
             );
             return Err(Failure::Refused(words));
         }
@@ -74,39 +69,6 @@ fn jobs(shelf: &Shelf) -> Result<Vec<Job>, Failure> {
         });
     }
     Ok(jobs)
-}
-
-/// The lock on the shelf, held as long as the file is open.
-fn locked(shelf: &Shelf) -> Result<File, Failure> {
-    let path = shelf.folder.join(LOCK);
-    let opened = OpenOptions::new()
-        .write(true)
-        .create(true)
-        .truncate(false)
-        .open(&path);
-    let file = opened.map_err(|error| Failure::output(&path, &error))?;
-    let until = Instant::now().checked_add(shelf.wait);
-    loop {
-        match file.try_lock() {
-            Ok(()) => return Ok(file),
-            Err(TryLockError::Error(error)) => return Err(Failure::output(&path, &error)),
-            Err(TryLockError::WouldBlock) => wait(shelf, until)?,
-        }
-    }
-}
-
-/// Waits a little for another process, as long as there is time.
-fn wait(shelf: &Shelf, until: Option<Instant>) -> Result<(), Failure> {
-    interrupt::stop_if_asked()?;
-    if until.is_some_and(|until| Instant::now() >= until) {
-        let words = format!(
-            "{}: another process is at work on this shelf",
-            shelf.folder.display()
-        );
-        return Err(Failure::Machine(words));
-    }
-    thread::sleep(Duration::from_millis(20));
-    Ok(())
 }
 
 /// How the work on one file ended.
@@ -124,9 +86,18 @@ fn side_by_side(
     let next = AtomicUsize::new(0);
     let (sender, ends) = mpsc::channel();
     thread::scope(|scope| {
+        let mut started = 0;
         for _ in 0..wanted.min(jobs.len()) {
             let (sender, next) = (sender.clone(), &next);
-            scope.spawn(move || work(command, shelf, jobs, next, &sender));
+            let job = move || work(command, shelf, jobs, next, &sender);
+            match thread::Builder::new().spawn_scoped(scope, job) {
+                Ok(_) => started += 1,
+                // Where the machine starts no more threads, those that there are do the work.
+                Err(_) => break,
+            }
+        }
+        if started == 0 {
+            work(command, shelf, jobs, &next, &sender);
         }
         drop(sender);
         in_order(jobs.len(), ends.iter(), progress)
@@ -168,7 +139,8 @@ fn in_order(
                 Ok(line) => line.clone(),
                 Err(failure) => failure.words().replace('\n', "; "),
             };
-            progress.aside(|| write_output(None, format!("{line}\n").as_bytes()))?;
+            let written = progress.aside(|| write_output(None, format!("{line}\n").as_bytes()));
+            though_unread(written)?;
             printed.push(end);
         }
     }
@@ -177,28 +149,29 @@ fn in_order(
 
 /// One schema: read on, stored after each piece, lowered.
 fn one(command: &Command, shelf: &Shelf, job: &Job) -> End {
-    let named = |failure: Failure| match failure {
+    let of_job = |failure: Failure| match failure {
         Failure::Machine(words) if interrupt::asked() => {
-            Failure::Machine(format!("{}: {words}", job.file.display()))
+            Failure::Machine(format!("{}: {words}", named(&job.file)))
         }
         other => other,
     };
-    interrupt::stop_if_asked().map_err(named)?;
+    interrupt::stop_if_asked().map_err(of_job)?;
     let source = Source::load(&job.file)?;
     say_way(command, &source);
     let begin = Begin {
         restart: shelf.restart,
         read_as: command.read_as,
     };
+    let _lock = lock::on_sheet(&job.sheet, shelf.wait).map_err(of_job)?;
     let mut stored = stored::resumed(&job.sheet, &source, begin)?;
     let quiet = Progress::new(0, true);
-    advance(&source, &job.sheet, &mut stored, usize::MAX, &quiet).map_err(named)?;
+    advance(&source, &job.sheet, &mut stored, usize::MAX, &quiet).map_err(of_job)?;
     let graph = lowered(&job.file, Some(&source), &stored.sheet)?;
     warn(command, losses::lines(&source, &stored.sheet))?;
     let counted = |count: usize, word: &str| format!("{count} {}", plural(count as u64, word));
     Ok(format!(
         "{}: {}, {}, {}",
-        job.file.display(),
+        named(&job.file),
         counted(stored.sheet.events_done(), "event"),
         counted(graph.roots().count(), "root"),
         counted(graph.types().count(), "type")

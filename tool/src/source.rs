@@ -1,7 +1,8 @@
 //! A schema file.
 
-use std::fs::File;
+use std::fs::{File, OpenOptions};
 use std::io::{self, Read};
+use std::os::unix::fs::OpenOptionsExt;
 use std::path::{Path, PathBuf};
 use std::sync::OnceLock;
 
@@ -9,7 +10,7 @@ use lubiksan::{limits, NoTape};
 use sha2::{Digest, Sha256};
 
 use crate::document::{Document, Way, BYTE_ORDER_MARK};
-use crate::failure::Failure;
+use crate::failure::{is_standard_input, named, Failure};
 use crate::xml::{line_and_column, Fault};
 
 /// A schema file that was read.
@@ -43,7 +44,7 @@ impl Source {
         let document = Document::of(bytes).map_err(|refused| {
             let place = match &refused.place {
                 Some((text, at)) => placed(path, text, *at),
-                None => format!("{}: ", path.display()),
+                None => format!("{}: ", named(path)),
             };
             Failure::Refused(place + &refused.words)
         })?;
@@ -80,7 +81,7 @@ impl Source {
 
     /// Who read the text, in words.
     pub fn way(&self) -> String {
-        let name = self.path.display();
+        let name = named(&self.path);
         let why = match self.document.way() {
             Way::Library(tape) => {
                 let (events, marks) = (self.document.events().len(), tape.marks().len());
@@ -120,7 +121,21 @@ impl Source {
 /// `FILE:LINE:COLUMN: `
 fn placed(path: &Path, text: &str, at: usize) -> String {
     let (line, column) = line_and_column(text, at);
-    format!("{}:{line}:{column}: ", path.display())
+    format!("{}:{line}:{column}: ", named(path))
+}
+
+/// The bytes of a file, or of standard input for `-`.
+///
+/// # Errors
+///
+/// The error of the machine.
+pub fn bytes_of(path: &Path) -> io::Result<Vec<u8>> {
+    if !is_standard_input(path) {
+        return bytes_of_file(path);
+    }
+    let mut bytes = Vec::new();
+    io::stdin().lock().read_to_end(&mut bytes)?;
+    Ok(bytes)
 }
 
 /// The bytes of a file.
@@ -128,9 +143,25 @@ fn placed(path: &Path, text: &str, at: usize) -> String {
 /// # Errors
 ///
 /// The error of the machine.
-pub fn bytes_of(path: &Path) -> io::Result<Vec<u8>> {
-    let mut file = File::open(path)?;
+pub fn bytes_of_file(path: &Path) -> io::Result<Vec<u8>> {
     let mut bytes = Vec::new();
-    file.read_to_end(&mut bytes)?;
+    File::open(path)?.read_to_end(&mut bytes)?;
     Ok(bytes)
+}
+
+/// The bytes of a file that another file names: a regular file of this length, or nothing. A pipe is not waited for and a device
+/// not read.
+pub fn bytes_of_length(path: &Path, length: u64) -> Option<Vec<u8>> {
+    let opened = OpenOptions::new()
+        .read(true)
+        .custom_flags(libc::O_NONBLOCK)
+        .open(path);
+    let file = opened.ok()?;
+    let there = file.metadata().ok()?;
+    if !there.is_file() || there.len() != length {
+        return None;
+    }
+    let mut bytes = Vec::new();
+    file.take(length).read_to_end(&mut bytes).ok()?;
+    Some(bytes)
 }

@@ -18,10 +18,10 @@ use std::path::{Path, PathBuf};
 use lubiksan::{ReadAs, SchemaSheet};
 use sha2::{Digest, Sha256};
 
-use crate::failure::Failure;
+use crate::failure::{named, Failure};
 use crate::losses::{self, Counts};
 use crate::output::replace_file;
-use crate::source::{bytes_of, Source};
+use crate::source::{bytes_of, bytes_of_file, bytes_of_length, Source};
 
 const MAGIC: &[u8; 8] = b"lubiksan";
 const VERSION: u32 = 1;
@@ -67,7 +67,8 @@ impl About {
 
     /// The file that the sheet was read from, where it is still there as it was.
     pub fn source(&self) -> Option<Source> {
-        let source = Source::load(&self.path).ok()?;
+        let bytes = bytes_of_length(&self.path, self.length)?;
+        let source = Source::of(&self.path, bytes).ok()?;
         let same = source.length == self.length && source.sha256() == self.sha256;
         same.then_some(source)
     }
@@ -110,7 +111,7 @@ pub fn load(path: &Path) -> Result<Stored, Failure> {
 ///
 /// [`Failure`] in words, with the path before them.
 pub fn of_bytes(path: &Path, bytes: &[u8]) -> Result<Stored, Failure> {
-    let refused = |words: String| Failure::Refused(format!("{}: {words}", path.display()));
+    let refused = |words: String| Failure::Refused(format!("{}: {words}", named(path)));
     let mut stored = decoded(bytes).map_err(refused)?;
     stored
         .sheet
@@ -307,7 +308,7 @@ pub fn resumed(path: &Path, source: &Source, begin: Begin) -> Result<Stored, Fai
         sheet: SchemaSheet::cleared(begin.read_as),
         about: About::of(source),
     };
-    let bytes = match bytes_of(path) {
+    let bytes = match bytes_of_file(path) {
         Ok(bytes) => bytes,
         Err(error) if error.kind() == std::io::ErrorKind::NotFound => return Ok(anew()),
         Err(error) => return Err(Failure::input(path, &error)),
@@ -335,7 +336,7 @@ pub fn keeps_choice(path: &Path, stored: &Stored, read_as: ReadAs) -> Result<(),
     }
     Err(Failure::Refused(format!(
         "{}: the stored sheet is read by the standard and stays so; --as-original is for a new one",
-        path.display()
+        named(path)
     )))
 }
 
@@ -346,7 +347,7 @@ fn same_source(path: &Path, stored: &Stored, source: &Source) -> Result<(), Fail
     }
     Err(Failure::Refused(format!(
         "{}: the sheet {} was read from other contents; --restart begins it anew",
-        source.path().display(),
-        path.display()
+        named(source.path()),
+        named(path)
     )))
 }

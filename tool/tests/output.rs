@@ -2,11 +2,13 @@
 
 mod common;
 
+use std::ffi::OsStr;
 use std::fs;
-use std::io::Read;
+use std::io::{Read, Write};
 use std::os::unix::fs::{symlink, PermissionsExt};
 use std::path::Path;
 use std::process::{Command, Stdio};
+use std::time::{Duration, Instant};
 
 use common::{lubiksan, Folder, PROGRAM};
 
@@ -136,10 +138,256 @@ fn a_broken_pipe_ends_quietly() {
 }
 
 #[test]
-fn a_folder_that_is_not_there_is_the_machines() {
+fn a_refused_schema_leaves_the_output_of_rows_as_it_was() {
     let folder = Folder::new();
-    assert_eq!(to(&folder.path("none/out")), Some(3));
-    assert_eq!(to(&folder.0), Some(3));
+    let good = folder.put("out", "read 0 3\n");
+    for text in [
+        "<schema><complexType></complexType></schema>",
+        "<a/>",
+        "<schema><simpleType name='T'><list/></simpleType></schema>",
+    ] {
+        let bad = folder.put("bad.xsd", text);
+        let args: [&OsStr; 6] = [
+            "graph".as_ref(),
+            bad.as_ref(),
+            "--format".as_ref(),
+            "rows".as_ref(),
+            "--output".as_ref(),
+            good.as_ref(),
+        ];
+        let ran = lubiksan(args);
+        assert_eq!(ran.status, Some(1));
+        assert!(!ran.err.is_empty());
+        assert_eq!(fs::read_to_string(&good).unwrap(), "read 0 3\n");
+    }
+}
+
+/// What trying again can't help is refused, with these words; anything else would be 3.
+fn is_final(args: &[&OsStr], words: &str) {
+    let ran = lubiksan(args);
+    assert_eq!(ran.status, Some(1), "{}", ran.err);
+    assert!(ran.err.ends_with(&format!(": {words}\n")), "{}", ran.err);
+}
+
+#[test]
+fn what_trying_again_can_not_help_is_refused() {
+    let folder = Folder::new();
+    let (long, link) = (folder.path(&"n".repeat(300)), folder.path("link"));
+    symlink("link", &link).unwrap();
+    let file = folder.put("file", "<schema/>");
+    let (absent, inside) = (folder.path("none/out"), file.join("out"));
+    let (payment, graph): (&OsStr, &OsStr) = (PAYMENT.as_ref(), "graph".as_ref());
+    let (read, sheet): (&OsStr, &OsStr) = ("read".as_ref(), "--sheet".as_ref());
+    for (path, input, output) in [
+        (&long, "its name is too long", "its name is too long"),
+        (
+            &link,
+            "it is a link that leads to itself",
+            "it is a link that leads to itself",
+        ),
+        (&absent, "there is no such file", "there is no such folder"),
+        (&inside, "there is no such file", "there is no such folder"),
+        (
+            &folder.0,
+            "it is a folder, not a file",
+            "it is a folder, not a file",
+        ),
+    ] {
+        is_final(&[graph, path.as_ref()], input);
+        is_final(
+            &[graph, payment, "--output".as_ref(), path.as_ref()],
+            output,
+        );
+        let ran = lubiksan([read, payment, sheet, path.as_ref()]);
+        assert_eq!(ran.status, Some(1), "{}", ran.err);
+    }
+    is_final(
+        &["shelf".as_ref(), file.as_ref(), payment],
+        "it is a file, not a folder",
+    );
+}
+
+#[test]
+fn control_characters_of_a_name_are_not_sent_to_the_terminal() {
+    let folder = Folder::new();
+    let name = "a\u{1b}[31m\nb:1:1:\r\u{202e}.xsd";
+    let shown = "a\\u{1b}[31m\\nb:1:1:\\r\\u{202e}";
+    let plain = |text: &str| {
+        let plain = |c: char| !c.is_control() && c != '\u{202e}' || c == '\n';
+        assert!(text.chars().all(plain), "{text:?}");
+    };
+    let bad = folder.put(name, "<schema><complexType></complexType></schema>");
+    let ran = lubiksan(["graph".as_ref(), bad.as_os_str()]);
+    plain(&ran.err);
+    let words = format!("{shown}.xsd:1:9: complexType has no name (refused with 9, event 1)\n");
+    assert!(ran.err.ends_with(&words), "{}", ran.err);
+    let good = folder.put(name, "<schema><element name='a' type='b'/></schema>");
+    let sheets = folder.path("sheets\u{7}");
+    let ran = lubiksan(["shelf".as_ref(), sheets.as_os_str(), good.as_os_str()]);
+    assert_eq!(ran.status, Some(0), "{}", ran.err);
+    plain(&ran.out);
+    let sheet = sheets.join("a\u{1b}[31m\nb:1:1:\r\u{202e}.sheet");
+    let ran = lubiksan(["check".as_ref(), sheet.as_os_str()]);
+    plain(&ran.out);
+    assert!(
+        ran.out.contains(&format!("{shown}.sheet: good\nsource: ")),
+        "{}",
+        ran.out
+    );
+    let ran = lubiksan(["graph".as_ref(), good.as_os_str(), sheets.as_os_str()]);
+    assert_eq!(ran.status, Some(2));
+    plain(&ran.err);
+}
+
+/// The exit status of a run that nobody reads.
+fn unread(args: &[&OsStr]) -> (Option<i32>, String) {
+    let mut child = Command::new(PROGRAM)
+        .args(args)
+        .stdout(Stdio::piped())
+        .stderr(Stdio::piped())
+        .spawn()
+        .unwrap();
+    drop(child.stdout.take());
+    let ended = child.wait_with_output().unwrap();
+    (
+        ended.status.code(),
+        String::from_utf8(ended.stderr).unwrap(),
+    )
+}
+
+#[test]
+fn a_run_that_nobody_reads_has_its_status_all_the_same() {
+    let folder = Folder::new();
+    let bad = folder.put("bad.xsd", "<schema><complexType></complexType></schema>");
+    let meets = concat!(env!("CARGO_MANIFEST_DIR"), "/tests/data/meets.xsd");
+    let (sheets, sheet) = (folder.path("sheets"), folder.path("p.sheet"));
+    let (status, said) = unread(&[
+        "shelf".as_ref(),
+        sheets.as_ref(),
+        PAYMENT.as_ref(),
+        bad.as_ref(),
+    ]);
+    assert_eq!(
+        (status, said.as_str()),
+        (Some(1), "refused: 1 of 2 files\n")
+    );
+    assert_eq!(unread(&["names".as_ref(), meets.as_ref()]).0, Some(1));
+    let rows: [&OsStr; 4] = [
+        "graph".as_ref(),
+        bad.as_ref(),
+        "--format".as_ref(),
+        "rows".as_ref(),
+    ];
+    assert_eq!(unread(&rows).0, Some(1));
+    let read: [&OsStr; 4] = [
+        "read".as_ref(),
+        PAYMENT.as_ref(),
+        "--sheet".as_ref(),
+        sheet.as_ref(),
+    ];
+    assert_eq!(unread(&read).0, Some(0));
+}
+
+#[test]
+fn standard_input_is_read() {
+    let run = |args: &[&str], input: &[u8]| {
+        let mut child = Command::new(PROGRAM)
+            .args(args)
+            .stdin(Stdio::piped())
+            .stdout(Stdio::piped())
+            .stderr(Stdio::piped())
+            .spawn()
+            .unwrap();
+        child.stdin.take().unwrap().write_all(input).unwrap();
+        child.wait_with_output().unwrap()
+    };
+    let bytes = fs::read(PAYMENT).unwrap();
+    for format in ["text", "rust", "rows", "dot"] {
+        let ran = run(&["graph", "-", "--format", format], &bytes);
+        let expected = lubiksan(["graph", PAYMENT, "--format", format]).out;
+        assert_eq!(
+            String::from_utf8(ran.stdout).unwrap(),
+            expected.replace(PAYMENT, "standard input")
+        );
+    }
+    let ran = run(
+        &["graph", "-"],
+        b"<schema>\n<complexType></complexType></schema>",
+    );
+    assert_eq!(ran.status.code(), Some(1));
+    let said = String::from_utf8(ran.stderr).unwrap();
+    assert!(
+        said.starts_with("standard input:2:1: complexType has no name"),
+        "{said}"
+    );
+    let folder = Folder::new();
+    let sheet = folder.path("s.sheet");
+    let sheet = sheet.to_str().unwrap();
+    let ran = run(&["read", "-", "--sheet", sheet], &bytes);
+    assert_eq!(ran.status.code(), Some(0));
+    let ran = run(&["check", "-"], &fs::read(sheet).unwrap());
+    assert_eq!(ran.status.code(), Some(0));
+    // A sheet does not read standard input again for the places of its source.
+    let ran = run(&["graph", sheet], b"");
+    assert_eq!(ran.status.code(), Some(0));
+}
+
+/// What a run gave that must end within a minute.
+fn in_time(args: &[&OsStr]) -> (Option<i32>, String) {
+    let mut child = Command::new(PROGRAM)
+        .args(args)
+        .stdin(Stdio::null())
+        .stdout(Stdio::piped())
+        .stderr(Stdio::null())
+        .spawn()
+        .unwrap();
+    let until = Instant::now() + Duration::from_secs(60);
+    while child.try_wait().unwrap().is_none() {
+        if Instant::now() > until {
+            child.kill().unwrap();
+            child.wait().unwrap();
+            panic!("the run does not end");
+        }
+        std::thread::sleep(Duration::from_millis(10));
+    }
+    let ended = child.wait_with_output().unwrap();
+    (
+        ended.status.code(),
+        String::from_utf8(ended.stdout).unwrap(),
+    )
+}
+
+#[test]
+fn a_stored_sheet_opens_only_a_file_of_its_length() {
+    let folder = Folder::new();
+    let (file, sheet) = (folder.put("a.xsd", PLACED), folder.path("a.sheet"));
+    let read: [&OsStr; 4] = [
+        "read".as_ref(),
+        file.as_ref(),
+        "--sheet".as_ref(),
+        sheet.as_ref(),
+    ];
+    assert_eq!(lubiksan(read).status, Some(0));
+    let pipe = folder.path("pipe");
+    let made = Command::new("mkfifo").arg(&pipe).status().unwrap();
+    assert!(made.success());
+    let longer = folder.put("longer.xsd", format!("{PLACED}\n"));
+    let stored = lubiksan_tool::stored::load(&sheet).unwrap();
+    for path in [
+        pipe.as_path(),
+        Path::new("/dev/zero"),
+        Path::new("-"),
+        &folder.0,
+        &longer,
+    ] {
+        let about = lubiksan_tool::stored::About {
+            path: path.to_owned(),
+            ..stored.about.clone()
+        };
+        lubiksan_tool::stored::store(&sheet, &stored.sheet, &about).unwrap();
+        let (status, shown) = in_time(&["graph".as_ref(), sheet.as_ref()]);
+        assert_eq!((status, places(&shown)), (Some(0), vec![None; 3]));
+    }
 }
 
 #[test]

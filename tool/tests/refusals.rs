@@ -61,6 +61,20 @@ fn numbers_are_refused_with_the_place_of_the_value() {
     );
     let (words, _) = refused(facet("<maxLength value='18446744073709551616'/>"));
     assert!(words.contains("is above 18446744073709551615 (refused with 10, event 3)"));
+    for (value, why) in [
+        (" 99999999999 ", "is above 4294967295"),
+        ("\t+99999999999\r\n", "is above 4294967295"),
+        (" -5 ", "is below 0"),
+        ("- 0", "is not a number"),
+        ("  ", "is not a number"),
+    ] {
+        let element = format!("<element name='a' type='b' maxOccurs='{value}'/>");
+        let (words, _) = refused(sequence(&element));
+        assert!(
+            words.contains(&format!(" {why} (refused with 10, ")),
+            "{words}"
+        );
+    }
     let (words, _) = refused(facet("<!-- ü --><totalDigits/>"));
     assert_eq!(
         words,

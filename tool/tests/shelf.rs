@@ -164,6 +164,103 @@ fn two_shelves_at_once() {
     assert_eq!(sheets(&shelf).len(), files.len());
 }
 
+/// The lock of a sheet is held here; `read` and `shelf` end with 3 until it is free.
+#[test]
+fn one_process_at_a_time_reads_a_sheet() {
+    let folder = Folder::new();
+    let file = folder.put("a.xsd", long_schema(14_000));
+    let shelf = folder.path("shelf");
+    fs::create_dir(&shelf).unwrap();
+    let sheet = shelf.join("a.sheet");
+    let (file_name, sheet_name) = (file.to_str().unwrap(), sheet.to_str().unwrap());
+    let lock = lubiksan_tool::lock::on_sheet(&sheet, Duration::ZERO).unwrap();
+    for more in [
+        &[][..],
+        &["--wait", "1"],
+        &["--events", "7"],
+        &["--restart"],
+    ] {
+        let ran = lubiksan([&["read", file_name, "--sheet", sheet_name], more].concat());
+        assert_eq!(ran.status, Some(3));
+        assert!(
+            ran.err
+                .ends_with("a.sheet: another process is at work on this sheet\n"),
+            "{}",
+            ran.err
+        );
+    }
+    let ran = run(&shelf, std::slice::from_ref(&file), &[]);
+    assert_eq!(
+        (ran.status, ran.err.as_str()),
+        (Some(3), "not done: 1 of 1 files\n")
+    );
+    assert!(!sheet.exists());
+    let other = shelf.join("b.sheet");
+    let ran = lubiksan(["read", file_name, "--sheet", other.to_str().unwrap()]);
+    assert_eq!(ran.status, Some(0), "another sheet is free: {}", ran.err);
+    drop(lock);
+    let ran = lubiksan(["read", file_name, "--sheet", sheet_name]);
+    assert_eq!(ran.status, Some(0), "{}", ran.err);
+    assert_eq!(names_in(&shelf), [".lubiksan.lock", "a.sheet", "b.sheet"]);
+}
+
+/// Whoever has reported success, what it has reported is stored when all have ended.
+#[test]
+fn a_slower_read_does_not_store_an_older_state() {
+    let folder = Folder::new();
+    let file = folder.put("a.xsd", long_schema(14_000));
+    let file_name = file.to_str().unwrap();
+    for round in 0..cases(12) {
+        let shelf = folder.path(&format!("shelf{round}"));
+        fs::create_dir(&shelf).unwrap();
+        let sheet = shelf.join("a.sheet");
+        let read = |more: &[&str]| {
+            Command::new(PROGRAM)
+                .args(["read", file_name, "--sheet", sheet.to_str().unwrap()])
+                .args(more)
+                .stdout(Stdio::null())
+                .stderr(Stdio::null())
+                .spawn()
+                .unwrap()
+        };
+        let short = ["--events", "7", "--wait", "60"];
+        let mut children = vec![read(&short), read(&["--wait", "60"]), read(&short)];
+        children.push(start(
+            &shelf,
+            std::slice::from_ref(&file),
+            &["--wait", "60"],
+        ));
+        for child in &mut children {
+            assert_eq!(child.wait().unwrap().code(), Some(0));
+        }
+        let stored = lubiksan_tool::stored::load(&sheet).unwrap();
+        assert!(stored.is_whole(), "{}", stored.progress());
+    }
+}
+
+/// A stack that no machine has room for: no thread can be started.
+#[test]
+fn without_threads_the_work_is_done_all_the_same() {
+    let folder = Folder::new();
+    let files = files(&folder);
+    let (whole, shelf) = (folder.path("whole"), folder.path("shelf"));
+    assert_eq!(run(&whole, &files, &[]).status, Some(0));
+    let ran = Command::new(PROGRAM)
+        .arg("shelf")
+        .arg(&shelf)
+        .args(&files)
+        .env("RUST_MIN_STACK", (1u64 << 60).to_string())
+        .output()
+        .unwrap();
+    let said = String::from_utf8_lossy(&ran.stderr);
+    assert_eq!(ran.status.code(), Some(0), "{said}");
+    assert_eq!(
+        String::from_utf8_lossy(&ran.stdout).lines().count(),
+        files.len()
+    );
+    assert!(sheets(&shelf) == sheets(&whole));
+}
+
 #[test]
 fn stopped_by_ctrl_c_it_goes_on() {
     let folder = Folder::new();

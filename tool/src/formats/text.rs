@@ -5,7 +5,7 @@ use std::fmt::Write;
 use lubiksan::{Graph, TypeDef};
 
 use super::{facet_words, with_cardinality, word_of};
-use crate::failure::{escaped, quoted};
+use crate::failure::{escaped, named, quoted};
 use crate::origins::{Origin, Origins};
 
 /// The text of a graph, with the place of each root and type where it is known.
@@ -41,7 +41,7 @@ fn paragraph(out: &mut String, found: &TypeDef<'_>, place: &str) {
 /// ` at FILE:LINE`
 fn place(origin: Option<Origin<'_>>) -> String {
     origin.map_or(String::new(), |Origin { file, line }| {
-        format!(" at {}:{line}", escaped(&file.to_string_lossy()))
+        format!(" at {}:{line}", named(file))
     })
 }
 
