@@ -8,6 +8,7 @@ pub mod GraphOk
 pub mod Left
 pub mod Members
 pub mod Outcome
+pub mod Table
 pub mod Form
 pub mod Names
 pub mod Unnumbered

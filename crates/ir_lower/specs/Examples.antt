@@ -19,7 +19,7 @@ use Rattle.xsd_types.specs.Unfold.{computes as schemas}
 use Rattle.ir_types.specs.Types.{TypeRef, Cardinality, TypeDef, TypeGraph}
 use Rattle.ir_types.specs.Unfold.{computes as graphs}
 use Rattle.ir_lower.specs.Lower.{lowerCardinality, lower}
-use Rattle.ir_lower.specs.Call.{Lowered, lowering}
+use Rattle.ir_lower.specs.Call.{Lowered, lowerState, lowering}
 use Rattle.ir_lower.specs.Unfold.{computes as lowerings}
 
 schema : List Item → Schema
@@ -53,6 +53,13 @@ field : lower (schema (complex (bytes "S") (ComplexContent.sequence (record { na
     ≡ graph (TypeDef.struct 7 (bytes "S") (record { xmlName = bytes "CreDt"; rustName = bytes "cre_dt"; typeRef = TypeRef.named (bytes "AB"); cardinality = Cardinality.optional } ∷ []) ∷ [])
 unfolding schema complex graph texts builtinNames conversions schemas graphs lowerings
 field = refl
+
+-- a variant keeps its name: no snake form; its reference by itself, a built-in name after its last colon
+variant : lower (schema (complex (bytes "E") (ComplexContent.choice (record { name = bytes "OrgId"; typeName = bytes "xs:date" } ∷ record { name = bytes "PrvtId"; typeName = bytes "Id" } ∷ [])) ∷ []))
+    ≡ graph (TypeDef.enum 7 (bytes "E") (record { xmlName = bytes "OrgId"; rustName = bytes "OrgId"; typeRef = TypeRef.builtin RustType.date }
+    ∷ record { xmlName = bytes "PrvtId"; rustName = bytes "PrvtId"; typeRef = TypeRef.named (bytes "Id") } ∷ []) ∷ [])
+unfolding schema complex graph texts builtinNames conversions schemas graphs lowerings
+variant = refl
 
 -- max 0 is required
 cardinalities : (lowerCardinality 0 (MaxOccurs.bounded 0) ≡ Cardinality.required) × (lowerCardinality 0 (MaxOccurs.bounded 1) ≡ Cardinality.optional)
@@ -104,6 +111,13 @@ no-root = refl
 no-root-standard : call (firstState true) 20 0 1 ≡ zeroed 12 0 20 0 1
 unfolding call sevens zeroed texts builtinNames conversions sheets schemas graphs lowerings
 no-root-standard = refl
+
+-- 14 before 12, on a state that no sheet holds: types and no root seen, one number of scratch for two types
+scratch-before-root :
+    lowerState (record { reader = record { schema = schema (a ∷ a ∷ []); rootSeen = false; context = Context.noContext }; events = 9; openTags = 0; byStandard = false }) (sevens 40 9) (replicate 1 7)
+    ≡ kept 14 40 9 1
+unfolding sevens kept schema simple a texts builtinNames conversions sheets schemas graphs lowerings
+scratch-before-root = refl
 
 -- 14: two finished types, one number of scratch
 scratch-short : call (state (a ∷ a ∷ [])) 40 9 1 ≡ kept 14 40 9 1

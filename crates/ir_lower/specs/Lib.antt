@@ -6,6 +6,7 @@ pub mod Repeated
 pub mod Call
 pub mod Left
 pub mod Outcome
+pub mod Table
 pub mod Unnumbered
 pub mod Unfold
 pub mod Examples

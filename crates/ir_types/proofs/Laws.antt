@@ -8,4 +8,5 @@ pub mod GraphForm
 pub mod Label
 pub mod Words
 pub mod Refuses
+pub mod Table
 pub mod GraphSmall

@@ -9,6 +9,7 @@ pub mod Sheet
 pub mod Form
 pub mod Label
 pub mod Refuses
+pub mod Table
 pub mod Distinct
 pub mod Last
 pub mod Ok

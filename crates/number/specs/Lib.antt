@@ -3,3 +3,4 @@ pub mod Number
 pub mod Answers
 pub mod Unfold
 pub mod Counts
+pub mod Examples

@@ -1,9 +1,10 @@
 -- The outer claims, each under the paper's words. What a call says of itself is `ClearIs`, `ReadIs`, `LowerIs`, `LabelIs` and `LabelNumberIs` (specs/ of
 -- xsd_types, xsd_parser, ir_lower, ir_types); a `Trace` is a list of calls by these. Every claim is proved below this file. Assumes nothing.
-use Prim.Native.Nat.{ℕ, _+_, _≤_}
+use Prim.Native.Nat.{ℕ, _+_, _≤_, _<_}
 use mathlib.Core.Path.{_≡_}
 use mathlib.Core.Logic.{_↔_}
-use mathlib.Core.Bool.{Bool, true, false}
+use mathlib.Core.Bool.{Bool, true, false, _&&_}
+use lib.Dec.{leb}
 use mathlib.Core.List.{List, [], _∷_, _++_, map}
 use lib.ListN.{length, take, drop}
 use Rattle.text.specs.Text.{Text, bytes, every, isText, join}
@@ -13,7 +14,7 @@ use Rattle.number.proofs.Laws.Spellings.{number-kept, number-exactly}
 use Rattle.sheet.specs.Rows.{Sheet}
 use Rattle.sheet.specs.Form.{words}
 use Rattle.sheet.specs.Returned.{accepted}
-use Rattle.sheet.specs.Lengths.{tapeLengths, Lengths, lengthsOf, goodLengths}
+use Rattle.sheet.specs.Lengths.{sheetLengths, tapeLengths, Lengths, lengthsOf, goodLengths}
 use Rattle.xsd_types.specs.Types.{Schema, MaxOccurs}
 use Rattle.xsd_types.specs.State.{State, firstState, headsPass, proper}
 use Rattle.xsd_types.specs.Rows.{rowsOf}
@@ -24,8 +25,11 @@ use Rattle.xsd_types.specs.Sheet.{sheetOf, stateFits}
 use Rattle.xsd_types.specs.Good.{good}
 use Rattle.xsd_types.specs.Back.{stateOf}
 use Rattle.xsd_types.specs.Clear.{clear}
+use Rattle.xsd_types.specs.Table.{ClearTable}
 use Rattle.xsd_types.specs.Choice.{paperGood, sheetChosen}
 use Rattle.xsd_types.proofs.Laws.SheetOf.{stateOf-sheetOf}
+use Rattle.xsd_types.proofs.Laws.Clear.{good-clear}
+use Rattle.xsd_types.proofs.Laws.Table.{clear-table}
 use Rattle.xsd_types.proofs.Laws.StateOf.{good-exactly, sheetOf-stateOf}
 use Rattle.xsd_types.proofs.Laws.Choice.{good-before}
 use Rattle.xsd_parser.specs.Event.{Tag, Event}
@@ -35,6 +39,8 @@ use Rattle.xsd_parser.specs.Tape.{Judged, eventOf, records}
 use Rattle.xsd_parser.specs.Handlers.{ok, isUnbounded}
 use Rattle.xsd_parser.specs.Step.{step}
 use Rattle.xsd_parser.specs.Read.{readRecords, read, readState, sheetOfReading}
+use Rattle.xsd_parser.specs.Table.{ReadTable}
+use Rattle.xsd_parser.proofs.Laws.Table.{read-table}
 use Rattle.xsd_parser.specs.Numbered.{readRecordsBy, readStateBy, unknownNumber, unnumberedReading, carries}
 use Rattle.xsd_parser.specs.Whole.{wholeRecords}
 use Rattle.xsd_parser.specs.Children.{directChildren, heads, onlyTypes}
@@ -55,26 +61,29 @@ use Rattle.xml.proofs.Laws.Back.{tag-back}
 use Rattle.ir_types.specs.Types.{Cardinality}
 use Rattle.ir_types.specs.Last.{insertAll}
 use Rattle.ir_types.specs.Form.{graphForm}
+use Rattle.ir_types.specs.Label.{label}
+use Rattle.ir_types.specs.Table.{LabelTable}
+use Rattle.ir_types.proofs.Laws.Table.{label-table}
 use Rattle.ir_lower.specs.Lower.{lower, lowerCardinality, finishedDefinitions}
 use Rattle.ir_lower.specs.Repeated.{heads as typeHeads, FirstRepeat}
 use Rattle.ir_lower.specs.Call.{lowering}
 use Rattle.ir_lower.specs.Unnumbered.{unnumberedLowered}
 use Rattle.ir_lower.proofs.Laws.Unnumbered.{lower-unnumbered}
 use Rattle.ir_lower.specs.Outcome.{Accepted, NameTwice}
-use Rattle.ir_lower.proofs.Laws.Cardinality.{optional-exactly, vec-exactly}
+use Rattle.ir_lower.specs.Table.{LoweringTable, FirstUnknown}
+use Rattle.ir_lower.proofs.Laws.Table.{lowering-table, unknown-first}
+use Rattle.ir_lower.proofs.Laws.Cardinality.{optional-exactly, vec-exactly, bounded-exactly, required-exactly}
 use Rattle.ir_lower.proofs.Laws.Names.{lowering-accepted, lowering-last, repeated-exactly, repeated-place}
 use Rattle.ir_lower.proofs.Laws.Form.{lowering-form}
 use Rattle.runs.specs.Runs.{Call, Answered, Ran, run}
 use Rattle.runs.specs.Trace.{Trace}
-use Rattle.runs.specs.Cut.{onwardRead, readCut, readBehind, isLowering, uncutCalls, cutCalls, CutAlike}
+use Rattle.runs.specs.Cuts.{Job, jobsDone, jobsJudged, CutInto, CutAlike}
 use Rattle.runs.specs.Joined.{joined, refusesNone, acceptedEvents, afterRecords}
 use Rattle.runs.proofs.NoTwo.{NoneTwo, no-two}
 use Rattle.runs.proofs.Runs.{runs}
-use Rattle.runs.proofs.Cut.{cut, cut-anywhere}
 use Rattle.runs.proofs.Joined.{last-joined, made-joined}
 use Rattle.runs.proofs.Carried.{carried-run}
-use Rattle.runs.proofs.CutCalls.{cut-calls, cut-calls-accepted, cut-calls-refused, cut-made}
-use Rattle.runs.proofs.CutJoined.{joined-cut}
+use Rattle.runs.proofs.Cuts.{cut-run, cut-made, cut-joined}
 use Rattle.runs.proofs.Choices.{run-choice, cleared-children, cleared-both}
 use Rattle.runs.proofs.Accepted.{run-children}
 
@@ -88,6 +97,29 @@ claim-back = stateOf-sheetOf
 
 pub claim-again : (x : Sheet) → words (x .rows) ≡ true → good x ≡ true → sheetOf (stateOf x) (length (x .rows)) (length (x .names)) ≡ x
 claim-again = sheetOf-stateOf
+
+-- "A number comes under its row's condition and under no other": every call ends in one case of its table, each case with its own condition, those before it
+-- failing, its place and all that is left
+pub claim-clear-table : (choice : ℕ) (x : Sheet) → ClearTable choice x (clear choice x)
+claim-clear-table = clear-table
+
+pub claim-read-table : (x : Sheet) (text : Text) (marks : List ℕ) → ReadTable x text marks (read x text marks)
+claim-read-table = read-table
+
+pub claim-lower-table : (x graph : Sheet) (scratch : List ℕ) → LoweringTable x graph scratch (lowering x graph scratch)
+claim-lower-table = lowering-table
+
+pub claim-label-table : (rows names words : List ℕ) (k : ℕ) → LabelTable rows names words k (label rows names words k)
+claim-label-table = label-table
+
+-- "A cleared sheet is good"
+pub claim-cleared-good : (choice : ℕ) (x : Sheet) → sheetLengths (length (x .rows)) (length (x .names)) && leb choice 1 ≡ true → good (clear choice x .sheet) ≡ true
+claim-cleared-good = good-clear
+
+-- 13: "place is the row of the first such simple type"
+pub claim-unknown-place : (x graph : Sheet) (scratch : List ℕ) → lowering x graph scratch .answer .number ≡ 13
+    → FirstUnknown 2 (stateOf x .reader .schema .items) (lowering x graph scratch .answer .place)
+claim-unknown-place = unknown-first
 
 -- each event keeps a proper state proper
 pub claim-event : (lent : Lengths) (s : State) (e : Event) (s′ : State) → proper s ≡ true → eventOk e ≡ true → step lent s e ≡ ok s′ → proper s′ ≡ true
@@ -115,33 +147,20 @@ pub claim-number : (lent : Lengths) (s : State) (text : Text) (marks : List ℕ)
 claim-number = readState-place
 
 -- "where no reading meets 1, a tape may be cut between any events over the same text: up to its first refused event the sheet is the same, and that
--- event has the same refusal and the same number in the run"
-pub claim-cut : (x : Sheet) (text : Text) (m₁ m₂ : List ℕ) → words (x .rows) ≡ true → goodLengths (lengthsOf x) ≡ true → good x ≡ true → tapeLengths (length text) (length (m₁ ++ m₂)) ≡ true → tapeLengths (length text) (length m₁) ≡ true → tapeLengths (length text) (length m₂) ≡ true → wholeRecords text m₁ ≡ true → read x text (m₁ ++ m₂) ≡ onwardRead (read x text m₁) (read (read x text m₁ .sheet) text m₂)
-claim-cut = cut
+-- event has the same refusal and the same number in the run". "Past it the cut counts, since it decides what is dropped": any number of tapes, each of any
+-- length and in any number of pieces, any lowerings between them, end as the tapes read whole; by the definition, and for the calls made
+pub claim-cut : (x : Sheet) (jobs : List Job) (calls : List Call) → goodLengths (lengthsOf x) ≡ true → good x ≡ true → CutInto (lengthsOf x) (stateOf x) jobs calls
+    → CutAlike (lengthsOf x) (jobsDone (lengthsOf x) (stateOf x) jobs) (run x calls)
+claim-cut = cut-run
 
--- the same for any number of pieces, and for a tape that is too long for one reading: however it is cut, the answer is one and the same
-pub claim-cut-anywhere : (x : Sheet) (text : Text) (ms : List (List ℕ)) (last : List ℕ) → words (x .rows) ≡ true → goodLengths (lengthsOf x) ≡ true → good x ≡ true → every (λ (m : List ℕ). tapeLengths (length text) (length m)) ms ≡ true → tapeLengths (length text) (length last) ≡ true → every (wholeRecords text) ms ≡ true → readCut x text ms last ≡ sheetOfReading (lengthsOf x) (readState (lengthsOf x) (stateOf x) text (join ms ++ last))
-claim-cut-anywhere = cut-anywhere
+pub claim-cut-made : {x x′ : Sheet} {jobs : List Job} {calls : List Call} {answers : List Answered} → words (x .rows) ≡ true → goodLengths (lengthsOf x) ≡ true → good x ≡ true
+    → CutInto (lengthsOf x) (stateOf x) jobs calls → Trace x calls answers x′ → CutAlike (lengthsOf x) (jobsDone (lengthsOf x) (stateOf x) jobs) (record { answers = answers; last = x′ })
+claim-cut-made = cut-made
 
--- the same in any list of calls, with any lowerings between the pieces. A tape that meets no refusal: the last sheet and every other call's answer are the
--- same. Done again to a piece it gives any number of pieces; the other readings may meet 1 or not
-pub claim-cut-calls : (x : Sheet) (before lowerings behind : List Call) (text : Text) (m₁ m₂ : List ℕ) → goodLengths (lengthsOf x) ≡ true → good x ≡ true → tapeLengths (length text) (length (m₁ ++ m₂)) ≡ true → every isLowering lowerings ≡ true → wholeRecords text m₁ ≡ true → readBehind x before text (m₁ ++ m₂) .answer .number ≡ 0 → CutAlike 0 before lowerings behind (run x (uncutCalls before text m₁ m₂ behind)) (run x (cutCalls before text m₁ lowerings m₂ behind))
-claim-cut-calls = cut-calls-accepted
-
--- a refusal in the second piece, or none: the same too, with the same refusal and the same number in the run; by the definition, and for the calls made
-pub claim-cut-calls-second : (x : Sheet) (before lowerings behind : List Call) (text : Text) (m₁ m₂ : List ℕ) → goodLengths (lengthsOf x) ≡ true → good x ≡ true → tapeLengths (length text) (length (m₁ ++ m₂)) ≡ true → every isLowering lowerings ≡ true → readBehind x before text m₁ .answer .number ≡ 0 → CutAlike (readBehind x before text (m₁ ++ m₂) .answer .number) before lowerings behind (run x (uncutCalls before text m₁ m₂ behind)) (run x (cutCalls before text m₁ lowerings m₂ behind))
-claim-cut-calls-second = cut-calls
-
-pub claim-cut-calls-made : (x : Sheet) (before lowerings behind : List Call) (text : Text) (m₁ m₂ : List ℕ) {x₁ x₂ : Sheet} {answers₁ answers₂ : List Answered} → words (x .rows) ≡ true → goodLengths (lengthsOf x) ≡ true → good x ≡ true → tapeLengths (length text) (length (m₁ ++ m₂)) ≡ true → every isLowering lowerings ≡ true → readBehind x before text m₁ .answer .number ≡ 0 → Trace x (uncutCalls before text m₁ m₂ behind) answers₁ x₁ → Trace x (cutCalls before text m₁ lowerings m₂ behind) answers₂ x₂ → CutAlike (readBehind x before text (m₁ ++ m₂) .answer .number) before lowerings behind (record { answers = answers₁; last = x₁ }) (record { answers = answers₂; last = x₂ })
-claim-cut-calls-made = cut-made
-
--- a refusal in the first piece: the tape uncut is that piece alone. "Past it the cut counts, since it decides what is dropped."
-pub claim-cut-calls-first : (x : Sheet) (before behind : List Call) (text : Text) (m₁ m₂ : List ℕ) → goodLengths (lengthsOf x) ≡ true → good x ≡ true → tapeLengths (length text) (length (m₁ ++ m₂)) ≡ true → wholeRecords text m₁ ≡ true → (readBehind x before text m₁ .answer .number ≡ 0 → ⊥) → run x (uncutCalls before text m₁ m₂ behind) ≡ run x (before ++ Call.reading text m₁ ∷ behind)
-claim-cut-calls-first = cut-calls-refused
-
--- the events joined are the same
-pub claim-joined-cut : (x : Sheet) (before lowerings behind : List Call) (text : Text) (m₁ m₂ : List ℕ) → goodLengths (lengthsOf x) ≡ true → good x ≡ true → tapeLengths (length text) (length (m₁ ++ m₂)) ≡ true → every isLowering lowerings ≡ true → readBehind x before text m₁ .answer .number ≡ 0 → joined x (cutCalls before text m₁ lowerings m₂ behind) ≡ joined x (uncutCalls before text m₁ m₂ behind)
-claim-joined-cut = joined-cut
+-- the events joined are those of the tapes, wherever the pieces end
+pub claim-joined-cut : (x : Sheet) (jobs : List Job) (calls : List Call) → goodLengths (lengthsOf x) ≡ true → good x ≡ true → CutInto (lengthsOf x) (stateOf x) jobs calls
+    → joined x calls ≡ jobsJudged (lengthsOf x) (stateOf x) jobs
+claim-joined-cut = cut-joined
 
 -- order 2, numbers: a text accepted before keeps its value. What is accepted is white space around a text accepted before or around minus zeros, or such a
 -- text alone, at every width; what is new is `-` before zeros and white space around either
@@ -218,10 +237,18 @@ claim-cleared-lower = lower-unnumbered
 pub claim-carried : (byStandard : Bool) (x : Sheet) (calls : List Call) → goodLengths (lengthsOf x) ≡ true → good x ≡ true → stateOf x ≡ firstState byStandard → (s : State) × (run x calls .last ≡ sheetOf s (length (x .rows)) (length (x .names))) × (headsPass (λ name c. carries (acceptedEvents (lengthsOf x) (firstState byStandard) (joined x calls)) c name) (s .reader) ≡ true)
 claim-carried = carried-run
 
--- "min 0 and max 1 optional", and nothing else is; "unbounded gives vec", and nothing else does
+-- "min 0 and max 1 optional", and nothing else is
 pub claim-optional : (min : ℕ) (max : MaxOccurs) → (lowerCardinality min max ≡ Cardinality.optional) ↔ ((min ≡ 0) × (max ≡ MaxOccurs.bounded 1))
 claim-optional = optional-exactly
 
+-- "max above 1 bounded"; "all else required": a max of at most 1, but for min 0 with max 1
+pub claim-bounded : (min : ℕ) (max : MaxOccurs) (n : ℕ) → (lowerCardinality min max ≡ Cardinality.boundedVec n) ↔ ((max ≡ MaxOccurs.bounded n) × (1 < n))
+claim-bounded = bounded-exactly
+
+pub claim-required : (min n : ℕ) → (lowerCardinality min (MaxOccurs.bounded n) ≡ Cardinality.required) ↔ ((n ≤ 1) × ((min ≡ 0) × (n ≡ 1) → ⊥))
+claim-required = required-exactly
+
+-- "unbounded gives vec", and nothing else does
 pub claim-vec : (min : ℕ) (max : MaxOccurs) → (lowerCardinality min max ≡ Cardinality.vec) ↔ (max ≡ MaxOccurs.unbounded)
 claim-vec = vec-exactly
 

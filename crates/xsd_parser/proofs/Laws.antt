@@ -12,6 +12,7 @@ pub mod Refusals
 pub mod Records
 pub mod Reads
 pub mod Answers
+pub mod Table
 pub mod Accepts
 pub mod Appended
 pub mod Cut

@@ -7,6 +7,7 @@ pub mod Tape
 pub mod Handlers
 pub mod Step
 pub mod Read
+pub mod Table
 pub mod Numbered
 pub mod EventText
 pub mod Accepted

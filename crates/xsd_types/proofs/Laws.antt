@@ -13,6 +13,7 @@ pub mod Back
 pub mod Made
 pub mod SheetOf
 pub mod Clear
+pub mod Table
 pub mod Shapes
 pub mod Rows
 pub mod Heads

@@ -11,6 +11,7 @@ pub mod Sheet
 pub mod Good
 pub mod Back
 pub mod Clear
+pub mod Table
 pub mod Choice
 pub mod Unnumbered
 pub mod Unfold

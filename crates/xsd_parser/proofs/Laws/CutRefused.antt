@@ -126,3 +126,29 @@ events-wholeFrom (suc f) text marks a =
 pub events-whole : (text : Text) (marks : List ℕ) → allEvents (records text marks) ≡ true → wholeRecords text marks ≡ true
 unfolding records wholeRecords
 events-whole text marks a = events-wholeFrom (length marks) text marks a
+
+empty-records : (f : ℕ) (text : Text) (marks : List ℕ) → marks ≡ [] → recordsFrom f text marks ≡ []
+empty-records f text marks z = ap (recordsFrom f text) z ∙ records-none f text
+
+-- the records of whole marks stand in front of those with more marks behind
+Front : ℕ → ℕ → Text → List ℕ → List ℕ → Type 0
+Front f g text m₁ m₂ = (js : List Judged) × (recordsFrom g text (m₁ ++ m₂) ≡ recordsFrom f text m₁ ++ js)
+
+front-empty : (f g : ℕ) (text : Text) (m₁ m₂ : List ℕ) → m₁ ≡ [] → Front f g text m₁ m₂
+unfolding Front
+front-empty f g text m₁ m₂ z = (recordsFrom g text (m₁ ++ m₂), rw (empty-records f text m₁ z))
+
+whole-front : (f g : ℕ) (text : Text) (m₁ m₂ : List ℕ) → length m₁ ≤ f → length m₁ + length m₂ ≤ g → wholeFrom f text m₁ ≡ true → Front f g text m₁ m₂
+unfolding Front
+whole-front zero g text m₁ m₂ h k w = front-empty zero g text m₁ m₂ (none-of-length m₁ h)
+whole-front (suc f) zero text m₁ m₂ h k w = front-empty (suc f) zero text m₁ m₂ (none-of-length m₁ (omega arith))
+whole-front (suc f) (suc g) text m₁ m₂ h k w =
+    record-cases text m₁ (λ q. front-empty (suc f) (suc g) text m₁ m₂ (finished-empty text m₁ q))
+    (λ j q. ([], rw (records-bad g text (m₁ ++ m₂) j (bad-longer text m₁ m₂ j q (whole-first f text m₁ w)), records-bad f text m₁ j q))) λ e rest q.
+    let l = next-shorter text m₁ e rest q in
+    let n = whole-front f g text rest m₂ (omega arith) (omega arith) (whole-rest f text m₁ e rest q w) in
+    (n .0, rw (records-next g text (m₁ ++ m₂) e (rest ++ m₂) (next-longer text m₁ m₂ e rest q), records-next f text m₁ e rest q) (ap (λ js. event e ∷ js) (n .1)))
+
+pub whole-records : (text : Text) (m₁ m₂ : List ℕ) → wholeRecords text m₁ ≡ true → (js : List Judged) × (records text (m₁ ++ m₂) ≡ records text m₁ ++ js)
+unfolding records wholeRecords Front
+whole-records text m₁ m₂ w = whole-front (length m₁) (length (m₁ ++ m₂)) text m₁ m₂ (omega arith) (rw (length-append m₁ m₂) (omega arith)) w

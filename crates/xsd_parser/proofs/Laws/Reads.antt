@@ -1,10 +1,11 @@
 -- Reading records in order: the state stays proper and within the lent lengths, and the place counts the events done. Assumes nothing.
 --     stopped k n s    a reading that ends with the number k at the place n in the state s
-use mathlib.Core.Path.{_≡_, refl}
+use mathlib.Core.Path.{_≡_, refl, ap, _∙_}
 use mathlib.Core.Bool.{true}
 use mathlib.Core.List.{List, [], _∷_}
-use Prim.Native.Nat.{ℕ, suc, _+_}
+use Prim.Native.Nat.{ℕ, suc, _+_, _<_}
 use native.Mathlib.Omega.{arith}
+use lib.ListN.{length}
 use Rattle.sheet.specs.Lengths.{Lengths}
 use Rattle.text.specs.Text.{Text, every}
 use Rattle.xsd_types.specs.State.{State, proper}
@@ -91,3 +92,13 @@ readState-place lent s text marks = let h = readRecords-place lent 0 s (records 
 pub readState-none : (lent : Lengths) (s : State) (text : Text) → readState lent s text [] ≡ stopped 0 0 s
 unfolding readState readRecords records recordsFrom
 readState-none lent s text = refl
+
+-- a refused event stands among the records
+pub refused-place : (lent : Lengths) (n : ℕ) (s : State) (js : List Judged) → (readRecords lent n s js .answer .number ≡ 0 → ⊥) → readRecords lent n s js .answer .place < n + length js
+unfolding readRecords
+refused-place lent n s [] h = absurd (h refl)
+refused-place lent n s (refused r ∷ js) h = omega arith
+refused-place lent n s (event e ∷ js) h =
+    outcome-cases (step lent s e)
+    (λ x q. let k = refused-place lent (suc n) x js (λ z. h (ap (λ r. r .answer .number) (read-ok lent n s x e js q) ∙ z)) in rw (read-ok lent n s x e js q) (omega arith))
+    (λ r q. rw (read-refuse lent n s e js r q) (omega arith))

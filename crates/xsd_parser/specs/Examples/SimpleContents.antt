@@ -115,6 +115,15 @@ required :
 unfolding taped
 required = refl
 
+-- exactly: white space around it makes another word
+required-exactly :
+    reads (blank 50 12) (schema ∷ complexType "C" ∷ start "simpleContent" [] ∷ start "extension" (based "b")
+    ∷ empty "attribute" (("name", "x") ∷ ("type", "t") ∷ ("use", " required") ∷ [])
+    ∷ empty "attribute" (("name", "y") ∷ ("type", "t") ∷ ("use", "required ") ∷ []) ∷ [])
+    ≡ gives 0 6 (sheet 50 12 (line 0 5 6 3 2 1 6 4 1 0 ∷ noNamespace ∷ line 14 0 1 1 1 0 0 0 0 1 ∷ line 20 2 1 3 1 0 0 0 0 0 ∷ line 20 4 1 5 1 0 0 0 0 0 ∷ []) "Cbxtyt")
+unfolding taped
+required-exactly = refl
+
 -- the close finishes the type, "flag 0"
 finished :
     reads (blank 60 12) (schema ∷ complexType "C" ∷ start "simpleContent" [] ∷ start "extension" (based "b")
