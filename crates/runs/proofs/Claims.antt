@@ -1,5 +1,5 @@
--- The outer claims, each under the paper's words. What a call says of itself is `ClearIs`, `ReadIs`, `LowerIs`, `LabelIs` and `LabelNumberIs` (specs/ of
--- xsd_types, xsd_parser, ir_lower, ir_types); a `Trace` is a list of calls by these. Every claim is proved below this file. Assumes nothing.
+-- The outer claims, each under the paper's words. What a call says of itself is `ClearIs`, `ReadIs`, `TapeIs`, `LowerIs`, `LabelIs` and `LabelNumberIs` (specs/ of
+-- xsd_types, xsd_parser, xml, ir_lower, ir_types); a `Trace` is a list of readings and lowerings, each by its `ReadIs` or `LowerIs`. Every claim is proved below this file. Assumes nothing.
 use Prim.Native.Nat.{ℕ, _+_, _≤_, _<_}
 use mathlib.Core.Path.{_≡_}
 use mathlib.Core.Logic.{_↔_}
@@ -51,6 +51,8 @@ use Rattle.xsd_parser.proofs.Laws.Reads.{readState-place}
 use Rattle.xml.specs.Tape.{TapeEvent, tapeMarks}
 use Rattle.xml.specs.Tags.{tag}
 use Rattle.xml.specs.Call.{wellFormed, document, tapeOf}
+use Rattle.xml.specs.Table.{TapeTable}
+use Rattle.xml.proofs.Laws.Table.{tape-table}
 use Rattle.xml.specs.Accepted.{EventsAt, fewAttributes, eventRead, recordsRead, ReadsThrough}
 use Rattle.xml.specs.Written.{isNameText, attributeOk, newKeys, writtenTag, writtenEvent, taggedAs}
 use Rattle.xml.proofs.Laws.Events.{events-at}
@@ -111,6 +113,9 @@ claim-lower-table = lowering-table
 
 pub claim-label-table : (rows names words : List ℕ) (k : ℕ) → LabelTable rows names words k (label rows names words k)
 claim-label-table = label-table
+
+pub claim-tape-table : (text : Text) (before : List ℕ) → TapeTable text before (tapeOf text before)
+claim-tape-table = tape-table
 
 -- "A cleared sheet is good"
 pub claim-cleared-good : (choice : ℕ) (x : Sheet) → sheetLengths (length (x .rows)) (length (x .names)) && leb choice 1 ≡ true → good (clear choice x .sheet) ≡ true

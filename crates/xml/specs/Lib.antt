@@ -9,6 +9,7 @@ pub mod Tags
 pub mod Root
 pub mod Tape
 pub mod Call
+pub mod Table
 pub mod Accepted
 pub mod Written
 pub mod Unfold
