@@ -9,4 +9,5 @@ pub mod Label
 pub mod Words
 pub mod Refuses
 pub mod Table
+pub mod References
 pub mod GraphSmall

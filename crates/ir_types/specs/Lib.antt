@@ -10,6 +10,7 @@ pub mod Form
 pub mod Label
 pub mod Refuses
 pub mod Table
+pub mod References
 pub mod Distinct
 pub mod Last
 pub mod Ok

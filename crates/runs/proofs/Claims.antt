@@ -72,8 +72,8 @@ use Rattle.ir_lower.specs.Call.{lowering}
 use Rattle.ir_lower.specs.Unnumbered.{unnumberedLowered}
 use Rattle.ir_lower.proofs.Laws.Unnumbered.{lower-unnumbered}
 use Rattle.ir_lower.specs.Outcome.{Accepted, NameTwice}
-use Rattle.ir_lower.specs.Table.{LoweringTable, FirstUnknown}
-use Rattle.ir_lower.proofs.Laws.Table.{lowering-table, unknown-first}
+use Rattle.ir_lower.specs.Table.{LoweringTable, FirstUnknown, LoweredLabels}
+use Rattle.ir_lower.proofs.Laws.Table.{lowering-table, unknown-first, lowering-labels}
 use Rattle.ir_lower.proofs.Laws.Cardinality.{optional-exactly, vec-exactly, bounded-exactly, required-exactly}
 use Rattle.ir_lower.proofs.Laws.Names.{lowering-accepted, lowering-last, repeated-exactly, repeated-place}
 use Rattle.ir_lower.proofs.Laws.Form.{lowering-form}
@@ -116,6 +116,11 @@ claim-label-table = label-table
 
 pub claim-tape-table : (text : Text) (before : List ℕ) → TapeTable text before (tapeOf text before)
 claim-tape-table = tape-table
+
+-- "The label call gives a row's type reference": on an accepted graph, for every row
+pub claim-labels : (x graph : Sheet) (scratch words : List ℕ) → lowering x graph scratch .answer .number ≡ 0
+    → LoweredLabels (stateOf x .reader .schema) (lowering x graph scratch .graph) words
+claim-labels = lowering-labels
 
 -- "A cleared sheet is good"
 pub claim-cleared-good : (choice : ℕ) (x : Sheet) → sheetLengths (length (x .rows)) (length (x .names)) && leb choice 1 ≡ true → good (clear choice x .sheet) ≡ true

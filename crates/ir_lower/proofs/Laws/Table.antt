@@ -1,14 +1,16 @@
 -- Every lowering comes under one case of the table; 13's place is the first unknown simple type's row. Assumes nothing.
-use Prim.Native.Nat.{ℕ, _+_}
+use Prim.Native.Nat.{ℕ, _+_, _%_}
 use mathlib.Core.Path.{_≡_, refl, ap, _∙_}
 use mathlib.Core.Logic.{⊎-elim}
 use mathlib.Core.Bool.{true, false, _&&_, _||_, false≢true}
 use mathlib.Core.List.{List, [], _∷_, _++_}
 use native.Mathlib.Omega.{arith}
+use lib.Dec.{eqb, leb}
 use lib.ListN.{length}
-use Rattle.text.proofs.Laws.Tests.{test-cases}
+use borrow.Author.Tests.{eqb-true}
+use Rattle.text.proofs.Laws.Tests.{test-cases, two, four}
 use Rattle.sheet.specs.Rows.{Sheet}
-use Rattle.sheet.specs.Lengths.{lengthsOf, goodLengths}
+use Rattle.sheet.specs.Lengths.{sheetLengths, lengthsOf, goodLengths}
 use Rattle.xsd_types.specs.Types.{SimpleType, Item, simpleTypes}
 use Rattle.xsd_types.specs.State.{State}
 use Rattle.xsd_types.specs.Good.{good}
@@ -16,7 +18,8 @@ use Rattle.xsd_types.specs.Back.{stateOf}
 use Rattle.ir_lower.specs.Lower.{unknownBase, anyUnknown, unknownRow}
 use Rattle.ir_lower.specs.Call.{Lowered, unchanged, cleared, lowering}
 use Rattle.ir_lower.specs.Outcome.{Outcome}
-use Rattle.ir_lower.specs.Table.{LoweringTable, FirstUnknown}
+use Rattle.ir_lower.specs.Table.{LoweringTable, FirstUnknown, LoweredLabels}
+use Rattle.ir_types.proofs.Laws.References.{graph-labels}
 use Rattle.ir_lower.proofs.Laws.Outcome.{unchanged-number, cleared-number, lowering-1, lowering-2, lowering-state, outcome}
 use Rattle.ir_lower.proofs.Laws.Refusals.{unknownRow-first}
 
@@ -82,3 +85,28 @@ unknown-first x graph scratch h = go (lowering x graph scratch) (lowering-table 
     go l (LoweringTable.lengths g e) k = let q = unchanged-number 1 graph scratch l e in absurd (omega arith)
     go l (LoweringTable.notGood g b e) k = let q = unchanged-number 2 graph scratch l e in absurd (omega arith)
     go l (LoweringTable.judged g b o) k = outcome-unknown (stateOf x) graph scratch l o k
+
+-- ---- the labels of an accepted graph
+
+outcome-labels : (s : State) (graph : Sheet) (scratch words : List ℕ) (l : Lowered) → length (graph .rows) % 10 ≡ 0 → Outcome s graph scratch l → l .answer .number ≡ 0
+    → LoweredLabels (s .reader .schema) (l .graph) words
+outcome-labels s graph scratch words l m (Outcome.short a e) h = let q = unchanged-number 14 graph scratch l e in absurd (omega arith)
+outcome-labels s graph scratch words l m (Outcome.rootless a b e) h = let q = cleared-number 12 0 graph scratch l e in absurd (omega arith)
+outcome-labels s graph scratch words l m (Outcome.unknown a b c e) h = let q = cleared-number 13 _ graph scratch l e in absurd (omega arith)
+outcome-labels s graph scratch words l m (Outcome.repeated a b g c row r e) h = let q = cleared-number 20 row graph scratch l e in absurd (omega arith)
+outcome-labels s graph scratch words l m (Outcome.tight a b g c r f e) h = let q = cleared-number 15 0 graph scratch l e in absurd (omega arith)
+outcome-labels s graph scratch words l m (Outcome.fitting a b g c r f e) h =
+    record { lowered = g; from = c; labels = rw e (graph-labels g (length (graph .rows)) (length (graph .names)) words f m) }
+
+tenth : (graph : Sheet) → goodLengths (lengthsOf graph) ≡ true → length (graph .rows) % 10 ≡ 0
+unfolding goodLengths lengthsOf sheetLengths
+tenth graph h = eqb-true (length (graph .rows) % 10) 0 (four (eqb (length (graph .rows) % 10) 0) (leb 20 (length (graph .rows))) (leb (length (graph .rows)) 40960) (leb (length (graph .names)) 65536) h .0)
+
+pub lowering-labels : (x graph : Sheet) (scratch words : List ℕ) → lowering x graph scratch .answer .number ≡ 0
+    → LoweredLabels (stateOf x .reader .schema) (lowering x graph scratch .graph) words
+lowering-labels x graph scratch words h = go (lowering x graph scratch) (lowering-table x graph scratch) h
+  where
+    go : (l : Lowered) → LoweringTable x graph scratch l → l .answer .number ≡ 0 → LoweredLabels (stateOf x .reader .schema) (l .graph) words
+    go l (LoweringTable.lengths g e) k = let q = unchanged-number 1 graph scratch l e in absurd (omega arith)
+    go l (LoweringTable.notGood g b e) k = let q = unchanged-number 2 graph scratch l e in absurd (omega arith)
+    go l (LoweringTable.judged g b o) k = outcome-labels (stateOf x) graph scratch words l (tenth graph (two (goodLengths (lengthsOf x)) (goodLengths (lengthsOf graph)) g .1)) o k
