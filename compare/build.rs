@@ -1,5 +1,5 @@
 //! Writes copies of parser.rs and lower.rs whose private leaves can be called, and links the static
-//! libraries `lubiksan` and `sheet_bench` where the features `ours` and `sheets` are on.
+//! library `sheet_bench` where the feature `sheets` is on.
 
 use std::env;
 use std::path::Path;
@@ -17,9 +17,6 @@ fn main() {
     println!("cargo:rerun-if-changed=copy.rs");
     write_copy("src/xsd/parser.rs", "parser.rs", &PARSER_LEAVES);
     write_copy("src/ir/lower.rs", "lower.rs", &LOWER_LEAVES);
-    if env::var_os("CARGO_FEATURE_OURS").is_some() {
-        link("lubiksan");
-    }
     if env::var_os("CARGO_FEATURE_SHEETS").is_some() {
         link("sheet_bench");
     }

@@ -3,89 +3,7 @@
 
 #![allow(unsafe_code)]
 
-mod c {
-    extern "C" {
-        pub fn lubiksan_tape(
-            text: *const u8,
-            text_len: usize,
-            marks: *mut u32,
-            marks_len: usize,
-            place: *mut usize,
-        ) -> u32;
-        pub fn lubiksan_clear(
-            rows: *mut u32,
-            rows_len: usize,
-            names: *mut u8,
-            names_len: usize,
-            choice: u32,
-            place: *mut usize,
-        ) -> u32;
-        pub fn lubiksan_read(
-            rows: *mut u32,
-            rows_len: usize,
-            names: *mut u8,
-            names_len: usize,
-            text: *const u8,
-            text_len: usize,
-            marks: *const u32,
-            marks_len: usize,
-            place: *mut usize,
-        ) -> u32;
-        pub fn lubiksan_lower(
-            rows: *const u32,
-            rows_len: usize,
-            names: *const u8,
-            names_len: usize,
-            graph_rows: *mut u32,
-            graph_rows_len: usize,
-            graph_names: *mut u8,
-            graph_names_len: usize,
-            scratch: *mut u32,
-            scratch_len: usize,
-            place: *mut usize,
-        ) -> u32;
-        pub fn lubiksan_label(
-            graph_rows: *const u32,
-            graph_rows_len: usize,
-            graph_names: *const u8,
-            graph_names_len: usize,
-            words: *const u8,
-            words_len: usize,
-            row: usize,
-            in_words: *mut u32,
-            start: *mut usize,
-            length: *mut usize,
-        ) -> u32;
-        pub fn lubiksan_local_name(name: *const u8, len: usize) -> usize;
-        pub fn lubiksan_parse_u32(text: *const u8, len: usize, value: *mut u32) -> u32;
-        pub fn lubiksan_parse_u64(text: *const u8, len: usize, value: *mut u64) -> u32;
-        pub fn lubiksan_map_builtin(name: *const u8, len: usize) -> u32;
-        pub fn lubiksan_normalize_type_name(
-            name: *const u8,
-            len: usize,
-            out: *mut u8,
-            room: usize,
-        ) -> usize;
-        pub fn lubiksan_xml_to_snake_case(
-            name: *const u8,
-            len: usize,
-            out: *mut u8,
-            room: usize,
-        ) -> usize;
-        pub fn lubiksan_code_to_pascal_case(
-            value: *const u8,
-            len: usize,
-            out: *mut u8,
-            room: usize,
-        ) -> usize;
-        pub fn lubiksan_same_normalized(
-            a: *const u8,
-            a_len: usize,
-            b: *const u8,
-            b_len: usize,
-        ) -> u32;
-    }
-}
+use lubiksan_sys as c;
 
 /// A returned number with its place.
 #[derive(Clone, Copy)]
@@ -198,7 +116,7 @@ pub(crate) fn label(rows: &[u32], names: &[u8], words: &[u8], row: usize) -> Par
     };
     Part {
         number,
-        in_words: in_words != 0,
+        in_words: in_words == c::LUBIKSAN_IN_WORDS,
         start,
         length,
     }
@@ -213,14 +131,14 @@ pub(crate) fn parse_u32(text: &[u8]) -> Option<u32> {
     let mut value = 0;
     // SAFETY: the address and the length are those of one slice; the value is lent for the call.
     let number = unsafe { c::lubiksan_parse_u32(text.as_ptr(), text.len(), &mut value) };
-    (number == 0).then_some(value)
+    (number == c::LUBIKSAN_ACCEPTED).then_some(value)
 }
 
 pub(crate) fn parse_u64(text: &[u8]) -> Option<u64> {
     let mut value = 0;
     // SAFETY: the address and the length are those of one slice; the value is lent for the call.
     let number = unsafe { c::lubiksan_parse_u64(text.as_ptr(), text.len(), &mut value) };
-    (number == 0).then_some(value)
+    (number == c::LUBIKSAN_ACCEPTED).then_some(value)
 }
 
 pub(crate) fn map_builtin(name: &[u8]) -> u32 {
@@ -250,4 +168,9 @@ pub(crate) fn code_to_pascal_case(value: &[u8], out: &mut [u8]) -> usize {
 pub(crate) fn same_normalized(a: &[u8], b: &[u8]) -> bool {
     // SAFETY: each address and its length are those of one slice.
     unsafe { c::lubiksan_same_normalized(a.as_ptr(), a.len(), b.as_ptr(), b.len()) == 1 }
+}
+
+pub(crate) fn version() -> u32 {
+    // SAFETY: the call takes nothing.
+    unsafe { c::lubiksan_version() }
 }

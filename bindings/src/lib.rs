@@ -8,11 +8,12 @@
 //! | [`SchemaSheet`] | the state of a reading: what the events so far say. It is two buffers and can be stored |
 //! | [`ReadAs`] | the choice made when a sheet is cleared: as the original, or a schema ends at its own tag |
 //! | [`Graph`] | the type graph of a schema, with typed views that borrow from it |
-//! | [`Refusal`] | why a call was refused: the library's number, a sentence, the place |
+//! | [`Refusal`], [`Cause`] | why a call was refused: the library's number, a sentence, the place |
+//! | [`check_version`] | is the archive that was linked the one that this crate was written for? |
 //! | [`names`] | the text functions of the library: local name, numbers, built-in types, Rust names |
 //!
 //! ```
-//! use lubiksan::{Cardinality, Graph, SchemaSheet, TapeBuilder, TypeDef};
+//! use lubiksan::{Cardinality, Graph, ReadAs, SchemaSheet, TapeBuilder, TypeDef};
 //!
 //! let mut piece = TapeBuilder::new();
 //! piece.start("xs:schema", &[("targetNamespace", "urn:example")])?;
@@ -24,7 +25,7 @@
 //!     piece.close()?;
 //! }
 //!
-//! let mut sheet = SchemaSheet::new();
+//! let mut sheet = SchemaSheet::cleared(ReadAs::Standard);
 //! sheet.read(&piece.finish())?;
 //! let mut graph = Graph::new();
 //! sheet.lower(&mut graph)?;
@@ -42,10 +43,10 @@
 //! The same from the text of a schema, which the library reads itself:
 //!
 //! ```
-//! use lubiksan::{Graph, SchemaSheet, Tape};
+//! use lubiksan::{Graph, ReadAs, SchemaSheet, Tape};
 //!
 //! let text = "<xs:schema><xs:element name='Document' type='Payment'/></xs:schema>";
-//! let mut sheet = SchemaSheet::new();
+//! let mut sheet = SchemaSheet::cleared(ReadAs::Standard);
 //! sheet.read(&Tape::of_text(text.into())?)?;
 //! let mut graph = Graph::new();
 //! sheet.lower(&mut graph)?;
@@ -56,12 +57,12 @@
 //! A refusal says what is wrong and where:
 //!
 //! ```
-//! use lubiksan::{Refusal, SchemaSheet, TapeBuilder};
+//! use lubiksan::{ReadAs, Refusal, SchemaSheet, TapeBuilder};
 //!
 //! let mut piece = TapeBuilder::new();
 //! piece.start("schema", &[])?;
 //! piece.start("complexType", &[])?;
-//! let refusal = SchemaSheet::new().read(&piece.finish());
+//! let refusal = SchemaSheet::cleared(ReadAs::Standard).read(&piece.finish());
 //! assert!(matches!(refusal, Err(Refusal::MissingAttribute(at)) if at.event == 1));
 //! # Ok::<(), Box<dyn std::error::Error>>(())
 //! ```
@@ -71,6 +72,7 @@
 
 mod buffer;
 mod calls;
+mod cause;
 mod graph;
 pub mod limits;
 pub mod names;
@@ -78,7 +80,9 @@ mod refusal;
 mod sheet;
 mod tape;
 mod text;
+mod version;
 
+pub use cause::Cause;
 pub use graph::{
     Attribute, BadGraph, Builtin, Cardinality, CharacterCount, Choice, Code, CodeList, DigitCount,
     Facet, Field, Graph, Label, Newtype, Opaque, Root, Struct, TypeDef, TypeRef, Value, Variant,
@@ -87,3 +91,4 @@ pub use refusal::{At, Refusal, TypeAt};
 pub use sheet::{Context, Declared, Kind, ReadAs, SchemaSheet};
 pub use tape::{Event, Events, PieceFull, Tag, Tape, TapeBuilder};
 pub use text::{tape_of, NoTape};
+pub use version::{check_version, Version, WrongVersion};

@@ -4,6 +4,7 @@ use std::error::Error;
 use std::fmt;
 
 use crate::calls::Answer;
+use crate::cause::Cause;
 
 /// Where an event stands.
 #[derive(Clone, Copy, Debug, PartialEq, Eq)]
@@ -21,6 +22,14 @@ pub struct TypeAt {
     pub row: usize,
     /// Its name as in the schema.
     pub name: String,
+}
+
+impl TypeAt {
+    /// A type of which the row alone is known.
+    fn nameless(row: usize) -> TypeAt {
+        let name = String::new();
+        TypeAt { row, name }
+    }
 }
 
 /// Why a call was refused, with the library's number ([`Refusal::number`]) and the place.
@@ -69,10 +78,10 @@ pub enum Refusal {
         /// The type that has the name already.
         first: TypeAt,
     },
-    /// A number that this crate does not know.
+    /// A number that no call should return here.
     Other {
-        /// The number returned.
-        number: u32,
+        /// What the number says.
+        cause: Cause,
         /// The place stored.
         place: usize,
     },
@@ -82,61 +91,60 @@ impl Refusal {
     /// The refusal of an answer other than 0; `done` events were done before the call.
     pub(crate) fn of(answer: Answer, done: usize) -> Refusal {
         let Answer { number, place } = answer;
-        let at = At {
-            place,
-            event: done.saturating_add(place),
-        };
-        match number {
-            3 => Refusal::Record(at),
-            4 => Refusal::Pair(at),
-            5 => Refusal::NotAscii(at),
-            6 => Refusal::NothingOpen(at),
-            7 => Refusal::TooDeep(at),
-            8 => Refusal::TooManyEvents(at),
-            9 => Refusal::MissingAttribute(at),
-            10 => Refusal::InvalidValue(at),
-            11 => Refusal::NoRoom(at),
-            _ => Refusal::of_call(answer),
+        let event = done.saturating_add(place);
+        let at = At { place, event };
+        match Cause::of(number) {
+            Cause::Lengths => Refusal::Lengths,
+            Cause::NotGood => Refusal::NotGood,
+            Cause::Record => Refusal::Record(at),
+            Cause::Pair => Refusal::Pair(at),
+            Cause::NotAscii => Refusal::NotAscii(at),
+            Cause::NothingOpen => Refusal::NothingOpen(at),
+            Cause::TooDeep => Refusal::TooDeep(at),
+            Cause::TooManyEvents => Refusal::TooManyEvents(at),
+            Cause::MissingAttribute => Refusal::MissingAttribute(at),
+            Cause::InvalidValue => Refusal::InvalidValue(at),
+            Cause::NoRoom => Refusal::NoRoom(at),
+            Cause::NoRoot => Refusal::NoRoot,
+            Cause::UnknownBase => Refusal::UnknownBase { row: place },
+            Cause::Scratch => Refusal::Scratch,
+            Cause::GraphRoom => Refusal::GraphRoom,
+            Cause::NoLabel => Refusal::NoLabel,
+            Cause::RepeatedName => Refusal::RepeatedName {
+                again: TypeAt::nameless(place),
+                first: TypeAt::nameless(0),
+            },
+            cause => Refusal::Other { cause, place },
         }
     }
 
-    /// The refusal of a call as a whole.
-    fn of_call(answer: Answer) -> Refusal {
-        let Answer { number, place } = answer;
-        match number {
-            1 => Refusal::Lengths,
-            2 => Refusal::NotGood,
-            12 => Refusal::NoRoot,
-            13 => Refusal::UnknownBase { row: place },
-            14 => Refusal::Scratch,
-            15 => Refusal::GraphRoom,
-            16 => Refusal::NoLabel,
-            _ => Refusal::Other { number, place },
+    /// What was refused, without the place.
+    pub fn cause(&self) -> Cause {
+        match self {
+            Refusal::Lengths => Cause::Lengths,
+            Refusal::NotGood => Cause::NotGood,
+            Refusal::Record(_) => Cause::Record,
+            Refusal::Pair(_) => Cause::Pair,
+            Refusal::NotAscii(_) => Cause::NotAscii,
+            Refusal::NothingOpen(_) => Cause::NothingOpen,
+            Refusal::TooDeep(_) => Cause::TooDeep,
+            Refusal::TooManyEvents(_) => Cause::TooManyEvents,
+            Refusal::MissingAttribute(_) => Cause::MissingAttribute,
+            Refusal::InvalidValue(_) => Cause::InvalidValue,
+            Refusal::NoRoom(_) => Cause::NoRoom,
+            Refusal::NoRoot => Cause::NoRoot,
+            Refusal::UnknownBase { .. } => Cause::UnknownBase,
+            Refusal::Scratch => Cause::Scratch,
+            Refusal::GraphRoom => Cause::GraphRoom,
+            Refusal::NoLabel => Cause::NoLabel,
+            Refusal::RepeatedName { .. } => Cause::RepeatedName,
+            Refusal::Other { cause, .. } => *cause,
         }
     }
 
     /// The library's number.
     pub fn number(&self) -> u32 {
-        match self {
-            Refusal::Lengths => 1,
-            Refusal::NotGood => 2,
-            Refusal::Record(_) => 3,
-            Refusal::Pair(_) => 4,
-            Refusal::NotAscii(_) => 5,
-            Refusal::NothingOpen(_) => 6,
-            Refusal::TooDeep(_) => 7,
-            Refusal::TooManyEvents(_) => 8,
-            Refusal::MissingAttribute(_) => 9,
-            Refusal::InvalidValue(_) => 10,
-            Refusal::NoRoom(_) => 11,
-            Refusal::NoRoot => 12,
-            Refusal::UnknownBase { .. } => 13,
-            Refusal::Scratch => 14,
-            Refusal::GraphRoom => 15,
-            Refusal::NoLabel => 16,
-            Refusal::RepeatedName { .. } => 20,
-            Refusal::Other { number, .. } => *number,
-        }
+        self.cause().number()
     }
 
     /// The place: the event's number in the piece, the row of 13 and 20, else 0.
@@ -166,35 +174,11 @@ impl Refusal {
             _ => None,
         }
     }
-
-    /// The sentence, without number and place.
-    fn sentence(&self) -> &'static str {
-        match self {
-            Refusal::Lengths => "a buffer has a length that is not taken",
-            Refusal::NotGood => "the schema sheet is not good",
-            Refusal::Record(_) => "the record is no event, or its tag has over 32 attributes",
-            Refusal::Pair(_) => "a pair lies outside the text or out of order",
-            Refusal::NotAscii(_) => "a name, key or value has a character outside ASCII",
-            Refusal::NothingOpen(_) => "a close with no tag open",
-            Refusal::TooDeep(_) => "a start with 255 tags open",
-            Refusal::TooManyEvents(_) => "1,000,000 events are done",
-            Refusal::MissingAttribute(_) => "a type without a name",
-            Refusal::InvalidValue(_) => "a value is not a number within its width",
-            Refusal::NoRoom(_) => "the sheet has no room for what the event adds",
-            Refusal::NoRoot => "no schema element was read",
-            Refusal::UnknownBase { .. } => "the base of a simple type is not built in",
-            Refusal::Scratch => "the scratch is shorter than the number of types",
-            Refusal::GraphRoom => "the graph has no room for the schema",
-            Refusal::NoLabel => "the row has no label",
-            Refusal::RepeatedName { .. } => "two types have the same name in the graph",
-            Refusal::Other { .. } => "a number that is not known",
-        }
-    }
 }
 
 impl fmt::Display for Refusal {
     fn fmt(&self, f: &mut fmt::Formatter<'_>) -> fmt::Result {
-        write!(f, "{}", self.sentence())?;
+        write!(f, "{}", self.cause())?;
         if let Refusal::RepeatedName { again, first } = self {
             write!(f, ": {:?} and {:?}", first.name, again.name)?;
         }

@@ -1,9 +1,11 @@
 //! The state of a reading.
 
+use lubiksan_sys as sys;
+
 use crate::buffer::Buffer;
 use crate::calls::{self, Answer};
 use crate::graph::Graph;
-use crate::limits::{NAMES, ROW, ROW_NUMBERS};
+use crate::limits::{NAMES, ROW, ROWS, ROW_NUMBERS};
 use crate::names::same_normalized;
 use crate::refusal::{Refusal, TypeAt};
 use crate::tape::Tape;
@@ -13,9 +15,9 @@ use crate::tape::Tape;
 /// good is refused and never read.
 ///
 /// ```
-/// use lubiksan::{SchemaSheet, TapeBuilder};
+/// use lubiksan::{ReadAs, SchemaSheet, TapeBuilder};
 ///
-/// let mut sheet = SchemaSheet::new();
+/// let mut sheet = SchemaSheet::cleared(ReadAs::Standard);
 /// let mut piece = TapeBuilder::new();
 /// piece.start("schema", &[])?;
 /// assert_eq!(sheet.read(&piece.finish())?, 1);
@@ -72,8 +74,8 @@ impl ReadAs {
     /// The number that the library takes.
     fn choice(self) -> u32 {
         match self {
-            ReadAs::Original => 0,
-            ReadAs::Standard => 1,
+            ReadAs::Original => sys::LUBIKSAN_AS_ORIGINAL,
+            ReadAs::Standard => sys::LUBIKSAN_BY_STANDARD,
         }
     }
 }
@@ -123,9 +125,9 @@ impl Declared<'_> {
     /// Content, bases and the close leave it as it is, and it does not depend on the pieces in which the events were read.
     ///
     /// ```
-    /// use lubiksan::{SchemaSheet, TapeBuilder};
+    /// use lubiksan::{ReadAs, SchemaSheet, TapeBuilder};
     ///
-    /// let mut sheet = SchemaSheet::new();
+    /// let mut sheet = SchemaSheet::cleared(ReadAs::Standard);
     /// let mut piece = TapeBuilder::new();
     /// piece.start("schema", &[])?;
     /// sheet.read(&piece.finish())?;
@@ -149,19 +151,8 @@ impl Declared<'_> {
     }
 }
 
-impl Default for SchemaSheet<'static> {
-    fn default() -> Self {
-        SchemaSheet::new()
-    }
-}
-
 impl SchemaSheet<'static> {
-    /// A sheet of full size, cleared to be read as the original reads.
-    pub fn new() -> SchemaSheet<'static> {
-        SchemaSheet::cleared(ReadAs::Original)
-    }
-
-    /// A sheet of full size, cleared with this choice.
+    /// A sheet of full size, cleared to be read so. There is no default: what is read depends on it.
     pub fn cleared(read_as: ReadAs) -> SchemaSheet<'static> {
         let mut sheet = SchemaSheet::from_buffers(vec![0; ROW_NUMBERS], vec![0; NAMES]);
         // Full lengths are taken, so clearing is not refused; were it, each call on the sheet would say so.
@@ -169,17 +160,21 @@ impl SchemaSheet<'static> {
         sheet
     }
 
-    /// A sheet with this room, cleared to be read as the original reads.
+    /// A sheet with this room, cleared to be read so.
     ///
     /// # Errors
     ///
     /// [`Refusal::Lengths`] for under 2 or over 4,096 rows, or over 65,536 bytes of names.
-    pub fn with_room(rows: usize, names: usize) -> Result<SchemaSheet<'static>, Refusal> {
-        if rows > ROW_NUMBERS / ROW || names > NAMES {
+    pub fn with_room(
+        rows: usize,
+        names: usize,
+        read_as: ReadAs,
+    ) -> Result<SchemaSheet<'static>, Refusal> {
+        if rows > ROWS || names > NAMES {
             return Err(Refusal::Lengths);
         }
         let mut sheet = SchemaSheet::from_buffers(vec![0; ROW * rows], vec![0; names]);
-        sheet.clear(ReadAs::Original)?;
+        sheet.clear(read_as)?;
         Ok(sheet)
     }
 
@@ -249,7 +244,7 @@ impl<'a> SchemaSheet<'a> {
     /// The [`Refusal`] of the call; the graph is empty then, or as it was where a length was refused.
     ///
     /// ```
-    /// use lubiksan::{Graph, Refusal, SchemaSheet, TapeBuilder};
+    /// use lubiksan::{Graph, ReadAs, Refusal, SchemaSheet, TapeBuilder};
     ///
     /// let mut piece = TapeBuilder::new();
     /// piece.start("schema", &[])?;
@@ -257,7 +252,7 @@ impl<'a> SchemaSheet<'a> {
     ///     piece.start("complexType", &[("name", name)])?;
     ///     piece.close()?;
     /// }
-    /// let mut sheet = SchemaSheet::new();
+    /// let mut sheet = SchemaSheet::cleared(ReadAs::Standard);
     /// sheet.read(&piece.finish())?;
     /// let Err(Refusal::RepeatedName { again, first }) = sheet.lower(&mut Graph::new()) else {
     ///     return Err("two types of one name are refused".into());
@@ -271,7 +266,7 @@ impl<'a> SchemaSheet<'a> {
             calls::lower(&self.rows, &self.names, rows, names, scratch)
         });
         match answer.number {
-            20 => Err(self.repeated_name(answer)),
+            sys::LUBIKSAN_NAME_TWICE => Err(self.repeated_name(answer)),
             _ => accepted(answer, 0),
         }
     }
@@ -316,43 +311,43 @@ impl<'a> SchemaSheet<'a> {
 
     /// How many rows are used, row 0 counted.
     pub fn rows_used(&self) -> usize {
-        self.number(0, 1) as usize
+        self.number(0, sys::LUBIKSAN_ROWS_USED_AT) as usize
     }
 
     /// How many bytes of names are used.
     pub fn names_used(&self) -> usize {
-        self.number(0, 2) as usize
+        self.number(0, sys::LUBIKSAN_NAMES_USED_AT) as usize
     }
 
     /// How many events were read.
     pub fn events_done(&self) -> usize {
-        self.number(0, 6) as usize
+        self.number(0, sys::LUBIKSAN_EVENTS_DONE_AT) as usize
     }
 
     /// How many tags are open.
     pub fn open_tags(&self) -> u32 {
-        self.number(0, 7)
+        self.number(0, sys::LUBIKSAN_OPEN_TAGS_AT)
     }
 
     /// How the sheet is read; no reading changes it.
     pub fn read_as(&self) -> ReadAs {
-        match self.number(0, 9) {
-            1 => ReadAs::Standard,
+        match self.number(0, sys::LUBIKSAN_CHOICE_AT) {
+            sys::LUBIKSAN_BY_STANDARD => ReadAs::Standard,
             _ => ReadAs::Original,
         }
     }
 
     /// A schema element was read.
     pub fn root_seen(&self) -> bool {
-        self.number(0, 5) == 1
+        self.number(0, sys::LUBIKSAN_ROOT_SEEN_AT) == 1
     }
 
     /// What the reading stands in.
     pub fn context(&self) -> Context {
-        match self.number(0, 3) {
-            1 => Context::Schema,
-            2 => Context::SimpleType,
-            3 => Context::ComplexType,
+        match self.number(0, sys::LUBIKSAN_CONTEXT_AT) {
+            sys::LUBIKSAN_IN_SCHEMA => Context::Schema,
+            sys::LUBIKSAN_IN_SIMPLE_TYPE => Context::SimpleType,
+            sys::LUBIKSAN_IN_COMPLEX_TYPE => Context::ComplexType,
             _ => Context::Outside,
         }
     }
@@ -368,18 +363,21 @@ impl<'a> SchemaSheet<'a> {
     fn declared_at(&self, row: usize) -> Option<Option<Declared<'_>>> {
         let tag = *self.rows.get(row.checked_mul(ROW)?)?;
         let kind = match tag {
-            2 => Kind::Element,
-            3 => Kind::SimpleType,
-            12..=16 => Kind::ComplexType,
+            sys::LUBIKSAN_XSD_ELEMENT => Kind::Element,
+            sys::LUBIKSAN_XSD_SIMPLE_TYPE => Kind::SimpleType,
+            sys::LUBIKSAN_XSD_SEQUENCE..=sys::LUBIKSAN_XSD_NO_CONTENT => Kind::ComplexType,
             _ => return Some(None),
         };
-        let second = if tag == 15 { "" } else { self.text(row, 1) };
+        let second = match tag {
+            sys::LUBIKSAN_XSD_ANY => "",
+            _ => self.text(row, sys::LUBIKSAN_SECOND_AT),
+        };
         Some(Some(Declared {
             row,
             kind,
-            name: self.text(row, 0),
+            name: self.text(row, sys::LUBIKSAN_FIRST_AT),
             second,
-            event: Some(self.number(row, 9)).filter(|&event| event > 0),
+            event: Some(self.number(row, sys::LUBIKSAN_C_AT)).filter(|&event| event > 0),
         }))
     }
 
@@ -387,12 +385,9 @@ impl<'a> SchemaSheet<'a> {
         self.rows.get(ROW * row + column).copied().unwrap_or(0)
     }
 
-    /// The text of a pair; empty where it lies outside the names.
-    fn text(&self, row: usize, pair: usize) -> &str {
-        let (offset, length) = (
-            self.number(row, 1 + 2 * pair),
-            self.number(row, 2 + 2 * pair),
-        );
+    /// The text of the pair whose offset stands in the column; empty where it lies outside the names.
+    fn text(&self, row: usize, column: usize) -> &str {
+        let (offset, length) = (self.number(row, column), self.number(row, column + 1));
         let behind = self.names.get(offset as usize..).unwrap_or_default();
         let bytes = behind.get(..length as usize).unwrap_or_default();
         std::str::from_utf8(bytes).unwrap_or_default()
@@ -401,7 +396,7 @@ impl<'a> SchemaSheet<'a> {
 
 fn accepted(answer: Answer, done: usize) -> Result<usize, Refusal> {
     match answer.number {
-        0 => Ok(answer.place),
+        sys::LUBIKSAN_ACCEPTED => Ok(answer.place),
         _ => Err(Refusal::of(answer, done)),
     }
 }

@@ -4,12 +4,10 @@ use std::error::Error;
 use std::fmt;
 use std::ops::Range;
 
+use lubiksan_sys::{LUBIKSAN_EMPTY as EMPTY, LUBIKSAN_END as CLOSE, LUBIKSAN_START as START};
+
 use crate::limits::{MARKS, TEXT};
 use crate::text::{tape_of, NoTape};
-
-const START: u32 = 1;
-const EMPTY: u32 = 2;
-const CLOSE: u32 = 3;
 
 /// A piece of a run of events: a text and the marks into it.
 ///
@@ -45,10 +43,10 @@ impl Tape {
     /// [`NoTape`] where it is not, or where its tags take over 16,384 marks.
     ///
     /// ```
-    /// use lubiksan::{NoTape, SchemaSheet, Tape};
+    /// use lubiksan::{NoTape, ReadAs, SchemaSheet, Tape};
     ///
     /// let tape = Tape::of_text(b"<?xml version='1.0'?><!-- one --><schema><a/></schema>".to_vec())?;
-    /// assert_eq!(SchemaSheet::new().read(&tape)?, 3);
+    /// assert_eq!(SchemaSheet::cleared(ReadAs::Standard).read(&tape)?, 3);
     /// assert_eq!(Tape::of_text(b"<schema>".to_vec()), Err(NoTape::Malformed));
     /// # Ok::<(), Box<dyn std::error::Error>>(())
     /// ```

@@ -3,7 +3,11 @@
 use std::error::Error;
 use std::fmt;
 
+use lubiksan_sys::LUBIKSAN_ACCEPTED as ACCEPTED;
+
 use crate::calls;
+use crate::cause::Cause;
+use crate::limits::{MARKS, TEXT};
 
 /// Why a text has no tape, with the library's number ([`NoTape::number`]). The library tries them in the order 1, 5, 18,
 /// 17, 19, each over the whole text, and names no place.
@@ -20,54 +24,51 @@ pub enum NoTape {
     Doctype,
     /// 19: the tags of the text take more marks than lent.
     ShortMarks,
-    /// A number that this crate does not know.
+    /// A number that the tape of a text should not return.
     Other {
-        /// The number returned.
-        number: u32,
+        /// What the number says.
+        cause: Cause,
     },
 }
 
 impl NoTape {
     /// The refusal of an answer other than 0.
     fn of(number: u32) -> NoTape {
-        match number {
-            1 => NoTape::Lengths,
-            5 => NoTape::NotAscii,
-            17 => NoTape::Malformed,
-            18 => NoTape::Doctype,
-            19 => NoTape::ShortMarks,
-            _ => NoTape::Other { number },
+        match Cause::of(number) {
+            Cause::Lengths => NoTape::Lengths,
+            Cause::NotAscii => NoTape::NotAscii,
+            Cause::Malformed => NoTape::Malformed,
+            Cause::Doctype => NoTape::Doctype,
+            Cause::ShortMarks => NoTape::ShortMarks,
+            cause => NoTape::Other { cause },
+        }
+    }
+
+    /// What was refused.
+    pub fn cause(&self) -> Cause {
+        match self {
+            NoTape::Lengths => Cause::Lengths,
+            NoTape::NotAscii => Cause::NotAscii,
+            NoTape::Malformed => Cause::Malformed,
+            NoTape::Doctype => Cause::Doctype,
+            NoTape::ShortMarks => Cause::ShortMarks,
+            NoTape::Other { cause } => *cause,
         }
     }
 
     /// The library's number.
     pub fn number(&self) -> u32 {
-        match self {
-            NoTape::Lengths => 1,
-            NoTape::NotAscii => 5,
-            NoTape::Malformed => 17,
-            NoTape::Doctype => 18,
-            NoTape::ShortMarks => 19,
-            NoTape::Other { number } => *number,
-        }
-    }
-
-    /// The sentence, without the number.
-    fn sentence(&self) -> &'static str {
-        match self {
-            NoTape::Lengths => "the text has over 65,536 bytes, or over 16,384 marks are lent",
-            NoTape::NotAscii => "the text has a byte above 127",
-            NoTape::Malformed => "the text is not well-formed XML",
-            NoTape::Doctype => "the text has a document type",
-            NoTape::ShortMarks => "the tags of the text take more marks than lent",
-            NoTape::Other { .. } => "a number that is not known",
-        }
+        self.cause().number()
     }
 }
 
 impl fmt::Display for NoTape {
     fn fmt(&self, f: &mut fmt::Formatter<'_>) -> fmt::Result {
-        write!(f, "{} (refused with {})", self.sentence(), self.number())
+        write!(f, "{}", self.cause())?;
+        if *self == NoTape::Lengths {
+            write!(f, ": a text has at most {TEXT} bytes and {MARKS} marks")?;
+        }
+        write!(f, " (refused with {})", self.number())
     }
 }
 
@@ -89,7 +90,7 @@ impl Error for NoTape {}
 pub fn tape_of(text: &[u8], marks: &mut [u32]) -> Result<usize, NoTape> {
     let answer = calls::tape(text, marks);
     match answer.number {
-        0 => Ok(answer.place),
+        ACCEPTED => Ok(answer.place),
         number => Err(NoTape::of(number)),
     }
 }

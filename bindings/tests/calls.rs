@@ -16,13 +16,13 @@ fn refused(sheet: &mut SchemaSheet<'_>, marks: &[u32]) -> (u32, usize, Option<us
 
 #[test]
 fn refusals_have_number_place_and_event() -> Tried {
-    let mut sheet = SchemaSheet::new();
+    let mut sheet = SchemaSheet::cleared(ReadAs::Original);
     assert_eq!(refused(&mut sheet, &[1, 0, 0, 6]), (0, 1, None));
     assert_eq!(refused(&mut sheet, &[2, 0, 0, 6, 4, 0]), (3, 1, Some(2)));
     assert_eq!(refused(&mut sheet, &[2, 0, 0, 99]), (4, 0, Some(2)));
     assert_eq!(refused(&mut sheet, &[2, 0, 16, 2]), (5, 0, Some(2)));
     assert_eq!(refused(&mut sheet, &[3, 0, 3, 0]), (6, 1, Some(3)));
-    let mut small = SchemaSheet::with_room(2, 0)?;
+    let mut small = SchemaSheet::with_room(2, 0, ReadAs::Original)?;
     let mut piece = TapeBuilder::new();
     piece.start("schema", &[("targetNamespace", "x")])?;
     assert!(matches!(small.read(&piece.finish()), Err(Refusal::NoRoom(at)) if at.event == 0));
@@ -31,7 +31,7 @@ fn refusals_have_number_place_and_event() -> Tried {
 
 #[test]
 fn deep_and_nameless_tags_are_refused() -> Tried {
-    let mut sheet = SchemaSheet::new();
+    let mut sheet = SchemaSheet::cleared(ReadAs::Original);
     let mut piece = TapeBuilder::new();
     for _ in 0..256 {
         piece.start("a", &[])?;
@@ -71,7 +71,7 @@ fn the_choice_is_kept_by_every_reading() -> Tried {
         let again = SchemaSheet::from_buffers(sheet.rows().to_vec(), sheet.names().to_vec());
         assert_eq!(again.read_as(), read_as);
     }
-    let mut rows = SchemaSheet::new().rows().to_vec();
+    let mut rows = SchemaSheet::cleared(ReadAs::Original).rows().to_vec();
     rows[9] = 2;
     let mut other = SchemaSheet::from_buffers(rows, Vec::new());
     assert_eq!(other.check(), Err(Refusal::NotGood));
@@ -115,7 +115,7 @@ fn unknown_numbers_stay_unknown_and_others_are_below_the_events() -> Tried {
     let mut piece = TapeBuilder::new();
     piece.start("schema", &[])?;
     piece.start("complexType", &[("name", "T")])?;
-    let mut sheet = SchemaSheet::with_room(6, 20)?;
+    let mut sheet = SchemaSheet::with_room(6, 20, ReadAs::Original)?;
     sheet.read(&piece.finish())?;
     let (mut rows, names) = (sheet.rows().to_vec(), sheet.names().to_vec());
     for (c, good) in [(0, true), (1, true), (2, false), (u32::MAX, false)] {
@@ -145,7 +145,10 @@ fn unknown_numbers_stay_unknown_and_others_are_below_the_events() -> Tried {
 #[test]
 fn lowering_refuses_by_number() -> Tried {
     let mut graph = Graph::new();
-    assert_eq!(SchemaSheet::new().lower(&mut graph), Err(Refusal::NoRoot));
+    assert_eq!(
+        SchemaSheet::cleared(ReadAs::Original).lower(&mut graph),
+        Err(Refusal::NoRoot)
+    );
     let sheet = unknown_base()?;
     assert_eq!(
         sheet.lower(&mut graph),
@@ -188,7 +191,7 @@ fn of_types(
             piece.close()?;
         }
     }
-    let mut sheet = SchemaSheet::new();
+    let mut sheet = SchemaSheet::cleared(ReadAs::Original);
     sheet.read(&piece.finish())?;
     Ok(sheet)
 }
@@ -250,7 +253,7 @@ fn unknown_base() -> Result<SchemaSheet<'static>, Box<dyn std::error::Error>> {
     piece.start("simpleType", &[("name", "T")])?;
     piece.empty("restriction", &[("base", "xs:QName")])?;
     piece.close()?;
-    let mut sheet = SchemaSheet::new();
+    let mut sheet = SchemaSheet::cleared(ReadAs::Original);
     sheet.read(&piece.finish())?;
     let found = sheet.declared().next().ok_or("a type")?;
     assert_eq!(
@@ -269,7 +272,7 @@ fn a_graph_too_small_is_refused_and_empty() -> Tried {
     let mut piece = TapeBuilder::new();
     piece.start("schema", &[])?;
     piece.empty("element", &[("name", "D"), ("type", "T")])?;
-    let mut sheet = SchemaSheet::new();
+    let mut sheet = SchemaSheet::cleared(ReadAs::Original);
     sheet.read(&piece.finish())?;
     let (mut rows, mut names, mut scratch) = ([0; 20], [0; 2], [0; 0]);
     let mut small = Graph::lend(&mut rows, &mut names, &mut scratch);

@@ -1,6 +1,6 @@
 //! Damaged graphs and sheets: refused or read, never a panic, never a look outside.
 
-use lubiksan::{Graph, SchemaSheet, TapeBuilder, TypeDef};
+use lubiksan::{Graph, ReadAs, SchemaSheet, TapeBuilder, TypeDef};
 
 /// A fixed-seed generator (xorshift).
 struct Random(u64);
@@ -83,7 +83,7 @@ fn sheet() -> Result<SchemaSheet<'static>, Box<dyn std::error::Error>> {
     piece.start("complexType", &[("name", "Open")])?;
     piece.empty("any", &[("namespace", "##any")])?;
     piece.close()?;
-    let mut sheet = SchemaSheet::with_room(60, 400)?;
+    let mut sheet = SchemaSheet::with_room(60, 400, ReadAs::Original)?;
     sheet.read(&piece.finish())?;
     Ok(sheet)
 }

@@ -1,6 +1,6 @@
 //! The tape of a text through the bindings: what is written, every refusal with its number and words, the limits.
 
-use lubiksan::{limits, tape_of, Event, NoTape, SchemaSheet, Tape};
+use lubiksan::{limits, tape_of, Event, NoTape, ReadAs, SchemaSheet, Tape};
 
 type Tried = Result<(), Box<dyn std::error::Error>>;
 
@@ -35,7 +35,7 @@ fn the_tape_points_into_the_text() -> Tried {
     };
     let attributes: Vec<(&[u8], &[u8])> = tag.attributes().collect();
     assert_eq!(attributes, [(&b"c"[..], &b"&lt; "[..]), (b"d", b"\"")]);
-    assert_eq!(SchemaSheet::new().read(&tape)?, 3);
+    assert_eq!(SchemaSheet::cleared(ReadAs::Original).read(&tape)?, 3);
     Ok(())
 }
 
@@ -43,7 +43,7 @@ fn the_tape_points_into_the_text() -> Tried {
 fn a_part_of_the_marks_is_read() -> Tried {
     let tape = Tape::of_text(WORKED.into())?;
     let (text, marks) = tape.into_buffers();
-    let mut sheet = SchemaSheet::new();
+    let mut sheet = SchemaSheet::cleared(ReadAs::Original);
     assert_eq!(sheet.read_buffers(&text, &marks[..4])?, 1);
     assert_eq!(sheet.read_buffers(&text, &marks[4..])?, 2);
     assert_eq!((sheet.events_done(), sheet.open_tags()), (3, 0));
@@ -55,7 +55,7 @@ fn refusals_have_their_number_and_words() {
     let doctype = WORKED.replacen("?>", "?><!DOCTYPE a>", 1);
     let high = WORKED.replacen('y', "\u{80}", 1);
     let tried: [(&str, usize, u32, &str); 6] = [
-        (&high, 18, 5, "the text has a byte above 127"),
+        (&high, 18, 5, "a character outside ASCII"),
         (
             &WORKED[..WORKED.len() - 1],
             0,
@@ -69,7 +69,7 @@ fn refusals_have_their_number_and_words() {
             19,
             "the tags of the text take more marks than lent",
         ),
-        ("<!DOCTYPE a [\u{e9}", 0, 5, "the text has a byte above 127"),
+        ("<!DOCTYPE a [\u{e9}", 0, 5, "a character outside ASCII"),
         ("<a><a>", 0, 17, "the text is not well-formed XML"),
     ];
     for (text, room, number, words) in tried {
@@ -89,7 +89,7 @@ fn under_one_nothing_is_changed() {
     let mut marks = vec![7; limits::MARKS + 1];
     assert_eq!(tape_of(WORKED.as_bytes(), &mut marks), Err(NoTape::Lengths));
     assert!(marks.iter().all(|&mark| mark == 7));
-    let words = "the text has over 65,536 bytes, or over 16,384 marks are lent (refused with 1)";
+    let words = "a buffer has a length that is not taken: a text has at most 65536 bytes and 16384 marks (refused with 1)";
     assert_eq!(NoTape::Lengths.to_string(), words);
 }
 
@@ -127,7 +127,8 @@ fn the_most_marks_are_taken() -> Tried {
     assert_eq!(used, 6 + 4 * most);
     assert!(marks[used..].iter().all(|&mark| mark == 0));
     assert_eq!(
-        SchemaSheet::new().read_buffers(many(most).as_bytes(), &marks[..used])?,
+        SchemaSheet::cleared(ReadAs::Original)
+            .read_buffers(many(most).as_bytes(), &marks[..used])?,
         2 + most
     );
     assert_eq!(

@@ -2,38 +2,10 @@
 
 #![allow(unsafe_code)]
 
+use lubiksan_sys as c;
+
 use crate::paper::lowering::Lowered;
 use crate::paper::{answer, sheet::Sheet};
-
-mod c {
-    extern "C" {
-        pub fn lubiksan_lower(
-            rows: *const u32,
-            rows_len: usize,
-            names: *const u8,
-            names_len: usize,
-            graph_rows: *mut u32,
-            graph_rows_len: usize,
-            graph_names: *mut u8,
-            graph_names_len: usize,
-            scratch: *mut u32,
-            scratch_len: usize,
-            place: *mut usize,
-        ) -> u32;
-        pub fn lubiksan_label(
-            graph_rows: *const u32,
-            graph_rows_len: usize,
-            graph_names: *const u8,
-            graph_names_len: usize,
-            words: *const u8,
-            words_len: usize,
-            row: usize,
-            in_words: *mut u32,
-            start: *mut usize,
-            length: *mut usize,
-        ) -> u32;
-    }
-}
 
 /// What is stored holds this before a call; no call gives it.
 const UNSET: usize = 77_777;
@@ -69,6 +41,8 @@ pub struct Label {
     pub in_words: u32,
     pub start: usize,
     pub length: usize,
+    /// The number by the call that gives it alone.
+    pub alone: u32,
 }
 
 /// The label of row `row`.
@@ -94,5 +68,22 @@ pub fn label(rows: &[u32], names: &[u8], words: &[u8], row: usize) -> Label {
         in_words,
         start,
         length,
+        alone: label_number(rows, names, words, row),
+    }
+}
+
+/// The number alone.
+fn label_number(rows: &[u32], names: &[u8], words: &[u8], row: usize) -> u32 {
+    // SAFETY: each address and its length are those of one slice.
+    unsafe {
+        c::lubiksan_label_number(
+            rows.as_ptr(),
+            rows.len(),
+            names.as_ptr(),
+            names.len(),
+            words.as_ptr(),
+            words.len(),
+            row,
+        )
     }
 }

@@ -2,38 +2,7 @@
 
 #![allow(unsafe_code)]
 
-mod c {
-    extern "C" {
-        pub fn lubiksan_local_name(name: *const u8, len: usize) -> usize;
-        pub fn lubiksan_parse_u32(s: *const u8, len: usize, value: *mut u32) -> u32;
-        pub fn lubiksan_parse_u64(s: *const u8, len: usize, value: *mut u64) -> u32;
-        pub fn lubiksan_map_builtin(name: *const u8, len: usize) -> u32;
-        pub fn lubiksan_normalize_type_name(
-            name: *const u8,
-            len: usize,
-            out: *mut u8,
-            out_len: usize,
-        ) -> usize;
-        pub fn lubiksan_xml_to_snake_case(
-            name: *const u8,
-            len: usize,
-            out: *mut u8,
-            out_len: usize,
-        ) -> usize;
-        pub fn lubiksan_code_to_pascal_case(
-            name: *const u8,
-            len: usize,
-            out: *mut u8,
-            out_len: usize,
-        ) -> usize;
-        pub fn lubiksan_same_normalized(
-            a: *const u8,
-            a_len: usize,
-            b: *const u8,
-            b_len: usize,
-        ) -> u32;
-    }
-}
+use lubiksan_sys as c;
 
 /// Where the local name starts in `name`.
 pub fn local_name(name: &str) -> usize {

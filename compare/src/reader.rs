@@ -2,40 +2,11 @@
 
 #![allow(unsafe_code)]
 
+use lubiksan_sys as c;
+
 use crate::paper::sheet::Sheet;
 use crate::paper::{answer, Answer};
 use crate::tape::Tape;
-
-mod c {
-    extern "C" {
-        pub fn lubiksan_clear(
-            rows: *mut u32,
-            rows_len: usize,
-            names: *mut u8,
-            names_len: usize,
-            choice: u32,
-            place: *mut usize,
-        ) -> u32;
-        pub fn lubiksan_read(
-            rows: *mut u32,
-            rows_len: usize,
-            names: *mut u8,
-            names_len: usize,
-            text: *const u8,
-            text_len: usize,
-            marks: *const u32,
-            marks_len: usize,
-            place: *mut usize,
-        ) -> u32;
-        pub fn lubiksan_tape(
-            text: *const u8,
-            text_len: usize,
-            marks: *mut u32,
-            marks_len: usize,
-            place: *mut usize,
-        ) -> u32;
-    }
-}
 
 /// What the place holds before a call; no call gives it.
 const UNSET: usize = 77_777;

@@ -12,9 +12,11 @@ pub use types::{
     Field, Newtype, Opaque, Root, Struct, TypeDef, TypeRef, Value, Variant,
 };
 
+use lubiksan_sys as sys;
+
 use crate::buffer::Buffer;
 use crate::calls::{self, Answer};
-use crate::limits::{NAMES, ROW, ROW_NUMBERS};
+use crate::limits::{NAMES, ROW, ROWS, ROW_NUMBERS};
 use crate::refusal::Refusal;
 use rows::Rows;
 use types::Types;
@@ -25,12 +27,12 @@ use types::Types;
 /// tested once ([`Graph::from_buffers`]). One that holds nothing has no roots and no types.
 ///
 /// ```
-/// use lubiksan::{Graph, SchemaSheet, TapeBuilder};
+/// use lubiksan::{Graph, ReadAs, SchemaSheet, TapeBuilder};
 ///
 /// let mut piece = TapeBuilder::new();
 /// piece.start("schema", &[])?;
 /// piece.empty("element", &[("name", "D"), ("type", "T")])?;
-/// let mut sheet = SchemaSheet::new();
+/// let mut sheet = SchemaSheet::cleared(ReadAs::Standard);
 /// sheet.read(&piece.finish())?;
 /// let mut graph = Graph::new();
 /// assert_eq!(sheet.lower(&mut graph)?, 3);
@@ -100,7 +102,7 @@ impl Graph<'static> {
     }
 
     fn owned(rows: Vec<u32>, names: Vec<u8>, used: usize) -> Graph<'static> {
-        let scratch = Buffer::Owned(vec![0; ROW_NUMBERS / ROW]);
+        let scratch = Buffer::Owned(vec![0; ROWS]);
         Graph {
             rows: Buffer::Owned(rows),
             names: Buffer::Owned(names),
@@ -128,8 +130,8 @@ impl<'a> Graph<'a> {
     ) -> Answer {
         let answer = lower(&mut self.rows, &mut self.names, &mut self.scratch);
         match answer.number {
-            0 => self.used = answer.place,
-            1 | 2 | 14 => {}
+            sys::LUBIKSAN_ACCEPTED => self.used = answer.place,
+            sys::LUBIKSAN_LENGTHS | sys::LUBIKSAN_NOT_GOOD | sys::LUBIKSAN_SCRATCH => {}
             _ => self.used = 0,
         }
         answer
@@ -140,7 +142,7 @@ impl<'a> Graph<'a> {
         self.used_rows()
             .skip(1)
             .next_row()
-            .map_or("", |row| row.text(0))
+            .map_or("", |row| row.text(rows::FIRST))
     }
 
     /// The root elements, in the order of the schema.
@@ -164,21 +166,22 @@ impl<'a> Graph<'a> {
 
     /// The names in use.
     pub fn names(&self) -> &[u8] {
-        let used = self.rows().get(2).map_or(0, |&n| n as usize);
+        let used = self.rows().get(sys::LUBIKSAN_NAMES_USED_AT);
+        let used = used.map_or(0, |&n| n as usize);
         self.names.get(..used).unwrap_or_default()
     }
 
     /// The label of a row: `words` are five words, each ended by a newline byte, for the built-in types.
     ///
     /// ```
-    /// use lubiksan::{Graph, Label, SchemaSheet, TapeBuilder};
+    /// use lubiksan::{Graph, Label, ReadAs, SchemaSheet, TapeBuilder};
     ///
     /// let mut piece = TapeBuilder::new();
     /// piece.start("schema", &[])?;
     /// piece.start("simpleType", &[("name", "Max35Text")])?;
     /// piece.empty("restriction", &[("base", "xs:string")])?;
     /// piece.close()?;
-    /// let mut sheet = SchemaSheet::new();
+    /// let mut sheet = SchemaSheet::cleared(ReadAs::Standard);
     /// sheet.read(&piece.finish())?;
     /// let mut graph = Graph::new();
     /// sheet.lower(&mut graph)?;
@@ -192,7 +195,7 @@ impl<'a> Graph<'a> {
     /// [`Refusal::NoLabel`] for a row that has none, or a list of words that is not five.
     pub fn label<'w>(&self, row: usize, words: &'w [u8]) -> Result<Label<'_, 'w>, Refusal> {
         let part = calls::label(self.rows(), self.names(), words, row);
-        if part.number != 0 {
+        if part.number != sys::LUBIKSAN_ACCEPTED {
             return Err(Refusal::NoLabel);
         }
         let range = part.start..part.start.saturating_add(part.length);

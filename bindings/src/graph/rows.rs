@@ -1,6 +1,12 @@
 //! Rows of ten numbers with a names buffer. Every look is tested: what is not there reads as 0 or empty text.
 
+use lubiksan_sys as sys;
+
 use crate::limits::ROW;
+
+pub(crate) const FIRST: usize = sys::LUBIKSAN_FIRST_AT;
+pub(crate) const SECOND: usize = sys::LUBIKSAN_SECOND_AT;
+pub(crate) const THIRD: usize = sys::LUBIKSAN_THIRD_AT;
 
 /// Some rows.
 #[derive(Clone, Copy, Debug)]
@@ -53,19 +59,19 @@ impl<'g> Row<'g> {
     }
 
     pub fn tag(self) -> u32 {
-        self.number(0)
+        self.number(sys::LUBIKSAN_TAG_AT)
     }
 
     pub fn a(self) -> u32 {
-        self.number(7)
+        self.number(sys::LUBIKSAN_A_AT)
     }
 
     pub fn b(self) -> u32 {
-        self.number(8)
+        self.number(sys::LUBIKSAN_B_AT)
     }
 
     pub fn c(self) -> u32 {
-        self.number(9)
+        self.number(sys::LUBIKSAN_C_AT)
     }
 
     /// The number of the event that gave a head its name; none where it is not known.
@@ -73,9 +79,9 @@ impl<'g> Row<'g> {
         Some(self.c()).filter(|&event| event > 0)
     }
 
-    /// The text of a pair, from 0.
-    pub fn text(self, pair: usize) -> &'g str {
-        let (offset, length) = (self.number(1 + 2 * pair), self.number(2 + 2 * pair));
+    /// The text of the pair whose offset stands in the column.
+    pub fn text(self, column: usize) -> &'g str {
+        let (offset, length) = (self.number(column), self.number(column + 1));
         let behind = self.names.get(offset as usize..).unwrap_or_default();
         let bytes = behind.get(..length as usize).unwrap_or_default();
         std::str::from_utf8(bytes).unwrap_or_default()

@@ -2,7 +2,9 @@
 
 use std::fmt;
 
-use super::rows::{Row, Rows};
+use lubiksan_sys as sys;
+
+use super::rows::{Row, Rows, FIRST, SECOND, THIRD};
 
 /// A root element.
 #[derive(Clone, Copy, Debug, PartialEq, Eq)]
@@ -16,13 +18,13 @@ pub struct Root<'g> {
 
 impl<'g> Root<'g> {
     pub(super) fn is_root(row: &Row<'_>) -> bool {
-        row.tag() == 2
+        row.tag() == sys::LUBIKSAN_IR_ROOT
     }
 
     pub(super) fn of(row: Row<'g>) -> Root<'g> {
         Root {
-            xml_name: row.text(0),
-            type_name: row.text(1),
+            xml_name: row.text(FIRST),
+            type_name: row.text(SECOND),
             event: row.event(),
         }
     }
@@ -56,7 +58,7 @@ pub enum TypeDef<'g> {
 impl<'g> TypeDef<'g> {
     /// The name of the type.
     pub fn name(&self) -> &'g str {
-        self.rows().next_row().map_or("", |row| row.text(0))
+        self.rows().next_row().map_or("", |row| row.text(FIRST))
     }
 
     /// The number in the run, from 0, of the event that gave the type its name: the start tag of its `simpleType` or `complexType`.
@@ -78,11 +80,11 @@ impl<'g> TypeDef<'g> {
 
     fn of(tag: u32, rows: Rows<'g>) -> TypeDef<'g> {
         match tag {
-            3 => TypeDef::Struct(Struct(rows)),
-            4 => TypeDef::Choice(Choice(rows)),
-            5 => TypeDef::Newtype(Newtype(rows)),
-            6 => TypeDef::CodeList(CodeList(rows)),
-            7 => TypeDef::Value(Value(rows)),
+            sys::LUBIKSAN_IR_STRUCT => TypeDef::Struct(Struct(rows)),
+            sys::LUBIKSAN_IR_ENUM => TypeDef::Choice(Choice(rows)),
+            sys::LUBIKSAN_IR_NEWTYPE => TypeDef::Newtype(Newtype(rows)),
+            sys::LUBIKSAN_IR_CODE_ENUM => TypeDef::CodeList(CodeList(rows)),
+            sys::LUBIKSAN_IR_VALUE => TypeDef::Value(Value(rows)),
             _ => TypeDef::Opaque(Opaque(rows)),
         }
     }
@@ -96,7 +98,10 @@ pub(super) struct Types<'g> {
 impl<'g> Types<'g> {
     /// The types behind row 0, the namespace and the roots.
     pub fn of(rows: Rows<'g>) -> Types<'g> {
-        let before = rows.iter().take_while(|row| row.tag() <= 2).count();
+        let before = rows
+            .iter()
+            .take_while(|row| row.tag() <= sys::LUBIKSAN_IR_ROOT)
+            .count();
         Types {
             rest: rows.skip(before),
         }
@@ -108,7 +113,10 @@ impl<'g> Iterator for Types<'g> {
 
     fn next(&mut self) -> Option<TypeDef<'g>> {
         let head = self.rest.next_row()?;
-        let children = self.rest.skip(1).iter().take_while(|row| row.tag() > 8);
+        let behind = self.rest.skip(1);
+        let children = behind
+            .iter()
+            .take_while(|row| row.tag() > sys::LUBIKSAN_IR_OPAQUE);
         let count = 1 + children.count();
         let rows = self.rest.take(count);
         self.rest = self.rest.skip(count);
@@ -212,7 +220,7 @@ impl<'g> Newtype<'g> {
 
     /// The built-in type inside.
     pub fn inner(&self) -> Builtin {
-        let number = self.0.head().map_or(0, Row::a);
+        let number = self.0.head().map_or(sys::LUBIKSAN_NAMED, Row::a);
         Builtin::of(number).unwrap_or(Builtin::String)
     }
 
@@ -241,7 +249,7 @@ impl<'g> Value<'g> {
     pub fn value(&self) -> TypeRef<'g> {
         self.0
             .head()
-            .map_or(TypeRef::Named(""), |row| TypeRef::of(row, 1))
+            .map_or(TypeRef::Named(""), |row| TypeRef::of(row, SECOND))
     }
 
     /// The attributes in order.
@@ -268,7 +276,7 @@ impl<'g> Opaque<'g> {
     /// The namespace that the schema names for the content.
     pub fn namespace(&self) -> Option<&'g str> {
         let head = self.0.head()?;
-        (head.a() == 1).then(|| head.text(1))
+        (head.a() == 1).then(|| head.text(SECOND))
     }
 }
 
@@ -288,9 +296,9 @@ pub struct Field<'g> {
 impl<'g> Field<'g> {
     fn of(row: Row<'g>) -> Field<'g> {
         Field {
-            xml_name: row.text(0),
-            rust_name: row.text(1),
-            type_ref: TypeRef::of(row, 2),
+            xml_name: row.text(FIRST),
+            rust_name: row.text(SECOND),
+            type_ref: TypeRef::of(row, THIRD),
             cardinality: Cardinality::of(row),
         }
     }
@@ -310,9 +318,9 @@ pub struct Variant<'g> {
 impl<'g> Variant<'g> {
     fn of(row: Row<'g>) -> Variant<'g> {
         Variant {
-            xml_name: row.text(0),
-            rust_name: row.text(1),
-            type_ref: TypeRef::of(row, 2),
+            xml_name: row.text(FIRST),
+            rust_name: row.text(SECOND),
+            type_ref: TypeRef::of(row, THIRD),
         }
     }
 }
@@ -329,8 +337,8 @@ pub struct Code<'g> {
 impl<'g> Code<'g> {
     fn of(row: Row<'g>) -> Code<'g> {
         Code {
-            xml_value: row.text(0),
-            rust_name: row.text(1),
+            xml_value: row.text(FIRST),
+            rust_name: row.text(SECOND),
         }
     }
 }
@@ -351,9 +359,9 @@ pub struct Attribute<'g> {
 impl<'g> Attribute<'g> {
     fn of(row: Row<'g>) -> Attribute<'g> {
         Attribute {
-            xml_name: row.text(0),
-            rust_name: row.text(1),
-            type_ref: TypeRef::of(row, 2),
+            xml_name: row.text(FIRST),
+            rust_name: row.text(SECOND),
+            type_ref: TypeRef::of(row, THIRD),
             required: row.b() == 1,
         }
     }
@@ -369,10 +377,10 @@ pub enum TypeRef<'g> {
 }
 
 impl<'g> TypeRef<'g> {
-    fn of(row: Row<'g>, pair: usize) -> TypeRef<'g> {
+    fn of(row: Row<'g>, column: usize) -> TypeRef<'g> {
         match Builtin::of(row.a()) {
             Some(builtin) => TypeRef::Builtin(builtin),
-            None => TypeRef::Named(row.text(pair)),
+            None => TypeRef::Named(row.text(column)),
         }
     }
 }
@@ -404,11 +412,11 @@ pub enum Builtin {
 impl Builtin {
     pub(crate) fn of(number: u32) -> Option<Builtin> {
         match number {
-            1 => Some(Builtin::String),
-            2 => Some(Builtin::Bool),
-            3 => Some(Builtin::Decimal),
-            4 => Some(Builtin::Date),
-            5 => Some(Builtin::DateTime),
+            sys::LUBIKSAN_STRING => Some(Builtin::String),
+            sys::LUBIKSAN_BOOL => Some(Builtin::Bool),
+            sys::LUBIKSAN_DECIMAL => Some(Builtin::Decimal),
+            sys::LUBIKSAN_DATE => Some(Builtin::Date),
+            sys::LUBIKSAN_DATE_TIME => Some(Builtin::DateTime),
             _ => None,
         }
     }
@@ -447,9 +455,9 @@ pub enum Cardinality {
 impl Cardinality {
     fn of(row: Row<'_>) -> Cardinality {
         match row.b() {
-            1 => Cardinality::Optional,
-            2 => Cardinality::Vec,
-            3 => Cardinality::Bounded(row.c()),
+            sys::LUBIKSAN_OPTIONAL => Cardinality::Optional,
+            sys::LUBIKSAN_VEC => Cardinality::Vec,
+            sys::LUBIKSAN_BOUNDED => Cardinality::Bounded(row.c()),
             _ => Cardinality::Required,
         }
     }
@@ -487,13 +495,13 @@ impl<'g> Facet<'g> {
         let characters = CharacterCount(u64::from(row.b()) << 32 | u64::from(row.a()));
         let digits = DigitCount(row.a());
         match row.tag() {
-            12 => Facet::MinLength(characters),
-            13 => Facet::MaxLength(characters),
-            14 => Facet::MinInclusive(row.text(0)),
-            15 => Facet::MaxInclusive(row.text(0)),
-            16 => Facet::TotalDigits(digits),
-            17 => Facet::FractionDigits(digits),
-            _ => Facet::Pattern(row.text(0)),
+            sys::LUBIKSAN_IR_MIN_LENGTH => Facet::MinLength(characters),
+            sys::LUBIKSAN_IR_MAX_LENGTH => Facet::MaxLength(characters),
+            sys::LUBIKSAN_IR_MIN_INCLUSIVE => Facet::MinInclusive(row.text(FIRST)),
+            sys::LUBIKSAN_IR_MAX_INCLUSIVE => Facet::MaxInclusive(row.text(FIRST)),
+            sys::LUBIKSAN_IR_TOTAL_DIGITS => Facet::TotalDigits(digits),
+            sys::LUBIKSAN_IR_FRACTION_DIGITS => Facet::FractionDigits(digits),
+            _ => Facet::Pattern(row.text(FIRST)),
         }
     }
 

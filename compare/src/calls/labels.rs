@@ -88,7 +88,7 @@ fn all_rows(tally: &mut Tally, graph: &Sheet, words: &[u8]) {
     }
 }
 
-/// Number, buffer, start and length are the model's, and so are the bytes there.
+/// Number, by both calls, buffer, start and length are the model's, and so are the bytes there.
 fn one(tally: &mut Tally, graph: &Sheet, words: &[u8], row: usize) {
     let model = label(&graph.rows, &graph.names, words, row);
     let ours = grapher::label(&graph.rows, &graph.names, words, row);
@@ -102,6 +102,7 @@ fn one(tally: &mut Tally, graph: &Sheet, words: &[u8], row: usize) {
         .get(ours.start..)
         .and_then(|rest| rest.get(..ours.length));
     let agreed = ours.number == model.number
+        && ours.alone == model.number
         && ours.in_words == u32::from(model.in_words)
         && ours.start == model.at
         && part == Some(&model.text[..]);

@@ -3,12 +3,21 @@
 
    A buffer is a pointer and a length in elements. Every pointer is valid, also for a length of 0 (any pointer that is not null
    and is aligned for its type), and the buffers of a call and what it stores do not overlap. Any bytes and numbers are taken.
-   Nothing is allocated and nothing is kept between calls: what goes from call to call is the sheet. */
+   Nothing is allocated and nothing is kept between calls: what goes from call to call is the sheet. Of the C library the archive
+   uses memset alone. It is for x86-64 Linux. */
 #ifndef LUBIKSAN_H
 #define LUBIKSAN_H
 
 #include <stddef.h>
 #include <stdint.h>
+
+#ifdef __cplusplus
+extern "C" {
+#endif
+
+/* The version of this header: 10,000 for the first number, 100 for the second, 1 for the third. An archive of another version gives
+   another number by lubiksan_version. */
+#define LUBIKSAN_VERSION 200
 
 /* Limits. Other lengths of a sheet or a tape give LUBIKSAN_LENGTHS. The numbers of rows are a multiple of LUBIKSAN_ROW and at
    least LUBIKSAN_ROWS_MIN. */
@@ -22,6 +31,13 @@
 #define LUBIKSAN_ATTRIBUTES_MAX 32
 #define LUBIKSAN_OPEN_TAGS_MAX 255
 #define LUBIKSAN_EVENTS_MAX 1000000
+
+/* Bytes of stack that a call takes below the frame that calls it, as measured on x86-64 Linux and rounded up to 1,024. */
+#define LUBIKSAN_TAPE_STACK 45056
+#define LUBIKSAN_CLEAR_STACK 1024
+#define LUBIKSAN_READ_STACK 1024
+#define LUBIKSAN_LOWER_STACK 67584
+#define LUBIKSAN_OTHER_STACK 2048 /* any other call */
 
 /* The numbers returned, with what is left and which place is stored; where no place is named it is 0. */
 #define LUBIKSAN_ACCEPTED 0      /* the result; a reading's place is the events read, a lowering's the graph's rows used, a tape's the marks used */
@@ -58,7 +74,7 @@
 #define LUBIKSAN_END 3
 
 /* Choices of a clearing. */
-#define LUBIKSAN_AS_ORIGINAL 0   /* the first close that is not a type's, an annotation's or an element's too, ends the schema, and what
+#define LUBIKSAN_AS_ORIGINAL 0   /* the first close that is not a type's ends the schema, be it an annotation's or an element's, and what
                                     follows is lost; a type without a name is refused, below an element too */
 #define LUBIKSAN_BY_STANDARD 1   /* its own close ends the schema; only its direct children become elements and types, and what stands
                                     deeper in other tags is passed over, a type without a name too */
@@ -160,6 +176,9 @@
 #define LUBIKSAN_IN_NAMES 0
 #define LUBIKSAN_IN_WORDS 1
 
+/* The version of the archive; LUBIKSAN_VERSION where it is that of this header. */
+uint32_t lubiksan_version(void);
+
 /* Where the local name, the part after the last colon, begins in the name. */
 size_t lubiksan_local_name(const uint8_t *name, size_t length);
 
@@ -185,7 +204,7 @@ uint32_t lubiksan_same_normalized(const uint8_t *a, size_t a_length, const uint8
    over the whole text; the place in *place. The pairs point into the text, which is read with lubiksan_read together with the
    first *place marks; the marks behind them are 0. Comments, instructions, CDATA and text give no event, references and white
    space in values stay as written, and tags with more than LUBIKSAN_ATTRIBUTES_MAX attributes are written too. The call keeps its
-   open tags on the stack: 43,692 bytes, and less than 46,000 with all else. */
+   open tags on the stack. */
 uint32_t lubiksan_tape(const uint8_t *text, size_t text_length, uint32_t *marks, size_t marks_length, size_t *place);
 
 /* Makes a schema sheet empty, whatever it held: LUBIKSAN_ACCEPTED or LUBIKSAN_LENGTHS. *place is set to 0. The choice says where the
@@ -209,5 +228,13 @@ uint32_t lubiksan_lower(const uint32_t *rows, size_t rows_length, const uint8_t 
 uint32_t lubiksan_label(const uint32_t *graph_rows, size_t graph_rows_length, const uint8_t *graph_names,
                         size_t graph_names_length, const uint8_t *words, size_t words_length, size_t row,
                         uint32_t *in_words, size_t *start, size_t *length);
+
+/* The number alone that lubiksan_label gives for the same arguments. */
+uint32_t lubiksan_label_number(const uint32_t *graph_rows, size_t graph_rows_length, const uint8_t *graph_names,
+                               size_t graph_names_length, const uint8_t *words, size_t words_length, size_t row);
+
+#ifdef __cplusplus
+}
+#endif
 
 #endif

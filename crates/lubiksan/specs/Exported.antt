@@ -1,4 +1,5 @@
 -- What the exported calls return and store, as numbers.
+--     version       the version of the archive: 10,000 for the first number, 100 for the second, 1 for the third
 --     numberOf, valueOf    a number leaf's number, 0 or 10, and the value lent afterwards; Exported: both
 --     countOf       a writer's answer as a number: the bytes, or the largest u64, which is no length of a slice
 --     LabelStored   a label's number and part: the buffer, 0 the names and 1 the word list, the start there and the length
@@ -9,6 +10,10 @@ use Rattle.number.specs.Number.{Parsed, parsed, refused}
 use Rattle.names.specs.declared.Written.{Written}
 use Rattle.sheet.specs.Rows.{bit}
 use Rattle.ir_types.specs.Label.{Labelled}
+
+-- 0.2.0
+abbrev pub version : ℕ
+version = 200
 
 abbrev pub numberOf : Parsed → ℕ
 numberOf (parsed v) = 0

@@ -4,3 +4,4 @@ mod leaves;
 mod lowering;
 mod reading;
 mod tape;
+mod version;

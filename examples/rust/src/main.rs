@@ -1,14 +1,10 @@
-//! Reads a schema from its text, or from tapes, and prints its types: tape, clear, read, lower, label. The same as
-//! graph.c.
+//! Reads a schema file and prints its types: tape, clear, read, lower, label. The same as graph.c.
 //!
 //! Build and run, in the folder of a delivery or of the repository:
 //!
 //! ```text
-//! cargo run --manifest-path examples/rust/Cargo.toml -- TAPE..
+//! cargo run --manifest-path examples/rust/Cargo.toml -- FILE.xsd
 //! ```
-//!
-//! with what `lubiksan tape FILE.xsd --output TAPE` writes, the pieces in order; without a TAPE it takes the text of a
-//! small schema of its own.
 
 use std::error::Error;
 use std::fs;
@@ -17,48 +13,15 @@ use lubiksan::{Graph, Label, ReadAs, SchemaSheet, Tape, TypeDef};
 
 const WORDS: &[u8] = b"String\nbool\nDecimal\nDate\nDateTime\n";
 
-/// A schema with one root element and one type.
-const SMALL: &str = "<schema>
-  <element name='Document' type='Payment'/>
-  <complexType name='Payment'>
-    <sequence> <!-- one field -->
-      <element name='MsgId' type='xs:string' minOccurs='0'/>
-    </sequence>
-  </complexType>
-</schema>
-";
-
 fn main() -> Result<(), Box<dyn Error>> {
+    lubiksan::check_version()?;
+    let file = std::env::args().nth(1).ok_or("usage: graph FILE.xsd")?;
     let mut sheet = SchemaSheet::cleared(ReadAs::Standard);
-    let files: Vec<String> = std::env::args().skip(1).collect();
-    if files.is_empty() {
-        sheet.read(&Tape::of_text(SMALL.into())?)?;
-    }
-    for file in &files {
-        let tape = tape_of(&fs::read(file)?).ok_or_else(|| format!("{file}: it holds no tape"))?;
-        sheet.read(&tape)?;
-    }
+    sheet.read(&Tape::of_text(fs::read(file)?)?)?;
     let mut graph = Graph::new();
     sheet.lower(&mut graph)?;
     print!("{}", printed(&graph));
     Ok(())
-}
-
-/// The tape in a file: the two lengths, the text, the marks.
-fn tape_of(bytes: &[u8]) -> Option<Tape> {
-    let (lengths, rest) = bytes.split_at_checked(8)?;
-    let mut lengths = numbers(lengths);
-    let (text, marks) = (lengths.next()? as usize, lengths.next()? as usize);
-    let (text, rest) = rest.split_at_checked(text)?;
-    let marks = rest.get(..4 * marks)?;
-    Some(Tape::from_buffers(text.to_vec(), numbers(marks).collect()))
-}
-
-/// Four bytes each, least first.
-fn numbers(bytes: &[u8]) -> impl Iterator<Item = u32> + '_ {
-    bytes
-        .chunks_exact(4)
-        .filter_map(|four| Some(u32::from_le_bytes(four.try_into().ok()?)))
 }
 
 /// The roots and types. The label call gives the types by row; the rows are counted along.

@@ -1,8 +1,8 @@
 //! Finds or makes the static library `lubiksan` and says where it stands:
 //!
-//! 1. in the folder that `LUBIKSAN_LIB_DIR` names, from this folder on where it is no full path;
-//! 2. in `../lib`, as in a delivery;
-//! 3. in `../target/staticlib` of the repository, made anew by `rt staticlib lubiksan` where it is missing or older
+//! 1. in the folder that `LUBIKSAN_LIB_DIR` names, from the folder above this one on where it is no full path;
+//! 2. in `../../lib`, as in a delivery;
+//! 3. in `../../target/staticlib` of the repository, made anew by `rt staticlib lubiksan` where it is missing or older
 //!    than the sources.
 
 use std::env;
@@ -26,15 +26,18 @@ fn main() -> Result<(), Box<dyn Error>> {
     println!("cargo:rerun-if-changed={}", archive.display());
     println!("cargo:rustc-link-search=native={}", folder.display());
     println!("cargo:rustc-link-lib=static=lubiksan");
+    // For the tests of this crate, which link C programs.
+    println!("cargo:rustc-env=LUBIKSAN_ARCHIVE={}", archive.display());
     Ok(())
 }
 
 /// The folder with the archive, made where that is to be done here.
 fn folder_of_archive(manifest: &Path) -> Result<PathBuf, Box<dyn Error>> {
+    let above = manifest.parent().ok_or("the crate stands in no folder")?;
     if let Some(named) = env::var_os("LUBIKSAN_LIB_DIR") {
-        return Ok(manifest.join(named));
+        return Ok(above.join(named));
     }
-    let root = manifest.parent().ok_or("the crate stands in no folder")?;
+    let root = above.parent().ok_or("the crate stands in no folder")?;
     let delivered = root.join("lib");
     if delivered.join(ARCHIVE).is_file() {
         return Ok(delivered);
