@@ -3,9 +3,7 @@
 //!
 //! | Module | Holds |
 //! |---|---|
-//! | [`taped`] | the events of a text that the library itself reads into a tape |
-//! | [`xml`] | any other XML text into events, with every test that XML asks for |
-//! | [`document`] | a text read in one of the two ways; its events in pieces |
+//! | [`document`], [`taped`], [`xml`] | the events of a text: the crate `lubiksan-xml` |
 //! | [`source`], [`reading`] | a schema file; its events read into a schema sheet |
 //! | [`explain`], [`losses`] | a refusal in words; what of the file was not kept |
 //! | [`follow`] | what the library's reader does with each tag |
@@ -20,8 +18,6 @@
 
 pub mod args;
 pub mod commands;
-pub mod document;
-mod dtd;
 pub mod explain;
 pub mod failure;
 pub mod follow;
@@ -36,14 +32,13 @@ pub mod output;
 pub mod places;
 pub mod progress;
 pub mod reading;
-mod scan;
 pub mod shelf;
 pub mod source;
 pub mod stored;
-pub mod taped;
-pub mod xml;
 
 use std::ffi::OsString;
+
+pub use lubiksan_xml::{document, taped, xml};
 
 /// Runs the command line and gives the exit status: 0 done, 1 the input is refused, 2 wrong use, 3 the machine.
 pub fn run(args: impl Iterator<Item = OsString>) -> u8 {

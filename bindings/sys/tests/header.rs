@@ -370,8 +370,8 @@ fn the_version_is_that_of_the_crates_and_of_the_archive() -> Tried {
         number / 100 % 100,
         number % 100
     );
-    for manifest in ["Cargo.toml", "../Cargo.toml", "../../tool/Cargo.toml"] {
-        let text = fs::read_to_string(here().join(manifest))?;
+    for manifest in ["", "../", "../xml/", "../../tool/", "../../examples/rust/"] {
+        let text = fs::read_to_string(here().join(manifest).join("Cargo.toml"))?;
         let told = text
             .lines()
             .find_map(|line| line.strip_prefix("version = "));

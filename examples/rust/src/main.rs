@@ -1,4 +1,4 @@
-//! Reads a schema file and prints its types: tape, clear, read, lower, label. The same as graph.c.
+//! Reads a schema file and prints its types: clear, read, lower, label. The same as graph.c, for files of any length in UTF-8.
 //!
 //! Build and run, in the folder of a delivery or of the repository:
 //!
@@ -7,20 +7,18 @@
 //! ```
 
 use std::error::Error;
-use std::fs;
+use std::path::Path;
 
-use lubiksan::{Graph, Label, ReadAs, SchemaSheet, Tape, TypeDef};
+use lubiksan::{Graph, Label, ReadAs, TypeDef};
+use lubiksan_xml::Schema;
 
 const WORDS: &[u8] = b"String\nbool\nDecimal\nDate\nDateTime\n";
 
 fn main() -> Result<(), Box<dyn Error>> {
     lubiksan::check_version()?;
     let file = std::env::args().nth(1).ok_or("usage: graph FILE.xsd")?;
-    let mut sheet = SchemaSheet::cleared(ReadAs::Standard);
-    sheet.read(&Tape::of_text(fs::read(file)?)?)?;
-    let mut graph = Graph::new();
-    sheet.lower(&mut graph)?;
-    print!("{}", printed(&graph));
+    let schema = Schema::read(Path::new(&file), ReadAs::Standard)?;
+    print!("{}", printed(&schema.graph()?));
     Ok(())
 }
 

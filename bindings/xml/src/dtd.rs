@@ -4,8 +4,8 @@ use std::collections::HashSet;
 use std::ops::Range;
 use std::rc::Rc;
 
-use crate::failure::quoted;
 use crate::scan::{fault, is_name, Entities, Fault, Scan};
+use crate::words::quoted;
 
 /// Where the document type at `at` ends, and the entities that references may name behind it.
 pub(crate) fn document_type(text: &str, at: usize) -> Result<(usize, Entities), Fault> {

@@ -10,9 +10,9 @@ use quick_xml::events::Event as Markup;
 use quick_xml::Reader;
 
 use crate::dtd::document_type;
-use crate::failure::quoted;
 pub use crate::scan::Fault;
 use crate::scan::{fault, is_character, is_space, Entities, Scan};
+use crate::words::quoted;
 
 /// The kind of an event.
 #[derive(Clone, Copy, Debug, PartialEq, Eq)]

@@ -1,10 +1,12 @@
 //! A look at a part of an XML text, and the classes of characters of XML 1.0.
 
 use std::collections::HashSet;
+use std::error::Error;
+use std::fmt;
 use std::ops::Range;
 use std::rc::Rc;
 
-use crate::failure::quoted;
+use crate::words::quoted;
 use crate::xml::Attribute;
 
 /// Why a text is no XML, and where.
@@ -15,6 +17,14 @@ pub struct Fault {
     /// What is wrong.
     pub words: String,
 }
+
+impl fmt::Display for Fault {
+    fn fmt(&self, f: &mut fmt::Formatter<'_>) -> fmt::Result {
+        f.write_str(&self.words)
+    }
+}
+
+impl Error for Fault {}
 
 pub(crate) fn fault<T>(at: usize, words: impl Into<String>) -> Result<T, Fault> {
     Err(Fault {

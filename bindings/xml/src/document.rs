@@ -1,6 +1,8 @@
 //! The events of an XML text and the pieces that they make.
 
 use std::borrow::Cow;
+use std::error::Error;
+use std::fmt;
 
 use lubiksan::names::local_name;
 use lubiksan::{NoTape, PieceFull, TapeBuilder};
@@ -47,6 +49,14 @@ pub struct NoDocument {
     /// The text, as far as it is one, and the byte where it is wrong; none where that is not known.
     pub place: Option<(String, usize)>,
 }
+
+impl fmt::Display for NoDocument {
+    fn fmt(&self, f: &mut fmt::Formatter<'_>) -> fmt::Result {
+        f.write_str(&self.words)
+    }
+}
+
+impl Error for NoDocument {}
 
 impl NoDocument {
     fn at(text: String, at: usize, words: String) -> NoDocument {
@@ -166,7 +176,7 @@ impl Document {
                 Err(full) => {
                     let words = format!(
                         "the tag {} is too long: {full}",
-                        crate::failure::quoted(self.name(event))
+                        crate::words::quoted(self.name(event))
                     );
                     return Err(Fault {
                         at: event.at,
