@@ -10,4 +10,5 @@ pub mod Words
 pub mod Refuses
 pub mod Table
 pub mod References
+pub mod Back
 pub mod GraphSmall

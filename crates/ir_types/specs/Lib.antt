@@ -11,6 +11,7 @@ pub mod Label
 pub mod Refuses
 pub mod Table
 pub mod References
+pub mod Back
 pub mod Distinct
 pub mod Last
 pub mod Ok

@@ -60,7 +60,11 @@ use Rattle.xml.proofs.Laws.Records.{tape-records}
 use Rattle.xml.proofs.Laws.Reads.{tape-reads, accepted-tape}
 use Rattle.xml.proofs.Laws.Written.{tag-written}
 use Rattle.xml.proofs.Laws.Back.{tag-back}
-use Rattle.ir_types.specs.Types.{Cardinality}
+use Rattle.ir_types.specs.Types.{Cardinality, TypeGraph}
+use Rattle.ir_types.specs.Sheet.{graphSheet}
+use Rattle.ir_types.specs.Ok.{graphOk}
+use Rattle.ir_types.specs.Back.{graphBack}
+use Rattle.ir_types.proofs.Laws.Back.{graph-back}
 use Rattle.ir_types.specs.Last.{insertAll}
 use Rattle.ir_types.specs.Form.{graphForm}
 use Rattle.ir_types.specs.Label.{label}
@@ -277,6 +281,10 @@ claim-repeated = repeated-exactly
 -- "the place is the row of the first head, in lowering's order, whose name came before"
 pub claim-repeated-place : (x graph : Sheet) (scratch : List ℕ) → lowering x graph scratch .answer .number ≡ 20 → FirstRepeat [] (typeHeads 2 (stateOf x .reader .schema .items)) (lowering x graph scratch .answer .place)
 claim-repeated-place = repeated-place
+
+-- a graph sheet can be read back, as a schema sheet can
+pub claim-graph-back : (g : TypeGraph) (r n : ℕ) → graphOk g ≡ true → graphBack (graphSheet g r n) ≡ g
+claim-graph-back = graph-back
 
 -- what lowering writes has the graph's form
 pub claim-form : (x graph : Sheet) (scratch : List ℕ) → words (x .rows) ≡ true → lowering x graph scratch .answer .number ≡ 0 → graphForm (lowering x graph scratch .graph) ≡ true
