@@ -50,11 +50,11 @@ carrying-step lent es s s′ e q h =
     let own : (v : Text) → eventName e ≡ some v → carries (es ++ e ∷ []) (s .events) v ≡ true = λ v k. subst (λ (n : ℕ). carries (es ++ e ∷ []) n v ≡ true) (h .0) (carries-last es e v k) in
     (length-append es (e ∷ []) ∙ omega (arith, h .0, step-events lent s e s′ q), gives-value (handled-passes (λ v n. carries (es ++ e ∷ []) n v) (s .events) (s .byStandard) e (s .reader) own more) (step-reader lent s e s′ q))
 
-accepted-ok : (lent : Lengths) (s x : State) (e : Event) (js : List Judged) → step lent s e ≡ ok x → acceptedEvents lent s (event e ∷ js) ≡ e ∷ acceptedEvents lent x js
+pub accepted-ok : (lent : Lengths) (s x : State) (e : Event) (js : List Judged) → step lent s e ≡ ok x → acceptedEvents lent s (event e ∷ js) ≡ e ∷ acceptedEvents lent x js
 unfolding acceptedEvents
 accepted-ok lent s x e js q = rw (q, acceptedEvents)
 
-accepted-refuse : (lent : Lengths) (s : State) (e : Event) (js : List Judged) (k : ℕ) → step lent s e ≡ refuse k → acceptedEvents lent s (event e ∷ js) ≡ acceptedEvents lent s js
+pub accepted-refuse : (lent : Lengths) (s : State) (e : Event) (js : List Judged) (k : ℕ) → step lent s e ≡ refuse k → acceptedEvents lent s (event e ∷ js) ≡ acceptedEvents lent s js
 unfolding acceptedEvents
 accepted-refuse lent s e js k q = rw (q, acceptedEvents)
 

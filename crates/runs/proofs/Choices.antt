@@ -1,30 +1,27 @@
--- Order 3 in runs: no call changes the choice; what is read into a sheet cleared with 1; what both choices read alike. Assumes nothing.
+-- Order 3 in runs: no call changes the choice; what both choices read alike. Assumes nothing.
 use Prim.Native.Nat.{ℕ}
-use mathlib.Core.Path.{_≡_, refl, sym, ap, _∙_}
+use mathlib.Core.Path.{_≡_, refl, ap, _∙_}
 use mathlib.Core.Bool.{Bool, true, false, _&&_}
 use mathlib.Core.List.{List, [], _∷_}
 use native.Mathlib.Omega.{arith}
 use lib.Dec.{eqb, leb}
-use lib.ListN.{length, take}
+use lib.ListN.{length}
 use Rattle.text.specs.Text.{Text, if_then_else_}
-use Rattle.text.proofs.Laws.Tests.{bool-cases, if-in, and-true, and-true-left}
+use Rattle.text.proofs.Laws.Tests.{bool-cases, and-true-left}
 use Rattle.sheet.specs.Rows.{Sheet, bit}
 use Rattle.sheet.specs.Lengths.{sheetLengths, tapeLengths, Lengths, lengthsOf, goodLengths}
 use Rattle.xsd_types.specs.State.{State, firstState}
 use Rattle.xsd_types.specs.Row0.{row0In}
-use Rattle.xsd_types.specs.Sheet.{sheetOf, stateFits}
+use Rattle.xsd_types.specs.Sheet.{sheetOf}
 use Rattle.xsd_types.specs.Good.{good}
 use Rattle.xsd_types.specs.Back.{stateOf}
 use Rattle.xsd_types.specs.Clear.{clear}
 use Rattle.xsd_types.specs.Choice.{chosen, sheetChosen}
-use Rattle.xsd_types.proofs.Laws.SheetOf.{stateOf-sheetOf}
 use Rattle.xsd_types.proofs.Laws.Clear.{first-proper, first-fits, clear-sheet}
 use Rattle.xsd_types.proofs.Laws.Choice.{choice-again, choice-made, sheet-chosen}
 use Rattle.xsd_parser.specs.Tape.{records}
 use Rattle.xsd_parser.specs.Read.{Reading, ReadAnswer, readState, read, refusedAt, sheetOfReading}
-use Rattle.xsd_parser.specs.Children.{childrenFrom, directChildren, heads, openHead, onlyTypes}
-use Rattle.xsd_parser.proofs.Laws.Reads.{readState-proper, readState-fits}
-use Rattle.xsd_parser.proofs.Laws.ChildrenRead.{readState-heads}
+use Rattle.xsd_parser.specs.Children.{onlyTypes}
 use Rattle.xsd_parser.proofs.Laws.Choices.{readState-choice, readState-chosen}
 use Rattle.runs.specs.Runs.{Call, Held, hold, sheetHeld, readHeld, heldAfter, refusedWith, runCalls, answeredFirst, run}
 use Rattle.runs.proofs.Served.{read-state}
@@ -91,27 +88,6 @@ module _ (choice : ℕ) (x : Sheet) (text : Text) (marks : List ℕ) (e : sheetL
       let l = and-true-left (sheetLengths (length (x .rows)) (length (x .names))) _ e in
       rw (clear-sheet choice x e)
       (read-state (lengthsOf x) (firstState (eqb choice 1)) text marks l (first-proper (eqb choice 1)) (first-fits (eqb choice 1) (length (x .rows)) (length (x .names)) l))
-
-  -- the state that a reading of it leaves
-  state-cleared : (b : Bool) → stateOf (sheetOfReading (lengthsOf x) (firstRead b x text marks) .sheet) ≡ firstRead b x text marks .state
-  unfolding sheetOfReading lengthsOf
-  state-cleared b =
-      let l = and-true-left (sheetLengths (length (x .rows)) (length (x .names))) _ e in
-      stateOf-sheetOf _ (length (x .rows)) (length (x .names)) (readState-proper (lengthsOf x) (firstState b) text marks (first-proper b))
-      (readState-fits (lengthsOf x) (firstState b) text marks (first-fits b (length (x .rows)) (length (x .names)) l))
-
--- with choice 1 the heads are the direct children of the outermost schemas, among the events read
-abbrev ChildrenIn : Text → List ℕ → ReadAnswer → Type 0
-ChildrenIn text marks a = heads (stateOf (a .sheet) .reader) ≡ directChildren (take (a .answer .place) (records text marks))
-
-pub cleared-children : (x : Sheet) (text : Text) (marks : List ℕ) → clear 1 x .answer .number ≡ 0 → ChildrenIn text marks (read (clear 1 x .sheet) text marks)
-unfolding sheetOfReading refusedAt directChildren childrenFrom heads openHead firstState
-cleared-children x text marks h =
-    let e = cleared-with 1 x h in
-    let l = and-true-left (sheetLengths (length (x .rows)) (length (x .names))) _ e in
-    bool-cases (tapeLengths (length text) (length marks))
-    (λ t. rw (read-cleared 1 x text marks e, t) (ap (λ (s : State). heads (s .reader)) (state-cleared 1 x text marks e true) ∙ readState-heads (lengthsOf x) (firstState true) text marks refl))
-    (λ t. rw (read-cleared 1 x text marks e, t) (rw (stateOf-sheetOf (firstState true) (length (x .rows)) (length (x .names)) (first-proper true) (first-fits true (length (x .rows)) (length (x .names)) l))))
 
 -- what both choices read alike: the same sheet but for the last number of row 0
 abbrev pub standardly : ReadAnswer → ReadAnswer

@@ -5,16 +5,16 @@ use mathlib.Core.Path.{_≡_}
 use mathlib.Core.Logic.{_↔_}
 use mathlib.Core.Bool.{Bool, true, false, _&&_}
 use lib.Dec.{leb}
-use mathlib.Core.List.{List, [], _∷_, _++_, map}
+use mathlib.Core.List.{List, [], _++_, map}
 use lib.ListN.{length, take, drop}
-use Rattle.text.specs.Text.{Text, bytes, every, isText, join}
+use Rattle.text.specs.Text.{Text, bytes, every, isText}
 use Rattle.text.specs.Trim.{Around}
 use Rattle.number.specs.Number.{parsed, plainNumber, number, Spells}
 use Rattle.number.proofs.Laws.Spellings.{number-kept, number-exactly}
 use Rattle.sheet.specs.Rows.{Sheet}
 use Rattle.sheet.specs.Form.{words}
 use Rattle.sheet.specs.Returned.{accepted}
-use Rattle.sheet.specs.Lengths.{sheetLengths, tapeLengths, Lengths, lengthsOf, goodLengths}
+use Rattle.sheet.specs.Lengths.{sheetLengths, Lengths, lengthsOf, goodLengths}
 use Rattle.xsd_types.specs.Types.{Schema, MaxOccurs}
 use Rattle.xsd_types.specs.State.{State, firstState, headsPass, proper}
 use Rattle.xsd_types.specs.Rows.{rowsOf}
@@ -35,14 +35,13 @@ use Rattle.xsd_types.proofs.Laws.Choice.{good-before}
 use Rattle.xsd_parser.specs.Event.{Tag, Event}
 use Rattle.xsd_parser.specs.Kinds.{startKind, emptyKind}
 use Rattle.xsd_parser.specs.EventText.{eventOk}
-use Rattle.xsd_parser.specs.Tape.{Judged, eventOf, records}
+use Rattle.xsd_parser.specs.Tape.{Judged, event, eventOf, records}
 use Rattle.xsd_parser.specs.Handlers.{ok, isUnbounded}
 use Rattle.xsd_parser.specs.Step.{step}
-use Rattle.xsd_parser.specs.Read.{readRecords, read, readState, sheetOfReading}
+use Rattle.xsd_parser.specs.Read.{readRecords, read, readState}
 use Rattle.xsd_parser.specs.Table.{ReadTable}
 use Rattle.xsd_parser.proofs.Laws.Table.{read-table}
 use Rattle.xsd_parser.specs.Numbered.{readRecordsBy, readStateBy, unknownNumber, unnumberedReading, carries}
-use Rattle.xsd_parser.specs.Whole.{wholeRecords}
 use Rattle.xsd_parser.specs.Children.{directChildren, heads, onlyTypes}
 use Rattle.xsd_parser.proofs.Laws.Cleared.{readState-unnumbered, readRecords-numbered}
 use Rattle.xsd_parser.proofs.Laws.Occurs.{unbounded-exactly}
@@ -84,13 +83,13 @@ use Rattle.ir_lower.proofs.Laws.Form.{lowering-form}
 use Rattle.runs.specs.Runs.{Call, Answered, Ran, run}
 use Rattle.runs.specs.Trace.{Trace}
 use Rattle.runs.specs.Cuts.{Job, jobsDone, jobsJudged, CutInto, CutAlike}
-use Rattle.runs.specs.Joined.{joined, refusesNone, acceptedEvents, afterRecords}
+use Rattle.runs.specs.Joined.{joined, acceptedEvents, afterRecords}
 use Rattle.runs.proofs.NoTwo.{NoneTwo, no-two}
 use Rattle.runs.proofs.Runs.{runs}
 use Rattle.runs.proofs.Joined.{last-joined, made-joined}
 use Rattle.runs.proofs.Carried.{carried-run}
 use Rattle.runs.proofs.Cuts.{cut-run, cut-made, cut-joined}
-use Rattle.runs.proofs.Choices.{run-choice, cleared-children, cleared-both}
+use Rattle.runs.proofs.Choices.{run-choice, cleared-both}
 use Rattle.runs.proofs.Accepted.{run-children}
 
 -- "A sheet is good if it has this form, ..": exactly the sheets of proper states
@@ -220,13 +219,11 @@ claim-good-before = good-before
 pub claim-choice-kept : (x : Sheet) (calls : List Call) → row0In (run x calls .last) .choice ≡ row0In x .choice
 claim-choice-kept = run-choice
 
--- with choice 1 "only its direct children become elements or types": of a whole tape in any pieces that are accepted, and of a reading, which may refuse an
--- event
-pub claim-children : (x : Sheet) (calls : List Call) → clear 1 x .answer .number ≡ 0 → every refusesNone (run (clear 1 x .sheet) calls .answers) ≡ true → heads (stateOf (run (clear 1 x .sheet) calls .last) .reader) ≡ directChildren (joined (clear 1 x .sheet) calls)
+-- with choice 1 "only its direct children become elements or types": of the accepted events of every run from a cleared sheet, in any pieces, refused events
+-- and refused calls among them
+pub claim-children : (x : Sheet) (calls : List Call) → clear 1 x .answer .number ≡ 0
+    → heads (stateOf (run (clear 1 x .sheet) calls .last) .reader) ≡ directChildren (map event (acceptedEvents (lengthsOf x) (firstState true) (joined (clear 1 x .sheet) calls)))
 claim-children = run-children
-
-pub claim-children-read : (x : Sheet) (text : Text) (marks : List ℕ) → clear 1 x .answer .number ≡ 0 → let r = read (clear 1 x .sheet) text marks in heads (stateOf (r .sheet) .reader) ≡ directChildren (take (r .answer .place) (records text marks))
-claim-children-read = cleared-children
 
 -- where the schema's own close is the only one in context 1, both choices answer the same and leave the same sheet but for the last number of row 0
 pub claim-both-choices : (x : Sheet) (text : Text) (marks : List ℕ) → clear 0 x .answer .number ≡ 0 → onlyTypes (records text marks) ≡ true → let r = read (clear 0 x .sheet) text marks in read (clear 1 x .sheet) text marks ≡ record { answer = r .answer; sheet = sheetChosen true (r .sheet) }

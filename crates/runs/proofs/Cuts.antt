@@ -23,9 +23,9 @@ use Rattle.xsd_parser.proofs.Laws.Reads.{readState-place, refused-place}
 use Rattle.xsd_parser.proofs.Laws.Accepts.{accepted-events}
 use Rattle.xsd_parser.proofs.Laws.Cut.{cut-records, cut-accepted, zero-accepted, accepted-place}
 use Rattle.xsd_parser.proofs.Laws.CutRefused.{cut-refused, whole-records}
-use Rattle.runs.specs.Runs.{Call, Answered, numberInRun, Held, hold, sheetHeld, Stepped, refusedWith, heldAfter, readHeld, lowerHeld, Ran, answeredFirst, runCalls, run}
+use Rattle.runs.specs.Runs.{Call, Answered, numberInRun, Held, sheetHeld, Stepped, refusedWith, heldAfter, readHeld, Ran, answeredFirst, runCalls, run}
 use Rattle.runs.specs.Joined.{judgedIn, judgedHeld, joinedFrom, joined}
-use Rattle.runs.specs.Cuts.{Job, Ended, endedFirst, tapeAnswer, jobsDone, jobsJudged, isLowering, heldBehind, Pieces, CutInto, isLowered, PiecesAnswer, Gathered, CutAlike}
+use Rattle.runs.specs.Cuts.{Job, endedFirst, tapeAnswer, jobsDone, jobsJudged, isLowering, heldBehind, Pieces, CutInto, isLowered, PiecesAnswer, Gathered, CutAlike}
 use Rattle.runs.specs.Trace.{Trace}
 use Rattle.runs.proofs.Joined.{hold-good}
 use Rattle.runs.proofs.Runs.{runs}

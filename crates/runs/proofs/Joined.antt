@@ -29,7 +29,7 @@ use Rattle.runs.specs.Trace.{Trace}
 use Rattle.runs.proofs.Runs.{runs}
 
 -- one record behind another, and records behind records
-afterRecords-append : (lent : Lengths) (s : State) (js ks : List Judged) → afterRecords lent s (js ++ ks) ≡ afterRecords lent (afterRecords lent s js) ks
+pub afterRecords-append : (lent : Lengths) (s : State) (js ks : List Judged) → afterRecords lent s (js ++ ks) ≡ afterRecords lent (afterRecords lent s js) ks
 unfolding afterRecords
 afterRecords-append lent s [] ks = refl
 afterRecords-append lent s (j ∷ js) ks = afterRecords-append lent (afterRecord lent s j) js ks
@@ -80,7 +80,7 @@ last-read text marks calls lent s ih =
     (λ t. rw (t, afterRecords-append lent s (judgedIn lent s text marks), readState-judged lent s text marks) (ih (readState lent s text marks .state)))
     (λ t. rw t (ih s))
 
-last-joined-from : (calls : List Call) (lent : Lengths) (s : State) → LastJoined calls lent s
+pub last-joined-from : (calls : List Call) (lent : Lengths) (s : State) → LastJoined calls lent s
 unfolding runCalls answeredFirst joinedFrom afterRecords sheetHeld
 last-joined-from [] lent s = refl
 last-joined-from (Call.reading text marks ∷ calls) lent s = last-read text marks calls lent s (λ s′. last-joined-from calls lent s′)

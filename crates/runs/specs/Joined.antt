@@ -4,13 +4,10 @@
 --     judgedHeld    those of a reading on what is held; none under 1 or 2
 --     joinedFrom    those of all readings of a list of calls, in order
 --     joined        the events joined of a run
---     refusesNone   the answer of a call that refuses no event: of a lowering, or 0 of a reading
 --     acceptedEvents    the events of records that are accepted, which are those that have a number in the run
 --     afterRecord, afterRecords    the state after one record; after records, one after the other, with no word of pieces
 use Prim.Native.Nat.{ℕ, suc}
-use mathlib.Core.Bool.{Bool, true}
 use mathlib.Core.List.{List, [], _∷_, _++_}
-use lib.Dec.{eqb}
 use lib.ListN.{length, take}
 use Rattle.text.specs.Text.{Text, if_then_else_}
 use Rattle.sheet.specs.Rows.{Sheet}
@@ -21,7 +18,7 @@ use Rattle.xsd_parser.specs.Tape.{Judged, event, refused, records}
 use Rattle.xsd_parser.specs.Handlers.{ok, refuse}
 use Rattle.xsd_parser.specs.Step.{step}
 use Rattle.xsd_parser.specs.Read.{readState}
-use Rattle.runs.specs.Runs.{Call, Answered, Held, hold, readHeld}
+use Rattle.runs.specs.Runs.{Call, Held, hold, readHeld}
 
 -- "place is events read", or the refused event's number in the piece: as many records are accepted, and the one behind them, if there is one, is refused
 unfoldable pub judgedIn : Lengths → State → Text → List ℕ → List Judged
@@ -39,10 +36,6 @@ joinedFrom (Call.lowering graph scratch ∷ calls) h = joinedFrom calls h
 
 unfoldable pub joined : Sheet → List Call → List Judged
 joined x calls = joinedFrom calls (hold x)
-
-unfoldable pub refusesNone : Answered → Bool
-refusesNone (Answered.readAs a inRun) = eqb (a .number) 0
-refusesNone (Answered.loweredAs l) = true
 
 unfoldable pub afterRecord : Lengths → State → Judged → State
 afterRecord lent s (refused r) = s

@@ -2,7 +2,7 @@
 use Prim.Native.Nat.{ℕ, _+_, _%_}
 use mathlib.Core.Path.{_≡_, refl, ap, _∙_}
 use mathlib.Core.Logic.{⊎-elim}
-use mathlib.Core.Bool.{true, false, _&&_, _||_, false≢true}
+use mathlib.Core.Bool.{true, false, _&&_, false≢true}
 use mathlib.Core.List.{List, [], _∷_, _++_}
 use native.Mathlib.Omega.{arith}
 use lib.Dec.{eqb, leb}
@@ -16,7 +16,7 @@ use Rattle.xsd_types.specs.State.{State}
 use Rattle.xsd_types.specs.Good.{good}
 use Rattle.xsd_types.specs.Back.{stateOf}
 use Rattle.ir_lower.specs.Lower.{unknownBase, anyUnknown, unknownRow}
-use Rattle.ir_lower.specs.Call.{Lowered, unchanged, cleared, lowering}
+use Rattle.ir_lower.specs.Call.{Lowered, cleared, lowering}
 use Rattle.ir_lower.specs.Outcome.{Outcome}
 use Rattle.ir_lower.specs.Table.{LoweringTable, FirstUnknown, LoweredLabels}
 use Rattle.ir_types.proofs.Laws.References.{graph-labels}

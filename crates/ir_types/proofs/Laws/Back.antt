@@ -7,14 +7,13 @@ use mathlib.Core.List.{List, [], _∷_, _++_, map}
 use mathlib.Core.Option.{some, none}
 use lib.Dec.{eqb}
 use lib.ListN.{length, replicate}
-use Rattle.text.specs.Text.{Text, if_then_else_, between}
+use Rattle.text.specs.Text.{Text, between}
 use Rattle.builtin.specs.Builtin.{RustType, rustTypeNumber}
-use Rattle.sheet.specs.Rows.{Row, row, bit, pack, namesOf, unpackRow, filled, Sheet, sheetOfRows}
-use Rattle.sheet.specs.Form.{tensOf}
+use Rattle.sheet.specs.Rows.{Row, row, bit, pack, namesOf, unpackRow, filled, sheetOfRows}
 use Rattle.sheet.proofs.Laws.Packs.{rows-back}
 use Rattle.ir_types.specs.Types.{TypeRef, Cardinality, FieldDef, VariantDef, Constraint, CodeValue, AttrDef, TypeDef, RootElement, TypeGraph}
 use Rattle.ir_types.specs.Rows.{refA, refText, cardinalityB, cardinalityC, fieldRow, variantRow, constraintRow, codeRow, attrRow, typeRows, typesRows, rootRow, rowsOf}
-use Rattle.ir_types.specs.Sheet.{graphFits, graphSheet}
+use Rattle.ir_types.specs.Sheet.{graphSheet}
 use Rattle.ir_types.specs.Form.{usedPairs}
 use Rattle.ir_types.specs.Ok.{graphOk}
 use Rattle.ir_types.specs.Back.{text, rustTypeOf, refOf, cardinalityOf, fieldOf, variantOf, codeOf, attrOf, constraintOf, typeOf, Behind, withRow, typesBack, rootOf, rootsBack, graphOfRows, graphBack}

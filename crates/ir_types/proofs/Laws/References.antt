@@ -3,26 +3,26 @@
 use Prim.Native.Nat.{ℕ, zero, suc, _+_, _-_, _*_, _%_, _≤_, _<_}
 use mathlib.Core.Path.{_≡_, refl, sym, ap, _∙_}
 use mathlib.Core.Logic.{⊎-elim}
-use mathlib.Core.Bool.{Bool, true, false, _&&_, _||_}
+use mathlib.Core.Bool.{true, false, _&&_, _||_}
 use mathlib.Core.List.{List, [], _∷_, _++_, map, append-assoc}
 use mathlib.Core.Option.{Option, some, none}
 use native.Mathlib.Omega.{arith}
-use lib.Dec.{eqb, leb, ltb}
-use lib.ListN.{length, getD, take, drop, replicate, length-append, length-take, length-drop}
+use lib.Dec.{eqb, ltb}
+use lib.ListN.{length, getD, drop, replicate, length-append}
 use lib.Seq.{drop-drop, getD-drop, getD-append-add}
 use borrow.Author.Tests.{le-leb, lt-ltb}
-use Rattle.text.specs.Text.{Text, if_then_else_, join}
+use Rattle.text.specs.Text.{Text, join}
 use Rattle.builtin.specs.Builtin.{RustType, rustTypeNumber}
-use Rattle.sheet.specs.Rows.{Ten, ten, numbers, Row, row, Pairs, pairs, packRow, pack, namesOf, textAt, filled, Sheet, sheetOfRows}
+use Rattle.sheet.specs.Rows.{Ten, ten, numbers, Row, row, pairs, packRow, pack, namesOf, filled, Sheet, sheetOfRows}
 use Rattle.sheet.proofs.Laws.Numbers.{ten-numbers, drop-numbers, length-numbers}
 use Rattle.sheet.proofs.Laws.Packs.{text-here, text-next, length-pack}
 use Rattle.text.proofs.Laws.Tests.{test-cases}
-use Rattle.ir_types.specs.Types.{TypeRef, FieldDef, VariantDef, Constraint, CodeValue, AttrDef, TypeDef, RootElement, TypeGraph}
+use Rattle.ir_types.specs.Types.{TypeRef, Constraint, TypeDef, TypeGraph}
 use Rattle.ir_types.specs.Sheet.{graphFits, graphSheet}
 use Rattle.ir_types.specs.Rows.{refA, refText, fieldRow, variantRow, constraintRow, codeRow, attrRow, typeRows, typesRows, rootRow, rowsOf, rowsUsed, namesUsed, row0}
 use Rattle.ir_types.specs.Row0.{graphRow0Ten}
 use Rattle.ir_types.proofs.Laws.GraphForm.{rows-fit, names-fit, sheet-rows-length, sheet-names-length}
-use Rattle.ir_types.specs.Label.{Labelled, noLabel, wordsOf, goodWords, wordAt, rowTen, hasReference, referenceAt, referenceLength, namedLabel, wordLabel, rowLabel, label}
+use Rattle.ir_types.specs.Label.{noLabel, rowTen, hasReference, referenceAt, referenceLength, namedLabel, rowLabel, label}
 use Rattle.ir_types.specs.References.{typeReferences, typesReferences, graphReferences, LabelOf, GraphLabels}
 
 -- ---- one row, whose texts stand in the names from k

@@ -3,14 +3,13 @@ use Prim.Native.Nat.{ℕ, _+_, _-_, _*_, _%_}
 use mathlib.Core.Path.{_≡_, refl, sym, _∙_, ap}
 use mathlib.Core.Logic.{⊎-elim}
 use mathlib.Core.Bool.{Bool, true, false, _&&_}
-use mathlib.Core.List.{List, []}
+use mathlib.Core.List.{List}
 use native.Mathlib.Omega.{arith}
 use lib.Dec.{eqb, leb, ltb}
-use lib.ListN.{length, getD}
+use lib.ListN.{length}
 use borrow.Author.Tests.{eqb-true, eqb-false}
 use Rattle.text.specs.Text.{if_then_else_}
-use Rattle.sheet.specs.Rows.{Ten, textAt}
-use Rattle.ir_types.specs.Label.{Labelled, noLabel, wordsOf, goodWords, wordAt, rowTen, hasReference, referenceAt, referenceLength, namedLabel, wordLabel, rowLabel, label}
+use Rattle.ir_types.specs.Label.{Labelled, noLabel, goodWords, rowTen, hasReference, referenceAt, referenceLength, namedLabel, wordLabel, rowLabel, label}
 use Rattle.ir_types.specs.Refuses.{refuses}
 use Rattle.ir_types.specs.Table.{LabelTable}
 use Rattle.ir_types.proofs.Laws.Label.{reference-bound}

@@ -1,24 +1,18 @@
 -- The heads of what was read with choice 1, from any state on: those kept before and the direct children among the events read. Assumes nothing.
 use mathlib.Core.Path.{_≡_, refl, sym, _∙_}
 use mathlib.Core.Bool.{true}
-use mathlib.Core.List.{List, _∷_, _++_, append-nil, append-assoc}
-use Prim.Native.Nat.{ℕ, _+_}
-use native.Mathlib.Omega.{arith}
-use lib.ListN.{length, take}
-use lib.Seq.{take-length, take-append-seam}
-use Rattle.text.specs.Text.{Text}
+use mathlib.Core.List.{List, _++_, append-nil, append-assoc}
+use Prim.Native.Nat.{_+_}
 use Rattle.sheet.specs.Lengths.{Lengths}
 use Rattle.xsd_types.specs.State.{State, firstState}
 use Rattle.xsd_parser.specs.Event.{Event}
-use Rattle.xsd_parser.specs.Tape.{Judged, records}
+use Rattle.xsd_parser.specs.Tape.{Judged}
 use Rattle.xsd_parser.specs.Handlers.{ok}
 use Rattle.xsd_parser.specs.Step.{step}
-use Rattle.xsd_parser.specs.Read.{readRecords, readState}
 use Rattle.xsd_parser.specs.Accepted.{Accepted, noneLeft, oneMore}
 use Rattle.xsd_parser.specs.Children.{headAt, childrenFrom, directChildren, openHead, heads}
 use Rattle.xsd_parser.proofs.Laws.Outcomes.{gives-value}
 use Rattle.xsd_parser.proofs.Laws.Steps.{step-reader, step-choice}
-use Rattle.xsd_parser.proofs.Laws.Accepts.{Viewed, allAccepted, firstRefused, records-view, readRecords-accepted, readRecords-refused}
 use Rattle.xsd_parser.proofs.Laws.Children.{depthIn, Walked, handled-walked}
 
 pub step-walked : (lent : Lengths) (s : State) (e : Event) (s′ : State) → s .byStandard ≡ true → step lent s e ≡ ok s′ → Walked e (s .reader) (s′ .reader)
@@ -32,23 +26,7 @@ accepted-heads {lent} b (oneMore {s = s} {s₁ = x} {s₂ = y} {e = e} {js = js}
     let w = step-walked lent s e x b q in
     accepted-heads (step-choice lent s e x q ∙ b) a ∙ rw (w .headsAre, w .depth) (append-assoc (heads (s .reader)) (headAt (depthIn (s .reader .context)) e) _)
 
--- from a cleared sheet
+-- order 3, from a cleared sheet: "only its direct children become elements or types"
 pub first-children : {lent : Lengths} {js : List Judged} {s : State} → Accepted lent (firstState true) js s → heads (s .reader) ≡ directChildren js
 unfolding firstState heads openHead directChildren
 first-children a = accepted-heads refl a
-
-pub view-heads : (lent : Lengths) (s : State) {js : List Judged} → s .byStandard ≡ true → Viewed lent s js
-    → heads (readRecords lent 0 s js .state .reader) ≡ heads (s .reader) ++ childrenFrom (depthIn (s .reader .context)) (take (readRecords lent 0 s js .answer .place) js)
-view-heads lent s b (allAccepted {js = js} a) =
-    let z : 0 + length js ≡ length js = omega arith in
-    rw (readRecords-accepted lent 0 a, z, take-length js) (accepted-heads b a)
-view-heads lent s b (firstRefused {js = js} {j = j} rest a r) =
-    let z : 0 + length js ≡ length js = omega arith in
-    rw (readRecords-refused lent 0 rest a r, z, take-append-seam js (j ∷ rest)) (accepted-heads b a)
-
--- order 3: "only its direct children become elements or types"
-pub readState-heads : (lent : Lengths) (s : State) (text : Text) (marks : List ℕ) → s .byStandard ≡ true
-    → heads (readState lent s text marks .state .reader)
-    ≡ heads (s .reader) ++ childrenFrom (depthIn (s .reader .context)) (take (readState lent s text marks .answer .place) (records text marks))
-unfolding readState
-readState-heads lent s text marks b = view-heads lent s b (records-view lent s (records text marks))

@@ -17,10 +17,10 @@ use Rattle.xsd_types.specs.Sheet.{stateFits}
 use Rattle.xsd_types.specs.Good.{good}
 use Rattle.xsd_types.specs.Back.{stateOf}
 use Rattle.xsd_parser.specs.Event.{Event}
-use Rattle.xsd_parser.specs.Tape.{Judged, event, Recorded, finished, bad, next, allInside, allAscii, pairCount, pairsOf, formTest, tagRecord, record1, recordsFrom, records}
+use Rattle.xsd_parser.specs.Tape.{Judged, event, Recorded, bad, next, allInside, allAscii, pairCount, pairsOf, formTest, tagRecord, record1, recordsFrom, records}
 use Rattle.xsd_parser.specs.Handlers.{Outcome, ok, refuse, _andThen_}
 use Rattle.xsd_parser.specs.Step.{handled, closed, tagsAfter, counted, roomFor, step}
-use Rattle.xsd_parser.specs.Read.{readRecords, readState, read, refusedAt}
+use Rattle.xsd_parser.specs.Read.{readRecords, readState, read}
 use Rattle.xsd_parser.specs.Table.{RecordTable, EventTable, ReadsOn, ReadTable}
 use Rattle.xsd_parser.proofs.Laws.Outcomes.{Gives, value, refusal, Any, gives-andThen, outcome-cases, gives-refusal}
 use Rattle.xsd_parser.proofs.Laws.Refusals.{Within, handled-refusal}
