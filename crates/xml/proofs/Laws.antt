@@ -15,3 +15,4 @@ pub mod Reads
 pub mod Table
 pub mod Written
 pub mod Back
+pub mod Grammar

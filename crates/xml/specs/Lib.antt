@@ -10,6 +10,7 @@ pub mod Root
 pub mod Tape
 pub mod Call
 pub mod Table
+pub mod Grammar
 pub mod Accepted
 pub mod Written
 pub mod Unfold

@@ -133,7 +133,7 @@ unfolding charData
 data-end s at i h = rw (drop-of-length-le s h)
 
 -- a run of bytes that need no look ends nowhere else than the scan without it
-other-quote : (quote b : ℕ) → isQuote quote ≡ true → isQuote b ≡ false → eqb b quote ≡ false
+pub other-quote : (quote b : ℕ) → isQuote quote ≡ true → isQuote b ≡ false → eqb b quote ≡ false
 unfolding isQuote
 other-quote quote b q n =
     ⊎-elim
@@ -141,7 +141,7 @@ other-quote quote b q n =
     (λ e. rw (eqb-true quote 39 e) (or-false-right (eqb b 34) (eqb b 39) n))
     (or-cases (eqb quote 34) (eqb quote 39) q)
 
-in-value : (quote b at : ℕ) (s : Text) → isQuote quote ≡ true → isInValue b ≡ true → valueEnd quote at (b ∷ s) ≡ valueEnd quote (suc at) s
+pub in-value : (quote b at : ℕ) (s : Text) → isQuote quote ≡ true → isInValue b ≡ true → valueEnd quote at (b ∷ s) ≡ valueEnd quote (suc at) s
 unfolding isInValue valueEnd isPlain
 in-value quote b at s q h =
     let f = four (isChar b) (not (eqb b 60)) (not (eqb b 38)) (not (isQuote b)) h in
@@ -152,7 +152,7 @@ unfolding many
 value-run quote q at [] = refl
 value-run quote q at (b ∷ s) = bool-cases (isInValue b) (λ e. rw e (in-value quote b at s q e ∙ value-run quote q (suc at) s)) (λ e. rw e)
 
-in-data : (b at : ℕ) (s : Text) → isInText b ≡ true → charData at (b ∷ s) ≡ charData (suc at) s
+pub in-data : (b at : ℕ) (s : Text) → isInText b ≡ true → charData at (b ∷ s) ≡ charData (suc at) s
 unfolding isInText charData isPlain startsWith bytes
 in-data b at s h =
     let f = four (isChar b) (not (eqb b 60)) (not (eqb b 38)) (not (eqb b 93)) h in
