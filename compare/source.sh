@@ -1,9 +1,18 @@
 # Sourced by run and definitions, in compare/: sets `source_flags` for cargo. The crates come from the folder LUBIKSAN_VENDOR or ../shared/vendor where
-# that is there, else from the registry. Where cargo is missing, or neither source can be reached, it says so and ends the script that sources it with 0.
+# that is there, else from the registry. Where cargo is missing, or neither source can be reached, the comparison is skipped.
+
+# Says what is missing and ends the script with 0; with 1 where CI is set: there nothing may be skipped.
+skipped() {
+  echo "compare: $1, the comparison was skipped"
+  if [ -n "${CI:-}" ]; then
+    exit 1
+  fi
+  exit 0
+}
+
 source_flags=()
 if ! command -v cargo >/dev/null; then
-  echo "compare: cargo is not installed, the comparison was skipped"
-  exit 0
+  skipped "cargo is not installed"
 fi
 vendor=${LUBIKSAN_VENDOR:-../../shared/vendor}
 if [ -d "$vendor" ]; then
@@ -12,6 +21,5 @@ if [ -d "$vendor" ]; then
     --config 'source.crates-io.replace-with="vendored"'
     --config "source.vendored.directory=\"$vendor\"")
 elif ! CARGO_NET_RETRY=0 CARGO_HTTP_TIMEOUT=20 timeout 120 cargo fetch --quiet 2>/dev/null; then
-  echo "compare: there is no ../shared/vendor and the registry can't be reached, the comparison was skipped"
-  exit 0
+  skipped "there is no ../shared/vendor and the registry can't be reached"
 fi

@@ -1,5 +1,5 @@
-//! The judge: parser.rs and lower.rs of mx20022-codegen, unchanged, and the texts on which the
-//! proved leaves are compared with them.
+//! The comparison of the proved calls with the Rust that they carry over: parser.rs and lower.rs of mx20022-codegen, unchanged, a model of
+//! paper 01, other parsers, and the cases on which they are compared. The program is `src/main.rs`, benchmarks stand in `benches/`.
 //!
 //! | module | holds |
 //! |---|---|
@@ -18,6 +18,7 @@
 //! | `lowerings` | lowering compared with the model and with `lower` of the Rust |
 //! | `texts` | the tape of a text compared with the model of order 1 and with other parsers |
 //! | `parsers` | quick-xml's events as a tape, and the verdicts of expat and libxml2 |
+//! | `schemas` | where the real schemas stand |
 //! | `events` | the events of an XML text |
 //! | `prints` | the printing program: what it prints by the model, and inputs to try |
 //! | `definitions` | cases for the definitions under crates/, as statements of the proof language |
@@ -48,6 +49,7 @@ pub mod random;
 #[cfg(feature = "ours")]
 pub mod reader;
 pub mod samples;
+pub mod schemas;
 pub mod tally;
 pub mod tape;
 pub mod tapes;

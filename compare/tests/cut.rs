@@ -1,12 +1,12 @@
 //! parser.rs over its two adapters: tags that the handlers cut, and tags cut before.
 
-use judge::random::Random;
-use judge::tape::xml;
-use judge::tapes::{document, messed};
+use compare::random::Random;
+use compare::tape::xml;
+use compare::tapes::{document, messed};
 
 /// Both give the same schema of `text`, or refuse it in the same words.
 fn agree(text: &str) {
-    let cutting = format!("{:?}", judge::xsd::parse_str(text));
+    let cutting = format!("{:?}", compare::xsd::parse_str(text));
     assert_eq!(cutting, format!("{:?}", cut::parse_str(text)), "{text}");
 }
 

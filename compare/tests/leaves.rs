@@ -1,8 +1,8 @@
 //! The leaves of the Rust give the specimens of paper 01.
 
-use judge::ir::types::RustType;
-use judge::leaves::*;
-use judge::names::{BUILTIN_NAMES, OTHER_BUILTIN_NAMES};
+use compare::ir::types::RustType;
+use compare::leaves::*;
+use compare::names::{BUILTIN_NAMES, OTHER_BUILTIN_NAMES};
 
 #[test]
 fn snake_case() {

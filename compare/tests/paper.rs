@@ -1,20 +1,20 @@
 //! The model of paper 01 against the Rust on many tapes and states, and on the paper's specimens.
 
-use judge::cases::{each_spelling, numbers};
-use judge::definitions::standard::{examples, header, heads, HEADERS};
-use judge::definitions::{numbered, repeated};
-use judge::leaves::{parse_u32, parse_u64};
-use judge::paper::agree;
-use judge::paper::answer;
-use judge::paper::lowering::lowering;
-use judge::paper::number::{is_new_u32, is_new_u64, is_unbounded, number_u32, number_u64};
-use judge::paper::reading::{clear, events_of, read};
-use judge::paper::sheet::Sheet;
-use judge::paper::state::State;
-use judge::paper::tree::{declared, Kind};
-use judge::random::Random;
-use judge::tape::{events, xml, Tape};
-use judge::tapes::{document, messed, odd_events, written};
+use compare::cases::{each_spelling, numbers};
+use compare::definitions::standard::{examples, header, heads, HEADERS};
+use compare::definitions::{numbered, repeated};
+use compare::leaves::{parse_u32, parse_u64};
+use compare::paper::agree;
+use compare::paper::answer;
+use compare::paper::lowering::lowering;
+use compare::paper::number::{is_new_u32, is_new_u64, is_unbounded, number_u32, number_u64};
+use compare::paper::reading::{clear, events_of, read};
+use compare::paper::sheet::Sheet;
+use compare::paper::state::State;
+use compare::paper::tree::{declared, Kind};
+use compare::random::Random;
+use compare::tape::{events, xml, Tape};
+use compare::tapes::{document, messed, odd_events, written};
 
 fn blank(rows: usize, names: usize) -> Sheet {
     let sheet = Sheet {

@@ -1,7 +1,7 @@
 //! What the model of the printing program prints, beside lines worked out by hand from paper 01.
 
-use judge::prints::{input_of, input_of_lines, printed, SPECIMEN};
-use judge::tape::Tape;
+use compare::prints::{input_of, input_of_lines, printed, SPECIMEN};
+use compare::tape::Tape;
 
 fn prints(input: &[u8], lines: &str) {
     assert_eq!(String::from_utf8_lossy(&printed(input)), lines);

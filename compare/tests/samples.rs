@@ -1,6 +1,6 @@
 //! The fixed sample has the form that the program `vectors` takes.
 
-use judge::samples::{texts, LONGEST};
+use compare::samples::{texts, LONGEST};
 
 #[test]
 fn texts_are_short_ascii_without_line_ends() {

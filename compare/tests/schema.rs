@@ -1,8 +1,8 @@
 //! parser.rs and lower.rs through the adapter, on schemas whose results are written by hand.
 
-use judge::ir::lower::{lower, LowerError};
-use judge::ir::types::*;
-use judge::xsd::{parse, parse_str, ParseError};
+use compare::ir::lower::{lower, LowerError};
+use compare::ir::types::*;
+use compare::xsd::{parse, parse_str, ParseError};
 
 /// The graph of a schema with the prefix `xs` and no target namespace.
 fn graph_of(content: &str) -> TypeGraph {

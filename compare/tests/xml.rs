@@ -1,8 +1,8 @@
 //! The model of order 1 gives the numbers and tapes of the readings.
 
-use judge::paper::xml::{judged, tape_of, Judged};
-use judge::paper::{answer, Answer};
-use judge::texts::specimens::{lent, LINES, TAPES};
+use compare::paper::xml::{judged, tape_of, Judged};
+use compare::paper::{answer, Answer};
+use compare::texts::specimens::{lent, LINES, TAPES};
 
 fn answer_of(text: &[u8], lent: usize) -> Answer {
     tape_of(text, &vec![7; lent]).0

@@ -50,8 +50,8 @@ fn text_to_graph(file: &Path) -> Result<(), Box<dyn Error>> {
 }
 
 fn rust(text: &str) -> Result<usize, Box<dyn Error>> {
-    let schema = judge::xsd::parser::parse_str(text)?;
-    Ok(judge::ir::lower::lower(&schema)?.types.len())
+    let schema = compare::xsd::parser::parse_str(text)?;
+    Ok(compare::ir::lower::lower(&schema)?.types.len())
 }
 
 fn ours(file: &Path, text: &str) -> Result<usize, Box<dyn Error>> {

@@ -7,24 +7,24 @@ use std::path::Path;
 use std::process::{Command, Stdio};
 
 use common::{compiles, lubiksan, schemas, side_by_side, tells_of_names, to_rust, Folder};
-use judge::ir::types::{
+use compare::ir::types::{
     AttrDef, Cardinality, Constraint, FieldDef, RustType, TypeDef, TypeGraph, TypeRef, VariantDef,
 };
-use judge::paper::graph::{graph_rows, graph_sheet};
-use judge::paper::sheet::{Lent, Row};
-use judge::paper::tree::{declared, Kind};
+use compare::paper::graph::{graph_rows, graph_sheet};
+use compare::paper::sheet::{Lent, Row};
+use compare::paper::tree::{declared, Kind};
 use lubiksan::{Event, Tag, Tape};
 use serde_json::{json, Value};
 
 /// The graph of the unchanged Rust; none where it refuses the schema.
 fn judged(file: &Path) -> Option<TypeGraph> {
     let text = fs::read_to_string(file).unwrap();
-    let schema = judge::xsd::parser::parse_str(&text).ok()?;
-    judge::ir::lower::lower(&schema).ok()
+    let schema = compare::xsd::parser::parse_str(&text).ok()?;
+    compare::ir::lower::lower(&schema).ok()
 }
 
 fn events(file: &Path) -> usize {
-    judge::events::events_of_xml(&fs::read_to_string(file).unwrap())
+    compare::events::events_of_xml(&fs::read_to_string(file).unwrap())
         .unwrap()
         .len()
 }
@@ -100,8 +100,8 @@ fn take_origin(shown: &mut Value, file: &Path, named: impl Fn(&str) -> bool) {
     if let Some(lines) = lines_of_tags(&text) {
         assert_eq!(line, json!(lines[event]), "{}", file.display());
     }
-    let events = judge::events::events_of_xml(&text).unwrap();
-    let (judge::tape::Event::Start(tag) | judge::tape::Event::Empty(tag)) = &events[event] else {
+    let events = compare::events::events_of_xml(&text).unwrap();
+    let (compare::tape::Event::Start(tag) | compare::tape::Event::Empty(tag)) = &events[event] else {
         panic!("event {event} of {} is a close", file.display());
     };
     let name = tag.attributes.iter().find(|(key, _)| key == "name");
@@ -150,7 +150,7 @@ fn a_sheet_holds_what_an_xml_parser_counts() {
     let mut compared = 0;
     for (index, file) in schemas().iter().enumerate() {
         let text = fs::read_to_string(file).unwrap();
-        let tree = declared(&judge::events::events_of_xml(&text).unwrap());
+        let tree = declared(&compare::events::events_of_xml(&text).unwrap());
         let sheet = folder.path(&format!("s{index}.sheet"));
         let read: [&std::ffi::OsStr; 5] = [
             "read".as_ref(),
@@ -198,7 +198,7 @@ fn json_is_the_graph_field_by_field() {
         }
         for found in shown["types"].as_array_mut().unwrap() {
             let own = found["name"].as_str().unwrap().to_owned();
-            let named = |name: &str| judge::leaves::normalize_type_name(name) == own;
+            let named = |name: &str| compare::leaves::normalize_type_name(name) == own;
             take_origin(found, &file, named);
         }
         assert_eq!(shown["namespace"], json!(graph.namespace));
@@ -447,8 +447,8 @@ fn tapes_are_the_printing_programs_input() {
             out.as_ref(),
         ];
         assert_eq!(lubiksan(args).status, Some(0));
-        let pieces = judge::events::pieces(
-            &judge::events::events_of_xml(&fs::read_to_string(file).unwrap()).unwrap(),
+        let pieces = compare::events::pieces(
+            &compare::events::events_of_xml(&fs::read_to_string(file).unwrap()).unwrap(),
         );
         let text = fs::read(file).unwrap();
         if let ([piece], true) = (pieces.as_slice(), text.is_ascii() && text.len() <= 65_536) {

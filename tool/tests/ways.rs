@@ -8,7 +8,7 @@ use std::fs;
 use common::{
     cases, lubiksan, marked, schemas, schemas_with_document_type, side_by_side, Folder, Ran, Random,
 };
-use judge::texts::specimens::LINES;
+use compare::texts::specimens::LINES;
 use lubiksan_tool::document::{Document, NoDocument, Way};
 use lubiksan_tool::xml::{Event, EventKind};
 

@@ -152,11 +152,13 @@ fn has_document_type(file: &Path) -> bool {
 }
 
 /// The schemas of tests/data and, where they are at hand, those of the folder that `LUBIKSAN_SCHEMAS` names, or else of
-/// ../shared/schemas beside the repository.
+/// ../shared/schemas beside the repository; where `CI` is set they must be at hand.
 fn all_schemas() -> Vec<PathBuf> {
     let manifest = Path::new(env!("CARGO_MANIFEST_DIR"));
     let named = std::env::var_os("LUBIKSAN_SCHEMAS").map(PathBuf::from);
     let shared = named.unwrap_or_else(|| manifest.join("../../shared/schemas"));
+    let missing = std::env::var_os("CI").is_some() && !shared.is_dir();
+    assert!(!missing, "there is no {shared:?}");
     let folders = [
         manifest.join("tests/data"),
         shared.join("iso20022"),

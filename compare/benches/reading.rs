@@ -1,10 +1,10 @@
 //! Benchmark of the reading call: the events of a schema through the unchanged handlers of the Rust and
 //! through `lubiksan_read`, in one run; the time of one event on a sheet of 100 and of 4,000 rows; a
 //! reading of nothing. Made by `rt staticlib lubiksan`; run by
-//! `cargo run --release --features ours --bin reading -- SCHEMA..`.
+//! `cargo bench --features ours --bench reading -- SCHEMA..`.
 //!
-//! `reading once SCHEMA..` measures nothing: it reads each schema one time, for a count of instructions.
-//! `reading once` reads nothing into a cleared sheet.
+//! `-- once SCHEMA..` measures nothing: it reads each schema one time, for a count of instructions.
+//! `-- once` reads nothing into a cleared sheet.
 
 use std::env;
 use std::error::Error;
@@ -12,11 +12,11 @@ use std::fs;
 use std::hint::black_box;
 use std::time::{Duration, Instant};
 
-use judge::events::{events_of_xml, pieces, with_prepared};
-use judge::paper::sheet::Sheet;
-use judge::reader;
-use judge::tape::{events, xml, Event, Tape};
-use judge::xsd::parse_str;
+use compare::events::{events_of_xml, pieces, with_prepared};
+use compare::paper::sheet::Sheet;
+use compare::reader;
+use compare::tape::{events, xml, Event, Tape};
+use compare::xsd::parse_str;
 
 const ROWS: usize = 40_960;
 const NAMES: usize = 65_536;
@@ -25,7 +25,11 @@ const ROUNDS: usize = 501;
 const EVENTS: usize = 64;
 
 fn main() -> Result<(), Box<dyn Error>> {
-    let files: Vec<String> = env::args().skip(1).collect();
+    // cargo adds the word `--bench`.
+    let files: Vec<String> = env::args()
+        .skip(1)
+        .filter(|word| word != "--bench")
+        .collect();
     match files.split_first() {
         Some((first, rest)) if first == "once" => once(rest),
         _ => measure(&files),

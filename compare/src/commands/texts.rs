@@ -1,37 +1,21 @@
 //! Compares `lubiksan_tape` of the static library `lubiksan` with the model of order 1, with quick-xml's events,
-//! and with the verdicts of expat and libxml2 where the features of these names are on: `texts` on over a million
-//! texts, `texts all` on all of them.
-//!
-//! The schemas for the last group stand in LUBIKSAN_SCHEMAS, or else in ../../shared/schemas beside
-//! the manifest; without them that group is passed over.
+//! and with the verdicts of expat and libxml2 where the features of these names are on.
 
-use std::env;
-use std::path::{Path, PathBuf};
 use std::process::ExitCode;
 use std::thread;
 
-use judge::tally::Tally;
-use judge::texts::check::{Classes, Counted};
-use judge::texts::{limits, longer, small, Extent};
+use compare::schemas;
+use compare::tally::Tally;
+use compare::texts::check::{Classes, Counted};
+use compare::texts::{limits, longer, small, Extent};
 
 type Group = fn(Extent) -> Counted;
 
 /// The stack of a group: the model nests as deep as the text.
 const STACK: usize = 256 << 20;
 
-fn main() -> ExitCode {
-    let arguments: Vec<String> = env::args().skip(1).collect();
-    match arguments.iter().map(String::as_str).collect::<Vec<_>>()[..] {
-        [] => run(Extent::Gate),
-        ["all"] => run(Extent::All),
-        _ => {
-            eprintln!("usage: texts [all]");
-            ExitCode::from(2)
-        }
-    }
-}
-
-fn run(extent: Extent) -> ExitCode {
+/// All of this extent.
+pub fn run(extent: Extent) -> ExitCode {
     let groups: [Group; 7] = [
         limits::specimens,
         small::whole,
@@ -39,7 +23,7 @@ fn run(extent: Extent) -> ExitCode {
         small::words,
         longer::documents,
         limits::limits,
-        schemas,
+        schema_texts,
     ];
     let start = |group: Group| {
         let thread = thread::Builder::new().stack_size(STACK);
@@ -50,12 +34,10 @@ fn run(extent: Extent) -> ExitCode {
     print(&counted)
 }
 
-fn schemas(extent: Extent) -> Counted {
-    let named = env::var_os("LUBIKSAN_SCHEMAS").unwrap_or_else(|| "../../shared/schemas".into());
-    let folder: PathBuf = Path::new(env!("CARGO_MANIFEST_DIR")).join(named);
-    if !folder.is_dir() {
+fn schema_texts(extent: Extent) -> Counted {
+    let Some(folder) = schemas::folder() else {
         return Counted::default();
-    }
+    };
     longer::schemas(&folder, extent).expect("the schemas can be read")
 }
 

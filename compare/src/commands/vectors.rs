@@ -1,29 +1,28 @@
 //! The fixed sample behind crates/vectors.
-//!
-//! `vectors inputs` prints the texts, one per line. `vectors answers` reads texts, one per line, and
-//! prints for each the answers of the Rust; the model's for a number in a spelling of order 2.
 
-use std::env;
 use std::io::{self, Read, Write};
 use std::process::ExitCode;
 
-use judge::leaves;
-use judge::paper::number::{is_new_u32, is_new_u64, number_u32, number_u64};
-use judge::samples;
+use compare::leaves;
+use compare::paper::number::{is_new_u32, is_new_u64, number_u32, number_u64};
+use compare::samples;
 
-fn main() -> ExitCode {
-    let words: Vec<String> = env::args().skip(1).collect();
-    let done = match words.iter().map(String::as_str).collect::<Vec<_>>()[..] {
-        ["inputs"] => print_inputs(),
-        ["answers"] => print_answers(),
-        _ => Err(io::Error::other("usage: vectors inputs | vectors answers")),
-    };
+use super::failed;
+
+/// Prints the texts, one per line.
+pub fn inputs() -> ExitCode {
+    ended(print_inputs())
+}
+
+/// Reads texts, one per line, and prints for each the answers of the Rust; the model's for a number in a spelling of order 2.
+pub fn answers() -> ExitCode {
+    ended(print_answers())
+}
+
+fn ended(done: io::Result<()>) -> ExitCode {
     match done {
         Ok(()) => ExitCode::SUCCESS,
-        Err(error) => {
-            eprintln!("vectors: {error}");
-            ExitCode::from(2)
-        }
+        Err(error) => failed("vectors", &error),
     }
 }
 

@@ -1,38 +1,28 @@
 //! Writes the cases for the definitions under crates/ into a folder: files of cases, the file that
 //! names them, and a list of what each case shows.
-//!
-//! usage: definitions FOLDER SEED
 
 use std::collections::BTreeMap;
-use std::env;
 use std::fs;
 use std::io;
 use std::path::Path;
 use std::process::ExitCode;
 
-use judge::definitions::{cases, print, Case};
+use compare::definitions::{cases, print, Case};
+
+use super::failed;
 
 /// How many cases stand in one file.
 const PER_FILE: usize = 40;
 
-fn main() -> ExitCode {
-    let words: Vec<String> = env::args().skip(1).collect();
-    match write_for(&words) {
-        Ok(()) => ExitCode::SUCCESS,
-        Err(error) => {
-            eprintln!("definitions: {error}");
-            ExitCode::from(2)
-        }
-    }
-}
-
-fn write_for(words: &[String]) -> io::Result<()> {
-    let usage = || io::Error::other("usage: definitions FOLDER SEED");
-    let [folder, seed] = words else {
-        return Err(usage());
+/// The cases of a seed, written into a folder.
+pub fn run(folder: &str, seed: &str) -> ExitCode {
+    let Ok(seed) = seed.parse() else {
+        return failed("definitions", &"the seed is not a number");
     };
-    let seed = seed.parse().map_err(|_| usage())?;
-    write_all(Path::new(folder), &cases(seed))
+    match write_all(Path::new(folder), &cases(seed)) {
+        Ok(()) => ExitCode::SUCCESS,
+        Err(error) => failed("definitions", &error),
+    }
 }
 
 fn write_all(folder: &Path, cases: &[Case]) -> io::Result<()> {

@@ -1,10 +1,10 @@
 //! Benchmark of the tape of a text, in one run, medians: `lubiksan_tape` against quick-xml's events with the
 //! attributes of each tag cut; the way from text to graph (tape, clear, read, lower) against `parse_str` and
 //! `lower`; the slowest texts. Made by `rt staticlib lubiksan`; run by
-//! `cargo run --release --features ours --bin text -- SCHEMA..`.
+//! `cargo bench --features ours --bench tape -- SCHEMA..`.
 //!
 //! A schema must be ASCII, up to 65,536 bytes long, and one that quick-xml reads; others are passed over.
-//! `text once SCHEMA..` measures nothing: it makes each tape one time, for a count of instructions.
+//! `-- once SCHEMA..` measures nothing: it makes each tape one time, for a count of instructions.
 
 use std::env;
 use std::error::Error;
@@ -12,16 +12,16 @@ use std::fs;
 use std::hint::black_box;
 use std::time::{Duration, Instant};
 
-use judge::grapher;
-use judge::ir::lower::lower;
-use judge::paper::answer;
-use judge::paper::lowering::Lowered;
-use judge::paper::sheet::Sheet;
-use judge::parsers::quick_xml_events;
-use judge::reader;
-use judge::tape::Tape;
-use judge::texts::limits::keys;
-use judge::xsd::parse_str;
+use compare::grapher;
+use compare::ir::lower::lower;
+use compare::paper::answer;
+use compare::paper::lowering::Lowered;
+use compare::paper::sheet::Sheet;
+use compare::parsers::quick_xml_events;
+use compare::reader;
+use compare::tape::Tape;
+use compare::texts::limits::keys;
+use compare::xsd::parse_str;
 use raw_xml::events::{BytesStart, Event};
 use raw_xml::Reader;
 
@@ -33,7 +33,11 @@ const ROUNDS: usize = 301;
 const SLOW_ROUNDS: usize = 11;
 
 fn main() -> Result<(), Box<dyn Error>> {
-    let files: Vec<String> = env::args().skip(1).collect();
+    // cargo adds the word `--bench`.
+    let files: Vec<String> = env::args()
+        .skip(1)
+        .filter(|word| word != "--bench")
+        .collect();
     match files.split_first() {
         Some((first, rest)) if first == "once" => once(rest),
         _ => measure(&files),

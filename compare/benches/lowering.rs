@@ -2,28 +2,28 @@
 //! needed and, for information, of the largest lengths. Then the time for a type in a schema of 4,094 types against one of 100, and that of a schema that
 //! is refused because its last type has the name of its first.
 //! Made by `rt staticlib lubiksan`; run by
-//! `cargo run --release --features ours --bin lowering -- SCHEMA..`.
+//! `cargo bench --features ours --bench lowering -- SCHEMA..`.
 
 use std::env;
 use std::fs;
 use std::hint::black_box;
 use std::time::{Duration, Instant};
 
-use judge::events::{events_of_xml, pieces};
-use judge::grapher;
-use judge::ir::lower::lower;
-use judge::lowerings::check::Room;
-use judge::paper::agree::ROOMY;
-use judge::paper::lowering::Lowered;
-use judge::paper::sheet::{names_used, rows_used, Lent, Row, Sheet};
-use judge::paper::state::State;
-use judge::reader;
-use judge::xsd::types::Schema;
+use compare::events::{events_of_xml, pieces};
+use compare::grapher;
+use compare::ir::lower::lower;
+use compare::lowerings::check::Room;
+use compare::paper::agree::ROOMY;
+use compare::paper::lowering::Lowered;
+use compare::paper::sheet::{names_used, rows_used, Lent, Row, Sheet};
+use compare::paper::state::State;
+use compare::reader;
+use compare::xsd::types::Schema;
 
 const ROUNDS: usize = 301;
 
 fn main() {
-    for file in env::args().skip(1) {
+    for file in env::args().skip(1).filter(|word| word != "--bench") {
         let text = fs::read_to_string(&file).expect("the schema can be read");
         let name = file.rsplit('/').next().unwrap_or(&file);
         compare(name, &read(&text), 0);

@@ -1,19 +1,16 @@
 //! Compares the lowering call of the static library `lubiksan` with the model of paper 01 and with the Rust.
-//!
-//! The schemas for the last group stand in LUBIKSAN_SCHEMAS, or else in ../../shared/schemas beside
-//! the manifest; without them that group is passed over.
 
-use std::env;
-use std::path::{Path, PathBuf};
 use std::process::ExitCode;
 use std::thread;
 
-use judge::lowerings::{limits, longer, repeated, runs, small, written};
-use judge::tally::Tally;
+use compare::lowerings::{limits, longer, repeated, runs, small, written};
+use compare::schemas;
+use compare::tally::Tally;
 
 type Group = fn() -> Vec<Tally>;
 
-fn main() -> ExitCode {
+/// All of them.
+pub fn run() -> ExitCode {
     let groups: [Group; 10] = [
         small::compare,
         repeated::examples,
@@ -24,19 +21,17 @@ fn main() -> ExitCode {
         limits::compare,
         runs::compare,
         written::compare,
-        schemas,
+        written_schemas,
     ];
     let running = groups.map(thread::spawn);
     let tallies = running.map(|group| group.join().expect("the group runs to its end"));
     print(&tallies.concat())
 }
 
-fn schemas() -> Vec<Tally> {
-    let named = env::var_os("LUBIKSAN_SCHEMAS").unwrap_or_else(|| "../../shared/schemas".into());
-    let folder: PathBuf = Path::new(env!("CARGO_MANIFEST_DIR")).join(named);
-    if !folder.is_dir() {
+fn written_schemas() -> Vec<Tally> {
+    let Some(folder) = schemas::folder() else {
         return Vec::new();
-    }
+    };
     written::schemas(&folder).expect("the schemas can be read")
 }
 

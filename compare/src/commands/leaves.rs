@@ -1,17 +1,14 @@
 //! Compares the text leaves of the static library `lubiksan` with the Rust.
-//!
-//! The schemas for the last source of texts stand in LUBIKSAN_SCHEMAS, or else in
-//! ../../shared/schemas beside the manifest; without them that source is passed over.
 
-use std::env;
-use std::path::{Path, PathBuf};
 use std::process::ExitCode;
 
-use judge::cases;
-use judge::checks;
-use judge::tally::Tally;
+use compare::cases;
+use compare::checks;
+use compare::schemas;
+use compare::tally::Tally;
 
-fn main() -> ExitCode {
+/// All of them.
+pub fn run() -> ExitCode {
     let mut groups = Groups::new();
     groups.take("short texts", cases::short_texts());
     groups.take("number texts", cases::numbers());
@@ -24,18 +21,11 @@ fn main() -> ExitCode {
 }
 
 fn take_schemas(groups: &mut Groups) {
-    let folder = schemas_folder();
-    if !folder.is_dir() {
-        println!("schema texts: passed over, there is no folder of schemas");
+    let Some(folder) = schemas::folder() else {
         return;
-    }
+    };
     let texts = cases::schema_texts(&folder).expect("the schemas can be read");
     groups.take("schema texts", texts);
-}
-
-fn schemas_folder() -> PathBuf {
-    let named = env::var_os("LUBIKSAN_SCHEMAS").unwrap_or_else(|| "../../shared/schemas".into());
-    Path::new(env!("CARGO_MANIFEST_DIR")).join(named)
 }
 
 /// The groups of cases: the leaves for each source of texts; over all texts the rooms of the

@@ -1,40 +1,36 @@
 //! Runs the printing program on many inputs and compares what it prints with the model of paper 01; or writes the files of crates/print_cases.
-//! usage: prints run PROGRAM; prints table, its stdin; prints answers, its stdout by the model
-//!
-//! The schemas stand in LUBIKSAN_SCHEMAS, or else in ../../shared/schemas beside the manifest; without them they are passed over.
 
 use std::collections::BTreeMap;
-use std::env;
 use std::io::{self, Write};
-use std::path::{Path, PathBuf};
 use std::process::{Command, ExitCode, Stdio};
 
-use judge::prints::{inputs, printed, schemas, table, table_answers, Input};
+use compare::prints::{self, inputs, printed, Input};
+use compare::schemas;
 
-fn main() -> ExitCode {
-    let mut arguments = env::args().skip(1);
-    let (what, program) = (arguments.next(), arguments.next());
-    match (what.as_deref(), program) {
-        (Some("run"), Some(program)) => compare(&program),
-        (Some("table"), None) => write(table().as_bytes()),
-        (Some("answers"), None) => write(&table_answers()),
-        _ => panic!("usage: prints run PROGRAM | table | answers"),
-    }
+use super::failed;
+
+/// stdin of crates/print_cases.
+pub fn table() -> ExitCode {
+    write(prints::table().as_bytes())
+}
+
+/// stdout of crates/print_cases, by the model.
+pub fn answers() -> ExitCode {
+    write(&prints::table_answers())
 }
 
 fn write(bytes: &[u8]) -> ExitCode {
-    io::stdout()
-        .write_all(bytes)
-        .expect("standard output takes all");
-    ExitCode::SUCCESS
+    match io::stdout().write_all(bytes) {
+        Ok(()) => ExitCode::SUCCESS,
+        Err(error) => failed("prints", &error),
+    }
 }
 
 /// All inputs through the program.
-fn compare(program: &str) -> ExitCode {
+pub fn run(program: &str) -> ExitCode {
     let mut all = inputs();
-    let folder = schemas_folder();
-    if folder.is_dir() {
-        all.extend(schemas(&folder).expect("the schemas can be read"));
+    if let Some(folder) = schemas::folder() {
+        all.extend(prints::schemas(&folder).expect("the schemas can be read"));
     }
     let mut ends = BTreeMap::new();
     let differing = all
@@ -50,15 +46,10 @@ fn compare(program: &str) -> ExitCode {
     ExitCode::from(u8::from(differing > 0))
 }
 
-fn schemas_folder() -> PathBuf {
-    let named = env::var_os("LUBIKSAN_SCHEMAS").unwrap_or_else(|| "../../shared/schemas".into());
-    Path::new(env!("CARGO_MANIFEST_DIR")).join(named)
-}
-
 /// Whether the program prints something else than the model; counts the words and numbers of its last line of words.
 fn differs(program: &str, input: &Input, ends: &mut BTreeMap<String, u32>) -> bool {
     let model = printed(&input.bytes);
-    let ours = run(program, &input.bytes);
+    let ours = printed_by(program, &input.bytes);
     *ends.entry(last_words(&model)).or_default() += 1;
     if ours == model {
         return false;
@@ -89,7 +80,7 @@ fn last_words(printed: &[u8]) -> String {
 }
 
 /// What the program prints on `input`.
-fn run(program: &str, input: &[u8]) -> Vec<u8> {
+fn printed_by(program: &str, input: &[u8]) -> Vec<u8> {
     let mut child = Command::new(program)
         .stdin(Stdio::piped())
         .stdout(Stdio::piped())

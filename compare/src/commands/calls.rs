@@ -1,21 +1,19 @@
 //! Compares clearing, the reading call and the label call of the static library `lubiksan` with the model of
 //! paper 01 and with the Rust.
-//!
-//! The schemas for the last group stand in LUBIKSAN_SCHEMAS, or else in ../../shared/schemas beside
-//! the manifest; without them that group is passed over.
 
-use std::env;
 use std::io;
-use std::path::{Path, PathBuf};
+use std::path::Path;
 use std::process::ExitCode;
 use std::thread;
 
-use judge::calls::{labels, longer, numbered, numbers, small, standard, written};
-use judge::tally::Tally;
+use compare::calls::{labels, longer, numbered, numbers, small, standard, written};
+use compare::schemas;
+use compare::tally::Tally;
 
 type Group = fn() -> Vec<Tally>;
 
-fn main() -> ExitCode {
+/// All of them.
+pub fn run() -> ExitCode {
     let groups: [Group; 15] = [
         small::compare,
         numbers::compare,
@@ -23,7 +21,7 @@ fn main() -> ExitCode {
         longer::sheets,
         written::compare,
         labels::compare,
-        schemas,
+        written_schemas,
         standard::written,
         standard::small,
         standard::documents,
@@ -38,7 +36,7 @@ fn main() -> ExitCode {
     print(&tallies.concat())
 }
 
-fn schemas() -> Vec<Tally> {
+fn written_schemas() -> Vec<Tally> {
     in_folder(written::schemas)
 }
 
@@ -48,12 +46,8 @@ fn schemas_by_standard() -> Vec<Tally> {
 
 /// What `compare` gives for the folder of the schemas, where it is there.
 fn in_folder(compare: fn(&Path) -> io::Result<Vec<Tally>>) -> Vec<Tally> {
-    let named = env::var_os("LUBIKSAN_SCHEMAS").unwrap_or_else(|| "../../shared/schemas".into());
-    let folder: PathBuf = Path::new(env!("CARGO_MANIFEST_DIR")).join(named);
-    if !folder.is_dir() {
-        return Vec::new();
-    }
-    compare(&folder).expect("the schemas can be read")
+    let compared = |folder| compare(folder).expect("the schemas can be read");
+    schemas::folder().as_deref().map_or_else(Vec::new, compared)
 }
 
 fn print(tallies: &[Tally]) -> ExitCode {

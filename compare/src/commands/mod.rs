@@ -1,0 +1,22 @@
+//! The subcommands.
+
+#[cfg(feature = "ours")]
+pub mod calls;
+pub mod definitions;
+#[cfg(feature = "ours")]
+pub mod leaves;
+#[cfg(feature = "ours")]
+pub mod lowerings;
+pub mod prints;
+#[cfg(feature = "ours")]
+pub mod texts;
+pub mod vectors;
+
+use std::fmt::Display;
+use std::process::ExitCode;
+
+/// 2, with the words on standard error.
+pub fn failed(command: &str, words: &dyn Display) -> ExitCode {
+    eprintln!("{command}: {words}");
+    ExitCode::from(2)
+}
