@@ -140,7 +140,8 @@ fn shown(error: &clap::Error) -> Result<Command, Failure> {
     }
 }
 
-fn parser() -> Parser {
+/// The definitions of the command line.
+pub fn parser() -> Parser {
     Parser::new("lubiksan")
         .version(env!("CARGO_PKG_VERSION"))
         .about("From an ISO 20022 schema to its type graph")
