@@ -13,6 +13,7 @@ use crate::interrupt;
 use crate::lock;
 use crate::losses;
 use crate::names::Names;
+use crate::notkept::{self, NotKept};
 use crate::origins::Origins;
 use crate::output::{remove_left_beside, write_output};
 use crate::places::Places;
@@ -73,6 +74,17 @@ impl Input {
             Some(source) => shown(Some(source)),
             None => shown(stored().as_ref()),
         }
+    }
+
+    /// What is said of the places that the graph does not keep where the source of a stored sheet is not at hand.
+    fn unnamed(&self, file: &Path) -> Vec<String> {
+        let why = "its source is not there as it was";
+        let words = match self.about.as_ref().and_then(|about| about.not_kept) {
+            Some(0) => return Vec::new(),
+            Some(count) => format!("{}, and {why}", notkept::told(count as usize)),
+            None => format!("what the graph does not keep is not known, {why}"),
+        };
+        vec![format!("{}: {words}", named(file))]
     }
 }
 
@@ -157,7 +169,15 @@ fn graph(
     }
     let made = input(command, file, partial).and_then(|input| {
         let graph = lowered(file, input.source.as_ref(), &input.sheet)?;
-        shown(file, format, &input, &graph)
+        input.with_source(|source| {
+            let not_kept = source.map(|source| NotKept::of(source, &input.sheet));
+            let lines = match source.zip(not_kept.as_ref()) {
+                Some((source, not_kept)) => not_kept.lines(source, most(command)),
+                None => input.unnamed(file),
+            };
+            warn(command, lines)?;
+            shown(file, format, &input, &graph, (source, not_kept.as_ref()))
+        })
     });
     match made {
         Ok(bytes) => write_output(output, &bytes),
@@ -169,28 +189,39 @@ fn graph(
     }
 }
 
+/// So many places that are not kept are said.
+fn most(command: &Command) -> usize {
+    match command.verbose {
+        true => usize::MAX,
+        false => notkept::MOST,
+    }
+}
+
+/// The source, where it is at hand, and what of it the graph does not keep.
+type Known<'k> = (Option<&'k Source>, Option<&'k NotKept<'k>>);
+
 /// The graph in a format.
 fn shown(
     file: &Path,
     format: Format,
     input: &Input,
     graph: &Graph<'_>,
+    (source, not_kept): Known<'_>,
 ) -> Result<Vec<u8>, Failure> {
     let sheet = &input.sheet;
+    let notes = not_kept.map(NotKept::notes).unwrap_or_default();
     match format {
-        Format::Text => Ok(input
-            .with_source(|source| text::print(graph, &Origins::of(source)))
-            .into_bytes()),
+        Format::Text => Ok(text::print(graph, &Origins::of(source), &notes).into_bytes()),
         Format::Dot => Ok(dot::print(graph).into_bytes()),
         Format::Rows => Ok(rows::print(sheet.events_done(), graph)),
         Format::Json => {
-            let text = input.with_source(|source| json::print(graph, &Origins::of(source)));
+            let text = json::print(graph, &Origins::of(source), not_kept);
             let text = text.map_err(|error| Failure::Machine(error.to_string()))?;
             Ok(text.into_bytes())
         }
         Format::Rust => {
             do_not_meet(file, input, &Names::of(sheet, graph))?;
-            Ok(rust::print(sheet, graph).into_bytes())
+            Ok(rust::print(sheet, graph, &notes).into_bytes())
         }
     }
 }
@@ -216,6 +247,15 @@ fn do_not_meet(file: &Path, input: &Input, names: &Names) -> Result<(), Failure>
 fn names(command: &Command, file: &Path, partial: bool) -> Result<(), Failure> {
     let input = input(command, file, partial)?;
     let graph = lowered(file, input.source.as_ref(), &input.sheet)?;
+    let counted = input.with_source(|source| match source {
+        Some(source) => {
+            let not_kept = NotKept::of(source, &input.sheet);
+            let some = !not_kept.places.is_empty();
+            some.then(|| not_kept.counted(source)).into_iter().collect()
+        }
+        None => input.unnamed(file),
+    });
+    warn(command, counted)?;
     let names = Names::of(&input.sheet, &graph);
     let located = input.source.as_ref().map(|source| {
         let places = Places::of(source, &input.sheet);
@@ -251,10 +291,12 @@ fn read(
     read?;
     let line = format!("{}: {}\n", named(sheet), stored.progress());
     though_unread(write_output(None, line.as_bytes()))?;
-    match stored.is_whole() {
-        true => warn(command, losses::lines(&source, &stored.sheet)),
-        false => Ok(()),
+    if !stored.is_whole() {
+        return Ok(());
     }
+    let mut lines = losses::lines(&source, &stored.sheet);
+    lines.extend(NotKept::of(&source, &stored.sheet).lines(&source, most(command)));
+    warn(command, lines)
 }
 
 /// Reads on and stores after each piece; where no event is to be read the sheet is stored as it stands.

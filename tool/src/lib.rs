@@ -6,7 +6,7 @@
 //! | [`document`], [`taped`], [`xml`] | the events of a text: the crate `lubiksan-xml` |
 //! | [`source`], [`reading`] | a schema file; its events read into a schema sheet |
 //! | [`explain`], [`losses`] | a refusal in words; what of the file was not kept |
-//! | [`follow`] | what the library's reader does with each tag |
+//! | [`follow`], [`notkept`] | what the library's reader does with each tag; where the graph is not the schema |
 //! | [`origins`] | where a root or type comes from, by the number of its event |
 //! | [`stored`], [`output`] | stored sheets; files that are whole or as they were |
 //! | [`formats`], [`names`], [`identifier`], [`places`] | the graph as text, JSON, dot, Rust and rows; names that meet, and where |
@@ -27,6 +27,7 @@ pub mod interrupt;
 pub mod lock;
 pub mod losses;
 pub mod names;
+pub mod notkept;
 pub mod origins;
 pub mod output;
 pub mod places;

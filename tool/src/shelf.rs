@@ -11,11 +11,12 @@ use std::thread;
 
 use crate::args::{Command, Shelf};
 use crate::commands::{advance, say_way, warn};
-use crate::failure::{named, though_unread, Failure};
+use crate::failure::{named, say, though_unread, Failure};
 use crate::formats::plural;
 use crate::interrupt;
 use crate::lock;
 use crate::losses;
+use crate::notkept::{self, NotKept};
 use crate::output::{remove_left_behind, write_output};
 use crate::progress::Progress;
 use crate::reading::lowered;
@@ -42,7 +43,11 @@ pub fn run(command: &Command, shelf: &Shelf) -> Result<(), Failure> {
     let progress = Progress::new(jobs.len(), command.quiet);
     let ends = side_by_side(command, shelf, &jobs, &progress);
     progress.end();
-    ended(&ends?)
+    let ends = ends?;
+    if !command.quiet {
+        say_not_kept(&ends);
+    }
+    ended(&ends)
 }
 
 /// The jobs; two files of one stem are refused.
@@ -71,8 +76,14 @@ fn jobs(shelf: &Shelf) -> Result<Vec<Job>, Failure> {
     Ok(jobs)
 }
 
+/// What was done of one file: its line, and how many places the graph does not keep.
+struct Done {
+    line: String,
+    not_kept: usize,
+}
+
 /// How the work on one file ended.
-type End = Result<String, Failure>;
+type End = Result<Done, Failure>;
 
 /// Runs the jobs on several threads and prints a line for each in their order.
 fn side_by_side(
@@ -136,7 +147,7 @@ fn in_order(
         waiting.insert(index, end);
         while let Some(end) = waiting.remove(&printed.len()) {
             let line = match &end {
-                Ok(line) => line.clone(),
+                Ok(done) => done.line.clone(),
                 Err(failure) => failure.words().replace('\n', "; "),
             };
             let written = progress.aside(|| write_output(None, format!("{line}\n").as_bytes()));
@@ -168,14 +179,37 @@ fn one(command: &Command, shelf: &Shelf, job: &Job) -> End {
     advance(&source, &job.sheet, &mut stored, usize::MAX, &quiet).map_err(of_job)?;
     let graph = lowered(&job.file, Some(&source), &stored.sheet)?;
     warn(command, losses::lines(&source, &stored.sheet))?;
+    let found = NotKept::of(&source, &stored.sheet);
+    let not_kept = found.places.len();
+    if command.strict && not_kept > 0 {
+        return Err(Failure::Refused(found.counted(&source)));
+    }
     let counted = |count: usize, word: &str| format!("{count} {}", plural(count as u64, word));
-    Ok(format!(
+    let mut line = format!(
         "{}: {}, {}, {}",
         named(&job.file),
         counted(stored.sheet.events_done(), "event"),
         counted(graph.roots().count(), "root"),
         counted(graph.types().count(), "type")
-    ))
+    );
+    if not_kept > 0 {
+        line += &format!(", {} not kept", counted(not_kept, "place"));
+    }
+    Ok(Done { line, not_kept })
+}
+
+/// What the graphs of all files do not keep, in one line.
+fn say_not_kept(ends: &[End]) {
+    let counts = ends.iter().flatten().map(|done| done.not_kept);
+    let counts: Vec<usize> = counts.filter(|&count| count > 0).collect();
+    if !counts.is_empty() {
+        let told = notkept::told(counts.iter().sum());
+        say(&format!(
+            "{told}: of {} of {} files",
+            counts.len(),
+            ends.len()
+        ));
+    }
 }
 
 /// The end of the shelf: the machine's failures before the refusals.

@@ -3,31 +3,39 @@
 //! | Bytes | |
 //! |---|---|
 //! | 8 | `lubiksan` |
-//! | 4 | version, 1 |
-//! | 4, 4, 4 | numbers of rows, bytes of names, bytes of the source's path |
+//! | 4 | version, 2 |
+//! | 4, 4, 4 | numbers of the sheet's rows, bytes of its names, bytes of the source's path |
 //! | 8, 8 | the source's length in bytes, its events |
 //! | 4, 4 | its global elements, its named types |
+//! | 4 | its places that the graph does not keep |
+//! | 4, 4 | numbers and bytes that are stored: those behind are all zero |
 //! | 32 | the source's SHA-256 |
 //! | 32 | the SHA-256 of all other bytes of this file |
-//! | | the path, the rows (4 bytes each), the names |
+//! | | the path, the stored numbers (4 bytes each), the stored bytes of names |
+//!
+//! In version 1, which is still read, the three numbers from the places on are not there, and all numbers and bytes are stored.
 
 use std::ffi::OsStr;
 use std::os::unix::ffi::OsStrExt;
 use std::path::{Path, PathBuf};
 
-use lubiksan::{ReadAs, SchemaSheet};
+use lubiksan::{limits, ReadAs, SchemaSheet};
 use sha2::{Digest, Sha256};
 
 use crate::failure::{named, Failure};
 use crate::losses::{self, Counts};
+use crate::notkept::NotKept;
 use crate::output::replace_file;
 use crate::source::{bytes_of, bytes_of_file, bytes_of_length, Source};
 
 const MAGIC: &[u8; 8] = b"lubiksan";
-const VERSION: u32 = 1;
-/// Where the SHA-256 of the file stands.
-const SUM: usize = 80;
-const HEADER: usize = SUM + 32;
+const VERSION: u32 = 2;
+/// The version of before: everything is stored, and what the graph does not keep is not known.
+const ALL_STORED: u32 = 1;
+/// The length of a header: the SHA-256 of the file is its last part.
+const HEADER: usize = 124;
+const HEADER_OF_ALL_STORED: usize = 112;
+const SUM: usize = 32;
 
 /// What a stored sheet says of its source.
 #[derive(Clone, Debug, PartialEq, Eq)]
@@ -42,6 +50,8 @@ pub struct About {
     pub events: u64,
     /// Its global elements and named types.
     pub counts: Counts,
+    /// Its places that the graph does not keep; none where a version of before did not count them.
+    pub not_kept: Option<u32>,
 }
 
 /// A stored sheet.
@@ -54,14 +64,16 @@ pub struct Stored {
 }
 
 impl About {
-    /// What is said of this source.
-    pub fn of(source: &Source) -> About {
+    /// What is said of this source, read in this way.
+    pub fn of(source: &Source, read_as: ReadAs) -> About {
+        let not_kept = NotKept::count(source, read_as);
         About {
             path: source.path().to_owned(),
             length: source.length,
             sha256: source.sha256(),
             events: source.document().events().len() as u64,
             counts: losses::counts(source.document()),
+            not_kept: u32::try_from(not_kept).ok(),
         }
     }
 
@@ -150,46 +162,66 @@ impl<'b> Cursor<'b> {
 
 /// The header.
 struct Header {
+    /// Its length in bytes.
+    length: usize,
     rows: usize,
     names: usize,
     path: usize,
+    stored_rows: usize,
+    stored_names: usize,
     about: About,
     sum: [u8; 32],
 }
 
 impl Header {
     /// The header behind magic and version.
-    fn of(bytes: &mut Cursor<'_>) -> Option<Header> {
-        let (rows, names, path) = (
-            bytes.u32()? as usize,
-            bytes.u32()? as usize,
-            bytes.u32()? as usize,
-        );
+    fn of(version: u32, bytes: &mut Cursor<'_>) -> Option<Header> {
+        let number = |bytes: &mut Cursor<'_>| Some(bytes.u32()? as usize);
+        let (rows, names, path) = (number(bytes)?, number(bytes)?, number(bytes)?);
         let (length, events) = (bytes.u64()?, bytes.u64()?);
         let counts = Counts {
-            elements: bytes.u32()? as usize,
-            types: bytes.u32()? as usize,
+            elements: number(bytes)?,
+            types: number(bytes)?,
         };
-        let sha256 = bytes.sum()?;
+        let all = version == ALL_STORED;
+        let (not_kept, stored_rows, stored_names) = match all {
+            true => (None, rows, names),
+            false => {
+                let not_kept = Some(bytes.u32()?).filter(|&count| count != u32::MAX);
+                (not_kept, number(bytes)?, number(bytes)?)
+            }
+        };
         let about = About {
             path: PathBuf::new(),
             length,
-            sha256,
+            sha256: bytes.sum()?,
             events,
             counts,
+            not_kept,
         };
         Some(Header {
+            length: if all { HEADER_OF_ALL_STORED } else { HEADER },
             rows,
             names,
             path,
+            stored_rows,
+            stored_names,
             about,
             sum: bytes.sum()?,
         })
     }
 
     /// The length of the file in bytes.
-    fn length(&self) -> usize {
-        HEADER + self.path + 4 * self.rows + self.names
+    fn file_length(&self) -> usize {
+        self.length + self.path + 4 * self.stored_rows + self.stored_names
+    }
+
+    /// No more is stored than the sheet has, and it is not larger than sheets are.
+    fn is_a_sheets(&self) -> bool {
+        self.stored_rows <= self.rows
+            && self.stored_names <= self.names
+            && self.rows <= limits::ROW_NUMBERS
+            && self.names <= limits::NAMES
     }
 }
 
@@ -205,17 +237,17 @@ fn decoded(bytes: &[u8]) -> Result<Stored, String> {
         )
     };
     let version = cursor.u32().ok_or_else(short)?;
-    if version != VERSION {
+    if !matches!(version, ALL_STORED | VERSION) {
         return Err(format!(
-            "the stored sheet has version {version}, only version {VERSION} is read"
+            "the stored sheet has version {version}, only versions {ALL_STORED} and {VERSION} are read"
         ));
     }
-    let header = Header::of(&mut cursor).ok_or_else(short)?;
-    if bytes.len() != header.length() {
-        let (there, said) = (bytes.len(), header.length());
+    let header = Header::of(version, &mut cursor).ok_or_else(short)?;
+    if bytes.len() != header.file_length() {
+        let (there, said) = (bytes.len(), header.file_length());
         return Err(format!("the stored sheet is cut short or altered: it has {there} bytes where its header says {said}"));
     }
-    if sum_of(bytes) != header.sum {
+    if sum_of(bytes, header.length) != header.sum || !header.is_a_sheets() {
         return Err(
             "the stored sheet was altered: its SHA-256 is not the one in its header".to_owned(),
         );
@@ -223,14 +255,16 @@ fn decoded(bytes: &[u8]) -> Result<Stored, String> {
     behind_header(header, cursor).ok_or_else(short)
 }
 
-/// The path and the two buffers.
+/// The path and the two buffers, with zeros behind what is stored.
 fn behind_header(header: Header, mut bytes: Cursor<'_>) -> Option<Stored> {
     let path = PathBuf::from(OsStr::from_bytes(bytes.take(header.path)?));
-    let numbers = bytes.take(4 * header.rows)?.chunks_exact(4);
-    let rows = numbers
+    let numbers = bytes.take(4 * header.stored_rows)?.chunks_exact(4);
+    let mut rows: Vec<u32> = numbers
         .filter_map(|four| Some(u32::from_le_bytes(four.try_into().ok()?)))
         .collect();
-    let names = bytes.take(header.names)?.to_vec();
+    rows.resize(header.rows, 0);
+    let mut names = bytes.take(header.stored_names)?.to_vec();
+    names.resize(header.names, 0);
     let about = About {
         path,
         ..header.about
@@ -242,37 +276,44 @@ fn behind_header(header: Header, mut bytes: Cursor<'_>) -> Option<Stored> {
 }
 
 /// The SHA-256 of a stored sheet without that of the header.
-fn sum_of(bytes: &[u8]) -> [u8; 32] {
+fn sum_of(bytes: &[u8], header: usize) -> [u8; 32] {
     let mut hash = Sha256::new();
-    hash.update(bytes.get(..SUM).unwrap_or_default());
-    hash.update(bytes.get(HEADER..).unwrap_or_default());
+    hash.update(bytes.get(..header - SUM).unwrap_or_default());
+    hash.update(bytes.get(header..).unwrap_or_default());
     hash.finalize().into()
+}
+
+/// What stands before the zeros at the end.
+fn used<T: Default + PartialEq>(all: &[T]) -> &[T] {
+    let last = all.iter().rposition(|item| *item != T::default());
+    all.get(..last.map_or(0, |last| last + 1))
+        .unwrap_or_default()
 }
 
 /// The bytes of a stored sheet.
 pub fn encoded(sheet: &SchemaSheet<'_>, about: &About) -> Vec<u8> {
     let path = about.path.as_os_str().as_bytes();
+    let (rows, names) = (used(sheet.rows()), used(sheet.names()));
     let mut bytes = MAGIC.to_vec();
-    for number in [
-        VERSION as usize,
-        sheet.rows().len(),
-        sheet.names().len(),
-        path.len(),
-    ] {
-        bytes.extend((number as u32).to_le_bytes());
-    }
+    let put = |numbers: &[usize], bytes: &mut Vec<u8>| {
+        let four = |&number: &usize| (number as u32).to_le_bytes();
+        bytes.extend(numbers.iter().flat_map(four));
+    };
+    let lengths = [sheet.rows().len(), sheet.names().len(), path.len()];
+    put(&[VERSION as usize], &mut bytes);
+    put(&lengths, &mut bytes);
     bytes.extend(about.length.to_le_bytes());
     bytes.extend(about.events.to_le_bytes());
-    for number in [about.counts.elements, about.counts.types] {
-        bytes.extend((number as u32).to_le_bytes());
-    }
+    put(&[about.counts.elements, about.counts.types], &mut bytes);
+    bytes.extend(about.not_kept.unwrap_or(u32::MAX).to_le_bytes());
+    put(&[rows.len(), names.len()], &mut bytes);
     bytes.extend(about.sha256);
-    bytes.extend([0; 32]);
+    bytes.extend([0; SUM]);
     bytes.extend(path);
-    bytes.extend(sheet.rows().iter().flat_map(|number| number.to_le_bytes()));
-    bytes.extend(sheet.names());
-    let sum = sum_of(&bytes);
-    if let Some(place) = bytes.get_mut(SUM..HEADER) {
+    bytes.extend(rows.iter().flat_map(|number| number.to_le_bytes()));
+    bytes.extend(names);
+    let sum = sum_of(&bytes, HEADER);
+    if let Some(place) = bytes.get_mut(HEADER - SUM..HEADER) {
         place.copy_from_slice(&sum);
     }
     bytes
@@ -306,7 +347,7 @@ pub struct Begin {
 pub fn resumed(path: &Path, source: &Source, begin: Begin) -> Result<Stored, Failure> {
     let anew = || Stored {
         sheet: SchemaSheet::cleared(begin.read_as),
-        about: About::of(source),
+        about: About::of(source, begin.read_as),
     };
     let bytes = match bytes_of_file(path) {
         Ok(bytes) => bytes,
@@ -320,7 +361,7 @@ pub fn resumed(path: &Path, source: &Source, begin: Begin) -> Result<Stored, Fai
     same_source(path, &stored, source)?;
     keeps_choice(path, &stored, begin.read_as)?;
     Ok(Stored {
-        about: About::of(source),
+        about: About::of(source, stored.sheet.read_as()),
         ..stored
     })
 }

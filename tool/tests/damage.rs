@@ -48,7 +48,7 @@ fn damaged(good: &[u8], random: &mut Random) -> Vec<u8> {
                 } else {
                     good.len()
                 };
-                bytes[random.below(limit)] ^= 1 << random.below(8);
+                bytes[random.below(limit.min(good.len()))] ^= 1 << random.below(8);
             }
         }
     }

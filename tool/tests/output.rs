@@ -123,6 +123,7 @@ fn a_broken_pipe_ends_quietly() {
             schema.as_os_str(),
             "--format".as_ref(),
             "json".as_ref(),
+            "--quiet".as_ref(),
         ])
         .stdout(Stdio::piped())
         .stderr(Stdio::piped())

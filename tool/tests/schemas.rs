@@ -191,7 +191,7 @@ fn json_is_the_graph_field_by_field() {
             "--as-original".as_ref(),
         ]);
         let mut shown: Value = serde_json::from_str(&ran.out).unwrap();
-        assert_eq!(shown["version"], json!(2));
+        assert_eq!(shown["version"], json!(3));
         for root in shown["roots"].as_array_mut().unwrap() {
             let name = root["xml"].as_str().unwrap().to_owned();
             take_origin(root, &file, |found| found == name);
@@ -210,7 +210,8 @@ fn json_is_the_graph_field_by_field() {
         assert_eq!(shown["roots"], json!(roots));
         let types: Vec<Value> = graph.types.values().map(type_json).collect();
         assert_eq!(shown["types"], json!(types), "{}", file.display());
-        assert_eq!(shown.as_object().unwrap().len(), 4);
+        assert!(shown["notKept"].is_array());
+        assert_eq!(shown.as_object().unwrap().len(), 5);
     }
 }
 

@@ -7,18 +7,24 @@ use serde::ser::SerializeStruct;
 use serde::{Serialize, Serializer};
 
 use super::word_of;
+use crate::notkept::{NotKept, Place};
 use crate::origins::Origins;
 
 /// The version of the shape.
-pub const VERSION: u32 = 2;
+pub const VERSION: u32 = 3;
 
-/// The JSON text of a graph, with the place of each root and type where it is known.
+/// The JSON text of a graph, with the place of each root and type and what the graph does not keep, where these are known.
 ///
 /// # Errors
 ///
 /// The error of the serializer; a graph has nothing that it refuses.
-pub fn print(graph: &Graph<'_>, origins: &Origins<'_>) -> Result<String, serde_json::Error> {
-    let mut text = serde_json::to_string_pretty(&Located { it: graph, origins })?;
+pub fn print(
+    graph: &Graph<'_>,
+    origins: &Origins<'_>,
+    not_kept: Option<&NotKept<'_>>,
+) -> Result<String, serde_json::Error> {
+    let it = (graph, not_kept);
+    let mut text = serde_json::to_string_pretty(&Located { it, origins })?;
     text.push('\n');
     Ok(text)
 }
@@ -65,13 +71,31 @@ impl<'o, T> Located<'o, T> {
     }
 }
 
-impl Serialize for Located<'_, &Graph<'_>> {
+impl Serialize for Located<'_, (&Graph<'_>, Option<&NotKept<'_>>)> {
     fn serialize<S: Serializer>(&self, out: S) -> Result<S::Ok, S::Error> {
-        let mut out = out.serialize_struct("graph", 4)?;
+        let (graph, not_kept) = self.it;
+        let places = not_kept.map(|not_kept| self.list(not_kept.places.iter()));
+        let mut out = out.serialize_struct("graph", 5)?;
         out.serialize_field("version", &VERSION)?;
-        out.serialize_field("namespace", self.it.namespace())?;
-        out.serialize_field("roots", &self.list(self.it.roots()))?;
-        out.serialize_field("types", &self.list(self.it.types()))?;
+        out.serialize_field("namespace", graph.namespace())?;
+        out.serialize_field("roots", &self.list(graph.roots()))?;
+        out.serialize_field("types", &self.list(graph.types()))?;
+        out.serialize_field("notKept", &places)?;
+        out.end()
+    }
+}
+
+impl Serialize for Located<'_, &Place<'_>> {
+    fn serialize<S: Serializer>(&self, out: S) -> Result<S::Ok, S::Error> {
+        let origin = self.origins.at(u32::try_from(self.it.event).ok());
+        let file = origin.map(|origin| origin.file.to_string_lossy());
+        let mut out = out.serialize_struct("place", 6)?;
+        out.serialize_field("kind", self.it.kind.name())?;
+        out.serialize_field("file", &file)?;
+        out.serialize_field("line", &origin.map(|origin| origin.line))?;
+        out.serialize_field("type", &self.it.type_name)?;
+        out.serialize_field("field", &self.it.fields)?;
+        out.serialize_field("words", &self.it.words)?;
         out.end()
     }
 }

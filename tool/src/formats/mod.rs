@@ -20,6 +20,16 @@ pub(crate) fn word_of(found: &TypeDef<'_>) -> &'static str {
     }
 }
 
+/// The names of a type's fields, variants or attributes as the schema spells them.
+pub(crate) fn xml_names<'g>(found: &TypeDef<'g>) -> Vec<&'g str> {
+    match found {
+        TypeDef::Struct(it) => it.fields().map(|field| field.xml_name).collect(),
+        TypeDef::Choice(it) => it.variants().map(|variant| variant.xml_name).collect(),
+        TypeDef::Value(it) => it.attributes().map(|found| found.xml_name).collect(),
+        TypeDef::CodeList(_) | TypeDef::Newtype(_) | TypeDef::Opaque(_) => Vec::new(),
+    }
+}
+
 /// A type with its cardinality in Rust's spelling.
 pub(crate) fn with_cardinality(name: &str, cardinality: Cardinality) -> String {
     match cardinality {

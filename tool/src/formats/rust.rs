@@ -9,17 +9,19 @@ use lubiksan::{
     Variant,
 };
 
-use super::facet_words;
+use super::{facet_words, xml_names};
 use crate::failure::escaped;
 use crate::formats::rust::boxes::Boxes;
 use crate::identifier::{identifier, spelled};
+use crate::notkept::Notes;
 
 mod boxes;
 
 const STRING: &str = "::std::string::String";
 
-/// The source of a graph; the sheet has the types' names as in XML. The names do not meet (see [`crate::names`]).
-pub fn print(sheet: &SchemaSheet<'_>, graph: &Graph<'_>) -> String {
+/// The source of a graph, with comments on what is not kept; the sheet has the types' names as in XML. The names do not meet (see
+/// [`crate::names`]).
+pub fn print(sheet: &SchemaSheet<'_>, graph: &Graph<'_>, notes: &Notes<'_>) -> String {
     let mut out = head(graph);
     let boxes = Boxes::of(graph);
     let names: HashMap<String, &str> = sheet
@@ -32,6 +34,7 @@ pub fn print(sheet: &SchemaSheet<'_>, graph: &Graph<'_>) -> String {
             boxes: &boxes,
             owner: found.name(),
             xml_name: names.get(found.name()).copied().unwrap_or(found.name()),
+            notes,
         };
         writer.put_type(&mut out, &found);
     }
@@ -56,6 +59,7 @@ struct Writer<'g> {
     boxes: &'g Boxes<'g>,
     owner: &'g str,
     xml_name: &'g str,
+    notes: &'g Notes<'g>,
 }
 
 impl Writer<'_> {
@@ -69,6 +73,9 @@ impl Writer<'_> {
             )
         );
         put_facets(out, found);
+        for note in self.notes.of_type(found.name(), &xml_names(found)) {
+            let _ = writeln!(out, "// {note}");
+        }
         out.push_str("#[derive(Clone, Debug, PartialEq)]\n");
         let name = spelled(found.name());
         let body = match found {
@@ -106,8 +113,9 @@ impl Writer<'_> {
             written(field.type_ref)
         );
         format!(
-            "{}\n    pub {}: {kind},\n",
+            "{}\n{}    pub {}: {kind},\n",
             doc("    ", &about),
+            self.noted(field.xml_name),
             spelled(field.rust_name)
         )
     }
@@ -120,8 +128,9 @@ impl Writer<'_> {
             written(variant.type_ref)
         );
         format!(
-            "{}\n    {}({kind}),\n",
+            "{}\n{}    {}({kind}),\n",
             doc("    ", &about),
+            self.noted(variant.xml_name),
             spelled(variant.rust_name)
         )
     }
@@ -158,10 +167,20 @@ impl Writer<'_> {
             written(attribute.type_ref)
         );
         format!(
-            "{}\n    pub {}: {kind},\n",
+            "{}\n{}    pub {}: {kind},\n",
             doc("    ", &about),
+            self.noted(attribute.xml_name),
             spelled(attribute.rust_name)
         )
+    }
+
+    /// The comments on a field, a line each.
+    fn noted(&self, xml: &str) -> String {
+        let notes = self.notes.of_field(self.owner, xml);
+        notes
+            .iter()
+            .map(|note| format!("    // {note}\n"))
+            .collect()
     }
 
     /// A type with its cardinality, by full paths, behind a box where it would hold itself.

@@ -4,12 +4,13 @@ use std::fmt::Write;
 
 use lubiksan::{Graph, TypeDef};
 
-use super::{facet_words, with_cardinality, word_of};
+use super::{facet_words, with_cardinality, word_of, xml_names};
 use crate::failure::{escaped, named, quoted};
+use crate::notkept::Notes;
 use crate::origins::{Origin, Origins};
 
-/// The text of a graph, with the place of each root and type where it is known.
-pub fn print(graph: &Graph<'_>, origins: &Origins<'_>) -> String {
+/// The text of a graph, with the place of each root and type where it is known, and comments on what is not kept.
+pub fn print(graph: &Graph<'_>, origins: &Origins<'_>, notes: &Notes<'_>) -> String {
     let mut out = String::new();
     let _ = writeln!(out, "namespace {}", escaped(graph.namespace()));
     for root in graph.roots() {
@@ -22,12 +23,12 @@ pub fn print(graph: &Graph<'_>, origins: &Origins<'_>) -> String {
         );
     }
     for found in graph.types() {
-        paragraph(&mut out, &found, &place(origins.at(found.event())));
+        paragraph(&mut out, &found, &place(origins.at(found.event())), notes);
     }
     out
 }
 
-fn paragraph(out: &mut String, found: &TypeDef<'_>, place: &str) {
+fn paragraph(out: &mut String, found: &TypeDef<'_>, place: &str, notes: &Notes<'_>) {
     let _ = writeln!(
         out,
         "\n{} {}{}{place}",
@@ -35,7 +36,10 @@ fn paragraph(out: &mut String, found: &TypeDef<'_>, place: &str) {
         escaped(found.name()),
         behind_name(found)
     );
-    put_lines(out, &children(found));
+    for note in notes.of_type(found.name(), &xml_names(found)) {
+        let _ = writeln!(out, "    // {note}");
+    }
+    put_lines(out, &children(found, notes));
 }
 
 /// ` at FILE:LINE`
@@ -58,15 +62,25 @@ fn behind_name(found: &TypeDef<'_>) -> String {
 }
 
 /// A line for each child, in columns.
-fn children(found: &TypeDef<'_>) -> Vec<[String; 3]> {
+fn children(found: &TypeDef<'_>, notes: &Notes<'_>) -> Vec<[String; 3]> {
+    let noted = |xml: &str, kind: String| {
+        let notes = notes.of_field(found.name(), xml);
+        match notes.is_empty() {
+            true => kind,
+            false => format!("{kind}  // {}", notes.join("; ")),
+        }
+    };
     match found {
         TypeDef::Struct(it) => it
             .fields()
-            .map(|f| three(f.rust_name, f.xml_name, field_type(&f)))
+            .map(|f| three(f.rust_name, f.xml_name, noted(f.xml_name, field_type(&f))))
             .collect(),
         TypeDef::Choice(it) => it
             .variants()
-            .map(|v| three(v.rust_name, v.xml_name, v.type_ref.to_string()))
+            .map(|v| {
+                let kind = noted(v.xml_name, v.type_ref.to_string());
+                three(v.rust_name, v.xml_name, kind)
+            })
             .collect(),
         TypeDef::CodeList(it) => it
             .codes()
@@ -78,7 +92,13 @@ fn children(found: &TypeDef<'_>) -> Vec<[String; 3]> {
             .collect(),
         TypeDef::Value(it) => it
             .attributes()
-            .map(|a| three(a.rust_name, a.xml_name, attribute_type(&a)))
+            .map(|a| {
+                three(
+                    a.rust_name,
+                    a.xml_name,
+                    noted(a.xml_name, attribute_type(&a)),
+                )
+            })
             .collect(),
         TypeDef::Opaque(_) => Vec::new(),
     }
