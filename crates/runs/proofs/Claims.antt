@@ -12,7 +12,7 @@ use Rattle.text.specs.Trim.{Around}
 use Rattle.number.specs.Number.{parsed, plainNumber, number, Spells}
 use Rattle.number.proofs.Laws.Spellings.{number-kept, number-exactly}
 use Rattle.sheet.specs.Rows.{Sheet}
-use Rattle.sheet.specs.Form.{words}
+use Rattle.sheet.specs.Form.{words, tensOf}
 use Rattle.sheet.specs.Returned.{accepted}
 use Rattle.sheet.specs.Lengths.{sheetLengths, Lengths, lengthsOf, goodLengths}
 use Rattle.xsd_types.specs.Types.{Schema, MaxOccurs}
@@ -26,7 +26,7 @@ use Rattle.xsd_types.specs.Good.{good}
 use Rattle.xsd_types.specs.Back.{stateOf}
 use Rattle.xsd_types.specs.Clear.{clear}
 use Rattle.xsd_types.specs.Table.{ClearTable}
-use Rattle.xsd_types.specs.Choice.{paperGood, sheetChosen}
+use Rattle.xsd_types.specs.Choice.{noNumbers, paperGood, sheetChosen}
 use Rattle.xsd_types.proofs.Laws.SheetOf.{stateOf-sheetOf}
 use Rattle.xsd_types.proofs.Laws.Clear.{good-clear}
 use Rattle.xsd_types.proofs.Laws.Table.{clear-table}
@@ -211,8 +211,9 @@ claim-tag-written = tag-written
 pub claim-tag-back : (text : Text) (at kind : ℕ) (t : Tag) (rest : Text) → drop at text ≡ writtenTag kind t ++ rest → eventRead text (writtenEvent at kind t) ≡ eventOf kind t
 claim-tag-back = tag-back
 
--- order 3, the choice: the sheets that were good before are those that are good now with choice 0
-pub claim-good-before : (x : Sheet) → (paperGood x ≡ true) ↔ ((good x ≡ true) × (stateOf x .byStandard ≡ false))
+-- order 3, "0 as before", and order 5, "sheets stored earlier, which stay good": the sheets that paper 01 calls good are those that are good now with choice 0
+-- and no number in c
+pub claim-good-before : (x : Sheet) → (paperGood x ≡ true) ↔ ((good x ≡ true) × (stateOf x .byStandard ≡ false) × (noNumbers (tensOf x) ≡ true))
 claim-good-before = good-before
 
 -- "kept as the last number of row 0": no call changes it, refused or not, from every first sheet

@@ -5,19 +5,21 @@ use mathlib.Core.Logic.{_↔_}
 use mathlib.Core.Bool.{Bool, true, false, _&&_, _||_}
 use Prim.Native.Nat.{ℕ, zero, suc, _+_}
 use native.Mathlib.Omega.{arith}
-use lib.Dec.{eqb, leb, leb·zero, eqb·suc-zero}
+use mathlib.Core.List.{List}
+use lib.Dec.{eqb, leb, ltb, leb·zero, eqb·suc-zero}
 use borrow.Author.Tests.{le-leb, eqb-true}
 use Rattle.text.specs.Text.{if_then_else_}
 use Rattle.text.proofs.Laws.Tests.{and-true-left, and-true-right, eleven}
-use Rattle.sheet.specs.Rows.{Sheet, bit, numbers, filled, sheetOfRows}
+use Rattle.text.proofs.Laws.Every.{every-weaken}
+use Rattle.sheet.specs.Rows.{Ten, Sheet, bit, numbers, filled, sheetOfRows}
 use Rattle.sheet.specs.Form.{isFlag, tensOf, usedParts, zerosBehind}
-use Rattle.xsd_types.specs.State.{State}
+use Rattle.xsd_types.specs.State.{State, eventNumberOk}
 use Rattle.xsd_types.specs.Row0.{Row0, row0In}
 use Rattle.xsd_types.specs.Rows.{rowsOf, rowsUsed, namesUsed, row0}
 use Rattle.xsd_types.specs.Sheet.{stateFits, sheetOf}
 use Rattle.xsd_types.specs.Good.{row0Form, rowsForm, namesForm, namesTest, limits, rootTest, openTagsTest, nestingZero, nestingTest, contextTest, extensionTest, headOf, eventsTest, good}
 use Rattle.xsd_types.specs.Back.{stateOfRows, stateOf}
-use Rattle.xsd_types.specs.Choice.{paperForm, paperNesting, paperGood, chosen, sheetChosen}
+use Rattle.xsd_types.specs.Choice.{paperForm, paperNesting, noNumbers, paperGood, chosen, sheetChosen}
 use Rattle.xsd_types.proofs.Laws.Rows.{bit-again}
 use Rattle.xsd_types.proofs.Laws.Parts.{parts-of, first-of}
 use Rattle.xsd_types.proofs.Laws.SheetOf.{row0-made}
@@ -41,9 +43,14 @@ pub nesting-before : (z : Row0) → z .choice ≡ 0 → nestingTest z ≡ paperN
 unfolding nestingTest nestingZero openTagsTest paperNesting
 nesting-before z e = rw e (nesting-picked (z .context) (z .nesting) (z .openTags))
 
-pub same-before : (x : Sheet) → row0In x .choice ≡ 0 → good x ≡ paperGood x
+-- without a number every c is as order 5 has it
+pub none-before : (events : ℕ) (ts : List Ten) → noNumbers ts ≡ true → eventsTest events ts ≡ true
+unfolding noNumbers eventsTest eventNumberOk
+none-before events ts h = every-weaken (λ (t : Ten). eqb (t .c) 0) (λ (t : Ten). eqb (t .c) 0 || ltb (t .c) events) (λ t e. rw e) ts h
+
+pub same-before : (x : Sheet) → row0In x .choice ≡ 0 → noNumbers (tensOf x) ≡ true → good x ≡ paperGood x
 unfolding good paperGood
-same-before x e = rw (form-before (row0In x) e, nesting-before (row0In x) e)
+same-before x e n = rw (form-before (row0In x) e, nesting-before (row0In x) e, none-before (row0In x .events) (tensOf x) n, n)
 
 -- a good sheet's choice is its state's
 pub choice-again : (x : Sheet) → good x ≡ true → bit (stateOf x .byStandard) ≡ row0In x .choice
@@ -56,15 +63,23 @@ paper-choice x g =
     let z = row0In x in
     let ts = tensOf x in
     let before = usedParts x && paperForm z && rowsForm ts && namesForm (z .namesUsed) ts && zerosBehind x && namesTest x && limits z && rootTest z && paperNesting z && contextTest (z .context) (headOf ts) && extensionTest z (headOf ts) in
-    let e = eleven (usedParts x) (paperForm z) (rowsForm ts) (namesForm (z .namesUsed) ts) (zerosBehind x) (namesTest x) (limits z) (rootTest z) (paperNesting z) (contextTest (z .context) (headOf ts)) (extensionTest z (headOf ts)) (and-true-left before (eventsTest (z .events) ts) g) in
+    let e = eleven (usedParts x) (paperForm z) (rowsForm ts) (namesForm (z .namesUsed) ts) (zerosBehind x) (namesTest x) (limits z) (rootTest z) (paperNesting z) (contextTest (z .context) (headOf ts)) (extensionTest z (headOf ts)) (and-true-left before (noNumbers ts) g) in
     eqb-true (z .choice) 0 (and-true-right (eqb (z .first) 0 && leb (z .context) 3 && isFlag (z .rootSeen) && isFlag (z .extension)) _ (e .1))
 
--- every sheet good before is good now, with choice 0, and these are all of that choice
-pub good-before : (x : Sheet) → (paperGood x ≡ true) ↔ ((good x ≡ true) × (stateOf x .byStandard ≡ false))
+pub paper-none : (x : Sheet) → paperGood x ≡ true → noNumbers (tensOf x) ≡ true
+unfolding paperGood
+paper-none x g =
+    let z = row0In x in
+    let ts = tensOf x in
+    let before = usedParts x && paperForm z && rowsForm ts && namesForm (z .namesUsed) ts && zerosBehind x && namesTest x && limits z && rootTest z && paperNesting z && contextTest (z .context) (headOf ts) && extensionTest z (headOf ts) in
+    and-true-right before (noNumbers ts) g
+
+-- every sheet that paper 01 calls good is good now, and these are all with choice 0 and no numbers
+pub good-before : (x : Sheet) → (paperGood x ≡ true) ↔ ((good x ≡ true) × (stateOf x .byStandard ≡ false) × (noNumbers (tensOf x) ≡ true))
 unfolding stateOf stateOfRows bit
 good-before x = (
-  λ g. let e = paper-choice x g in (same-before x e ∙ g, rw e),
-  λ h. let e : row0In x .choice ≡ 0 = sym (choice-again x (h .0)) ∙ ap bit (h .1) in sym (same-before x e) ∙ h .0,
+  λ g. let e = paper-choice x g in (same-before x e (paper-none x g) ∙ g, rw e, paper-none x g),
+  λ h. let e : row0In x .choice ≡ 0 = sym (choice-again x (h .0)) ∙ ap bit (h .1) in sym (same-before x e (h .2)) ∙ h .0,
 )
 
 -- a state under a choice: the room is the same, and so is the sheet but for the last number of row 0
