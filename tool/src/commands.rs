@@ -13,6 +13,7 @@ use crate::interrupt;
 use crate::lock;
 use crate::losses;
 use crate::names::Names;
+use crate::namespace;
 use crate::notkept::{self, NotKept};
 use crate::origins::Origins;
 use crate::output::{remove_left_beside, write_output};
@@ -132,10 +133,13 @@ fn of_stored(
     })
 }
 
-/// With `--verbose`: who read the text.
+/// With `--verbose`: who read the text. A warning where the schema is of another namespace.
 pub fn say_way(command: &Command, source: &Source) {
     if command.verbose {
         say(&source.way());
+    }
+    if let Some(line) = namespace::warning(source).filter(|_| !command.quiet) {
+        say(&line);
     }
 }
 

@@ -4,7 +4,7 @@
 //! | Module | Holds |
 //! |---|---|
 //! | [`document`], [`taped`], [`xml`] | the events of a text: the crate `lubiksan-xml` |
-//! | [`source`], [`reading`] | a schema file; its events read into a schema sheet |
+//! | [`source`], [`namespace`], [`reading`] | a schema file; of which namespace it is; its events read into a schema sheet |
 //! | [`explain`], [`losses`] | a refusal in words; what of the file was not kept |
 //! | [`follow`], [`notkept`] | what the library's reader does with each tag; where the graph is not the schema |
 //! | [`origins`] | where a root or type comes from, by the number of its event |
@@ -27,6 +27,7 @@ pub mod interrupt;
 pub mod lock;
 pub mod losses;
 pub mod names;
+pub mod namespace;
 pub mod notkept;
 pub mod origins;
 pub mod output;

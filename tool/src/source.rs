@@ -28,7 +28,7 @@ impl Source {
     ///
     /// # Errors
     ///
-    /// [`Failure`] where it can't be read, is no well-formed XML in UTF-8, or has a document type that the library refuses.
+    /// [`Failure`] where it can't be read, is no well-formed XML in UTF-8, or has a document type.
     pub fn load(path: &Path) -> Result<Source, Failure> {
         let bytes = bytes_of(path).map_err(|error| Failure::input(path, &error))?;
         Source::of(path, bytes)
@@ -38,7 +38,7 @@ impl Source {
     ///
     /// # Errors
     ///
-    /// [`Failure`] where they are no well-formed XML in UTF-8, or have a document type that the library refuses.
+    /// [`Failure`] where they are no well-formed XML in UTF-8, or have a document type.
     pub fn of(path: &Path, bytes: Vec<u8>) -> Result<Source, Failure> {
         let length = bytes.len() as u64;
         let document = Document::of(bytes).map_err(|refused| {

@@ -222,12 +222,8 @@ fn agrees_with_xmllint(path: &Path, bytes: &[u8], err: &str, status: Option<i32>
             "xmllint refuses it, status {status:?}: {err}"
         );
     } else {
-        // xmllint takes `version="1."` and `<!DOCTYPEa>`, which XML 1.0 does not.
-        let lax = [
-            "in the XML declaration",
-            "white space is expected in the document type",
-        ];
-        let taken = well_formed(path) && !lax.iter().any(|words| err.contains(words));
+        // xmllint takes `version="1."`, which XML 1.0 does not.
+        let taken = well_formed(path) && !err.contains("in the XML declaration");
         assert!(!taken, "xmllint takes it: {err}");
     }
 }

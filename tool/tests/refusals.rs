@@ -322,7 +322,7 @@ const BAD: [(&[u8], &str); 29] = [
     ),
     (
         b"\xff\xfe<\0a\0",
-        "a.xsd:1:1: the file is in UTF-16 or UTF-32, only UTF-8 is read",
+        "a.xsd:1:1: the file is in UTF-16, only UTF-8 is read; write the file anew by `iconv -f UTF-16 -t UTF-8` and have its first line say UTF-8",
     ),
     (b"<1a/>", "a.xsd:1:2: a tag has no name"),
     (
@@ -331,7 +331,7 @@ const BAD: [(&[u8], &str); 29] = [
     ),
     (
         b"<a/><!DOCTYPE a>",
-        "a.xsd:1:5: a document type behind the root element or another document type",
+        "a.xsd:1:5: a document type behind the root element",
     ),
 ];
 
@@ -360,9 +360,13 @@ fn what_is_no_xml_is_refused() {
 fn the_name_of_an_encoding_is_looked_up_only_where_it_matters() {
     let text = "<?xml version='1.0' encoding='latin1'?><schema/>";
     assert_eq!(graph(text, &[]).status, Some(0), "ASCII is read as it is");
-    let words = r#"a.xsd:1:31: the encoding "latin1" is not read, only UTF-8"#;
+    let words = r#"a.xsd:1:31: the encoding "latin1" is not read, only UTF-8; write the file anew by `iconv -f latin1 -t UTF-8` and have its first line say UTF-8"#;
     assert_eq!(refused(marked(text)).0, words);
     assert_eq!(refused(format!("{text}<!-- \u{e9} -->")).0, words);
+    assert_eq!(
+        refused([text.as_bytes(), b"<!-- \xe9 -->"].concat()).0,
+        words
+    );
     let (said, _) = refused(text.replace("<schema/>", "<schema>"));
     let words =
         r#"a.xsd:1:48: the file ends, and "schema" of line 1 is not closed (refused with 17)"#;
@@ -550,80 +554,55 @@ fn text_length(file: &std::path::Path) -> u32 {
     u32::from_le_bytes(bytes[..4].try_into().unwrap())
 }
 
-/// Document types that are well formed.
-const TYPES: [&str; 9] = [
+/// The files of other encodings, told what to do by their first bytes.
+#[test]
+fn other_encodings_are_told_what_to_do() {
+    for (start, name) in [
+        (&b"\xff\xfe<\0"[..], "UTF-16"),
+        (b"\xfe\xff\0<", "UTF-16"),
+        (b"<\0a\0", "UTF-16LE"),
+        (b"\0<\0a", "UTF-16BE"),
+        (b"\xff\xfe\0\0<\0\0\0", "UTF-32"),
+        (b"\0\0\xfe\xff", "UTF-32"),
+        (b"<\0\0\0", "UTF-32LE"),
+        (b"\0\0\0<", "UTF-32BE"),
+    ] {
+        let words = format!(
+            "a.xsd:1:1: the file is in {name}, only UTF-8 is read; write the file anew by `iconv -f {name} -t UTF-8` and have its first line say UTF-8"
+        );
+        let (said, _) = refused(start);
+        assert!(said.starts_with(&words), "{said}");
+    }
+}
+
+/// Document types, well formed or not.
+const TYPES: [&str; 10] = [
     "<!DOCTYPE schema>",
     "<!DOCTYPE schema SYSTEM 'a.dtd' >",
     "<!DOCTYPE schema PUBLIC \"-//W3C//DTD\" 'http://a' [ ]>",
     "<!DOCTYPE schema [<!ENTITY a '<b>]>'><!ENTITY b \"'\"><!ENTITY % p ''> %p; <!-- > ' --><?pi ]> ?>]>",
-    "<!DOCTYPE schema [<!ENTITY % p SYSTEM 'x'><!ENTITY g PUBLIC 'p' 's' NDATA n><!NOTATION n PUBLIC 'p'>]>",
-    "<!DOCTYPE schema [<!ELEMENT a EMPTY><!ELEMENT b ANY><!ELEMENT c (#PCDATA)><!ELEMENT d ( #PCDATA | a )*>]>",
     "<!DOCTYPE schema [<!ELEMENT a (b)><!ELEMENT b (c?,(d|e)*,( f ))+ >]>",
-    "<!DOCTYPE schema [<!ATTLIST a><!ATTLIST a b CDATA #REQUIRED c (x|1y) '&lt;' d NOTATION (n) #FIXED \"v\" e IDREFS #IMPLIED >]>",
     "<!DOCTYPE schema [<!ENTITY e '&#65;'><!ATTLIST a b CDATA '&e;'>]>",
+    "<!DOCTYPE>",
+    "<!DOCTYPE a",
+    "<!DOCTYPE a [<!-- -- -->]>",
+    "<!DOCTYPE a \u{1}>",
 ];
 
-/// Document types that are not, and why.
-const BAD_TYPES: [(&str, &str); 12] = [
-    ("<!DOCTYPE>", "1:10: white space is expected"),
-    ("<!DOCTYPE a", "1:12: \">\" is expected"),
-    ("<!DOCTYPE a SYSTEM>", "1:19: white space is expected"),
-    (
-        "<!DOCTYPE a PUBLIC '{' 's'>",
-        "1:21: a character that no public identifier may hold",
-    ),
-    (
-        "<!DOCTYPE a [<!ELEMENT b (c,d|e)>]>",
-        "1:30: | or , or ) is expected",
-    ),
-    (
-        "<!DOCTYPE a [<!ELEMENT b (#PCDATA|c)>]>",
-        "1:37: * is expected",
-    ),
-    (
-        "<!DOCTYPE a [<!ATTLIST b c CDATAx>]>",
-        "1:33: white space is expected",
-    ),
-    (
-        "<!DOCTYPE a [<!ATTLIST b c CDATA '<'>]>",
-        "1:35: \"<\" in a value",
-    ),
-    (
-        "<!DOCTYPE a [<!ENTITY e '%p;'>]>",
-        "1:26: \"%\" in the value of an entity",
-    ),
-    ("<!DOCTYPE a [<!-- -- -->]>", "1:21: \">\" is expected"),
-    (
-        "<!DOCTYPE a [%p;]>",
-        "1:15: a reference that stands for nothing",
-    ),
-    (
-        "<!DOCTYPE a [<!ENTTY e ''>]>",
-        "1:14: a declaration is expected",
-    ),
-];
-
+/// The same text short, long, and with a byte above 127, in the same words.
 #[test]
-fn document_types_are_tested_where_quick_xml_reads() {
-    for text in TYPES {
-        let ran = graph(marked(format!("{text}<schema/>")), &[]);
-        assert_eq!((ran.status, ran.err.as_str()), (Some(0), ""), "{text}");
-    }
-    for (text, words) in BAD_TYPES {
-        let (said, _) = refused(marked(format!("{text}<schema/>")));
-        assert!(
-            said.starts_with(&format!("a.xsd:{words}")),
-            "{text}: {said}"
-        );
-    }
-}
-
-#[test]
-fn document_types_are_refused_where_the_library_reads() {
+fn document_types_are_refused_whatever_the_length() {
     let said =
         |place: &str| format!("a.xsd:{place}: a document type is not read (refused with 18)");
-    for text in TYPES.iter().chain(BAD_TYPES.iter().map(|(text, _)| text)) {
-        assert_eq!(refused(format!("{text}<schema/>")).0, said("1:1"), "{text}");
+    let all_ways = |text: &str, place: &str| {
+        let long = format!("{text}{}", " ".repeat(65_536));
+        for text in [text.to_owned(), long, format!("{text}<!-- \u{e9} -->")] {
+            assert_eq!(refused(&text).0, said(place), "{text:.80}");
+        }
+        assert_eq!(refused(marked(text)).0, said(place), "{text}");
+    };
+    for text in TYPES {
+        all_ways(&format!("{text}<schema/>"), "1:1");
     }
     let prologs = [
         (" \n <!DOCTYPE a>", "2:2"),
@@ -631,25 +610,35 @@ fn document_types_are_refused_where_the_library_reads() {
         ("<!--<!DOCTYPE x>-->\n<?p <!DOCTYPE ?><!DOCTYPE", "2:17"),
     ];
     for (text, place) in prologs {
-        assert_eq!(refused(text).0, said(place), "{text}");
+        all_ways(text, place);
     }
     let commented = "<!--<!DOCTYPE a>--><schema/>";
     assert_eq!(graph(commented, &[]).status, Some(0));
+    assert_eq!(graph(marked(commented), &[]).status, Some(0));
 }
 
 #[test]
-fn entities_must_be_declared_where_all_declarations_are_read() {
-    let declared = "<!DOCTYPE a [<!ENTITY e 'x'>]><schema a='&e;'/>";
-    assert_eq!(graph(marked(declared), &[]).status, Some(0));
-    let (words, _) = refused(marked("<!DOCTYPE a [<!ENTITY e 'x'>]><schema a='&f;'/>"));
-    assert_eq!(
-        words,
-        "a.xsd:1:42: the reference \"&f;\" stands for nothing"
-    );
-    assert_eq!(
-        graph(marked("<!DOCTYPE a SYSTEM 's'><schema a='&f;'/>"), &[]).status,
-        Some(0)
-    );
-    let alone = "<?xml version='1.0' standalone='yes'?><!DOCTYPE a SYSTEM 's'><schema a='&f;'/>";
-    assert_eq!(graph(marked(alone), &[]).status, Some(1));
+fn a_schema_of_another_namespace_gets_a_warning() {
+    let warned = "it is read as if it were\n";
+    for text in [
+        "<schema xmlns='urn:other'/>",
+        "<o:schema xmlns:o='http://www.w3.org/2000/10/XMLSchema' xmlns='http://www.w3.org/2001/XMLSchema'/>",
+        "<a xmlns='urn:other'><b xmlns='http://www.w3.org/2001/XMLSchema'/><schema/></a>",
+    ] {
+        let ran = graph(text, &["--strict"]);
+        assert_eq!(ran.status, Some(0), "it is no refusal: {}", ran.err);
+        assert!(ran.err.ends_with(warned), "{}", ran.err);
+        assert_eq!(graph(text, &["--quiet"]).err, "");
+    }
+    let ran = graph("<a>\n<schema xmlns='urn:other'/></a>", &[]);
+    let words = "a.xsd:2:1: the schema is of the namespace \"urn:other\", not of XML Schema's, \"http://www.w3.org/2001/XMLSchema\"; it is read as if it were\n";
+    assert_eq!(ran.err, words);
+    for text in [
+        "<schema/>",
+        "<schema xmlns='http://www.w3.org/2001/XMLSchema'/>",
+        "<a:schema xmlns='urn:other' xmlns:a='http://www.w3.org/2001/XMLSchema'/>",
+        "<a xmlns='http://www.w3.org/2001/XMLSchema'><schema/></a>",
+    ] {
+        assert_eq!(graph(text, &[]).err, "", "{text}");
+    }
 }

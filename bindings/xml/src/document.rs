@@ -76,7 +76,7 @@ impl Document {
     ///
     /// # Errors
     ///
-    /// [`NoDocument`] where the bytes are no well-formed XML in UTF-8, or have a document type that the library refuses.
+    /// [`NoDocument`] where the bytes are no well-formed XML in UTF-8, or have a document type.
     pub fn of(bytes: Vec<u8>) -> Result<Document, NoDocument> {
         match Taped::of(&bytes) {
             Ok((tape, found)) => Ok(Document {
@@ -97,6 +97,7 @@ impl Document {
                 found,
                 way: Way::QuickXml(why),
             }),
+            Err(fault) if fault.is_document_type => Err(with_document_type(text)),
             Err(fault) => Err(NoDocument::at(text, fault.at, fault.words)),
         }
     }
@@ -181,6 +182,7 @@ impl Document {
                     return Err(Fault {
                         at: event.at,
                         words,
+                        is_document_type: false,
                     });
                 }
             }
@@ -207,7 +209,7 @@ impl Document {
     }
 }
 
-/// A text with a document type, which the library does not read.
+/// A text with a document type, which neither the library nor quick-xml reads here.
 fn with_document_type(text: String) -> NoDocument {
     let (at, words) = (
         document_type(&text),
@@ -232,11 +234,26 @@ fn malformed(decoded: Result<String, NoDocument>) -> NoDocument {
     }
 }
 
+/// How files of two or four bytes a character start, the longer ones first, and their encodings as iconv names them.
+const WIDE: [(&[u8], &str); 9] = [
+    (b"\xFF\xFE\0\0", "UTF-32"),
+    (b"\0\0\xFE\xFF", "UTF-32"),
+    (b"<\0\0\0", "UTF-32LE"),
+    (b"\0\0\0<", "UTF-32BE"),
+    (b"\xFF\xFE", "UTF-16"),
+    (b"\xFE\xFF", "UTF-16"),
+    (b"<\0", "UTF-16LE"),
+    (b"\0<", "UTF-16BE"),
+    (b"\0\0", "UTF-32"),
+];
+
 /// The bytes as text: UTF-8 with or without a byte order mark.
 fn decoded(mut bytes: Vec<u8>) -> Result<String, NoDocument> {
-    let wide = [&b"\xFF\xFE"[..], b"\xFE\xFF", b"<\0", b"\0<", b"\0\0"];
-    if wide.iter().any(|start| bytes.starts_with(start)) {
-        let words = "the file is in UTF-16 or UTF-32, only UTF-8 is read".to_owned();
+    if let Some((_, name)) = WIDE.iter().find(|(start, _)| bytes.starts_with(start)) {
+        let words = format!(
+            "the file is in {name}, only UTF-8 is read; {}",
+            xml::write_anew(name)
+        );
         return Err(NoDocument::at(String::new(), 0, words));
     }
     if bytes.starts_with(BYTE_ORDER_MARK) {
@@ -245,6 +262,9 @@ fn decoded(mut bytes: Vec<u8>) -> Result<String, NoDocument> {
     String::from_utf8(bytes).map_err(|error| {
         let at = error.utf8_error().valid_up_to();
         let text = String::from_utf8_lossy(error.as_bytes()).into_owned();
-        NoDocument::at(text, at, "a byte that is no UTF-8".to_owned())
+        match xml::encoding_fault(&text).filter(|fault| fault.at < at) {
+            Some(fault) => NoDocument::at(text, fault.at, fault.words),
+            None => NoDocument::at(text, at, "a byte that is no UTF-8".to_owned()),
+        }
     })
 }

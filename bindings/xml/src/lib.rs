@@ -42,7 +42,6 @@
 #![deny(unsafe_code)]
 
 pub mod document;
-mod dtd;
 mod scan;
 mod schema;
 pub mod taped;

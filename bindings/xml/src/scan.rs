@@ -1,10 +1,8 @@
 //! A look at a part of an XML text, and the classes of characters of XML 1.0.
 
-use std::collections::HashSet;
 use std::error::Error;
 use std::fmt;
 use std::ops::Range;
-use std::rc::Rc;
 
 use crate::words::quoted;
 use crate::xml::Attribute;
@@ -16,6 +14,8 @@ pub struct Fault {
     pub at: usize,
     /// What is wrong.
     pub words: String,
+    /// It is a document type behind a well-formed start, which no one reads, well formed or not.
+    pub is_document_type: bool,
 }
 
 impl fmt::Display for Fault {
@@ -30,16 +30,8 @@ pub(crate) fn fault<T>(at: usize, words: impl Into<String>) -> Result<T, Fault> 
     Err(Fault {
         at,
         words: words.into(),
+        is_document_type: false,
     })
-}
-
-/// The entities that references may name, beside the five of XML.
-#[derive(Clone, Debug, Default)]
-pub(crate) struct Entities {
-    /// Those that the document type declares.
-    pub names: HashSet<String>,
-    /// Others may be declared where the program does not read.
-    pub others: bool,
 }
 
 /// A look at a part of the text, from its start on.
@@ -47,16 +39,14 @@ pub(crate) struct Scan<'t> {
     text: &'t str,
     pub at: usize,
     end: usize,
-    entities: Rc<Entities>,
 }
 
 impl<'t> Scan<'t> {
-    pub fn new(text: &'t str, part: Range<usize>, entities: &Rc<Entities>) -> Scan<'t> {
+    pub fn new(text: &'t str, part: Range<usize>) -> Scan<'t> {
         Scan {
             text,
             at: part.start,
             end: part.end.max(part.start),
-            entities: Rc::clone(entities),
         }
     }
 
@@ -144,7 +134,7 @@ impl<'t> Scan<'t> {
             let at = value.start + found;
             match byte {
                 b'<' => return fault(at, "\"<\" in a value"),
-                b'&' => Scan::new(self.text, at + 1..value.end, &self.entities).reference(at)?,
+                b'&' => Scan::new(self.text, at + 1..value.end).reference(at)?,
                 _ => {}
             }
         }
@@ -159,7 +149,7 @@ impl<'t> Scan<'t> {
         };
         let good = match body.strip_prefix('#') {
             Some(number) => number_of(number).is_some_and(is_character),
-            None => self.entity(body),
+            None => matches!(body, "lt" | "gt" | "amp" | "apos" | "quot"),
         };
         if good {
             return Ok(());
@@ -171,28 +161,6 @@ impl<'t> Scan<'t> {
                 quoted(&format!("&{body};"))
             ),
         )
-    }
-
-    fn entity(&self, name: &str) -> bool {
-        let known = matches!(name, "lt" | "gt" | "amp" | "apos" | "quot");
-        let may_be = name.starts_with(is_name_start) && name.chars().all(is_name);
-        known || self.entities.names.contains(name) || self.entities.others && may_be
-    }
-
-    /// Passes over `word` where it stands here; did it?
-    pub fn take(&mut self, word: &str) -> bool {
-        let here = self.rest().starts_with(word);
-        if here {
-            self.at += word.len();
-        }
-        here
-    }
-
-    /// Passes over all up to and with `word`, and gives what stands before it.
-    pub fn take_to(&mut self, word: &str) -> Option<&'t str> {
-        let (before, _) = self.rest().split_once(word)?;
-        self.at += before.len() + word.len();
-        Some(before)
     }
 }
 

@@ -1,17 +1,15 @@
 //! XML text into events. quick-xml cuts the text into markup; everything that XML 1.0 asks beyond that is tested here.
-//! What entities stand for is not looked at.
+//! A document type is refused, as the library refuses it.
 
 use std::collections::HashSet;
 use std::ops::Range;
-use std::rc::Rc;
 
 use quick_xml::errors::{Error as XmlError, SyntaxError};
 use quick_xml::events::Event as Markup;
 use quick_xml::Reader;
 
-use crate::dtd::document_type;
 pub use crate::scan::Fault;
-use crate::scan::{fault, is_character, is_space, Entities, Scan};
+use crate::scan::{fault, is_character, is_space, Scan};
 use crate::words::quoted;
 
 /// The kind of an event.
@@ -72,13 +70,16 @@ pub fn fault_of(text: &str) -> Option<Fault> {
     events_by(parser).err()
 }
 
-fn events_by(mut parser: Parser<'_>) -> Result<Events, Fault> {
-    characters(parser.text)?;
-    let mut base = 0;
-    while let Some(next) = parser.up_to_document_type(base)? {
-        base = next;
+/// A character that XML does not allow comes before all else but a document type in front of it.
+fn events_by(parser: Parser<'_>) -> Result<Events, Fault> {
+    let allowed = characters(parser.text);
+    let found = parser.all();
+    match (&found, &allowed) {
+        (Err(fault), Ok(())) if fault.is_document_type => {}
+        (Err(fault), Err(not_allowed)) if fault.is_document_type && fault.at < not_allowed.at => {}
+        _ => allowed?,
     }
-    parser.end()
+    found
 }
 
 fn reader_of(text: &str) -> Reader<&[u8]> {
@@ -129,7 +130,11 @@ fn of_quick_xml(error: &XmlError, at: usize) -> Fault {
         }
         other => format!("not well formed: {other}"),
     };
-    Fault { at, words }
+    Fault {
+        at,
+        words,
+        is_document_type: false,
+    }
 }
 
 struct Parser<'t> {
@@ -138,11 +143,8 @@ struct Parser<'t> {
     /// The starts that are open, as places in `found.events`.
     open: Vec<usize>,
     root: bool,
-    doctype: bool,
-    standalone: bool,
     /// The name of the encoding is not looked up.
     any_encoding: bool,
-    entities: Rc<Entities>,
 }
 
 impl<'t> Parser<'t> {
@@ -152,29 +154,25 @@ impl<'t> Parser<'t> {
             found: Events::default(),
             open: Vec::new(),
             root: false,
-            doctype: false,
-            standalone: false,
             any_encoding: false,
-            entities: Rc::default(),
         }
     }
 
-    /// Takes the markup from `base` on, up to the end or to the end of a document type, whose place it gives. quick-xml
-    /// does not follow the quotes in a document type, so it begins anew behind it.
-    fn up_to_document_type(&mut self, base: usize) -> Result<Option<usize>, Fault> {
-        let mut reader = reader_of(self.text.get(base..).unwrap_or_default());
+    /// The events of all markup.
+    fn all(mut self) -> Result<Events, Fault> {
+        let mut reader = reader_of(self.text);
         loop {
-            let from = base + position(&reader);
+            let from = position(&reader);
             if self.part(&(from..self.text.len())).starts_with("<!DOCTYPE") {
-                return self.document_type(from).map(Some);
+                return self.document_type(from);
             }
             let markup = reader
                 .read_event()
                 .map_err(|error| of_quick_xml(&error, from))?;
             if matches!(markup, Markup::Eof) {
-                return Ok(None);
+                return self.end();
             }
-            self.markup(&markup, from..base + position(&reader))?;
+            self.markup(&markup, from..position(&reader))?;
         }
     }
 
@@ -204,7 +202,7 @@ impl<'t> Parser<'t> {
             return fault(at, "a second root element");
         }
         self.root = true;
-        let mut scan = Scan::new(self.text, inside, &self.entities);
+        let mut scan = Scan::new(self.text, inside);
         let name = scan.name("a tag has no name")?;
         let first = self.found.attributes.len();
         while let Some(attribute) = scan.attribute()? {
@@ -248,7 +246,7 @@ impl<'t> Parser<'t> {
     }
 
     fn close(&mut self, at: usize, inside: Range<usize>) -> Result<(), Fault> {
-        let mut scan = Scan::new(self.text, inside, &self.entities);
+        let mut scan = Scan::new(self.text, inside);
         let name = scan.name("a close has no name")?;
         scan.spaces();
         scan.done("a close has more than a name")?;
@@ -302,7 +300,7 @@ impl<'t> Parser<'t> {
 
     fn reference(&self, at: usize) -> Result<(), Fault> {
         self.inside(at, "a reference")?;
-        let mut scan = Scan::new(self.text, at + 1..self.text.len(), &self.entities);
+        let mut scan = Scan::new(self.text, at + 1..self.text.len());
         scan.reference(at)
     }
 
@@ -312,11 +310,7 @@ impl<'t> Parser<'t> {
         if at > 0 {
             return fault(at, "the XML declaration is not at the start of the file");
         }
-        let mut scan = Scan::new(
-            self.text,
-            at + 5..span.end.saturating_sub(2),
-            &self.entities,
-        );
+        let mut scan = Scan::new(self.text, at + 5..span.end.saturating_sub(2));
         let mut known = ["version", "encoding", "standalone"].iter();
         let mut first = true;
         while let Some(attribute) = scan.attribute()? {
@@ -331,7 +325,6 @@ impl<'t> Parser<'t> {
             if !(self.any_encoding && key == "encoding" && is_encoding(value)) {
                 declared(key, value, attribute.value.start)?;
             }
-            self.standalone |= (key, value) == ("standalone", "yes");
         }
         if first {
             return fault(at, "the XML declaration has no version");
@@ -342,11 +335,7 @@ impl<'t> Parser<'t> {
     /// `<?target ..?>`
     fn instruction(&self, span: Range<usize>) -> Result<(), Fault> {
         let at = span.start;
-        let mut scan = Scan::new(
-            self.text,
-            at + 2..span.end.saturating_sub(2),
-            &self.entities,
-        );
+        let mut scan = Scan::new(self.text, at + 2..span.end.saturating_sub(2));
         let name = scan.name("a processing instruction has no name")?;
         if self.part(&name).eq_ignore_ascii_case("xml") {
             return fault(at, "a processing instruction is named \"xml\"");
@@ -357,19 +346,16 @@ impl<'t> Parser<'t> {
         Ok(())
     }
 
-    /// The document type at `at`; gives where it ends.
-    fn document_type(&mut self, at: usize) -> Result<usize, Fault> {
-        if self.root || self.doctype {
-            return fault(
-                at,
-                "a document type behind the root element or another document type",
-            );
+    /// A document type is not read; behind the root element it is not even well formed.
+    fn document_type(&self, at: usize) -> Result<Events, Fault> {
+        if self.root {
+            return fault(at, "a document type behind the root element");
         }
-        self.doctype = true;
-        let (end, mut entities) = document_type(self.text, at)?;
-        entities.others &= !self.standalone;
-        self.entities = Rc::new(entities);
-        Ok(end)
+        Err(Fault {
+            at,
+            words: "a document type is not read".to_owned(),
+            is_document_type: true,
+        })
     }
 
     /// The file ends: one root element, and nothing is open.
@@ -399,6 +385,33 @@ fn is_encoding(name: &str) -> bool {
     name.starts_with(|c: char| c.is_ascii_alphabetic()) && name.bytes().all(goes_on)
 }
 
+/// A file in another encoding, and what to do about it.
+fn not_utf_8(name: &str) -> String {
+    let words = format!("the encoding {} is not read, only UTF-8", quoted(name));
+    match is_encoding(name) {
+        true => format!("{words}; {}", write_anew(name)),
+        false => words,
+    }
+}
+
+/// What to do with a file in another encoding.
+pub(crate) fn write_anew(name: &str) -> String {
+    format!("write the file anew by `iconv -f {name} -t UTF-8` and have its first line say UTF-8")
+}
+
+/// What the XML declaration of a text says of its encoding, where that is not UTF-8.
+pub(crate) fn encoding_fault(text: &str) -> Option<Fault> {
+    let inside = text.strip_prefix("<?xml")?.split_once("?>")?.0.len();
+    let mut scan = Scan::new(text, 5..5 + inside);
+    while let Some(attribute) = scan.attribute().ok()? {
+        let part = |range: &Range<usize>| text.get(range.clone()).unwrap_or_default();
+        if part(&attribute.key) == "encoding" {
+            return declared("encoding", part(&attribute.value), attribute.value.start).err();
+        }
+    }
+    None
+}
+
 /// The value of a word of the XML declaration.
 fn declared(key: &str, value: &str, at: usize) -> Result<(), Fault> {
     let digits = |text: &str| !text.is_empty() && text.bytes().all(|b| b.is_ascii_digit());
@@ -411,10 +424,7 @@ fn declared(key: &str, value: &str, at: usize) -> Result<(), Fault> {
                 .any(|word| value.eq_ignore_ascii_case(word));
             return match utf8 {
                 true => Ok(()),
-                false => fault(
-                    at,
-                    format!("the encoding \"{value}\" is not read, only UTF-8"),
-                ),
+                false => fault(at, not_utf_8(value)),
             };
         }
     };
