@@ -122,6 +122,21 @@ pub(crate) fn label(rows: &[u32], names: &[u8], words: &[u8], row: usize) -> Par
     }
 }
 
+pub(crate) fn label_number(rows: &[u32], names: &[u8], words: &[u8], row: usize) -> u32 {
+    // SAFETY: each address and its length are those of one slice.
+    unsafe {
+        c::lubiksan_label_number(
+            rows.as_ptr(),
+            rows.len(),
+            names.as_ptr(),
+            names.len(),
+            words.as_ptr(),
+            words.len(),
+            row,
+        )
+    }
+}
+
 pub(crate) fn local_name(name: &[u8]) -> usize {
     // SAFETY: the address and the length are those of one slice.
     unsafe { c::lubiksan_local_name(name.as_ptr(), name.len()) }

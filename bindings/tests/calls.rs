@@ -1,7 +1,7 @@
 //! The calls through the bindings: every refusal with its number, place and event; lent buffers.
 
 use lubiksan::{
-    limits, Context, Graph, Kind, PieceFull, ReadAs, Refusal, SchemaSheet, Tape, TapeBuilder,
+    limits, Cause, Context, Graph, Kind, PieceFull, ReadAs, Refusal, SchemaSheet, Tape, TapeBuilder,
 };
 
 type Tried = Result<(), Box<dyn std::error::Error>>;
@@ -321,4 +321,25 @@ fn a_piece_keeps_its_limits() -> Tried {
     let tape = piece.finish();
     assert_eq!(tape.events().count(), 1 + (limits::MARKS - 4) / 2);
     Ok(())
+}
+
+#[test]
+fn the_table_of_causes_has_every_number_that_is_returned() {
+    let numbers: Vec<u32> = Cause::ALL.iter().map(|cause| cause.number()).collect();
+    let returned: Vec<u32> = include_str!("../sys/src/returned.rs")
+        .lines()
+        .filter_map(|line| line.strip_prefix("pub const ")?.strip_suffix(';'))
+        .filter_map(|line| line.split_once(" = ")?.1.parse().ok())
+        .collect();
+    assert_eq!(returned.split_first(), Some((&0, numbers.as_slice())));
+    assert_eq!(numbers[..20], (1..=20).collect::<Vec<u32>>());
+    for &cause in Cause::ALL {
+        assert_eq!(Cause::of(cause.number()), cause);
+    }
+    let mut words: Vec<String> = Cause::ALL.iter().map(ToString::to_string).collect();
+    words.sort();
+    words.dedup();
+    assert_eq!(words.len(), numbers.len());
+    assert_eq!(Cause::of(99), Cause::Unknown(99));
+    assert_eq!(Cause::Unknown(99).number(), 99);
 }

@@ -44,7 +44,9 @@ pub use lubiksan_xml::{document, taped, xml};
 
 /// Runs the command line and gives the exit status: 0 done, 1 the input is refused, 2 wrong use, 3 the machine.
 pub fn run(args: impl Iterator<Item = OsString>) -> u8 {
-    let done = args::parsed(args).and_then(|command| commands::run(&command));
+    let done = linked()
+        .and_then(|()| args::parsed(args))
+        .and_then(|command| commands::run(&command));
     match done {
         Ok(()) => 0,
         Err(failure) => {
@@ -52,4 +54,10 @@ pub fn run(args: impl Iterator<Item = OsString>) -> u8 {
             failure.status()
         }
     }
+}
+
+/// The archive is the one that the program was written for.
+fn linked() -> Result<(), failure::Failure> {
+    let checked = lubiksan::check_version();
+    checked.map_err(|wrong| failure::Failure::Machine(wrong.to_string()))
 }

@@ -101,7 +101,8 @@ fn take_origin(shown: &mut Value, file: &Path, named: impl Fn(&str) -> bool) {
         assert_eq!(line, json!(lines[event]), "{}", file.display());
     }
     let events = compare::events::events_of_xml(&text).unwrap();
-    let (compare::tape::Event::Start(tag) | compare::tape::Event::Empty(tag)) = &events[event] else {
+    let (compare::tape::Event::Start(tag) | compare::tape::Event::Empty(tag)) = &events[event]
+    else {
         panic!("event {event} of {} is a close", file.display());
     };
     let name = tag.attributes.iter().find(|(key, _)| key == "name");

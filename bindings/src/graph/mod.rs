@@ -187,6 +187,8 @@ impl<'a> Graph<'a> {
     /// sheet.lower(&mut graph)?;
     /// let words = b"String\nbool\nDecimal\nDate\nDateTime\n";
     /// assert_eq!(graph.label(2, words)?, Label::Word(b"String"));
+    /// assert_eq!(graph.check_label(2, words), Ok(()));
+    /// assert!(graph.check_label(1, words).is_err());
     /// # Ok::<(), Box<dyn std::error::Error>>(())
     /// ```
     ///
@@ -206,6 +208,18 @@ impl<'a> Graph<'a> {
                 .get(range)
                 .map(Label::Name)
                 .ok_or(Refusal::NoLabel)
+        }
+    }
+
+    /// Has the row a label? The number of [`Graph::label`] alone.
+    ///
+    /// # Errors
+    ///
+    /// As [`Graph::label`].
+    pub fn check_label(&self, row: usize, words: &[u8]) -> Result<(), Refusal> {
+        match calls::label_number(self.rows(), self.names(), words, row) {
+            sys::LUBIKSAN_ACCEPTED => Ok(()),
+            _ => Err(Refusal::NoLabel),
         }
     }
 

@@ -16,7 +16,11 @@ fn main() -> Result<(), Box<dyn Error>> {
     let folder = Path::new(&folder);
     completions(folder, "bash-completion/completions/lubiksan", Shell::Bash)?;
     completions(folder, "zsh/site-functions/_lubiksan", Shell::Zsh)?;
-    completions(folder, "fish/vendor_completions.d/lubiksan.fish", Shell::Fish)?;
+    completions(
+        folder,
+        "fish/vendor_completions.d/lubiksan.fish",
+        Shell::Fish,
+    )?;
     write(folder, "man/man1/lubiksan.1", manual(&parser()).as_bytes())
 }
 
@@ -102,7 +106,9 @@ fn spelled(argument: &Arg) -> String {
     let id = argument.get_id().as_str();
     let value = names.first().map_or(id.to_uppercase(), ToString::to_string);
     let value = format!("\\fI{}\\fR", escaped(&value));
-    let several = argument.get_num_args().is_some_and(|range| range.max_values() > 1);
+    let several = argument
+        .get_num_args()
+        .is_some_and(|range| range.max_values() > 1);
     let dots = if several { ".." } else { "" };
     match argument.get_long() {
         None => value + dots,
