@@ -222,8 +222,7 @@ fn same_both_ways(text: &[u8]) {
         }
         Err(refused) => {
             let words = refused.words.replace(" (refused with 17)", "");
-            let place = refused.place;
-            assert_eq!(other, Err(NoDocument { words, place }), "{shown}");
+            assert_eq!(other, Err(NoDocument { words, ..refused }), "{shown}");
         }
         found => assert_eq!(found, other, "{shown}"),
     }

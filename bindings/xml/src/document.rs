@@ -8,7 +8,7 @@ use lubiksan::names::local_name;
 use lubiksan::{NoTape, PieceFull, TapeBuilder};
 
 use crate::taped::{document_type, Taped};
-use crate::xml::{self, Event, EventKind, Events, Fault};
+use crate::xml::{self, Event, EventKind, Events, Fault, Unread};
 
 /// The bytes that a file in UTF-8 may start with.
 pub const BYTE_ORDER_MARK: &[u8] = b"\xEF\xBB\xBF";
@@ -45,6 +45,8 @@ pub struct Piece<'d> {
 #[derive(Clone, Debug, PartialEq, Eq)]
 pub struct NoDocument {
     /// What is wrong.
+    pub cause: Unread,
+    /// The same in words, with the library's number where it refuses.
     pub words: String,
     /// The text, as far as it is one, and the byte where it is wrong; none where that is not known.
     pub place: Option<(String, usize)>,
@@ -59,9 +61,14 @@ impl fmt::Display for NoDocument {
 impl Error for NoDocument {}
 
 impl NoDocument {
-    fn at(text: String, at: usize, words: String) -> NoDocument {
+    fn at(text: String, fault: Fault) -> NoDocument {
+        let Fault { at, cause, words } = fault;
         let place = Some((text, at));
-        NoDocument { words, place }
+        NoDocument {
+            cause,
+            words,
+            place,
+        }
     }
 
     /// The same with the library's number behind the words.
@@ -97,8 +104,8 @@ impl Document {
                 found,
                 way: Way::QuickXml(why),
             }),
-            Err(fault) if fault.is_document_type => Err(with_document_type(text)),
-            Err(fault) => Err(NoDocument::at(text, fault.at, fault.words)),
+            Err(fault) if fault.is_document_type() => Err(with_document_type(text)),
+            Err(fault) => Err(NoDocument::at(text, fault)),
         }
     }
 
@@ -181,8 +188,8 @@ impl Document {
                     );
                     return Err(Fault {
                         at: event.at,
+                        cause: Unread::TooLong,
                         words,
-                        is_document_type: false,
                     });
                 }
             }
@@ -211,11 +218,12 @@ impl Document {
 
 /// A text with a document type, which neither the library nor quick-xml reads here.
 fn with_document_type(text: String) -> NoDocument {
-    let (at, words) = (
-        document_type(&text),
-        "a document type is not read".to_owned(),
-    );
-    NoDocument::at(text, at, words).refused_with(NoTape::Doctype.number())
+    let fault = Fault {
+        at: document_type(&text),
+        cause: Unread::DocumentType,
+        words: "a document type is not read".to_owned(),
+    };
+    NoDocument::at(text, fault).refused_with(NoTape::Doctype.number())
 }
 
 /// What is wrong in a text that the library finds not well formed, as far as this program's own tests can tell.
@@ -226,8 +234,9 @@ fn malformed(decoded: Result<String, NoDocument>) -> NoDocument {
         Err(no_text) => return no_text.refused_with(refusal.number()),
     };
     match xml::fault_of(&text) {
-        Some(fault) => NoDocument::at(text, fault.at, fault.words).refused_with(refusal.number()),
+        Some(fault) => NoDocument::at(text, fault).refused_with(refusal.number()),
         None => NoDocument {
+            cause: Unread::Malformed,
             words: refusal.to_string(),
             place: None,
         },
@@ -254,7 +263,8 @@ fn decoded(mut bytes: Vec<u8>) -> Result<String, NoDocument> {
             "the file is in {name}, only UTF-8 is read; {}",
             xml::write_anew(name)
         );
-        return Err(NoDocument::at(String::new(), 0, words));
+        let (at, cause) = (0, Unread::Encoding);
+        return Err(NoDocument::at(String::new(), Fault { at, cause, words }));
     }
     if bytes.starts_with(BYTE_ORDER_MARK) {
         bytes.drain(..BYTE_ORDER_MARK.len());
@@ -263,8 +273,11 @@ fn decoded(mut bytes: Vec<u8>) -> Result<String, NoDocument> {
         let at = error.utf8_error().valid_up_to();
         let text = String::from_utf8_lossy(error.as_bytes()).into_owned();
         match xml::encoding_fault(&text).filter(|fault| fault.at < at) {
-            Some(fault) => NoDocument::at(text, fault.at, fault.words),
-            None => NoDocument::at(text, at, "a byte that is no UTF-8".to_owned()),
+            Some(fault) => NoDocument::at(text, fault),
+            None => {
+                let (cause, words) = (Unread::NotUtf8, "a byte that is no UTF-8".to_owned());
+                NoDocument::at(text, Fault { at, cause, words })
+            }
         }
     })
 }

@@ -50,3 +50,4 @@ pub mod xml;
 
 pub use document::{Document, NoDocument};
 pub use schema::{NotRead, Place, Schema, Why};
+pub use xml::{Fault, Unread};

@@ -7,15 +7,37 @@ use std::ops::Range;
 use crate::words::quoted;
 use crate::xml::Attribute;
 
-/// Why a text is no XML, and where.
+/// Why a text is not read.
+#[derive(Clone, Copy, Debug, PartialEq, Eq, Hash)]
+#[non_exhaustive]
+pub enum Unread {
+    /// It is not well formed; the library's 17 where it is the library that reads it.
+    Malformed,
+    /// It has a document type behind a well-formed start, which no one reads, well formed or not: 18.
+    DocumentType,
+    /// It is in another encoding than UTF-8, or says so.
+    Encoding,
+    /// It has a byte that is no UTF-8.
+    NotUtf8,
+    /// A tag fits into no piece.
+    TooLong,
+}
+
+/// Why a text is not read, and where, with the words for people.
 #[derive(Clone, Debug, PartialEq, Eq)]
 pub struct Fault {
     /// The byte of the text.
     pub at: usize,
     /// What is wrong.
+    pub cause: Unread,
+    /// The same in words.
     pub words: String,
-    /// It is a document type behind a well-formed start, which no one reads, well formed or not.
-    pub is_document_type: bool,
+}
+
+impl Fault {
+    pub(crate) fn is_document_type(&self) -> bool {
+        self.cause == Unread::DocumentType
+    }
 }
 
 impl fmt::Display for Fault {
@@ -29,8 +51,8 @@ impl Error for Fault {}
 pub(crate) fn fault<T>(at: usize, words: impl Into<String>) -> Result<T, Fault> {
     Err(Fault {
         at,
+        cause: Unread::Malformed,
         words: words.into(),
-        is_document_type: false,
     })
 }
 

@@ -8,8 +8,8 @@ use quick_xml::errors::{Error as XmlError, SyntaxError};
 use quick_xml::events::Event as Markup;
 use quick_xml::Reader;
 
-pub use crate::scan::Fault;
 use crate::scan::{fault, is_character, is_space, Scan};
+pub use crate::scan::{Fault, Unread};
 use crate::words::quoted;
 
 /// The kind of an event.
@@ -75,8 +75,9 @@ fn events_by(parser: Parser<'_>) -> Result<Events, Fault> {
     let allowed = characters(parser.text);
     let found = parser.all();
     match (&found, &allowed) {
-        (Err(fault), Ok(())) if fault.is_document_type => {}
-        (Err(fault), Err(not_allowed)) if fault.is_document_type && fault.at < not_allowed.at => {}
+        (Err(fault), Ok(())) if fault.is_document_type() => {}
+        (Err(fault), Err(not_allowed)) if fault.is_document_type() && fault.at < not_allowed.at => {
+        }
         _ => allowed?,
     }
     found
@@ -132,8 +133,8 @@ fn of_quick_xml(error: &XmlError, at: usize) -> Fault {
     };
     Fault {
         at,
+        cause: Unread::Malformed,
         words,
-        is_document_type: false,
     }
 }
 
@@ -353,8 +354,8 @@ impl<'t> Parser<'t> {
         }
         Err(Fault {
             at,
+            cause: Unread::DocumentType,
             words: "a document type is not read".to_owned(),
-            is_document_type: true,
         })
     }
 
@@ -424,7 +425,11 @@ fn declared(key: &str, value: &str, at: usize) -> Result<(), Fault> {
                 .any(|word| value.eq_ignore_ascii_case(word));
             return match utf8 {
                 true => Ok(()),
-                false => fault(at, not_utf_8(value)),
+                false => Err(Fault {
+                    at,
+                    cause: Unread::Encoding,
+                    words: not_utf_8(value),
+                }),
             };
         }
     };

@@ -6,7 +6,7 @@ use std::fs;
 use std::path::{Path, PathBuf};
 
 use lubiksan::{limits, Cause, Kind, ReadAs, SchemaSheet, Tape};
-use lubiksan_xml::{NotRead, Schema, Why};
+use lubiksan_xml::{NotRead, Schema, Unread, Why};
 
 type Tried = Result<(), Box<dyn Error>>;
 
@@ -132,7 +132,9 @@ fn refusals_have_their_place_in_every_text() -> Tried {
             );
             match &refused.why {
                 Why::Refused(refusal) => assert_eq!(refusal.number(), number),
-                Why::Document(_) => assert_eq!(number, 17),
+                Why::Document(refused) => {
+                    assert_eq!((number, refused.cause), (17, Unread::Malformed));
+                }
                 other => return Err(format!("{other:?}").into()),
             }
             let source = refused.source().ok_or("it has a source")?;
@@ -179,8 +181,44 @@ fn a_tag_that_fits_into_no_piece_is_named() -> Tried {
         1,
     );
     let refused = refused(&text)?;
-    assert!(matches!(refused.why, Why::TooLong(_)));
+    assert!(matches!(&refused.why, Why::TooLong(fault) if fault.cause == Unread::TooLong));
     let place = refused.place.ok_or("it has a place")?;
     assert_eq!((place.line, place.column), (4, 3));
+    Ok(())
+}
+
+#[test]
+fn what_is_no_text_has_its_cause() -> Tried {
+    let long = " ".repeat(limits::TEXT);
+    let tried: [(Vec<u8>, Unread, usize); 6] = [
+        (b"<\0a\0/\0>\0".to_vec(), Unread::Encoding, 1),
+        (
+            format!("<?xml version='1.0' encoding='latin1'?>{long}<a/>").into(),
+            Unread::Encoding,
+            31,
+        ),
+        (b"<a>\xE9</a>".to_vec(), Unread::NotUtf8, 4),
+        (b"<!DOCTYPE a><a/>".to_vec(), Unread::DocumentType, 1),
+        (
+            format!("<!--{long}--><!DOCTYPE a><a/>").into(),
+            Unread::DocumentType,
+            long.len() + 8,
+        ),
+        (
+            format!("<a>{long}").into(),
+            Unread::Malformed,
+            long.len() + 4,
+        ),
+    ];
+    for (bytes, cause, column) in tried {
+        let refused = Schema::of_bytes(bytes, ReadAs::Standard).err();
+        let refused = refused.ok_or("it is refused")?;
+        let Why::Document(no_document) = &refused.why else {
+            return Err(format!("{refused}").into());
+        };
+        assert_eq!(no_document.cause, cause, "{refused}");
+        let place = refused.place.ok_or("it has a place")?;
+        assert_eq!((place.line, place.column), (1, column), "{refused}");
+    }
     Ok(())
 }
