@@ -1,4 +1,4 @@
--- The finished types in lowering's order, for the laws of `lower`: "Only finished types are lowered, simple ones before complex."
+-- The finished types in lowering's order. Paper 01, "Graph sheet": "Only finished types are lowered, simple ones before complex."
 --     finishedNames    their normalised names
 --     references       the references of a definition; typeNamesIn: the type names of a content
 use mathlib.Core.List.{List, [], _∷_, _++_, map}

@@ -1,4 +1,4 @@
--- Names in a list of definitions.
+-- Names in a list of definitions, for order 4.
 --     typeNames     the definitions' names
 --     among         the text is one of the list
 --     distinctTexts, distinct    no text, no definition's name, stands twice

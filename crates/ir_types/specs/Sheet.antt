@@ -1,4 +1,4 @@
--- The graph sheet, in buffers of the given lengths.
+-- The graph sheet, in buffers of the given lengths. Paper 01, "Graph sheet".
 --     graphFits     the graph's rows and names have room
 --     graphSheet    the sheet
 use Prim.Native.Nat.{ℕ}

@@ -1,4 +1,4 @@
--- What the exported calls return and store, as numbers.
+-- What the exported calls return and store, as numbers: paper 01, "Returned numbers" and the label call.
 --     version       the version of the archive: 10,000 for the first number, 100 for the second, 1 for the third
 --     numberOf, valueOf    a number leaf's number, 0 or 10, and the value lent afterwards; Exported: both
 --     countOf       a writer's answer as a number: the bytes, or the largest u64, which is no length of a slice

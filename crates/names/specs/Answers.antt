@@ -1,4 +1,4 @@
--- What a writer answers, and what the lent part holds afterwards.
+-- What a writer of the conversions of 001 answers, and what the lent part holds afterwards.
 --     written t n   a writer's answer for the text t and a part of n bytes: how many bytes t has, or that they do not fit
 --     placed t p    what the lent part p holds afterwards: the bytes of t as far as p reaches, and behind them what p held.
 --                   So after "no room" p holds the first bytes of t, as many as p has

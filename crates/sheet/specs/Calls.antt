@@ -1,4 +1,4 @@
--- What the contracts of the outer calls say of two buffers and of an answer.
+-- What the contracts of the outer calls say of two buffers and of an answer. Paper 01, "Returned numbers": a number and a place.
 --     sheet         two buffers as a sheet
 --     answered      a number and a place as an answer
 use Prim.Native.Nat.{ℕ}

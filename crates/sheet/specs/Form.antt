@@ -1,4 +1,4 @@
--- What the two sheets' forms share. `usedPairs tag a` says how many pairs a row of a tag and an a uses.
+-- What the two sheets' forms share: paper 01, "Schema sheet" and "Graph sheet". `usedPairs tag a` says how many pairs a row of a tag and an a uses.
 --     words         the numbers are u32
 --     isFlag        "Flags are 0 or 1"
 --     pairForm, rowCovers, covers    the used pairs cover the names from k, unused pairs are 0 0

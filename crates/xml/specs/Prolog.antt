@@ -1,4 +1,4 @@
--- What may stand before and behind the root.
+-- What may stand before and behind the root: XML 1.0 (Fifth Edition), [22] prolog and [27] Misc.
 --     eq            [25]
 --     quoted        a step between two equal quotes
 --     declared      a word, Eq and a quoted step, as the declaration has them; optional: the same, or nothing where the word does not stand there

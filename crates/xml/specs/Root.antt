@@ -1,4 +1,4 @@
--- The root: [39] element ::= EmptyElemTag | STag content ETag and [43] content, as a list of open tags and a turn for each piece of content.
+-- The root: XML 1.0 (Fifth Edition), [39] element ::= EmptyElemTag | STag content ETag and [43] content, as a list of open tags and a turn for each piece of content.
 --     Piece         what stands next inside the root: a piece that gives no event, an end tag with its name, or the place of another tag
 --     close         [42] ETag
 --     piece         the next piece behind character data

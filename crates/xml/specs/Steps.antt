@@ -1,4 +1,4 @@
--- Steps over the bytes that are left of a text. `at` is the offset of the first of them, so a step says where it ends as an offset of the text.
+-- Steps over the bytes that are left of a text, for XML 1.0. `at` is the offset of the first of them, so a step says where it ends as an offset of the text.
 --     Step          where a step ends and the bytes left there, or bad: what stands there is not what the step takes
 --     andThen       one step behind the other
 --     startsWith    the bytes left begin with the word

@@ -1,4 +1,4 @@
--- A tag: [40] STag ::= '<' Name (S Attribute)* S? '>' and [44] EmptyElemTag ::= '<' Name (S Attribute)* S? '/>'.
+-- A tag: XML 1.0 (Fifth Edition), [40] STag ::= '<' Name (S Attribute)* S? '>' and [44] EmptyElemTag ::= '<' Name (S Attribute)* S? '/>'.
 --     Part          what stands next in a tag: its end with its kind, or an attribute with the pairs and the text of its key
 --     attribute     [41]
 --     partOf        the next part of a tag

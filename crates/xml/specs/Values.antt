@@ -1,4 +1,4 @@
--- References, attribute values and character data.
+-- References, attribute values and character data: XML 1.0 (Fifth Edition), [66] to [68], [10] and [14].
 --     digitOf       a digit's value, in either case; 16 for any other byte
 --     isNumber      digits to a base and a semicolon, whose number is a character
 --     isReference   the bytes left begin with a reference

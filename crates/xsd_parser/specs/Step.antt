@@ -1,4 +1,4 @@
--- One event on a state, with the refusals 6 to 11 in the paper's order. "Reading: .. event by event 3, 4, 5, 8, then 6 or 7, 9, 10, 11"
+-- One event on a state, with the refusals 6 to 11. Paper 01, "Returned numbers": "Reading: .. event by event 3, 4, 5, 8, then 6 or 7, 9, 10, 11"
 --     handled n     the handlers of 000 on the reader, by the choice of order 3, for the event that has the number n in the run: order 5, "events done" before it
 --     tagsAfter     the open tags after an event; 6 "close with no tag open", 7 "start with 255 open"
 --     counted       the state with one event more done, its choice kept

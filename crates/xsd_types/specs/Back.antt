@@ -1,4 +1,4 @@
--- The state that a good sheet holds.
+-- The state that a good sheet holds: paper 01, "Schema sheet", read back.
 --     rowsIn        the rows behind row 0 with their texts
 --     Group         a head with its children
 --     grouped (addRow)    rows as groups; `loose` are children with no head before them

@@ -1,4 +1,4 @@
--- "A sheet is good if": the test of a good schema sheet, from the paper's sentences, a named part for each.
+-- Paper 01, "Schema sheet", "A sheet is good if": the test of a good schema sheet, from the paper's sentences, a named part for each.
 --     usedPairs tag a         how many pairs a row uses
 --     rowForm tag a b c       the tag is known, flags are 0 or 1, other unused numbers are 0; tenForm: of a row
 --     isHead, isChild, mayFollow    which tags are heads, and which tag may stand behind which head

@@ -1,4 +1,4 @@
--- The schema sheet of a state, in buffers of the given lengths.
+-- The schema sheet of a state, in buffers of the given lengths. Paper 01, "Schema sheet".
 --     stateFits     the state's rows and names have room
 --     sheetOf       the sheet
 use Prim.Native.Nat.{ℕ}
