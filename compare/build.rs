@@ -8,7 +8,7 @@ mod copy;
 
 use copy::write_copy;
 
-/// The private functions that the judge calls.
+/// The private functions that the comparison calls.
 const PARSER_LEAVES: [&str; 3] = ["local_name", "parse_u32", "parse_u64"];
 const LOWER_LEAVES: [&str; 2] = ["map_builtin", "normalize_type_name"];
 

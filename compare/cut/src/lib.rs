@@ -1,5 +1,5 @@
 //! parser.rs of mx20022-codegen, unchanged, over an adapter whose tags hold a list of keys and values.
-//! `judge` has the same file over the adapter whose tags are cut by the handlers; as both files say
+//! `compare` has the same file over the adapter whose tags are cut by the handlers; as both files say
 //! `quick_xml`, a second crate gives that name to the other adapter.
 
 #![forbid(unsafe_code)]
