@@ -7,7 +7,7 @@
 //! | `leaves` | the seven text leaves of these files as functions over `&str` |
 //! | `names` | names of the field and changed forms of names |
 //! | `random` | a fixed-seed generator |
-//! | `samples` | the fixed sample behind crates/vectors |
+//! | `samples` | the fixed sample behind crates/replay |
 //! | `cases` | the texts of the comparison with the static library |
 //! | `ours` | the functions of the static library (feature `ours`) |
 //! | `checks`, `tally` | one text compared, and the count of cases and differences |

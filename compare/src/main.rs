@@ -8,8 +8,8 @@
 //! | `compare lowerings` | lowering against the model and the Rust |
 //! | `compare texts [all]` | the tape of a text against the model, quick-xml, expat and libxml2: over a million texts, or all |
 //! | `compare prints run PROGRAM` | what the printing program prints against the model |
-//! | `compare prints table`, `answers` | stdin and stdout of crates/print_cases, by the model |
-//! | `compare vectors inputs`, `answers` | the texts of crates/vectors; the answers of the Rust to texts |
+//! | `compare prints table`, `answers` | the part `print` of stdin and stdout of crates/replay, by the model |
+//! | `compare vectors inputs`, `answers` | the texts of crates/replay; the answers of the Rust to texts |
 //! | `compare definitions FOLDER SEED` | cases for the definitions under crates/, as statements of the proof language |
 //!
 //! It ends with 0 where all agree, with 1 where something differs, with 2 for wrong use and what can't be read or written. Those with schemas

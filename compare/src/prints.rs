@@ -293,7 +293,7 @@ fn documents() -> Vec<Input> {
     all
 }
 
-/// The inputs of crates/print_cases that are bytes, and what they show.
+/// The inputs of crates/replay that are bytes, and what they show.
 const BYTES: [(&str, &[u8]); 11] = [
     ("no bytes", &[]),
     ("three bytes", &[1, 0, 1]),
@@ -320,7 +320,7 @@ const BYTES: [(&str, &[u8]); 11] = [
 /// A type of each kind, with every cardinality but the plain one.
 const EACH_KIND: &str = "<schema targetNamespace=u><element name=R type=a_b/><simpleType name=K><enumeration value=TEST-VALUE/></><simpleType name=N><restriction base=my:date/><maxLength value=4294967296/></><complexType name=a_b><sequence><element name=FooBar type=K minOccurs=0/><element name=B type=xs:int minOccurs=5 maxOccurs=unbounded/><element name=C type=N maxOccurs=7/></></><complexType name=H><choice><element name=V type=_x/></></><complexType name=W><simpleContent><extension base=decimal><attribute name=Ccy type=K use=required/></></></><complexType name=O></></>";
 
-/// The tapes of crates/print_cases, and what they show.
+/// The tapes of crates/replay, and what they show.
 fn table_tapes() -> Vec<(&'static str, Tape)> {
     let of = |lines: &str| Tape::of(&events(lines));
     let tape = |text: &[u8], marks: &[u32]| Tape {
@@ -347,7 +347,7 @@ fn table_tapes() -> Vec<(&'static str, Tape)> {
     ]
 }
 
-/// The file stdin of crates/print_cases: a letter, a label, a text and numbers on each line.
+/// The part `print` of the file stdin of crates/replay: a letter, a label, a text and numbers on each line.
 pub fn table() -> String {
     let list = |numbers: Vec<String>| numbers.join(" ");
     let mut lines = String::new();
@@ -363,7 +363,7 @@ pub fn table() -> String {
     lines
 }
 
-/// The file stdout of crates/print_cases: each label and what the model prints.
+/// The part `print` of the file stdout of crates/replay: each label and what the model prints.
 pub fn table_answers() -> Vec<u8> {
     let tapes = table_tapes();
     let bytes = BYTES.map(|(shows, bytes)| (shows, bytes.to_vec()));

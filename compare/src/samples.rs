@@ -1,4 +1,4 @@
-//! The fixed sample: the texts whose answers are kept in crates/vectors.
+//! The fixed sample: the texts whose answers are kept in crates/replay.
 
 use crate::leaves::normalize_type_name;
 use crate::names::{near_misses, BUILTIN_NAMES, ISO_NAMES, OTHER_BUILTIN_NAMES};

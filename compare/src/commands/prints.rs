@@ -1,4 +1,4 @@
-//! Runs the printing program on many inputs and compares what it prints with the model of paper 01; or writes the files of crates/print_cases.
+//! Runs the printing program on many inputs and compares what it prints with the model of paper 01; or writes a part of the files of crates/replay.
 
 use std::collections::BTreeMap;
 use std::io::{self, Write};
@@ -9,12 +9,12 @@ use compare::schemas;
 
 use super::failed;
 
-/// stdin of crates/print_cases.
+/// The part `print` of stdin of crates/replay.
 pub fn table() -> ExitCode {
     write(prints::table().as_bytes())
 }
 
-/// stdout of crates/print_cases, by the model.
+/// The part `print` of stdout of crates/replay, by the model.
 pub fn answers() -> ExitCode {
     write(&prints::table_answers())
 }

@@ -1,4 +1,4 @@
-//! The fixed sample behind crates/vectors.
+//! The fixed sample behind crates/replay.
 
 use std::io::{self, Read, Write};
 use std::process::ExitCode;
