@@ -150,7 +150,7 @@ pub fn parser() -> Parser {
         .arg_required_else_help(true)
         .arg(flag("quiet", "No warnings and no progress").global(true))
         .arg(
-            flag("verbose", "Say who reads each text, the library or quick-xml")
+            flag("verbose", "Say who reads each text, the library or quick-xml, and every place that the graph does not keep")
                 .global(true)
                 .conflicts_with("quiet"),
         )
@@ -166,7 +166,7 @@ fn graph() -> Parser {
     let formats = PossibleValuesParser::new(["text", "json", "dot", "rust", "rows"]);
     Parser::new("graph")
         .about("The type graph of an XSD file or a stored sheet")
-        .arg(path("FILE").help("An XSD file or a stored sheet"))
+        .arg(path("FILE").help("An XSD file or a stored sheet; - is standard input"))
         .arg(
             Arg::new("format")
                 .long("format")
@@ -188,7 +188,7 @@ fn names() -> Parser {
         .about(
             "Every XML name with its Rust name; names that meet are marked and end with status 1",
         )
-        .arg(path("FILE"))
+        .arg(path("FILE").help("An XSD file or a stored sheet; - is standard input"))
         .arg(flag(
             "partial",
             "Take a stored sheet that is not read to its end",
@@ -200,7 +200,7 @@ fn names() -> Parser {
 fn read() -> Parser {
     Parser::new("read")
         .about("Read on where a stored sheet stands")
-        .arg(path("FILE").help("An XSD file"))
+        .arg(path("FILE").help("An XSD file; - is standard input"))
         .arg(
             option("sheet", "SHEET")
                 .required(true)
@@ -232,7 +232,7 @@ fn shelf() -> Parser {
 fn tape() -> Parser {
     Parser::new("tape")
         .about("The printing program's input; OUT.000, OUT.001 .. where it takes several pieces")
-        .arg(path("FILE").help("An XSD file"))
+        .arg(path("FILE").help("An XSD file; - is standard input"))
         .arg(
             option("output", "OUT")
                 .required(true)
@@ -274,7 +274,10 @@ fn flag(name: &'static str, help: &'static str) -> Arg {
 }
 
 fn strict() -> Arg {
-    flag("strict", "Refuse a schema of which something was not kept")
+    flag(
+        "strict",
+        "Refuse a schema of which the graph does not keep something",
+    )
 }
 
 fn as_original() -> Arg {

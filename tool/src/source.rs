@@ -11,7 +11,7 @@ use sha2::{Digest, Sha256};
 
 use crate::document::{Document, Way, BYTE_ORDER_MARK};
 use crate::failure::{is_standard_input, named, Failure};
-use crate::xml::{line_and_column, Fault};
+use crate::xml::{line_and_column, Fault, Lines};
 
 /// A schema file that was read.
 #[derive(Debug)]
@@ -21,6 +21,7 @@ pub struct Source {
     /// The length of the file in bytes.
     pub length: u64,
     sha256: OnceLock<[u8; 32]>,
+    lines: OnceLock<Lines>,
 }
 
 impl Source {
@@ -53,6 +54,7 @@ impl Source {
             document,
             length,
             sha256: OnceLock::new(),
+            lines: OnceLock::new(),
         })
     }
 
@@ -101,12 +103,19 @@ impl Source {
 
     /// The words with the place of a byte before them.
     pub fn at(&self, at: usize, words: &str) -> String {
-        format!("{}{words}", placed(&self.path, self.document.text(), at))
+        let text = self.document.text();
+        let (line, column) = self.lines().line_and_column(text, at);
+        format!("{}:{line}:{column}: {words}", named(&self.path))
+    }
+
+    /// The lines of the text, found once.
+    pub fn lines(&self) -> &Lines {
+        self.lines.get_or_init(|| Lines::of(self.document.text()))
     }
 
     /// The line of a byte, from 1.
     pub fn line(&self, at: usize) -> usize {
-        line_and_column(self.document.text(), at).0
+        self.lines().line(at)
     }
 
     /// A tag that fits into no piece.

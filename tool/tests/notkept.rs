@@ -6,7 +6,7 @@ mod common;
 use std::fs;
 use std::path::Path;
 
-use common::{lubiksan, schemas, Folder, Ran};
+use common::{cases, lubiksan, schemas, Folder, Ran, Random};
 use lubiksan::ReadAs;
 use lubiksan_tool::notkept::NotKept;
 use lubiksan_tool::reading::read_whole;
@@ -455,6 +455,95 @@ fn two_finders_find_the_same() {
         assert_eq!(tree.len(), program.len(), "{}", file.display());
     }
     assert!(count > 0);
+}
+
+/// A part of a random group, by tags that stand alone or hold others.
+fn part(random: &mut Random, depth: usize, text: &mut String) {
+    let name = format!("n{}", random.below(30));
+    let occurs = [
+        "",
+        "",
+        " minOccurs='0'",
+        " maxOccurs='0'",
+        " maxOccurs='unbounded'",
+        " minOccurs='1' maxOccurs=' 1 '",
+    ];
+    let occurs = occurs[random.below(occurs.len())];
+    let value = ["", "", "", " nillable='true'", " default='d'", " fixed='f'"][random.below(6)];
+    match random.below(if depth == 0 { 9 } else { 13 }) {
+        0..=3 => *text += &format!("<element name='{name}' type='t'{occurs}{value}/>"),
+        4 => *text += &format!("<element name='{name}' type='t'{occurs}{value}><annotation/></element>"),
+        5 => *text += &format!("<element ref='p:{name}'{occurs}/>"),
+        6 => *text += &format!("<element name='{name}'{occurs}/>"),
+        7 if random.below(4) == 0 => *text += "<any/>",
+        7 => *text += "<any><annotation/></any>",
+        8 => *text += &format!("<group ref='p:{name}'/>"),
+        9 => {
+            *text += &format!("<element name='{name}'><complexType>");
+            group(random, depth - 1, text);
+            *text += "<attribute name='a' type='t'/></complexType></element>";
+        }
+        10 => *text += &format!("<element name='{name}' type='t'><unique name='u'><selector xpath='x'/></unique></element>"),
+        _ => group(random, depth - 1, text),
+    }
+}
+
+fn group(random: &mut Random, depth: usize, text: &mut String) {
+    let tag = ["sequence", "choice"][random.below(2)];
+    let occurs = [
+        "",
+        "",
+        "",
+        " minOccurs='0'",
+        " maxOccurs='5'",
+        " minOccurs='0' maxOccurs='1'",
+    ][random.below(6)];
+    *text += &format!("<{tag}{occurs}>");
+    for _ in 0..random.below(4) {
+        part(random, depth, text);
+    }
+    *text += &format!("</{tag}>\n");
+}
+
+fn random_type(random: &mut Random, number: usize) -> String {
+    let mut text = format!("<complexType name='T{number}'>\n");
+    let kind = random.below(8);
+    match kind {
+        0 => text += "<complexContent><extension base='b'><sequence><element name='e' type='t'/></sequence></extension></complexContent>",
+        1 => text += "<all><element name='e' type='t'/></all>",
+        2 => text += "<simpleContent><extension base='b'><attribute name='x' type='t' use='prohibited'/><attribute ref='p:y'/></extension></simpleContent>",
+        _ => group(random, 3, &mut text),
+    }
+    for more in [
+        "<attribute name='a' type='t'/>",
+        "<attribute ref='p:r'/>",
+        "<attributeGroup ref='g'/>",
+        "<anyAttribute/>",
+    ] {
+        // Attributes stand behind neither kind of content.
+        if kind % 2 == 1 && random.below(3) == 0 {
+            text += more;
+        }
+    }
+    text + "</complexType>\n"
+}
+
+#[test]
+fn two_finders_find_the_same_in_random_types() {
+    let folder = Folder::new();
+    let mut random = Random(7_402);
+    for round in 0..cases(150) {
+        let types: String = (0..8)
+            .map(|number| random_type(&mut random, number))
+            .collect();
+        let text = format!("<schema>\n{types}</schema>");
+        let file = folder.put(&format!("{round}.xsd"), &text);
+        let (tree, program) = (by_tree(&text), by_program(&file));
+        for (one, other) in tree.iter().zip(&program) {
+            assert_eq!(one, other, "{text}");
+        }
+        assert_eq!(tree.len(), program.len(), "{text}");
+    }
 }
 
 /// The rest of the program's lines for this content of the schema, behind `a.xsd:1:`, and the outcome with `--strict`.

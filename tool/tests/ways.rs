@@ -10,7 +10,7 @@ use common::{
 };
 use compare::texts::specimens::LINES;
 use lubiksan_tool::document::{Document, NoDocument, Way};
-use lubiksan_tool::xml::{Event, EventKind};
+use lubiksan_tool::xml::{line_and_column, Event, EventKind, Lines};
 
 /// Runs a command on a file `a.xsd` with this text; its folder is cut from what is printed and said.
 fn run(text: impl AsRef<[u8]>, args: &[&str]) -> Ran {
@@ -225,6 +225,16 @@ fn same_both_ways(text: &[u8]) {
             assert_eq!(other, Err(NoDocument { words, ..refused }), "{shown}");
         }
         found => assert_eq!(found, other, "{shown}"),
+    }
+}
+
+#[test]
+fn lines_and_columns_are_those_counted_from_the_start() {
+    let text = "a\nbé\r\nc\rd\n\n\u{1F600}e\r";
+    let lines = Lines::of(text);
+    for (at, _) in text.char_indices() {
+        let counted = line_and_column(text, at);
+        assert_eq!(lines.line_and_column(text, at), counted, "{at}");
     }
 }
 

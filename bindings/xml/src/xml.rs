@@ -472,6 +472,7 @@ pub fn line_and_column(text: &str, at: usize) -> (usize, usize) {
 }
 
 /// The lines of a text, to find that of many bytes.
+#[derive(Clone, Debug)]
 pub struct Lines(Vec<usize>);
 
 impl Lines {
@@ -494,6 +495,14 @@ impl Lines {
     /// The line of a byte, from 1.
     pub fn line(&self, at: usize) -> usize {
         1 + self.0.partition_point(|&start| start <= at)
+    }
+
+    /// Line and column of a byte of the same text, both from 1, as [`line_and_column`] gives them.
+    pub fn line_and_column(&self, text: &str, at: usize) -> (usize, usize) {
+        let line = self.line(at);
+        let start = line.checked_sub(2).and_then(|line| self.0.get(line));
+        let before = text.get(start.copied().unwrap_or(0)..at);
+        (line, 1 + before.unwrap_or_default().chars().count())
     }
 }
 

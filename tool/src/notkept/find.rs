@@ -65,7 +65,7 @@ enum Role {
 struct OneType<'d> {
     name: Option<&'d str>,
     found: Vec<Found<'d>>,
-    /// `any`, where it made the content.
+    /// The first `any` that made the content.
     any: Option<usize>,
     /// Everything but `any` that its content is made of.
     parts: Vec<&'d str>,
@@ -174,7 +174,7 @@ impl<'d> Finder<'d> {
             }
             (Stands::SimpleType, Did::Row) => self.one.other_facets = true,
             (Stands::ComplexType(_), Did::Content) if tag.name == "any" => {
-                self.one.any = Some(tag.index);
+                self.one.any.get_or_insert(tag.index);
             }
             _ => {}
         }
