@@ -13,7 +13,7 @@ use Rattle.number.specs.Number.{parsed, plainNumber, number, Spells}
 use Rattle.number.proofs.Laws.Spellings.{number-kept, number-exactly}
 use Rattle.sheet.specs.Rows.{Sheet}
 use Rattle.sheet.specs.Form.{words, tensOf}
-use Rattle.sheet.specs.Returned.{accepted}
+use Rattle.sheet.specs.Returned.{accepted, malformed, doctype}
 use Rattle.sheet.specs.Lengths.{sheetLengths, Lengths, lengthsOf, goodLengths}
 use Rattle.xsd_types.specs.Types.{Schema, MaxOccurs}
 use Rattle.xsd_types.specs.State.{State, firstState, headsPass, proper}
@@ -49,11 +49,13 @@ use Rattle.xsd_parser.proofs.Laws.Steps.{step-proper}
 use Rattle.xsd_parser.proofs.Laws.Reads.{readState-place}
 use Rattle.xml.specs.Tape.{TapeEvent, tapeMarks}
 use Rattle.xml.specs.Tags.{tag}
-use Rattle.xml.specs.Call.{wellFormed, document, tapeOf}
-use Rattle.xml.specs.Table.{TapeTable}
-use Rattle.xml.proofs.Laws.Table.{tape-table}
+use Rattle.xml.specs.Document.{wellFormed, document, tapeOf}
 use Rattle.xml.specs.Accepted.{EventsAt, fewAttributes, eventRead, recordsRead, ReadsThrough}
 use Rattle.xml.specs.Written.{isNameText, attributeOk, newKeys, writtenTag, writtenEvent, taggedAs}
+use Rattle.xml.specs.Grammar.{Derived, BegunByDoctype}
+use Rattle.xml.specs.Call.{Readable, TapeIs}
+use Rattle.xml.proofs.Laws.Grammar.Documents.{document-exactly, derived-once}
+use Rattle.xml.proofs.Laws.Grammar.Taken.{taken, tape-exactly, eighteen-exactly, seventeen-exactly}
 use Rattle.xml.proofs.Laws.Events.{events-at}
 use Rattle.xml.proofs.Laws.Records.{tape-records}
 use Rattle.xml.proofs.Laws.Reads.{tape-reads, accepted-tape}
@@ -116,9 +118,6 @@ claim-lower-table = lowering-table
 
 pub claim-label-table : (rows names words : List ℕ) (k : ℕ) → LabelTable rows names words k (label rows names words k)
 claim-label-table = label-table
-
-pub claim-tape-table : (text : Text) (before : List ℕ) → TapeTable text before (tapeOf text before)
-claim-tape-table = tape-table
 
 -- "The label call gives a row's type reference": on an accepted graph, for every row
 pub claim-labels : (x graph : Sheet) (scratch words : List ℕ) → lowering x graph scratch .answer .number ≡ 0
@@ -187,7 +186,28 @@ claim-number-exactly = number-exactly
 pub claim-unbounded : (v : Text) → (isUnbounded v ≡ true) ↔ Around (bytes "unbounded") v
 claim-unbounded = unbounded-exactly
 
--- order 1: an accepted tape is that of a well-formed text below 128, up to its place
+-- order 1: "by XML 1.0 (Fifth Edition)": a text is accepted exactly if it derives a document by the productions, and the events are the derivation's tags in
+-- order, so that "close names compared, keys unique" and none is left out or invented; a text has at most one list of events
+pub claim-document : (text : Text) (es : List TapeEvent) → (document text ≡ wellFormed es) ↔ Derived text es
+claim-document = document-exactly
+
+pub claim-document-once : {text : Text} {es fs : List TapeEvent} → Derived text es → Derived text fs → es ≡ fs
+claim-document-once = derived-once
+
+-- "18 the bytes `<!DOCTYPE` with only a well-formed prolog, or nothing, before them", behind 1 and 5
+pub claim-doctype : (text : Text) (before : List ℕ) → (tapeOf text before .number ≡ doctype) ↔ (Readable text before × BegunByDoctype text)
+claim-doctype = eighteen-exactly
+
+-- "17 not well formed": below 128, not 18, and no derivation
+pub claim-malformed : (text : Text) (before : List ℕ)
+    → (tapeOf text before .number ≡ malformed) ↔ (Readable text before × (BegunByDoctype text → ⊥) × ((es : List TapeEvent) → Derived text es → ⊥))
+claim-malformed = seventeen-exactly
+
+-- what the call says of itself, by the productions alone, fixes number, place and every mark
+pub claim-tape-is : (text : Text) (before : List ℕ) (number place : ℕ) (after : List ℕ) → TapeIs text before number place after ↔ (taken number place after ≡ tapeOf text before)
+claim-tape-is = tape-exactly
+
+-- an accepted tape is that of a well-formed text below 128, up to its place
 pub claim-tape : (text : Text) (before : List ℕ) → tapeOf text before .number ≡ accepted → (es : List TapeEvent) × (document text ≡ wellFormed es) × (isText text ≡ true) × (take (tapeOf text before .place) (tapeOf text before .marks) ≡ tapeMarks es)
 claim-tape = accepted-tape
 

@@ -12,7 +12,6 @@ pub mod Pairs
 pub mod Events
 pub mod Records
 pub mod Reads
-pub mod Table
 pub mod Written
 pub mod Back
 pub mod Grammar

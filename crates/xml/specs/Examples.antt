@@ -13,7 +13,7 @@ use Rattle.text.specs.Unfold.{computes as texts}
 use Rattle.sheet.specs.Unfold.{computes as sheets}
 use Rattle.sheet.specs.Rows.{filled}
 use Rattle.sheet.specs.Returned.{accepted, malformed, doctype}
-use Rattle.xml.specs.Call.{Taken, tapeOf}
+use Rattle.xml.specs.Document.{Taken, tapeOf}
 use Rattle.xml.specs.Unfold.{computes as taken}
 
 unfoldable pub gives : ℕ → String → Bool
@@ -22,11 +22,13 @@ gives number text = eqb (tapeOf (bytes text) (replicate 32 7) .number) number
 unfoldable pub allGive : ℕ → List String → Bool
 allGive number ss = every (gives number) ss
 
-pub doctypes : allGive doctype ("<!DOCTYPE" ∷ "<!DOCTYPEx" ∷ "<!DOCTYPE>" ∷ " <!DOCTYPE" ∷ "<!--x--><?p?> <!DOCTYPE" ∷ "<?xml version='1.0'?><!DOCTYPE" ∷ "<!--<!DOCTYPE--><!DOCTYPE" ∷ "<!DOCTYPE a><" ∷ []) ≡ true
+pub doctypes : allGive doctype ("<!DOCTYPE" ∷ "<!DOCTYPEx" ∷ "<!DOCTYPE>" ∷ " <!DOCTYPE" ∷ "<!--x--><?p?> <!DOCTYPE" ∷ "<?xml version='1.0'?><!DOCTYPE"
+    ∷ "<!--<!DOCTYPE--><!DOCTYPE" ∷ "<!DOCTYPE a><" ∷ []) ≡ true
 unfolding gives allGive texts sheets taken
 doctypes = refl
 
-pub no-doctypes : allGive malformed ("<!doctype a>" ∷ "<! DOCTYPE a>" ∷ "<!DOCTYP" ∷ "x<!DOCTYPE a>" ∷ " <?xml version='1.0'?><!DOCTYPE a>" ∷ "<?xml version='2.0'?><!DOCTYPE a>" ∷ "<!-- -- --><!DOCTYPE a>" ∷ "<a/><!DOCTYPE a>" ∷ "<a><!DOCTYPE a></a>" ∷ "<!--<!DOCTYPE" ∷ []) ≡ true
+pub no-doctypes : allGive malformed ("<!doctype a>" ∷ "<! DOCTYPE a>" ∷ "<!DOCTYP" ∷ "x<!DOCTYPE a>" ∷ " <?xml version='1.0'?><!DOCTYPE a>" ∷ "<?xml version='2.0'?><!DOCTYPE a>"
+    ∷ "<!-- -- --><!DOCTYPE a>" ∷ "<a/><!DOCTYPE a>" ∷ "<a><!DOCTYPE a></a>" ∷ "<!--<!DOCTYPE" ∷ []) ≡ true
 unfolding gives allGive texts sheets taken
 no-doctypes = refl
 
@@ -56,12 +58,14 @@ unfolding gives allGive texts sheets taken
 tags-right = refl
 
 -- white space before each attribute, quotes, no `<`, no key twice, names of end tags compared byte by byte
-pub tags-wrong : allGive malformed ("<a b='1'c='2'/>" ∷ "<a b/>" ∷ "<a b=1/>" ∷ "<a b='1\"/>" ∷ "<a b='<'/>" ∷ "<a b='&'/>" ∷ "<a b='1' b='2'/>" ∷ "<a b='1' c='1' b='1'/>" ∷ "<a / >" ∷ "<a></ a>" ∷ "<a></a/>" ∷ "<a></a b=''>" ∷ "<x:a></a>" ∷ "<a></A>" ∷ "<a></ab>" ∷ "<ab></a>" ∷ "<a/ ></a>" ∷ []) ≡ true
+pub tags-wrong : allGive malformed ("<a b='1'c='2'/>" ∷ "<a b/>" ∷ "<a b=1/>" ∷ "<a b='1\"/>" ∷ "<a b='<'/>" ∷ "<a b='&'/>" ∷ "<a b='1' b='2'/>" ∷ "<a b='1' c='1' b='1'/>"
+    ∷ "<a / >" ∷ "<a></ a>" ∷ "<a></a/>" ∷ "<a></a b=''>" ∷ "<x:a></a>" ∷ "<a></A>" ∷ "<a></ab>" ∷ "<ab></a>" ∷ "<a/ ></a>" ∷ []) ≡ true
 unfolding gives allGive texts sheets taken
 tags-wrong = refl
 
 -- [14], [20]
-pub text-right : allGive accepted ("<a>]]</a>" ∷ "<a>]></a>" ∷ "<a>></a>" ∷ "<a>]]&gt;</a>" ∷ "<a>]]<b/>></a>" ∷ "<a>]]<!--x-->></a>" ∷ "<a>%p;</a>" ∷ "<a><![CDATA[<&]]]]></a>" ∷ "<a><![CDATA[]]></a>" ∷ []) ≡ true
+pub text-right : allGive accepted ("<a>]]</a>" ∷ "<a>]></a>" ∷ "<a>></a>" ∷ "<a>]]&gt;</a>" ∷ "<a>]]<b/>></a>" ∷ "<a>]]<!--x-->></a>" ∷ "<a>%p;</a>" ∷ "<a><![CDATA[<&]]]]></a>"
+    ∷ "<a><![CDATA[]]></a>" ∷ []) ≡ true
 unfolding gives allGive texts sheets taken
 text-right = refl
 
@@ -71,12 +75,14 @@ unfolding gives allGive texts sheets taken
 text-wrong = refl
 
 -- [66] to [68]
-pub references-right : allGive accepted ("<a>&amp;&lt;&gt;&apos;&quot;</a>" ∷ "<a>&#233;&#128;&#xE9;&#xe9;&#0000000009;</a>" ∷ "<a>&#x10FFFF;&#xD7FF;&#xE000;&#xFFFD;</a>" ∷ "<a><!--&--><?p &?><![CDATA[&]]></a>" ∷ []) ≡ true
+pub references-right : allGive accepted ("<a>&amp;&lt;&gt;&apos;&quot;</a>" ∷ "<a>&#233;&#128;&#xE9;&#xe9;&#0000000009;</a>" ∷ "<a>&#x10FFFF;&#xD7FF;&#xE000;&#xFFFD;</a>"
+    ∷ "<a><!--&--><?p &?><![CDATA[&]]></a>" ∷ []) ≡ true
 unfolding gives allGive texts sheets taken
 references-right = refl
 
 -- only the five entities; a number must be a character
-pub references-wrong : allGive malformed ("<a>&AMP;</a>" ∷ "<a>&nbsp;</a>" ∷ "<a>&;</a>" ∷ "<a>&amp</a>" ∷ "<a>&#;</a>" ∷ "<a>&#x;</a>" ∷ "<a>&#X41;</a>" ∷ "<a>&#4294967361;</a>" ∷ "<a>&#xD800;</a>" ∷ "<a>&#xFFFE;</a>" ∷ "<a>&#x110000;</a>" ∷ "<a>&#8;</a>" ∷ "<a>&#0;</a>" ∷ "<a>&#1a;</a>" ∷ "<a>& amp;</a>" ∷ []) ≡ true
+pub references-wrong : allGive malformed ("<a>&AMP;</a>" ∷ "<a>&nbsp;</a>" ∷ "<a>&;</a>" ∷ "<a>&amp</a>" ∷ "<a>&#;</a>" ∷ "<a>&#x;</a>" ∷ "<a>&#X41;</a>" ∷ "<a>&#4294967361;</a>"
+    ∷ "<a>&#xD800;</a>" ∷ "<a>&#xFFFE;</a>" ∷ "<a>&#x110000;</a>" ∷ "<a>&#8;</a>" ∷ "<a>&#0;</a>" ∷ "<a>&#1a;</a>" ∷ "<a>& amp;</a>" ∷ []) ≡ true
 unfolding gives allGive texts sheets taken
 references-wrong = refl
 
@@ -101,12 +107,15 @@ unfolding gives allGive texts sheets taken
 instructions-wrong = refl
 
 -- [23] to [26], [32], [80], [81]; the name of the encoding is not looked up
-pub declarations-right : allGive accepted ("<?xml version='1.0'?><a/>" ∷ "<?xml version = '1.1' ?><a/>" ∷ "<?xml version='1.999' encoding='UTF-16'?><a/>" ∷ "<?xml version='1.0' encoding='x' standalone='yes'?><a/>" ∷ "<?xml version='1.0' standalone=\"no\" ?><a/>" ∷ []) ≡ true
+pub declarations-right : allGive accepted ("<?xml version='1.0'?><a/>" ∷ "<?xml version = '1.1' ?><a/>" ∷ "<?xml version='1.999' encoding='UTF-16'?><a/>"
+    ∷ "<?xml version='1.0' encoding='x' standalone='yes'?><a/>" ∷ "<?xml version='1.0' standalone=\"no\" ?><a/>" ∷ []) ≡ true
 unfolding gives allGive texts sheets taken
 declarations-right = refl
 
 -- in this order, each behind white space, at the first byte or not at all
-pub declarations-wrong : allGive malformed (" <?xml version='1.0'?><a/>" ∷ "<?xml version='1.'?><a/>" ∷ "<?xml version='1'?><a/>" ∷ "<?xml version='2.0'?><a/>" ∷ "<?xml version='1.0 '?><a/>" ∷ "<?xml encoding='x'?><a/>" ∷ "<?xml version='1.0' standalone='yes' encoding='x'?><a/>" ∷ "<?xml version='1.0'encoding='x'?><a/>" ∷ "<?xml version='1.0' encoding='1'?><a/>" ∷ "<?xml version='1.0' encoding=''?><a/>" ∷ "<?xml version='1.0' standalone='YES'?><a/>" ∷ "<?xml version='1.0\"?><a/>" ∷ []) ≡ true
+pub declarations-wrong : allGive malformed (" <?xml version='1.0'?><a/>" ∷ "<?xml version='1.'?><a/>" ∷ "<?xml version='1'?><a/>" ∷ "<?xml version='2.0'?><a/>"
+    ∷ "<?xml version='1.0 '?><a/>" ∷ "<?xml encoding='x'?><a/>" ∷ "<?xml version='1.0' standalone='yes' encoding='x'?><a/>" ∷ "<?xml version='1.0'encoding='x'?><a/>"
+    ∷ "<?xml version='1.0' encoding='1'?><a/>" ∷ "<?xml version='1.0' encoding=''?><a/>" ∷ "<?xml version='1.0' standalone='YES'?><a/>" ∷ "<?xml version='1.0\"?><a/>" ∷ []) ≡ true
 unfolding gives allGive texts sheets taken
 declarations-wrong = refl
 

@@ -1,25 +1,21 @@
 -- XML 1.0 (Fifth Edition), production by production, as far as a text below 128 without a document type uses it: a value of `Derived s es` is a derivation
--- of the text s, with its tags in order as the events es. A well-formedness constraint is a premise where the standard hangs it. `Call.document` accepts
+-- of the text s, with its tags in order as the events es. A well-formedness constraint is a premise where the standard hangs it. `Document.document` accepts
 -- exactly what has a derivation (proofs/Laws/Grammar.antt).
 --     Opt, Many     X? and X*; Run: a byte of a class and as many as there are of another; Without: "- (Char* word Char*)"
 --     isTextChar    [^<&]; isValueChar: [^<&"] or [^<&']; isHexDigit: [0-9a-fA-F]; numberOf: what digits name
 --     Offsets: `at` is where the derived text begins. A tag is derived with the text of its name and its event, attributes with their keys and their pairs.
-use Prim.Native.Nat.{ℕ, _+_, _*_}
+use Prim.Native.Nat.{ℕ, _+_, _-_, _*_}
 use Prim.Native.Char.{code}
 use mathlib.Core.Path.{_≡_}
 use mathlib.Core.List.{List, [], _∷_, _++_}
 use mathlib.Core.Bool.{Bool, true, false, not, _&&_, _||_}
 use lib.Dec.{eqb}
 use lib.ListN.{length}
-use Rattle.text.specs.Text.{Text, bytes, every, between, isDigit}
+use Rattle.text.specs.Text.{Text, if_then_else_, bytes, every, between, isDigit, same, lower}
 use Rattle.text.specs.Trim.{isWhiteSpace}
-use Rattle.xsd_parser.specs.Tape.{Pair}
 use Rattle.xsd_parser.specs.Kinds.{startKind, emptyKind}
 use Rattle.xml.specs.Classes.{isChar, isLetter, isNameStart, isName, isEncoding}
-use Rattle.xml.specs.Steps.{isXml}
-use Rattle.xml.specs.Values.{digitOf}
 use Rattle.xml.specs.Tape.{AttributePairs, TapeEvent}
-use Rattle.xml.specs.Tags.{isAmong}
 
 pub data Opt (P : Text → Type 0) : Text → Type 0 where
   absent : Opt P []
@@ -46,6 +42,13 @@ Name = Run isNameStart isName
 
 unfoldable pub isHexDigit : ℕ → Bool
 isHexDigit b = isDigit b || between (code "a") (code "f") b || between (code "A") (code "F") b
+
+-- a digit's value, in either case; 16 for any other byte
+unfoldable pub digitOf : ℕ → ℕ
+digitOf b =
+    if isDigit b then b - code "0" else
+    if between (code "a") (code "f") b then b - 87 else
+    if between (code "A") (code "F") b then b - 55 else 16
 
 unfoldable pub numberOf : ℕ → ℕ → Text → ℕ
 numberOf base v [] = v
@@ -105,6 +108,14 @@ pub data CommentPart : Text → Type 0 where
 pub data Comment : Text → Type 0 where
   comment : {s : Text} → Many CommentPart s → Comment (bytes "<!--" ++ (s ++ bytes "-->"))
 
+-- the three letters `xml` in any case
+unfoldable pub isXml : Text → Bool
+isXml [] = false
+isXml (a ∷ []) = false
+isXml (a ∷ b ∷ []) = false
+isXml (a ∷ b ∷ c ∷ []) = eqb (lower a) (code "x") && eqb (lower b) (code "m") && eqb (lower c) (code "l")
+isXml (a ∷ b ∷ c ∷ d ∷ s) = false
+
 -- [17] PITarget ::= Name - (('X' | 'x') ('M' | 'm') ('L' | 'l'))
 pub data PITarget : Text → Type 0 where
   target : {n : Text} → Name n → isXml n ≡ false → PITarget n
@@ -151,7 +162,7 @@ pub data Declares (word : Text) (P : Text → Type 0) : Text → Type 0 where
 -- [23] XMLDecl ::= '<?xml' VersionInfo EncodingDecl? SDDecl? S? '?>'
 pub data XMLDecl : Text → Type 0 where
   xmlDecl : {v e d s : Text} → Declares (bytes "version") VersionNum v → Opt (Declares (bytes "encoding") EncName) e → Opt (Declares (bytes "standalone") YesNo) d → Opt S s
-    → XMLDecl (bytes "<?xml" ++ (v ++ (e ++ (d ++ (s ++ bytes "?>")))))
+      → XMLDecl (bytes "<?xml" ++ (v ++ (e ++ (d ++ (s ++ bytes "?>")))))
 
 -- [27] Misc ::= Comment | PI | S
 pub data Misc : Text → Type 0 where
@@ -166,13 +177,17 @@ pub data Prolog : Text → Type 0 where
 -- [41] Attribute ::= Name Eq AttValue, at an offset, with its key and its pairs
 pub data Attribute (at : ℕ) : Text → Text → AttributePairs → Type 0 where
   attribute : {k e v w : Text} → Name k → Eq e → AttValue v w
-    → Attribute at (k ++ (e ++ w)) k (record { key = record { offset = at; size = length k }; value = record { offset = at + length k + length e + 1; size = length v } })
+      → Attribute at (k ++ (e ++ w)) k (record { key = record { offset = at; size = length k }; value = record { offset = at + length k + length e + 1; size = length v } })
 
 -- (S Attribute)*
 pub data Attributes : ℕ → Text → List Text → List AttributePairs → Type 0 where
   noAttribute : {at : ℕ} → Attributes at [] [] []
   oneMore : {at : ℕ} {s t u k : Text} {x : AttributePairs} {ks : List Text} {xs : List AttributePairs} → S s → Attribute (at + length s) t k x → Attributes (at + length s + length t) u ks xs
-    → Attributes at (s ++ (t ++ u)) (k ∷ ks) (x ∷ xs)
+      → Attributes at (s ++ (t ++ u)) (k ∷ ks) (x ∷ xs)
+
+unfoldable pub isAmong : Text → List Text → Bool
+isAmong t [] = false
+isAmong t (u ∷ us) = same t u || isAmong t us
 
 -- no key is among those before it
 unfoldable pub newKey : List Text → List Text → Bool
@@ -182,7 +197,8 @@ newKey before (k ∷ ks) = not (isAmong k before) && newKey (k ∷ before) ks
 -- '<' Name (S Attribute)* S?, with the name and the attributes
 -- "Unique Att Spec": "An attribute name MUST NOT appear more than once in the same start-tag or empty-element tag."
 pub data TagBody (at : ℕ) : Text → Text → List AttributePairs → Type 0 where
-  tagBody : {n s t : Text} {ks : List Text} {xs : List AttributePairs} → Name n → Attributes (at + 1 + length n) s ks xs → newKey [] ks ≡ true → Opt S t → TagBody at (bytes "<" ++ (n ++ (s ++ t))) n xs
+  tagBody : {n s t : Text} {ks : List Text} {xs : List AttributePairs} → Name n → Attributes (at + 1 + length n) s ks xs → newKey [] ks ≡ true → Opt S t
+      → TagBody at (bytes "<" ++ (n ++ (s ++ t))) n xs
 
 abbrev pub eventAt : ℕ → ℕ → Text → List AttributePairs → TapeEvent
 eventAt kind at n xs = TapeEvent.tag kind (record { offset = at + 1; size = length n }) xs
@@ -204,7 +220,8 @@ mutual
   -- "Element Type Match": "The Name in an element's end-tag MUST match the element type in the start-tag."
   pub data Element : ℕ → Text → List TapeEvent → Type 0 where
     emptyElement : {at : ℕ} {s : Text} {e : TapeEvent} → EmptyElemTag at s e → Element at s (e ∷ [])
-    wholeElement : {at : ℕ} {s t u n m : Text} {e : TapeEvent} {es : List TapeEvent} → STag at s n e → Content (at + length s) t es → ETag u m → m ≡ n → Element at (s ++ (t ++ u)) (e ∷ (es ++ TapeEvent.close ∷ []))
+    wholeElement : {at : ℕ} {s t u n m : Text} {e : TapeEvent} {es : List TapeEvent} → STag at s n e → Content (at + length s) t es → ETag u m → m ≡ n
+        → Element at (s ++ (t ++ u)) (e ∷ (es ++ TapeEvent.close ∷ []))
 
   -- [43] content ::= CharData? ((element | Reference | CDSect | PI | Comment) CharData?)*
   pub data Content : ℕ → Text → List TapeEvent → Type 0 where

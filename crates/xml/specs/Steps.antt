@@ -9,13 +9,13 @@
 --     until         characters up to the first place of a word, and the word
 --     comment       [15]; instruction: [16] with its [17]; section: [18] CDATA
 use Prim.Native.Nat.{ℕ, suc, _+_}
-use Prim.Native.Char.{code}
-use mathlib.Core.List.{List, [], _∷_}
+use mathlib.Core.List.{[], _∷_}
 use mathlib.Core.Bool.{Bool, true, false, _&&_}
 use lib.Dec.{eqb}
 use lib.ListN.{length, drop}
-use Rattle.text.specs.Text.{Text, if_then_else_, bytes, first, same, lower}
+use Rattle.text.specs.Text.{Text, if_then_else_, bytes, first}
 use Rattle.text.specs.Trim.{isWhiteSpace}
+use Rattle.xml.specs.Grammar.{isXml}
 use Rattle.xml.specs.Classes.{isChar, isNameStart, isName}
 
 pub data Step : Type 0 where
@@ -68,14 +68,6 @@ until word at (b ∷ s) =
 -- [15] Comment ::= '<!--' ((Char - '-') | ('-' (Char - '-')))* '-->'. So the first `--` is that of the end.
 unfoldable pub comment : ℕ → Text → Step
 comment at s = literal (bytes "<!--") at s andThen until (bytes "--") andThen literal (bytes ">")
-
--- the three letters `xml` in any case
-unfoldable pub isXml : Text → Bool
-isXml [] = false
-isXml (a ∷ []) = false
-isXml (a ∷ b ∷ []) = false
-isXml (a ∷ b ∷ c ∷ []) = eqb (lower a) (code "x") && eqb (lower b) (code "m") && eqb (lower c) (code "l")
-isXml (a ∷ b ∷ c ∷ d ∷ s) = false
 
 -- [17] PITarget ::= Name - (('X' | 'x') ('M' | 'm') ('L' | 'l'))
 unfoldable pub target : ℕ → Text → Step

@@ -7,18 +7,17 @@
 --     Tagged        a whole tag: its event, the text of its name, and what is left; or bad
 --     tag           [40] or [44]
 use Prim.Native.Nat.{ℕ, zero, suc, _+_, _-_}
-use Prim.Native.Char.{code}
 use mathlib.Core.List.{List, [], _∷_, _++_}
-use mathlib.Core.Bool.{Bool, true, false, _||_}
 use lib.Dec.{eqb}
 use lib.ListN.{length, drop}
 use Rattle.text.specs.Text.{Text, if_then_else_, bytes, same}
 use Rattle.xsd_parser.specs.Tape.{Pair}
 use Rattle.xsd_parser.specs.Kinds.{startKind, emptyKind}
-use Rattle.xml.specs.Steps.{Step, bad, behind, _andThen_, startsWith, literal, spaces, name, nameOf}
+use Rattle.xml.specs.Steps.{Step, bad, behind, startsWith, literal, spaces, name, nameOf}
 use Rattle.xml.specs.Values.{value}
 use Rattle.xml.specs.Prolog.{eq}
-use Rattle.xml.specs.Tape.{AttributePairs, TapeEvent}
+use Rattle.xml.specs.Grammar.{isAmong}
+use Rattle.xml.specs.Tape.{AttributePairs}
 
 -- the pair of the bytes from one offset up to another
 abbrev pub span : ℕ → ℕ → Pair
@@ -60,10 +59,6 @@ partBehind at (behind a r) =
 
 unfoldable pub partOf : ℕ → Text → Part
 partOf at s = partBehind at (spaces at s)
-
-unfoldable pub isAmong : Text → List Text → Bool
-isAmong t [] = false
-isAmong t (u ∷ us) = same t u || isAmong t us
 
 pub data Ended : Type 0 where
   unended : Ended

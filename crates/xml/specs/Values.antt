@@ -1,5 +1,4 @@
 -- References, attribute values and character data: XML 1.0 (Fifth Edition), [66] to [68], [10] and [14].
---     digitOf       a digit's value, in either case; 16 for any other byte
 --     isNumber      digits to a base and a semicolon, whose number is a character
 --     isReference   the bytes left begin with a reference
 --     value         [10] AttValue, quotes included
@@ -7,19 +6,14 @@
 --     isInText      a character that stands in text without a look at its neighbours; isInValue: in a value
 use Prim.Native.Nat.{ℕ, suc, _+_, _-_, _*_}
 use Prim.Native.Char.{code}
-use mathlib.Core.List.{List, [], _∷_}
-use mathlib.Core.Bool.{Bool, true, false, not, _&&_, _||_}
+use mathlib.Core.List.{[], _∷_}
+use mathlib.Core.Bool.{Bool, false, not, _&&_, _||_}
 use lib.Dec.{eqb, ltb}
 use lib.ListN.{drop}
-use Rattle.text.specs.Text.{Text, if_then_else_, bytes, between, isDigit}
+use Rattle.text.specs.Text.{Text, if_then_else_, bytes}
+use Rattle.xml.specs.Grammar.{digitOf}
 use Rattle.xml.specs.Classes.{isChar}
 use Rattle.xml.specs.Steps.{Step, bad, behind, startsWith}
-
-unfoldable pub digitOf : ℕ → ℕ
-digitOf b =
-    if isDigit b then b - code "0" else
-    if between (code "a") (code "f") b then b - 87 else
-    if between (code "A") (code "F") b then b - 55 else 16
 
 -- behind `&#` or `&#x`: "[0-9]+ ';'" or "[0-9a-fA-F]+ ';'". No digit at all gives 0, which is no character. "Legal Character": "Characters referred to
 -- using character references MUST match the production for Char."

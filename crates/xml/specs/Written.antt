@@ -18,7 +18,8 @@ use Rattle.xml.specs.Classes.{isNameStart, isName}
 use Rattle.xml.specs.Values.{isPlain}
 use Rattle.xsd_parser.specs.Tape.{Pair}
 use Rattle.xml.specs.Tape.{AttributePairs, TapeEvent}
-use Rattle.xml.specs.Tags.{isAmong, Tagged, tagged}
+use Rattle.xml.specs.Grammar.{isAmong}
+use Rattle.xml.specs.Tags.{Tagged, tagged}
 
 -- [5] Name ::= NameStartChar (NameChar)*
 unfoldable pub isNameText : Text → Bool

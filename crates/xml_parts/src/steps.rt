@@ -8,7 +8,8 @@ use text::ascii;
 ghost use mathlib.Core.Path.{_≡_};
 ghost use lib.ListN.{length, drop};
 ghost use Rattle.text.specs.Text.{bytes, same};
-ghost use Rattle.xml.specs.Steps.{behind, startsWith, literal, many, oneThen, spaces, name, nameOf, until, comment, isXml, target, instructionEnd, instruction, section};
+ghost use Rattle.xml.specs.Steps.{behind, startsWith, literal, many, oneThen, spaces, name, nameOf, until, comment, target, instructionEnd, instruction, section};
+ghost use Rattle.xml.specs.Grammar.{isXml};
 ghost use Rattle.xml_parts.specs.Answers.{classOf, moved, classTable, Beside, SameUpTo, matched};
 
 // Where a step ends.

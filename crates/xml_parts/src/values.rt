@@ -11,7 +11,8 @@ ghost use mathlib.Core.Path.{_≡_};
 ghost use mathlib.Core.Bool.{true};
 ghost use Prim.Native.Nat.{_≤_, _<_};
 ghost use lib.ListN.{length, drop};
-ghost use Rattle.xml.specs.Values.{digitOf, isNumber, isEntity, isReference, isPlain, valueEnd, isQuote, value, charData, isInText, isInValue};
+ghost use Rattle.xml.specs.Grammar.{digitOf};
+ghost use Rattle.xml.specs.Values.{isNumber, isEntity, isReference, isPlain, valueEnd, isQuote, value, charData, isInText, isInValue};
 ghost use Rattle.xml_parts.specs.Answers.{moved, classTable};
 ghost use Rattle.xml.specs.Steps.{behind, many};
 

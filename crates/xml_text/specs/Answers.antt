@@ -21,7 +21,7 @@ use Rattle.xml_text.specs.declared.tags.WholeTag.{WholeTag}
 use Rattle.xml_text.specs.declared.root.Content.{Content}
 use Rattle.xml_text.specs.declared.root.Onward.{Onward}
 use Rattle.xml_text.specs.declared.root.WholeRoot.{WholeRoot}
-use Rattle.xml.specs.Call.{Document, withDoctype, notWellFormed, wellFormed, Taken, refused}
+use Rattle.xml.specs.Document.{Document, withDoctype, notWellFormed, wellFormed, Taken, refused}
 use Rattle.sheet.specs.Returned.{accepted, malformed, doctype, shortMarks}
 use lib.Dec.{leb}
 use Rattle.xml_text.specs.declared.call.Found.{Found}

@@ -15,7 +15,8 @@ ghost use Prim.Native.Nat.{_≤_};
 ghost use lib.ListN.{length, take, drop};
 ghost use Rattle.sheet.specs.Rows.{filled};
 ghost use Rattle.sheet.specs.Lengths.{tapeLengths};
-ghost use Rattle.xml.specs.Call.{documentFrom, document, TapeIs};
+ghost use Rattle.xml.specs.Document.{documentFrom, document};
+ghost use Rattle.xml.specs.Call.{TapeIs};
 ghost use Rattle.xml_parts.specs.Answers.{classTable};
 ghost use Rattle.xml_text.specs.Answers.{FoundIs, AnswerIs};
 

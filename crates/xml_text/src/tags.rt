@@ -17,7 +17,8 @@ ghost use lib.ListN.{length, drop};
 ghost use lib.Seq.{sets};
 ghost use Rattle.xml.specs.Steps.{nameOf};
 ghost use Rattle.xml.specs.Tape.{attributeMarks};
-ghost use Rattle.xml.specs.Tags.{attribute, partOf, attributeFrom, isAmong, attributes, tag};
+ghost use Rattle.xml.specs.Tags.{attribute, partOf, attributeFrom, attributes, tag};
+ghost use Rattle.xml.specs.Grammar.{isAmong};
 ghost use Rattle.xml_parts.specs.Answers.{classTable};
 ghost use Rattle.xml_text.specs.Answers.{nextPart, PartIn, namesUpTo, EndsTag, IsTag};
 

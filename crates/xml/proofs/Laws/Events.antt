@@ -13,7 +13,7 @@ use Rattle.xml.specs.Prolog.{misc, prolog}
 use Rattle.xml.specs.Tape.{TapeEvent}
 use Rattle.xml.specs.Tags.{Tagged, untagged, tagged, tag}
 use Rattle.xml.specs.Root.{Piece, wrong, passed, ending, starting, passedBy, endingBy, closeBehind, close, markup, markupBehind, piece, Level, stop, on, opened, levelOfTag, levelOfClose, levelOf, turn, Rooted, unrooted, rooted, addEvents, onLevel, inside, insideAll, root}
-use Rattle.xml.specs.Call.{Document, withDoctype, notWellFormed, wellFormed, toEnd, rootBehind, documentFrom, prologBehind, document}
+use Rattle.xml.specs.Document.{Document, withDoctype, notWellFormed, wellFormed, toEnd, rootBehind, documentFrom, prologBehind, document}
 use Rattle.xml.specs.Accepted.{EventsAt, Closes}
 use Rattle.xml.proofs.Laws.Here.{Here, three-keeps, literal-keeps, name-keeps, spaces-keeps, comment-keeps, section-keeps, instruction-keeps, char-data-keeps, prolog-keeps}
 use Rattle.xml.proofs.Laws.Pairs.{TaggedAt, tag-at}
@@ -88,12 +88,14 @@ pub events-append : (text : Text) (xs ys : List TapeEvent) → EventsAt text xs 
 events-append text [] ys p q = q
 events-append text (x ∷ xs) ys p q = (p .0, events-append text xs ys (p .1) q)
 
-pub root-add : (text : Text) (j k : ℕ) (es : List TapeEvent) (d : Rooted) → EventsAt text es → ((more : List TapeEvent) → Closes j more → Closes k (es ++ more)) → RootAt text j d → RootAt text k (addEvents es d)
+pub root-add : (text : Text) (j k : ℕ) (es : List TapeEvent) (d : Rooted) → EventsAt text es → ((more : List TapeEvent) → Closes j more → Closes k (es ++ more)) → RootAt text j d
+    → RootAt text k (addEvents es d)
 unfolding addEvents
 root-add text j k es unrooted p c q = tt
 root-add text j k es (rooted more a r) p c q = (events-append text es more p (q .0), c more (q .1))
 
-pub on-level : (text : Text) (tags : List Text) (next : List Text → ℕ → Text → Rooted) (d : Level) → LevelAt text tags d → ((left : List Text) (a : ℕ) (r : Text) → r ≡ drop a text → RootAt text (length left) (next left a r)) → RootAt text (length tags) (onLevel next d)
+pub on-level : (text : Text) (tags : List Text) (next : List Text → ℕ → Text → Rooted) (d : Level) → LevelAt text tags d
+    → ((left : List Text) (a : ℕ) (r : Text) → r ≡ drop a text → RootAt text (length left) (next left a r)) → RootAt text (length tags) (onLevel next d)
 on-level text tags next stop p ih = tt
 on-level text tags next (on left es a r) p ih = root-add text (length left) (length tags) es (next left a r) (p .1) (p .2) (ih left a r (p .0))
 

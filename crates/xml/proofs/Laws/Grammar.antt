@@ -1,4 +1,4 @@
--- XML 1.0 by its productions (specs/Grammar.antt) and the recogniser (specs/Call.antt), both ways.
+-- XML 1.0 by its productions (specs/Grammar.antt) and the recogniser (specs/Document.antt), both ways.
 pub mod Basics
 pub mod Markup
 pub mod References
@@ -8,3 +8,4 @@ pub mod Contents
 pub mod Prolog
 pub mod Around
 pub mod Documents
+pub mod Taken

@@ -12,7 +12,8 @@ use Rattle.text.specs.Text.{Text, if_then_else_, bytes, first, isDigit}
 use Rattle.text.proofs.Laws.Tests.{if-either}
 use Rattle.text.specs.Trim.{isWhiteSpace}
 use Rattle.xml.specs.Classes.{isChar, isNameStart, isName, isLetter, isEncoding}
-use Rattle.xml.specs.Steps.{Step, bad, behind, _andThen_, startsWith, literal, many, oneThen, spaces, space, name, nameOf, until, comment, isXml, target, instructionEnd, instruction, section}
+use Rattle.xml.specs.Steps.{Step, bad, behind, _andThen_, startsWith, literal, many, oneThen, spaces, space, name, nameOf, until, comment, target, instructionEnd, instruction, section}
+use Rattle.xml.specs.Grammar.{isXml}
 use Rattle.xml.specs.Values.{isPlain, isQuote, valueEnd, value, charData}
 use Rattle.xml.specs.Prolog.{eq, quoted, versionNumber, encodingName, yesOrNo, declared, endsAt, optional, declaration, isMisc, miscPart, miscFrom, miscBehind, misc, isDeclaration, prolog}
 
@@ -175,7 +176,8 @@ unfolding miscFrom
 misc-from-keeps zero text at s h = tt
 misc-from-keeps (suc turns) text at s h =
     if-either (Here text) (isMisc s)
-    (then-here text (miscPart at s andThen spaces) (miscFrom turns) (then-here text (miscPart at s) spaces (misc-part-keeps text at s h) (spaces-keeps text)) (λ a r k. misc-from-keeps turns text a r k))
+    (then-here text (miscPart at s andThen spaces) (miscFrom turns) (then-here text (miscPart at s) spaces (misc-part-keeps text at s h) (spaces-keeps text))
+    (λ a r k. misc-from-keeps turns text a r k))
     h
 
 pub misc-keeps : (text : Text) → Keeps text misc

@@ -14,7 +14,8 @@ use Rattle.text.specs.Text.{Text, bytes, first, contains}
 use Rattle.text.proofs.Laws.Tests.{bool-cases, or-cases}
 use Rattle.text.specs.Trim.{isWhiteSpace}
 use Rattle.xml.specs.Classes.{isChar, isNameStart, isName}
-use Rattle.xml.specs.Steps.{Step, bad, behind, _andThen_, startsWith, literal, many, oneThen, spaces, name, nameOf, until, comment, isXml, target, instructionEnd, instruction, section}
+use Rattle.xml.specs.Steps.{Step, bad, behind, _andThen_, startsWith, literal, many, oneThen, spaces, name, nameOf, until, comment, target, instructionEnd, instruction, section}
+use Rattle.xml.specs.Grammar.{isXml}
 use Rattle.xml.specs.Values.{isPlain, isQuote, valueEnd, value, charData}
 use Rattle.xml.specs.Prolog.{eq, isMisc, miscPart, miscFrom}
 use Rattle.xml.proofs.Laws.Steps.{starts-length}
@@ -136,7 +137,8 @@ misc-some s e =
     (or-cases (startsWith (bytes "<!--") s) (startsWith (bytes "<?") s) e)
 
 -- a turn of Misc moves forward
-pub misc-ahead : (text : Text) (i e j : ℕ) → isMisc (drop i text) ≡ true → miscPart i (drop i text) ≡ behind e (drop e text) → spaces e (drop e text) ≡ behind j (drop j text) → (i < length text) × (i < j)
+pub misc-ahead : (text : Text) (i e j : ℕ) → isMisc (drop i text) ≡ true → miscPart i (drop i text) ≡ behind e (drop e text) → spaces e (drop e text) ≡ behind j (drop j text)
+    → (i < length text) × (i < j)
 misc-ahead text i e j m p q =
     let some = misc-some (drop i text) m in
     let part = misc-part-passes i (drop i text) e (drop e text) p in
@@ -154,7 +156,8 @@ unfolding miscFrom
 misc-stop zero at s h m = absurd (omega arith)
 misc-stop (suc turns) at s h m = rw m
 
-pub misc-on : (text : Text) (turns i e j : ℕ) (whole : Step) → length text - i < turns → isMisc (drop i text) ≡ true → miscPart i (drop i text) ≡ behind e (drop e text) → spaces e (drop e text) ≡ behind j (drop j text)
+pub misc-on : (text : Text) (turns i e j : ℕ) (whole : Step) → length text - i < turns → isMisc (drop i text) ≡ true → miscPart i (drop i text) ≡ behind e (drop e text)
+    → spaces e (drop e text) ≡ behind j (drop j text)
     → miscFrom turns i (drop i text) ≡ whole → (t : ℕ) × (length text - j < t) × (miscFrom t j (drop j text) ≡ whole)
 unfolding miscFrom
 misc-on text zero i e j whole h m p q w = absurd (omega arith)

@@ -13,7 +13,8 @@ use Rattle.text.specs.Text.{Text, first, same, lower, between}
 use Rattle.text.proofs.Laws.Tests.{bool-cases}
 use Rattle.text.proofs.Laws.Texts.{same-cons-on, same-cons-differ, first-drop}
 use Rattle.xml.specs.Classes.{isLetter, isNameStart, isName}
-use Rattle.xml.specs.Steps.{bad, behind, many, oneThen, name, nameOf, isXml, target}
+use Rattle.xml.specs.Steps.{bad, behind, many, oneThen, name, nameOf, target}
+use Rattle.xml.specs.Grammar.{isXml}
 
 pub nameOf-none : (s : Text) → isName (first s) ≡ false → nameOf s ≡ []
 unfolding nameOf first

@@ -19,7 +19,8 @@ use Rattle.xml.specs.Steps.{Step, bad, behind, startsWith, literal, oneT
 use Rattle.xml.specs.Values.{isQuote, value}
 use Rattle.xml.specs.Prolog.{eq}
 use Rattle.xml.specs.Tape.{AttributePairs, TapeEvent}
-use Rattle.xml.specs.Tags.{Part, wrong, last, more, span, attributeBehind, valueBehind, eqBehind, attribute, partBehind, partOf, isAmong, Ended, unended, ended, onPart, attributesFrom, attributes, Tagged, untagged, tagged, taggedBy, attributesBehind, nameBehind, tag}
+use Rattle.xml.specs.Tags.{Part, wrong, last, more, span, attributeBehind, valueBehind, eqBehind, attribute, partBehind, partOf, Ended, unended, ended, onPart, attributesFrom, attributes, Tagged, untagged, tagged, taggedBy, attributesBehind, nameBehind, tag}
+use Rattle.xml.specs.Grammar.{isAmong}
 use Rattle.xml.specs.Accepted.{endOf, NameAt, ValueAt, AttributesAt, EventAt}
 use Rattle.xml.proofs.Laws.Names.{behind-at, bad-not, name-part}
 use Rattle.xml.proofs.Laws.Moves.{name-passes, spaces-moves, eq-passes, value-end-stands, value-two}
@@ -38,7 +39,8 @@ name-at text at s e r h q =
     record { starts = name-starts at (drop at text) e r k; whole = name-part at (drop at text) e r k }
 
 -- a value
-pub value-stands : (at : ℕ) (s : Text) (e : ℕ) (r : Text) → value at s ≡ behind e r → (b : ℕ) × (v : Text) × (isQuote b ≡ true) × (s ≡ b ∷ v ++ b ∷ r) × (contains b v ≡ false) × (e ≡ at + length v + 2)
+pub value-stands : (at : ℕ) (s : Text) (e : ℕ) (r : Text) → value at s ≡ behind e r → (b : ℕ) × (v : Text) × (isQuote b ≡ true) × (s ≡ b ∷ v ++ b ∷ r) × (contains b v ≡ false)
+    × (e ≡ at + length v + 2)
 unfolding value
 value-stands at [] e r q = absurd (bad-not q)
 value-stands at (b ∷ s) e r q =
@@ -70,7 +72,8 @@ PartAt text at wrong = Unit {0}
 PartAt text at (last kind a r) = (1 ≤ kind) × (kind ≤ 2) × (r ≡ drop a text)
 PartAt text at (more x key a r) = AttributesAt text at (x ∷ []) × (endOf (x .value) ≤ a) × (r ≡ drop a text)
 
-pub attribute-behind : (text : Text) (at : ℕ) (s : Text) (e : ℕ) (r : Text) (q : ℕ) (t : Text) (d : Step) → s ≡ drop at text → name at s ≡ behind e r → e < q → t ≡ drop q text → value q t ≡ d → PartAt text at (attributeBehind at s e q d)
+pub attribute-behind : (text : Text) (at : ℕ) (s : Text) (e : ℕ) (r : Text) (q : ℕ) (t : Text) (d : Step) → s ≡ drop at text → name at s ≡ behind e r → e < q → t ≡ drop q text → value q t ≡ d
+    → PartAt text at (attributeBehind at s e q d)
 attribute-behind text at s e r q t bad h n b k w = tt
 attribute-behind text at s e r q t (behind f u) h n b k w =
     let p = name-passes at s e r n in
@@ -118,7 +121,8 @@ pub attributes-weaken : (text : Text) (from at : ℕ) (xs : List AttributePairs)
 attributes-weaken text from at [] h p = tt
 attributes-weaken text from at (x ∷ xs) h p = (omega (arith, p .0), p .1, p .2, p .3, p .4, p .5)
 
-pub ended-more : (text : Text) (at a : ℕ) (before : List AttributePairs) (x : AttributePairs) (d : Ended) → AttributesAt text at (x ∷ []) → endOf (x .value) ≤ a → EndedAt text a (before ++ x ∷ []) d → EndedAt text at before d
+pub ended-more : (text : Text) (at a : ℕ) (before : List AttributePairs) (x : AttributePairs) (d : Ended) → AttributesAt text at (x ∷ []) → endOf (x .value) ≤ a
+    → EndedAt text a (before ++ x ∷ []) d → EndedAt text at before d
 ended-more text at a before x unended k h p = tt
 ended-more text at a before x (ended kind xs e u) k h p = (
   x ∷ p .0,
@@ -129,7 +133,8 @@ ended-more text at a before x (ended kind xs e u) k h p = (
   p .5,
 )
 
-pub on-part : (text : Text) (next : List Text → List AttributePairs → ℕ → Text → Ended) → ((keys : List Text) (before : List AttributePairs) (a : ℕ) (r : Text) → r ≡ drop a text → EndedAt text a before (next keys before a r))
+pub on-part : (text : Text) (next : List Text → List AttributePairs → ℕ → Text → Ended)
+    → ((keys : List Text) (before : List AttributePairs) (a : ℕ) (r : Text) → r ≡ drop a text → EndedAt text a before (next keys before a r))
     → (keys : List Text) (before : List AttributePairs) (at : ℕ) (d : Part) → PartAt text at d → EndedAt text at before (onPart next keys before d)
 on-part text next ih keys before at wrong p = tt
 on-part text next ih keys before at (last kind a r) p = ([], sym (append-nil before), tt, p .0, p .1, p .2)
@@ -137,7 +142,8 @@ on-part text next ih keys before at (more x key a r) p =
     if-either (EndedAt text at before) (isAmong key keys) tt
     (ended-more text at a before x (next (key ∷ keys) (before ++ x ∷ []) a r) (p .0) (p .1) (ih (key ∷ keys) (before ++ x ∷ []) a r (p .2)))
 
-pub attributes-from : (turns : ℕ) (text : Text) (keys : List Text) (before : List AttributePairs) (at : ℕ) (s : Text) → s ≡ drop at text → EndedAt text at before (attributesFrom turns keys before at s)
+pub attributes-from : (turns : ℕ) (text : Text) (keys : List Text) (before : List AttributePairs) (at : ℕ) (s : Text) → s ≡ drop at text
+    → EndedAt text at before (attributesFrom turns keys before at s)
 unfolding attributesFrom
 attributes-from zero text keys before at s h = tt
 attributes-from (suc turns) text keys before at s h =
@@ -159,7 +165,8 @@ less-before text at (b ∷ s) n t h q =
     ap (λ (k : ℕ). getD text k 0) place ∙ sym (first-drop text at) ∙ ap first (sym h) ∙ eqb-true b 60 y)
     (λ y. absurd (bad-not (rw y at q)))
 
-pub tagged-by : (text : Text) (n e : ℕ) (t : Text) (d : Ended) → n ≤ e → e ≤ length text → getD text (n - 1) 0 ≡ code "<" → NameAt text (span n e) → EndedAt text e [] d → TaggedAt text (taggedBy (span n e) (nameOf t) d)
+pub tagged-by : (text : Text) (n e : ℕ) (t : Text) (d : Ended) → n ≤ e → e ≤ length text → getD text (n - 1) 0 ≡ code "<" → NameAt text (span n e) → EndedAt text e [] d
+    → TaggedAt text (taggedBy (span n e) (nameOf t) d)
 tagged-by text n e t unended h l b k p = tt
 tagged-by text n e t (ended kind xs a u) h l b k p =
     ((p .3, p .4, b, k, omega arith, rw (p .1) (attributes-weaken text (n + (e - n)) e (p .0) (omega arith) (p .2))), p .5)

@@ -18,6 +18,7 @@ pub quoted-wrong : (body : ℕ → Text → Step) (s : Text) (at i : ℕ) → i 
 unfolding quoted
 quoted-wrong body s at i h e = rw (drop-cons s i 0 h, e)
 
-pub quoted-on : (body : ℕ → Text → Step) (s : Text) (at i : ℕ) → i < length s → isQuote (getD s i 0) ≡ true → quoted body at (drop i s) ≡ body (suc at) (drop (suc i) s) andThen literal (getD s i 0 ∷ [])
+pub quoted-on : (body : ℕ → Text → Step) (s : Text) (at i : ℕ) → i < length s → isQuote (getD s i 0) ≡ true
+    → quoted body at (drop i s) ≡ body (suc at) (drop (suc i) s) andThen literal (getD s i 0 ∷ [])
 unfolding quoted
 quoted-on body s at i h e = rw (drop-cons s i 0 h, e)

@@ -24,7 +24,7 @@ use Rattle.xsd_parser.proofs.Laws.Outcomes.{Gives, value, refusal, gives-if, gi
 use Rattle.xsd_parser.proofs.Laws.Refusals.{handled-refusal}
 use Rattle.xsd_parser.proofs.Laws.Reads.{read-ok, read-refuse}
 use Rattle.xml.specs.Tape.{TapeEvent, tapeMarks}
-use Rattle.xml.specs.Call.{Document, withDoctype, notWellFormed, wellFormed, document, Taken, refused, written, takenOf, tapeOf}
+use Rattle.xml.specs.Document.{Document, withDoctype, notWellFormed, wellFormed, document, Taken, refused, written, takenOf, tapeOf}
 use Rattle.xml.specs.Accepted.{Closes, fewAttributes, eventRead, recordsRead, ReadsThrough}
 use Rattle.xml.proofs.Laws.Events.{events-close}
 use Rattle.xml.proofs.Laws.Records.{tape-records}
@@ -48,7 +48,8 @@ step-open lent s e m g =
     (refusal (omega arith))
 
 -- the open tags after an event, where there are so many inside the text over those before it
-pub tag-open : (text : Text) (e : TapeEvent) (es : List TapeEvent) (n base k : ℕ) → Closes k (e ∷ es) → n ≡ base + k → (j : ℕ) × Closes j es × Gives (Opens (base + j)) Later (tagsAfter (eventRead text e) n)
+pub tag-open : (text : Text) (e : TapeEvent) (es : List TapeEvent) (n base k : ℕ) → Closes k (e ∷ es) → n ≡ base + k → (j : ℕ) × Closes j es
+    × Gives (Opens (base + j)) Later (tagsAfter (eventRead text e) n)
 unfolding eventRead eventOf tagsAfter closed
 tag-open text (TapeEvent.tag kind name xs) es n base k c h =
     bool-cases (eqb kind 1)
@@ -59,7 +60,8 @@ tag-open text TapeEvent.close es n base (suc j) c h =
     let one : n ≡ suc (base + j) = omega arith in
     (j, c, rw one (value refl))
 
-pub reads-through : (lent : Lengths) (text : Text) (es : List TapeEvent) (n : ℕ) (s : State) (base k : ℕ) → Closes k es → s .openTags ≡ base + k → ReadsThrough base (readRecords lent n s (recordsRead text es))
+pub reads-through : (lent : Lengths) (text : Text) (es : List TapeEvent) (n : ℕ) (s : State) (base k : ℕ) → Closes k es → s .openTags ≡ base + k
+    → ReadsThrough base (readRecords lent n s (recordsRead text es))
 unfolding recordsRead readRecords
 reads-through lent text [] n s base k c h = inl (refl, omega arith)
 reads-through lent text (e ∷ es) n s base k c h =
@@ -69,7 +71,8 @@ reads-through lent text (e ∷ es) n s base k c h =
     (λ x q. rw (read-ok lent n s x (eventRead text e) (recordsRead text es) q) (reads-through lent text es (suc n) x base (o .0) (o .1) (gives-value g q)))
     (λ r q. rw (read-refuse lent n s (eventRead text e) (recordsRead text es) r q) (inr (gives-refusal g q)))
 
-pub tape-reads : (lent : Lengths) (s : State) (text : Text) (es : List TapeEvent) → document text ≡ wellFormed es → isText text ≡ true → every fewAttributes es ≡ true → ReadsThrough (s .openTags) (readState lent s text (tapeMarks es))
+pub tape-reads : (lent : Lengths) (s : State) (text : Text) (es : List TapeEvent) → document text ≡ wellFormed es → isText text ≡ true → every fewAttributes es ≡ true
+    → ReadsThrough (s .openTags) (readState lent s text (tapeMarks es))
 unfolding readState
 tape-reads lent s text es d t f =
     rw (tape-records text es d t f) (reads-through lent text es 0 s (s .openTags) 0 (events-close text es d) (omega arith))

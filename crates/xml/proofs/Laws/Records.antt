@@ -16,7 +16,7 @@ use Rattle.xsd_parser.specs.Event.{Event}
 use Rattle.xsd_parser.specs.Tape.{Pair, pairsOf, pairText, pairCount, formTest, allInside, allAscii, tagRecord, record1, next, event, Judged, recordsFrom, records}
 use Rattle.xsd_parser.proofs.Laws.Records.{records-none, records-next}
 use Rattle.xml.specs.Tape.{AttributePairs, TapeEvent, attributeMarks, eventMarks, tapeMarks}
-use Rattle.xml.specs.Call.{wellFormed, document}
+use Rattle.xml.specs.Document.{wellFormed, document}
 use Rattle.xml.specs.Accepted.{endOf, AttributesAt, EventAt, EventsAt, fewAttributes, attributePairs, eventRead, recordsRead}
 use Rattle.xml.proofs.Laws.Tags.{marks-length}
 use Rattle.xml.proofs.Laws.Events.{events-at}
@@ -40,7 +40,8 @@ unfolding pairCount
 behind-tag o z xs rest = drop-at (o ∷ z ∷ attributeMarks xs) rest (2 * (1 + 2 * length xs)) (omega (arith, marks-length xs))
 
 -- 3: the form
-pub tag-form : (kind o z : ℕ) (xs : List AttributePairs) (rest : List ℕ) → 1 ≤ kind → kind ≤ 2 → leb (length xs) 32 ≡ true → formTest kind (length xs) (length (o ∷ z ∷ attributeMarks xs ++ rest)) ≡ true
+pub tag-form : (kind o z : ℕ) (xs : List AttributePairs) (rest : List ℕ) → 1 ≤ kind → kind ≤ 2 → leb (length xs) 32 ≡ true
+    → formTest kind (length xs) (length (o ∷ z ∷ attributeMarks xs ++ rest)) ≡ true
 unfolding formTest between pairCount
 tag-form kind o z xs rest h k f =
     let left : length (attributeMarks xs ++ rest) ≡ 4 * length xs + length rest = length-append (attributeMarks xs) rest ∙ ap (λ (n : ℕ). n + length rest) (marks-length xs) in
@@ -95,7 +96,8 @@ event-some (TapeEvent.tag kind name xs) = omega arith
 event-some TapeEvent.close = omega arith
 
 -- all records
-pub records-from : (text : Text) (es : List TapeEvent) (fuel : ℕ) → isText text ≡ true → every fewAttributes es ≡ true → EventsAt text es → length (tapeMarks es) ≤ fuel → recordsFrom fuel text (tapeMarks es) ≡ recordsRead text es
+pub records-from : (text : Text) (es : List TapeEvent) (fuel : ℕ) → isText text ≡ true → every fewAttributes es ≡ true → EventsAt text es → length (tapeMarks es) ≤ fuel
+    → recordsFrom fuel text (tapeMarks es) ≡ recordsRead text es
 unfolding tapeMarks every recordsRead
 records-from text [] fuel t f p h = records-none fuel text
 records-from text (e ∷ es) zero t f p h = absurd (omega (arith, h, event-some e, length-append (eventMarks e) (tapeMarks es)))

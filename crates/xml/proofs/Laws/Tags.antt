@@ -8,7 +8,8 @@ use lib.ListN.{length}
 use Rattle.text.specs.Text.{Text, bytes}
 use Rattle.xml.specs.Steps.{behind, literal, name, nameOf}
 use Rattle.xml.specs.Tape.{AttributePairs, attributeMarks}
-use Rattle.xml.specs.Tags.{wrong, last, more, partOf, isAmong, Ended, unended, ended, attributesFrom, attributes, tagged, span, tag}
+use Rattle.xml.specs.Tags.{wrong, last, more, partOf, Ended, unended, ended, attributesFrom, attributes, tagged, span, tag}
+use Rattle.xml.specs.Grammar.{isAmong}
 
 -- the parts of a tag, by the next one
 pub attributes-wrong : (turns : ℕ) (keys : List Text) (xs : List AttributePairs) (at : ℕ) (s : Text) → partOf at s ≡ wrong → attributesFrom turns keys xs at s ≡ unended
@@ -16,12 +17,14 @@ unfolding attributesFrom
 attributes-wrong zero keys xs at s e = refl
 attributes-wrong (suc turns) keys xs at s e = rw e
 
-pub attributes-last : (turns : ℕ) (keys : List Text) (xs : List AttributePairs) (at : ℕ) (s : Text) (kind a : ℕ) (r : Text) → 0 < turns → partOf at s ≡ last kind a r → attributesFrom turns keys xs at s ≡ ended kind xs a r
+pub attributes-last : (turns : ℕ) (keys : List Text) (xs : List AttributePairs) (at : ℕ) (s : Text) (kind a : ℕ) (r : Text) → 0 < turns → partOf at s ≡ last kind a r
+    → attributesFrom turns keys xs at s ≡ ended kind xs a r
 unfolding attributesFrom
 attributes-last zero keys xs at s kind a r h e = absurd (omega arith)
 attributes-last (suc turns) keys xs at s kind a r h e = rw e
 
-pub attributes-twice : (turns : ℕ) (keys : List Text) (xs : List AttributePairs) (at : ℕ) (s : Text) (x : AttributePairs) (key : Text) (a : ℕ) (r : Text) → partOf at s ≡ more x key a r → isAmong key keys ≡ true → attributesFrom turns keys xs at s ≡ unended
+pub attributes-twice : (turns : ℕ) (keys : List Text) (xs : List AttributePairs) (at : ℕ) (s : Text) (x : AttributePairs) (key : Text) (a : ℕ) (r : Text) → partOf at s ≡ more x key a r
+    → isAmong key keys ≡ true → attributesFrom turns keys xs at s ≡ unended
 unfolding attributesFrom
 attributes-twice zero keys xs at s x key a r e m = refl
 attributes-twice (suc turns) keys xs at s x key a r e m = rw (e, m)

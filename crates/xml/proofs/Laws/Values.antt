@@ -16,7 +16,8 @@ use Rattle.text.proofs.Laws.Tests.{bool-cases, four, or-cases, or-false-left, o
 use Rattle.text.proofs.Laws.Texts.{between-above}
 use Rattle.xml.specs.Classes.{isChar}
 use Rattle.xml.specs.Steps.{bad, behind, _andThen_, startsWith, many}
-use Rattle.xml.specs.Values.{digitOf, isNumber, isPlain, isReference, valueEnd, isQuote, value, charData, isInText, isInValue}
+use Rattle.xml.specs.Grammar.{digitOf}
+use Rattle.xml.specs.Values.{isNumber, isPlain, isReference, valueEnd, isQuote, value, charData, isInText, isInValue}
 
 -- the number of a reference
 pub number-end : (base v : ℕ) (s : Text) (i : ℕ) → length s ≤ i → isNumber base v (drop i s) ≡ false
@@ -31,7 +32,8 @@ pub number-wrong : (base v : ℕ) (s : Text) (i : ℕ) → i < length s → (get
 unfolding isNumber
 number-wrong base v s i h e d = rw (drop-cons s i 0 h, ne-eqb (getD s i 0) 59 e, le-ltb (digitOf (getD s i 0)) base d)
 
-pub number-on : (base v : ℕ) (s : Text) (i : ℕ) → i < length s → (getD s i 0 ≡ code ";" → ⊥) → digitOf (getD s i 0) < base → isNumber base v (drop i s) ≡ isNumber base (v * base + digitOf (getD s i 0)) (drop (suc i) s)
+pub number-on : (base v : ℕ) (s : Text) (i : ℕ) → i < length s → (getD s i 0 ≡ code ";" → ⊥) → digitOf (getD s i 0) < base
+    → isNumber base v (drop i s) ≡ isNumber base (v * base + digitOf (getD s i 0)) (drop (suc i) s)
 unfolding isNumber
 number-on base v s i h e d = rw (drop-cons s i 0 h, ne-eqb (getD s i 0) 59 e, lt-ltb (digitOf (getD s i 0)) base d)
 
@@ -82,7 +84,8 @@ pub value-wrong : (quote : ℕ) (s : Text) (at i : ℕ) → i < length s → (ge
 unfolding valueEnd
 value-wrong quote s at i h e d p = rw (drop-cons s i 0 h, ne-eqb (getD s i 0) quote e, ne-eqb (getD s i 0) 60 d, (rw (drop-cons s i 0 h) at p))
 
-pub value-on : (quote : ℕ) (s : Text) (at i : ℕ) → i < length s → (getD s i 0 ≡ quote → ⊥) → (getD s i 0 ≡ code "<" → ⊥) → isPlain (drop i s) ≡ true → valueEnd quote at (drop i s) ≡ valueEnd quote (suc at) (drop (suc i) s)
+pub value-on : (quote : ℕ) (s : Text) (at i : ℕ) → i < length s → (getD s i 0 ≡ quote → ⊥) → (getD s i 0 ≡ code "<" → ⊥) → isPlain (drop i s) ≡ true
+    → valueEnd quote at (drop i s) ≡ valueEnd quote (suc at) (drop (suc i) s)
 unfolding valueEnd
 value-on quote s at i h e d p = rw (drop-cons s i 0 h, ne-eqb (getD s i 0) quote e, ne-eqb (getD s i 0) 60 d, (rw (drop-cons s i 0 h) at p))
 
@@ -124,7 +127,8 @@ pub data-wrong : (s : Text) (at i : ℕ) → i < length s → (getD s i 0 ≡ co
 unfolding charData
 data-wrong s at i h e d p = rw (drop-cons s i 0 h, ne-eqb (getD s i 0) 60 e, (rw (drop-cons s i 0 h) at d), (rw (drop-cons s i 0 h) at p))
 
-pub data-on : (s : Text) (at i : ℕ) → i < length s → (getD s i 0 ≡ code "<" → ⊥) → startsWith (bytes "]]>") (drop i s) ≡ false → isPlain (drop i s) ≡ true → charData at (drop i s) ≡ charData (suc at) (drop (suc i) s)
+pub data-on : (s : Text) (at i : ℕ) → i < length s → (getD s i 0 ≡ code "<" → ⊥) → startsWith (bytes "]]>") (drop i s) ≡ false → isPlain (drop i s) ≡ true
+    → charData at (drop i s) ≡ charData (suc at) (drop (suc i) s)
 unfolding charData
 data-on s at i h e d p = rw (drop-cons s i 0 h, ne-eqb (getD s i 0) 60 e, (rw (drop-cons s i 0 h) at d), (rw (drop-cons s i 0 h) at p))
 

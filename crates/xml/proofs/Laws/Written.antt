@@ -18,10 +18,11 @@ use Rattle.xsd_parser.specs.Tape.{Pair}
 use Rattle.text.specs.Trim.{isWhiteSpace}
 use Rattle.xml.specs.Classes.{isLetter, isNameStart, isName}
 use Rattle.xml.specs.Steps.{behind, startsWith, literal, many, oneThen, spaces, name, nameOf}
-use Rattle.xml.specs.Values.{digitOf, isNumber, isEntity, isReference, isPlain, valueEnd, isQuote, value}
+use Rattle.xml.specs.Grammar.{digitOf, isAmong}
+use Rattle.xml.specs.Values.{isNumber, isEntity, isReference, isPlain, valueEnd, isQuote, value}
 use Rattle.xml.specs.Prolog.{eq}
 use Rattle.xml.specs.Tape.{AttributePairs}
-use Rattle.xml.specs.Tags.{last, more, attributeFrom, attribute, partOf, isAmong, ended, attributesFrom, attributes, tagged, tag}
+use Rattle.xml.specs.Tags.{last, more, attributeFrom, attribute, partOf, ended, attributesFrom, attributes, tagged, tag}
 use Rattle.xml.specs.Written.{isNameText, isValue, quoteOf, attributeOk, newKeys, writtenAttributes, tagEnd, writtenTag, attributePlaces, taggedAs}
 use Rattle.xml.proofs.Laws.Steps.{starts-length}
 use Rattle.xml.proofs.Laws.Names.{nameOf-none, nameOf-some}
@@ -95,7 +96,8 @@ or-more a b c d f g h = ⊎-elim (λ p. or-left d (f p)) (λ p. or-right c (g p)
 pub entity-more : (s t : Text) → isEntity s ≡ true → isEntity (s ++ t) ≡ true
 unfolding isEntity
 entity-more s t h =
-    or-more _ _ _ _ (or-more _ _ _ _ (or-more _ _ _ _ (or-more _ _ _ _ (starts-more (bytes "&amp;") s t) (starts-more (bytes "&lt;") s t)) (starts-more (bytes "&gt;") s t)) (starts-more (bytes "&apos;") s t)) (starts-more (bytes "&quot;") s t) h
+    or-more _ _ _ _ (or-more _ _ _ _ (or-more _ _ _ _ (or-more _ _ _ _ (starts-more (bytes "&amp;") s t) (starts-more (bytes "&lt;") s t)) (starts-more (bytes "&gt;") s t))
+    (starts-more (bytes "&apos;") s t)) (starts-more (bytes "&quot;") s t) h
 
 pub or-long : (n : ℕ) (a b : Bool) → (a ≡ true → 3 ≤ n) → (b ≡ true → 3 ≤ n) → a || b ≡ true → 3 ≤ n
 or-long n a b f g h = ⊎-elim f g (or-cases a b h)
@@ -106,7 +108,8 @@ starts-long word s l h = omega (arith, starts-length word s h)
 pub entity-long : (s : Text) → isEntity s ≡ true → 3 ≤ length s
 unfolding isEntity bytes
 entity-long s h =
-    or-long (length s) _ _ (or-long (length s) _ _ (or-long (length s) _ _ (or-long (length s) _ _ (starts-long (bytes "&amp;") s (omega arith)) (starts-long (bytes "&lt;") s (omega arith))) (starts-long (bytes "&gt;") s (omega arith))) (starts-long (bytes "&apos;") s (omega arith))) (starts-long (bytes "&quot;") s (omega arith)) h
+    or-long (length s) _ _ (or-long (length s) _ _ (or-long (length s) _ _ (or-long (length s) _ _ (starts-long (bytes "&amp;") s (omega arith)) (starts-long (bytes "&lt;") s (omega arith)))
+    (starts-long (bytes "&gt;") s (omega arith))) (starts-long (bytes "&apos;") s (omega arith))) (starts-long (bytes "&quot;") s (omega arith)) h
 
 pub reference-long : (s : Text) → isReference s ≡ true → 3 ≤ length s
 unfolding isReference bytes
@@ -227,7 +230,8 @@ end-written at kind rest low high =
     (λ y. rw (eqb-true kind 1 y))
     (λ y. let d = eqb-false kind 1 y in let e : kind ≡ 2 = omega arith in rw e)
 
-pub written-more : (x : Attr) (xs : List Attr) (t : Text) → writtenAttributes (x ∷ xs) ++ t ≡ 32 ∷ (x .key ++ (61 ∷ quoteOf (x .value) ∷ (x .value ++ (quoteOf (x .value) ∷ (writtenAttributes xs ++ t)))))
+pub written-more : (x : Attr) (xs : List Attr) (t : Text)
+    → writtenAttributes (x ∷ xs) ++ t ≡ 32 ∷ (x .key ++ (61 ∷ quoteOf (x .value) ∷ (x .value ++ (quoteOf (x .value) ∷ (writtenAttributes xs ++ t)))))
 unfolding writtenAttributes
 written-more x xs t =
     let q = quoteOf (x .value) in
@@ -246,7 +250,8 @@ pub written-long : (xs : List Attr) → length xs ≤ length (writtenAttributes 
 written-long [] = omega arith
 written-long (x ∷ xs) = omega (arith, written-size x xs, written-long xs)
 
-pub attributes-step : (turns : ℕ) (keys : List Text) (before : List AttributePairs) (at : ℕ) (s : Text) (x : AttributePairs) (key : Text) (a : ℕ) (r : Text) → partOf at s ≡ more x key a r → isAmong key keys ≡ false
+pub attributes-step : (turns : ℕ) (keys : List Text) (before : List AttributePairs) (at : ℕ) (s : Text) (x : AttributePairs) (key : Text) (a : ℕ) (r : Text) → partOf at s ≡ more x key a r
+    → isAmong key keys ≡ false
     → attributesFrom (suc turns) keys before at s ≡ attributesFrom turns (key ∷ keys) (before ++ x ∷ []) a r
 unfolding attributesFrom
 attributes-step turns keys before at s x key a r e m = rw (e, m)
@@ -255,15 +260,18 @@ pub ended-same : (kind : ℕ) (xs ys : List AttributePairs) (a b : ℕ) (r : Tex
 ended-same kind xs ys a b r e f = rw (e, f)
 
 pub attribute-read : (at : ℕ) (x : Attr) (r : Text) → attributeOk x ≡ true
-    → partOf at (32 ∷ (x .key ++ (61 ∷ quoteOf (x .value) ∷ (x .value ++ (quoteOf (x .value) ∷ r))))) ≡ more (placeOf at (length (x .key)) (length (x .value))) (x .key) (at + length (x .key) + length (x .value) + 4) r
+    → partOf at (32 ∷ (x .key ++ (61 ∷ quoteOf (x .value) ∷ (x .value ++ (quoteOf (x .value) ∷ r))))) ≡ more (placeOf at (length (x .key)) (length (x .value))) (x .key)
+    (at + length (x .key) + length (x .value) + 4) r
 unfolding attributeOk
 attribute-read at x r ok =
     let q = quoteOf (x .value) in
     let k = two (isNameText (x .key)) (isValue q (x .value)) ok in
     part-written at (x .key) q (x .value) r (k .0) (quote-is (x .value)) (quote-no-space (x .value)) (k .1)
 
-pub attributes-written : (xs : List Attr) (turns : ℕ) (keys : List Text) (before : List AttributePairs) (at kind : ℕ) (rest : Text) → every attributeOk xs ≡ true → newKeys keys xs ≡ true → 1 ≤ kind → kind ≤ 2 → length xs < turns
-    → attributesFrom turns keys before at (writtenAttributes xs ++ (tagEnd kind ++ rest)) ≡ ended kind (before ++ attributePlaces at xs) (at + length (writtenAttributes xs) + length (tagEnd kind)) rest
+pub attributes-written : (xs : List Attr) (turns : ℕ) (keys : List Text) (before : List AttributePairs) (at kind : ℕ) (rest : Text) → every attributeOk xs ≡ true → newKeys keys xs ≡ true
+    → 1 ≤ kind → kind ≤ 2 → length xs < turns
+    → attributesFrom turns keys before at (writtenAttributes xs ++ (tagEnd kind ++ rest)) ≡ ended kind (before ++ attributePlaces at xs)
+    (at + length (writtenAttributes xs) + length (tagEnd kind)) rest
 unfolding writtenAttributes attributePlaces newKeys
 attributes-written [] turns keys before at kind rest ok new low high h =
     attributes-last turns keys before at (tagEnd kind ++ rest) kind (at + length (tagEnd kind)) rest (omega arith) (end-written at kind rest low high)
@@ -317,4 +325,5 @@ tag-written at kind t rest low high n ok new =
     let turns : length xs < suc (length w) = omega (arith, written-long xs, length-append (writtenAttributes xs) (tagEnd kind ++ rest)) in
     ap (tag at) (tag-more kind t rest)
     ∙ tag-found at (60 ∷ (t .name ++ w)) (less-written at (t .name ++ w)) (name-written (at + 1) (t .name) w n none) (attributes-written xs (suc (length w)) [] [] e kind rest ok new low high turns)
-    ∙ tagged-same kind _ _ (attributePlaces e xs) _ _ _ _ rest (pair-same _ _ _ _ refl (omega arith)) (nameOf-written (t .name) w (two (isNameStart (first (t .name))) (every isName (t .name)) n .1) none) (omega (arith, tag-size kind t))
+    ∙ tagged-same kind _ _ (attributePlaces e xs) _ _ _ _ rest (pair-same _ _ _ _ refl (omega arith))
+    (nameOf-written (t .name) w (two (isNameStart (first (t .name))) (every isName (t .name)) n .1) none) (omega (arith, tag-size kind t))

@@ -11,6 +11,7 @@ use Rattle.text.specs.Text.{between}
 use Rattle.text.specs.Trim.{isWhiteSpace}
 use Rattle.text.proofs.Laws.Table.{passes, at}
 use Rattle.text.proofs.Laws.Tests.{and-true-left, and-true-right}
+use Rattle.xml.proofs.Laws.Grammar.Basics.{class-in}
 use Rattle.plain_bytes.specs.Scan.{isTextRun, isValueRun, isCommentRun}
 use Rattle.xml.specs.Classes.{isChar, isLetter, isNameStart, isName, isEncoding}
 use Rattle.xml.specs.Values.{isQuote, isInText, isInValue}
@@ -51,24 +52,21 @@ pub class-bit : (class : Class) (b : ℕ) → b < 256 → hasBit (getD classTabl
 class-bit class b h = agree-eq _ _ (at (λ (k : ℕ). agree (hasBit (getD classTable k 0) (bitOf class)) (classOf class k)) 256 (all-bits class) b h)
 
 -- the bytes that are passed over eight at a time are of the classes that are then passed over one by one
-run-in : (p q : ℕ → Bool) → passes (λ (k : ℕ). not (p k) || q k) 128 ≡ true → (b : ℕ) → b < 128 → p b ≡ true → q b ≡ true
-run-in p q t b l e = rw e at (at (λ (k : ℕ). not (p k) || q k) 128 t b l)
-
 plain-small : (b : ℕ) (rest : Bool) → ltb b 128 && rest ≡ true → b < 128
 plain-small b rest e = ltb-true b 128 (and-true-left (ltb b 128) rest e)
 
 pub text-run : (b : ℕ) → isTextRun b ≡ true → isInText b ≡ true
 unfolding isTextRun isInText isChar between
-text-run b e = run-in isTextRun isInText refl b (plain-small b _ (and-true-left _ _ (and-true-left _ _ (and-true-left _ _ e)))) e
+text-run b e = class-in isTextRun isInText refl b (plain-small b _ (and-true-left _ _ (and-true-left _ _ (and-true-left _ _ e)))) e
 
 pub run-in-value : (b : ℕ) → isValueRun b ≡ true → isInValue b ≡ true
 unfolding isValueRun isInValue isChar isQuote between
-run-in-value b e = run-in isValueRun isInValue refl b (omega (arith, leb-true b 127 (and-true-right (leb 40 b) (leb b 127) (and-true-left (between 40 127 b) (not (eqb b 60)) e)))) e
+run-in-value b e = class-in isValueRun isInValue refl b (omega (arith, leb-true b 127 (and-true-right (leb 40 b) (leb b 127) (and-true-left (between 40 127 b) (not (eqb b 60)) e)))) e
 
 pub comment-run : (b : ℕ) → isCommentRun b ≡ true → (isChar b ≡ true) × (b ≡ 45 → ⊥)
 unfolding isCommentRun isChar between
 comment-run b e =
-    let t = run-in isCommentRun (λ (k : ℕ). isChar k && not (eqb k 45)) refl b (plain-small b _ (and-true-left _ _ e)) e in
+    let t = class-in isCommentRun (λ (k : ℕ). isChar k && not (eqb k 45)) refl b (plain-small b _ (and-true-left _ _ e)) e in
     (and-true-left _ _ t, λ h. false≢true (rw (eq-eqb b 45 h) at (and-true-right (isChar b) (not (eqb b 45)) t)))
 
 pub return-in-text : isInText 13 ≡ true

@@ -1,4 +1,4 @@
--- Laws of the call (specs/Call.antt). Assumes nothing.
+-- Laws of the call (specs/Document.antt). Assumes nothing.
 use Prim.Native.Nat.{ℕ, _+_, _-_, _≤_}
 use mathlib.Core.Path.{_≡_, refl, sym, ap, _∙_}
 use mathlib.Core.List.{List, _++_, append-nil}
@@ -12,7 +12,7 @@ use lib.Seq.{sets, sets-eq, paste, take-at, take-all, length-take-le}
 use Rattle.text.specs.Text.{Text}
 use Rattle.xml.specs.Tape.{TapeEvent, tapeMarks}
 use Rattle.xml.specs.Root.{Rooted, unrooted, rooted, root}
-use Rattle.xml.specs.Call.{Document, written, takenOf}
+use Rattle.xml.specs.Document.{Document, written, takenOf}
 use Rattle.xml_text.specs.Answers.{IsRoot, FoundIs, answerOf}
 use Rattle.xml_text.specs.declared.call.Found.{Found}
 use Rattle.xml_text.specs.declared.root.WholeRoot.{WholeRoot}
@@ -47,5 +47,6 @@ found-taken lent marks after (Found.Needs n) d m h p =
 pub root-bad : (text : Text) (marks after : List ℕ) {m : WholeRoot} {d : Rooted} → m ≡ WholeRoot.Bad → IsRoot text marks 0 after m d → d ≡ unrooted
 root-bad text marks after t p = rw t at p
 
-pub root-to : (text : Text) (marks after : List ℕ) {m : WholeRoot} {d : Rooted} {n a : ℕ} → m ≡ WholeRoot.To n a → IsRoot text marks 0 after m d → (events : List TapeEvent) × (d ≡ rooted events a (drop a text)) × (n ≡ length (tapeMarks events)) × (after ≡ sets marks 0 (tapeMarks events))
+pub root-to : (text : Text) (marks after : List ℕ) {m : WholeRoot} {d : Rooted} {n a : ℕ} → m ≡ WholeRoot.To n a → IsRoot text marks 0 after m d → (events : List TapeEvent)
+    × (d ≡ rooted events a (drop a text)) × (n ≡ length (tapeMarks events)) × (after ≡ sets marks 0 (tapeMarks events))
 root-to text marks after t p = let q = rw t at p in (q .0, q .1, omega (arith, q .2), q .3)

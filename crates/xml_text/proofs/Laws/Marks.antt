@@ -7,7 +7,8 @@ use lib.ListN.{length, set}
 use lib.Seq.{sets, set-comm}
 
 -- four stores one behind the other
-pub put-four : (m : List ℕ) (at k size quote end : ℕ) → set (set (set (set m at k) (at + 1) size) (at + 2) (quote + 1)) (at + 2 + 1) (end - (quote + 1)) ≡ sets m at (k ∷ size ∷ suc quote ∷ (end - suc quote) ∷ [])
+pub put-four : (m : List ℕ) (at k size quote end : ℕ)
+    → set (set (set (set m at k) (at + 1) size) (at + 2) (quote + 1)) (at + 2 + 1) (end - (quote + 1)) ≡ sets m at (k ∷ size ∷ suc quote ∷ (end - suc quote) ∷ [])
 put-four m at k size quote end =
     let one : at + 1 ≡ suc at = omega arith in
     let two : at + 2 ≡ suc (suc at) = omega arith in

@@ -41,11 +41,13 @@ put-close m used = let one : used + 1 ≡ suc used = omega arith in rw one
 pub tag-bad : (text : Text) (at : ℕ) (marks : List ℕ) (used : ℕ) (after : List ℕ) {m : WholeTag} {d : Tagged} → m ≡ WholeTag.Bad → IsTag text at marks used after m d → d ≡ untagged
 tag-bad text at marks used after t p = rw t at p
 
-pub tag-to : (text : Text) (at : ℕ) (marks : List ℕ) (used : ℕ) (after : List ℕ) {m : WholeTag} {d : Tagged} {kind name n a : ℕ} → m ≡ WholeTag.To kind name n a → IsTag text at marks used after m d → IsTag text at marks used after (WholeTag.To kind name n a) d
+pub tag-to : (text : Text) (at : ℕ) (marks : List ℕ) (used : ℕ) (after : List ℕ) {m : WholeTag} {d : Tagged} {kind name n a : ℕ} → m ≡ WholeTag.To kind name n a
+    → IsTag text at marks used after m d → IsTag text at marks used after (WholeTag.To kind name n a) d
 tag-to text at marks used after t p = rw t at p
 
 -- a tag behind the open tags, where the slots below are as they were
-pub open-start : (text : Text) (slots after : List ℕ) (count start kind : ℕ) (pair : Pair) (xs : List AttributePairs) (a : ℕ) (r : Text) → kind ≡ 1 → take count after ≡ take count slots → count < length after
+pub open-start : (text : Text) (slots after : List ℕ) (count start kind : ℕ) (pair : Pair) (xs : List AttributePairs) (a : ℕ) (r : Text) → kind ≡ 1 → take count after ≡ take count slots
+    → count < length after
     → levelOfTag (namesUpTo text slots count) (tagged kind pair xs (nameOf (drop start text)) a r) ≡ on (namesUpTo text (set after count start) (count + 1)) (TapeEvent.tag kind pair xs ∷ []) a r
 unfolding opened
 open-start text slots after count start kind pair xs a r k e h =
@@ -65,7 +67,8 @@ passed-in text at (Content.Passed a) (behind e r) h q = h a (cc)
 passed-in text at (Content.Starting a) bad h q = let z : _≡_ {A = ℕ} 0 1 = cc in absurd (omega arith)
 passed-in text at (Content.Starting a) (behind e r) h q = let z : _≡_ {A = ℕ} 0 1 = cc in absurd (omega arith)
 
-pub goes-weaken : (text : Text) (at start : ℕ) (slots marks : List ℕ) (used : ℕ) (after : List ℕ) (r : Onward) (d : Level) → at ≤ start → GoesOn text start slots marks used after r d → GoesOn text at slots marks used after r d
+pub goes-weaken : (text : Text) (at start : ℕ) (slots marks : List ℕ) (used : ℕ) (after : List ℕ) (r : Onward) (d : Level) → at ≤ start → GoesOn text start slots marks used after r d
+    → GoesOn text at slots marks used after r d
 goes-weaken text at start slots marks used after Onward.Stop d h p = p
 goes-weaken text at start slots marks used after (Onward.On count n a) d h p = (p .0, p .1, p .2, p .3, omega (arith, p .4), p .5, p .6, p .7)
 
@@ -117,7 +120,8 @@ inside-end (suc turns) text slots (suc left) at s h k = absurd (omega arith)
 pub goes-stop : (text : Text) (at : ℕ) (slots marks : List ℕ) (used : ℕ) (after : List ℕ) {m : Onward} {d : Level} → m ≡ Onward.Stop → GoesOn text at slots marks used after m d → d ≡ stop
 goes-stop text at slots marks used after t p = rw t at p
 
-pub goes-on : (text : Text) (at : ℕ) (slots marks : List ℕ) (used : ℕ) (after : List ℕ) {m : Onward} {d : Level} {count n a : ℕ} → m ≡ Onward.On count n a → GoesOn text at slots marks used after m d → GoesOn text at slots marks used after (Onward.On count n a) d
+pub goes-on : (text : Text) (at : ℕ) (slots marks : List ℕ) (used : ℕ) (after : List ℕ) {m : Onward} {d : Level} {count n a : ℕ} → m ≡ Onward.On count n a
+    → GoesOn text at slots marks used after m d → GoesOn text at slots marks used after (Onward.On count n a) d
 goes-on text at slots marks used after t p = rw t at p
 
 -- the numbers of more events
@@ -126,7 +130,8 @@ tape-more m used n xs ys e =
     rw (e, tape-append xs ys) (sym (sets-append m used (tapeMarks xs) (tapeMarks ys)))
 
 -- the root's tag and its content together
-pub root-joined : (text : Text) (m m1 m2 : List ℕ) (n : ℕ) (es : List TapeEvent) (r : WholeRoot) (inner whole : Rooted) → whole ≡ addEvents es inner → m1 ≡ sets m 0 (tapeMarks es) → n ≡ 0 + length (tapeMarks es)
+pub root-joined : (text : Text) (m m1 m2 : List ℕ) (n : ℕ) (es : List TapeEvent) (r : WholeRoot) (inner whole : Rooted) → whole ≡ addEvents es inner → m1 ≡ sets m 0 (tapeMarks es)
+    → n ≡ 0 + length (tapeMarks es)
     → IsRoot text m1 n m2 r inner → IsRoot text m 0 m2 r whole
 unfolding addEvents
 root-joined text m m1 m2 n es WholeRoot.Bad inner whole w s e p = w ∙ ap (addEvents es) p

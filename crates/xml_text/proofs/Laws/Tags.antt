@@ -9,7 +9,8 @@ use lib.Seq.{sets, getD-set-same, getD-set-other, getD-take}
 use Rattle.text.specs.Text.{Text, same}
 use Rattle.xml.specs.Steps.{behind, nameOf}
 use Rattle.xml.specs.Tape.{AttributePairs, attributeMarks}
-use Rattle.xml.specs.Tags.{Part, wrong, last, more, attributeFrom, isAmong, Ended, unended, tag}
+use Rattle.xml.specs.Tags.{Part, wrong, last, more, attributeFrom, Ended, unended, tag}
+use Rattle.xml.specs.Grammar.{isAmong}
 use Rattle.xml_text.specs.Answers.{namesUpTo, nextPart, PartIn, EndsTag}
 use Rattle.xml_text.specs.declared.tags.EndOfTag.{EndOfTag}
 use Rattle.xml_text.specs.declared.tags.Next.{Next}
@@ -54,7 +55,8 @@ part-wrong text t q = sym q ∙ ap (nextPart text) t
 pub part-last : (text : Text) {m : Next} {d : Part} {kind a : ℕ} → m ≡ Next.Last kind a → nextPart text m ≡ d → d ≡ last kind a (drop a text)
 part-last text t q = sym q ∙ ap (nextPart text) t
 
-pub part-more : (text : Text) {m : Next} {d : Part} {key keyEnd quote to : ℕ} → m ≡ Next.More key keyEnd quote to → nextPart text m ≡ d → d ≡ more (attributeFrom key keyEnd quote to) (nameOf (drop key text)) to (drop to text)
+pub part-more : (text : Text) {m : Next} {d : Part} {key keyEnd quote to : ℕ} → m ≡ Next.More key keyEnd quote to → nextPart text m ≡ d
+    → d ≡ more (attributeFrom key keyEnd quote to) (nameOf (drop key text)) to (drop to text)
 part-more text t q = sym q ∙ ap (nextPart text) t
 
 pub part-in-last : (n at : ℕ) {m : Next} {kind a : ℕ} → m ≡ Next.Last kind a → PartIn n at m → (at < a) × (a ≤ n)
@@ -64,7 +66,8 @@ pub part-in-more : (n at : ℕ) {m : Next} {key keyEnd quote to : ℕ} → m ≡
 part-in-more n at t p = rw t at p
 
 -- the numbers of one attribute more
-pub marks-more : (m : List ℕ) (from count : ℕ) (xs : List AttributePairs) (x : AttributePairs) → count ≡ length xs → sets (sets m from (attributeMarks xs)) (from + 4 * count) (attributeMarks (x ∷ [])) ≡ sets m from (attributeMarks (xs ++ x ∷ []))
+pub marks-more : (m : List ℕ) (from count : ℕ) (xs : List AttributePairs) (x : AttributePairs) → count ≡ length xs
+    → sets (sets m from (attributeMarks xs)) (from + 4 * count) (attributeMarks (x ∷ [])) ≡ sets m from (attributeMarks (xs ++ x ∷ []))
 marks-more m from count xs x e =
     let n : from + 4 * count ≡ from + length (attributeMarks xs) = omega (arith, marks-length xs) in
     rw (n, marks-append xs (x ∷ [])) (sym (sets-append m from (attributeMarks xs) (attributeMarks (x ∷ []))))
@@ -73,7 +76,8 @@ marks-more m from count xs x e =
 pub ends-bad : (text : Text) (at : ℕ) (marks : List ℕ) (from : ℕ) (after : List ℕ) {m : EndOfTag} {d : Ended} → m ≡ EndOfTag.Bad → EndsTag text at marks from after m d → d ≡ unended
 ends-bad text at marks from after t p = rw t at p
 
-pub ends-to : (text : Text) (at : ℕ) (marks : List ℕ) (from : ℕ) (after : List ℕ) {m : EndOfTag} {d : Ended} {kind count a : ℕ} → m ≡ EndOfTag.To kind count a → EndsTag text at marks from after m d → EndsTag text at marks from after (EndOfTag.To kind count a) d
+pub ends-to : (text : Text) (at : ℕ) (marks : List ℕ) (from : ℕ) (after : List ℕ) {m : EndOfTag} {d : Ended} {kind count a : ℕ} → m ≡ EndOfTag.To kind count a
+    → EndsTag text at marks from after m d → EndsTag text at marks from after (EndOfTag.To kind count a) d
 ends-to text at marks from after t p = rw t at p
 
 -- only the slots that count are looked at

@@ -1,19 +1,18 @@
 -- [22] prolog (specs/Grammar.antt), both ways: a declaration and Misc*, and a declaration is never read as an instruction. Assumes nothing.
-use Prim.Native.Nat.{ℕ, suc, _+_}
-use mathlib.Core.Path.{_≡_, refl, sym, ap, subst, _∙_}
-use mathlib.Core.List.{List, [], _∷_, _++_, append-assoc}
-use mathlib.Core.Bool.{Bool, true, false, not, _&&_, _||_, false≢true}
+use Prim.Native.Nat.{ℕ, _+_}
+use mathlib.Core.Path.{_≡_, refl, sym, ap, _∙_}
+use mathlib.Core.List.{[], _∷_, _++_, append-assoc}
+use mathlib.Core.Bool.{true, false, not, _&&_, false≢true}
 use native.Mathlib.Omega.{arith}
 use lib.Dec.{eqb}
 use lib.ListN.{length, drop, length-append}
-use borrow.Author.Tests.{not-true}
-use Rattle.text.specs.Text.{Text, if_then_else_, bytes, first, between, lower}
+use Rattle.text.specs.Text.{Text, bytes, first, between, lower}
 use Rattle.text.specs.Trim.{isWhiteSpace}
-use Rattle.text.proofs.Laws.Tests.{bool-cases, two, or-false-right}
+use Rattle.text.proofs.Laws.Tests.{bool-cases, or-false-right}
 use Rattle.xml.specs.Classes.{isLetter, isNameStart, isName}
-use Rattle.xml.specs.Steps.{behind, _andThen_, startsWith, nameOf, isXml}
+use Rattle.xml.specs.Steps.{behind, startsWith, nameOf}
+use Rattle.xml.specs.Grammar.{isXml, absent, present, Many, none, more, run, PITarget, PI, declares, XMLDecl, xmlDecl, Misc, miscComment, miscPI, miscS, Prolog}
 use Rattle.xml.specs.Prolog.{declaration, isMisc, misc, isDeclaration, prolog}
-use Rattle.xml.specs.Grammar.{Opt, absent, present, Many, none, more, Run, run, PITarget, PI, declares, XMLDecl, xmlDecl, Misc, miscComment, miscPI, miscS, Prolog}
 use Rattle.xml.specs.Grammar as grammar
 use Rattle.xml.proofs.Laws.Steps.{starts-longer}
 use Rattle.xml.proofs.Laws.Names.{nameOf-none, nameOf-some}
@@ -47,8 +46,8 @@ unfolding isXml bytes lower between isName isNameStart isLetter
 name-xml n s h k f =
     let w = word-starts (bytes "xml") s k in
     let e : n ≡ bytes "xml" =
-        sym h ∙ ap nameOf w ∙ nameOf-some 120 _ refl
-        ∙ ap (λ (t : Text). 120 ∷ t) (nameOf-some 109 _ refl ∙ ap (λ (t : Text). 109 ∷ t) (nameOf-some 108 _ refl ∙ ap (λ (t : Text). 108 ∷ t) (nameOf-none (drop 3 s) f))) in
+    sym h ∙ ap nameOf w ∙ nameOf-some 120 _ refl
+    ∙ ap (λ (t : Text). 120 ∷ t) (nameOf-some 109 _ refl ∙ ap (λ (t : Text). 109 ∷ t) (nameOf-some 108 _ refl ∙ ap (λ (t : Text). 108 ∷ t) (nameOf-none (drop 3 s) f))) in
     ap isXml e
 
 target-no-xml : {n : Text} → PITarget n → (s : Text) → isName (first s) ≡ false → startsWith (bytes "xml") (n ++ s) && not (isName (first (drop 3 (n ++ s)))) ≡ false

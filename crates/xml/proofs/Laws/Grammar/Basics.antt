@@ -1,27 +1,24 @@
 -- The productions without a tag, both ways: what a step of specs/Steps.antt passes over has a derivation, and a derivation that stands before a suitable
 -- rest is passed over exactly. White space, names, `=`, comments, instructions, CDATA sections. Assumes nothing.
-use Prim.Native.Nat.{ℕ, suc, _+_, _≤_, _<_}
-use Prim.Native.Char.{code}
+use Prim.Native.Nat.{ℕ, suc, _+_, _<_}
 use mathlib.Core.Path.{_≡_, refl, sym, ap, subst, _∙_}
-use mathlib.Core.List.{List, [], _∷_, _++_, append-nil, append-assoc}
-use mathlib.Core.Bool.{Bool, true, false, not, _&&_, _||_, false≢true}
+use mathlib.Core.List.{[], _∷_, _++_, append-assoc}
+use mathlib.Core.Bool.{Bool, true, false, not, _||_, false≢true}
 use native.Mathlib.Omega.{arith}
 use lib.Dec.{eqb}
 use lib.ListN.{length, take, drop, length-append}
 use lib.Seq.{drop-append-seam, take-append-seam}
-use borrow.Author.Tests.{eqb-true, eq-eqb, ne-eqb}
-use Rattle.text.specs.Text.{Text, if_then_else_, bytes, first, every, between}
+use borrow.Author.Tests.{eqb-true, eq-eqb}
+use Rattle.text.specs.Text.{Text, bytes, first, every, between}
 use Rattle.text.specs.Trim.{isWhiteSpace}
-use Rattle.text.proofs.Laws.Tests.{bool-cases, and-true, two}
-use Rattle.text.proofs.Laws.Every.{every-append-true}
+use Rattle.text.proofs.Laws.Tests.{bool-cases, two}
 use Rattle.text.proofs.Laws.Table.{passes, at as at-place}
 use Rattle.xml.specs.Classes.{isChar, isLetter, isNameStart, isName}
-use Rattle.xml.specs.Steps.{Step, bad, behind, _andThen_, startsWith, literal, many, oneThen, spaces, space, name, nameOf, until, comment, isXml, target, instructionEnd, instruction, section}
+use Rattle.xml.specs.Steps.{Step, behind, _andThen_, startsWith, literal, many, oneThen, spaces, space, name, nameOf}
+use Rattle.xml.specs.Grammar.{Opt, absent, present, Run, run, S, Name, Eq, equals}
 use Rattle.xml.specs.Prolog.{eq}
-use Rattle.xml.specs.Grammar.{Opt, absent, present, Many, none, more, Run, run, Without, S, Name, CommentPart, noHyphen, oneHyphen, Comment, PITarget, PIText, behindTarget, PI, CDSect, Eq, equals}
-use Rattle.xml.specs.Grammar as grammar
-use Rattle.xml.proofs.Laws.Names.{behind-at, behind-rest, bad-not, nameOf-some, nameOf-take, name-size, start-is-name, zero-no-name}
-use Rattle.xml.proofs.Laws.Moves.{Moves, Passes, moves, then-ends, many-moves, one-passes, spaces-moves, name-passes, comment-passes, section-passes, target-passes, instruction-passes, eq-passes}
+use Rattle.xml.proofs.Laws.Names.{behind-at, behind-rest, bad-not, nameOf-some, nameOf-take, name-size, start-is-name}
+use Rattle.xml.proofs.Laws.Moves.{Moves, moves, then-ends, eq-passes}
 use Rattle.xml.proofs.Laws.Written.{many-written, nameOf-written}
 
 -- a derivation of what stands before the rest, and where it ends
@@ -192,3 +189,23 @@ unfolding eq bytes literal startsWith first
 eq-complete (equals {s} {t} a b) at r n =
     rw (append-assoc s (61 ∷ t) r, spaces-complete a at (61 ∷ (t ++ r)) equals-no-white, spaces-complete b (at + length s + 1) r n)
     (behind-same (omega (arith, length-append s (61 ∷ t))))
+
+-- one step behind the other
+abbrev pub Is : Text → Text → Type 0
+Is w v = v ≡ w
+
+pub is-sound : (w : Text) → Sound (Is w) (literal w)
+is-sound w at s e r h = let l = literal-sound w at s e r h in (w, refl, l .0, l .1)
+
+abbrev pub Then : (Text → Type 0) → (Text → Type 0) → Text → Type 0
+Then P Q v = (a : Text) × (b : Text) × P a × Q b × (v ≡ a ++ b)
+
+pub then-sound : (P Q : Text → Type 0) (f g : ℕ → Text → Step) → Sound P f → Sound Q g → Sound (Then P Q) (λ (at : ℕ) (s : Text). f at s andThen g)
+then-sound P Q f g k l at s e r h =
+    let z = then-ends (f at s) g e r h in
+    let a = k at s (z .0) (z .1) (z .2) in
+    let b = l (z .0) (z .1) e r (z .3) in
+    (a .0 ++ b .0, (a .0, b .0, a .1, b .1, refl), a .2 ∙ ap (λ (t : Text). a .0 ++ t) (b .2) ∙ sym (append-assoc (a .0) (b .0) r), omega (arith, a .3, b .3, length-append (a .0) (b .0)))
+
+pub then-is : {d : Step} (g : ℕ → Text → Step) {a : ℕ} {t : Text} {x : Step} → d ≡ behind a t → g a t ≡ x → d andThen g ≡ x
+then-is g p q = rw p q

@@ -1,17 +1,14 @@
 -- Elements and their content (specs/Grammar.antt, [39], [42] and [43]), both ways. The recogniser goes through the content with a list of open tags: what it
 -- passes over from there on is the content and the end tag of each of them, the innermost first (`Closings`). Assumes nothing.
 use Prim.Native.Nat.{ℕ, zero, suc, _+_, _≤_, _<_}
-use Prim.Native.Char.{code}
 use mathlib.Core.Path.{_≡_, refl, sym, ap, subst, _∙_}
-use mathlib.Core.Logic.{_⊎_, inl, inr, ⊎-elim}
+use mathlib.Core.Logic.{inl, inr, ⊎-elim}
 use mathlib.Core.List.{List, [], _∷_, _++_, append-nil, append-assoc}
-use mathlib.Core.Bool.{Bool, true, false, not, _&&_, false≢true}
+use mathlib.Core.Bool.{true, false}
 use native.Mathlib.Omega.{arith}
-use lib.Dec.{eqb}
 use lib.ListN.{length, length-append}
-use borrow.Author.Tests.{eqb-true, eq-eqb, ne-eqb}
-use Rattle.text.specs.Text.{Text, if_then_else_, bytes, first, same, between}
-use Rattle.text.specs.Trim.{isWhiteSpace}
+use borrow.Author.Tests.{eq-eqb, ne-eqb}
+use Rattle.text.specs.Text.{Text, bytes, first, same, between}
 use Rattle.text.proofs.Laws.Tests.{bool-cases, if-either}
 use Rattle.text.proofs.Laws.Texts.{same-refl, same-eq}
 use Rattle.xsd_parser.specs.Tape.{Pair}
@@ -20,18 +17,17 @@ use Rattle.xml.specs.Steps.{Step, bad, behind, _andThen_, startsWith, li
 use Rattle.xml.specs.Values.{charData}
 use Rattle.xml.specs.Tape.{AttributePairs, TapeEvent}
 use Rattle.xml.specs.Tags.{Tagged, untagged, tagged, tag}
-use Rattle.xml.specs.Root.{Piece, passed, ending, starting, passedBy, endingBy, closeBehind, close, markup, markupBehind, piece, Level, stop, on, opened, levelOfTag, levelOfClose, levelOf, turn, Rooted, unrooted, rooted, noneOpen, addEvents, onLevel, inside, insideAll, root}
-use Rattle.xml.specs.Grammar.{Opt, absent, present, Run, run, S, Name, Reference, CharData, Comment, PI, CDSect, STag, EmptyElemTag, ETag, endTag, Element, emptyElement, wholeElement, Content, content, Items, noItem, oneItem, Item, itemElement, itemReference, itemSection, itemPI, itemComment}
+use Rattle.xml.specs.Root.{Piece, passed, ending, starting, passedBy, endingBy, closeBehind, close, markup, markupBehind, piece, on, opened, levelOfTag, levelOf, turn, Rooted, unrooted, rooted, addEvents, onLevel, inside, insideAll, root}
+use Rattle.xml.specs.Grammar.{Opt, absent, present, run, S, Reference, CharData, Comment, PI, CDSect, STag, EmptyElemTag, ETag, endTag, Element, emptyElement, wholeElement, Content, content, Items, noItem, oneItem, Item, itemElement, itemReference, itemSection, itemPI, itemComment}
 use Rattle.xml.specs.Grammar as grammar
-use Rattle.xml.proofs.Laws.Names.{behind-at, behind-rest, bad-not}
-use Rattle.xml.proofs.Laws.Moves.{moves, then-ends, char-data-moves}
+use Rattle.xml.proofs.Laws.Moves.{then-ends, char-data-moves}
 use Rattle.xml.proofs.Laws.Written.{start-other}
 use Rattle.xml.proofs.Laws.Root.{closing, close-of, add-none, add-add}
 use Rattle.xml.proofs.Laws.Grammar.Basics.{ends-at, literal-sound, name-sound, name-complete, name-whole, nameOf-complete, white-no-name, spaces-sound, spaces-complete}
 use Rattle.xml.proofs.Laws.Grammar.Markup.{comment-sound, comment-complete, comment-some, section-sound, section-complete, section-some, instruction-sound, instruction-complete, instruction-some}
 use Rattle.xml.proofs.Laws.Grammar.References.{reference-bytes}
-use Rattle.xml.proofs.Laws.Grammar.Texts.{reference-some, data-pass, Refs, noRef, oneRef, data-sound, Stops, data-complete}
-use Rattle.xml.proofs.Laws.Grammar.Tags.{IsTag, tag-sound, start-complete, empty-complete}
+use Rattle.xml.proofs.Laws.Grammar.Texts.{data-pass, Refs, noRef, oneRef, data-sound, Stops, data-complete}
+use Rattle.xml.proofs.Laws.Grammar.Tags.{greater-no-white, greater-no-name, tag-sound, start-complete, empty-complete}
 
 -- [42]
 ending-by : (n : Text) (d : Step) (m : Text) (a : ℕ) (r : Text) → endingBy n d ≡ ending m a r → (n ≡ m) × (d ≡ behind a r)
@@ -57,18 +53,12 @@ close-sound at s m a r h =
     let o = spaces-sound (y .0) (y .1) (z .0) (z .1) (y .3) in
     let g = literal-sound (bytes ">") (z .0) (z .1) a r (z .3) in
     let k = sym (name-whole (l .0) (l .1) (y .0) (y .1) (n .0) (y .2) (n .2) (n .3)) ∙ i .0 in
-    let size : length (n .0 ++ (o .0 ++ (62 ∷ []))) ≡ length (n .0) + (length (o .0) + 1) = simp length-append in
-    (bytes "</" ++ (n .0 ++ (o .0 ++ bytes ">")), etag-as k (endTag (n .1) (o .1)),
-    w .0 ∙ ap (λ (t : Text). 60 ∷ 47 ∷ t) (n .2 ∙ ap (λ (t : Text). n .0 ++ t) (o .2 ∙ ap (λ (t : Text). o .0 ++ t) (g .0)) ∙ simp append-assoc),
-    omega (arith, size, w .1, n .3, o .3, g .1))
-
-greater-no-white : isWhiteSpace 62 ≡ false
-unfolding isWhiteSpace
-greater-no-white = refl
-
-greater-no-name : isName 62 ≡ false
-unfolding isName isNameStart isLetter between
-greater-no-name = refl
+    let size : length (n .0 ++ (o .0 ++ (62 ∷ []))) ≡ length (n .0) + (length (o .0) + 1) = simp length-append in (
+      bytes "</" ++ (n .0 ++ (o .0 ++ bytes ">")),
+      etag-as k (endTag (n .1) (o .1)),
+      w .0 ∙ ap (λ (t : Text). 60 ∷ 47 ∷ t) (n .2 ∙ ap (λ (t : Text). n .0 ++ t) (o .2 ∙ ap (λ (t : Text). o .0 ++ t) (g .0)) ∙ simp append-assoc),
+      omega (arith, size, w .1, n .3, o .3, g .1),
+    )
 
 behind-close : {t : Text} → Opt S t → (r : Text) → isName (first (t ++ (62 ∷ r))) ≡ false
 unfolding first
@@ -93,7 +83,8 @@ PieceIs at s (passed a r) = (v : Text) × Item at v [] × (s ≡ v ++ r) × (a �
 PieceIs at s (ending n a r) = (v : Text) × ETag v n × (s ≡ v ++ r) × (a ≡ at + length v)
 PieceIs at s (starting a r) = (a ≡ at) × (r ≡ s)
 
-passed-piece : (P : Text → Type 0) (at : ℕ) (s : Text) (d : Step) → ((v : Text) → P v → Item at v []) → ((e : ℕ) (r : Text) → d ≡ behind e r → (v : Text) × P v × (s ≡ v ++ r) × (e ≡ at + length v)) → PieceIs at s (passedBy d)
+passed-piece : (P : Text → Type 0) (at : ℕ) (s : Text) (d : Step) → ((v : Text) → P v → Item at v [])
+    → ((e : ℕ) (r : Text) → d ≡ behind e r → (v : Text) × P v × (s ≡ v ++ r) × (e ≡ at + length v)) → PieceIs at s (passedBy d)
 passed-piece P at s bad i k = tt
 passed-piece P at s (behind e r) i k = let h = k e r refl in (h .0, i (h .0) (h .1), h .2, h .3)
 
@@ -136,14 +127,15 @@ run-content {a} {t} c rs at u es d = content (present c) (refs-items rs (at + le
 pub data Closings : ℕ → List Text → Text → List TapeEvent → Type 0 where
   allClosed : {at : ℕ} → Closings at [] [] []
   oneClosed : {at : ℕ} {s t u n m : Text} {tags : List Text} {es fs : List TapeEvent} → Content at s es → ETag t m → m ≡ n → Closings (at + length s + length t) tags u fs
-    → Closings at (n ∷ tags) (s ++ (t ++ u)) (es ++ (TapeEvent.close ∷ fs))
+      → Closings at (n ∷ tags) (s ++ (t ++ u)) (es ++ (TapeEvent.close ∷ fs))
 
 closings-as : {at b : ℕ} {tags : List Text} {u v : Text} {es fs : List TapeEvent} → at ≡ b → u ≡ v → es ≡ fs → Closings at tags u es → Closings b tags v fs
 closings-as {at} {b} {tags} {u} {v} {es} {fs} p q h d =
     subst (λ (z : ℕ). Closings z tags v fs) p (subst (λ (z : Text). Closings at tags z fs) q (subst (λ (z : List TapeEvent). Closings at tags u z) h d))
 
 -- text, references and an item before them
-with-item : {a t : Text} → CharData a → Refs t → (at : ℕ) {w : Text} {es : List TapeEvent} → Item (at + length a + length t) w es → {b : ℕ} {n : Text} {tags : List Text} {u : Text} {fs : List TapeEvent} → Closings b (n ∷ tags) u fs
+with-item : {a t : Text} → CharData a → Refs t → (at : ℕ) {w : Text} {es : List TapeEvent} → Item (at + length a + length t) w es
+    → {b : ℕ} {n : Text} {tags : List Text} {u : Text} {fs : List TapeEvent} → Closings b (n ∷ tags) u fs
     → b ≡ at + length a + length t + length w → Closings at (n ∷ tags) (a ++ (t ++ (w ++ u))) (es ++ fs)
 with-item {a} {t} c rs at {w} {es} i (oneClosed {s = v} {t = x} {u = y} {es = gs} {fs = hs} (content {s = p} {t = q} o items) et m rest) h =
     let size : length (a ++ (t ++ (w ++ (p ++ q)))) ≡ length a + (length t + (length w + (length p + length q))) = simp length-append in
@@ -155,7 +147,8 @@ content-from : {at b : ℕ} {s : Text} {es : List TapeEvent} → at ≡ b → Co
 content-from {at} {b} {s} {es} p d = subst (λ (z : ℕ). Content z s es) p d
 
 -- text, references and a start tag before its content and its end tag
-with-tag : {a t : Text} → CharData a → Refs t → (at : ℕ) {w m : Text} {x : TapeEvent} → STag (at + length a + length t) w m x → {b : ℕ} {n : Text} {tags : List Text} {u : Text} {gs : List TapeEvent} → Closings b (m ∷ n ∷ tags) u gs
+with-tag : {a t : Text} → CharData a → Refs t → (at : ℕ) {w m : Text} {x : TapeEvent} → STag (at + length a + length t) w m x
+    → {b : ℕ} {n : Text} {tags : List Text} {u : Text} {gs : List TapeEvent} → Closings b (m ∷ n ∷ tags) u gs
     → b ≡ at + length a + length t + length w → Closings at (n ∷ tags) (a ++ (t ++ (w ++ u))) (x ∷ gs)
 with-tag {a} {t} c rs at {w} {m} {x} d (oneClosed {s} {t = y} {u = z} {es} {fs} k et q rest) p =
     let size : length (w ++ (s ++ y)) ≡ length w + (length s + length y) = simp length-append in
@@ -176,7 +169,8 @@ add-is fs unrooted es e r h = unrooted-not h
 add-is fs (rooted gs a u) es e r h = (gs, cc, cc)
 
 module _ (next : List Text → ℕ → Text → Rooted) (ih : (tags : List Text) (at : ℕ) (s : Text) (es : List TapeEvent) (e : ℕ) (r : Text) → next tags at s ≡ rooted es e r → Inside tags at s es e r) where
-  item-inside : {a t : Text} → CharData a → Refs t → (at : ℕ) {w : Text} {fs : List TapeEvent} → Item (at + length a + length t) w fs → (n : Text) (tags : List Text) (b : ℕ) (v : Text) (es : List TapeEvent) (e : ℕ) (r : Text)
+  item-inside : {a t : Text} → CharData a → Refs t → (at : ℕ) {w : Text} {fs : List TapeEvent} → Item (at + length a + length t) w fs
+      → (n : Text) (tags : List Text) (b : ℕ) (v : Text) (es : List TapeEvent) (e : ℕ) (r : Text)
       → b ≡ at + length a + length t + length w → addEvents fs (next (n ∷ tags) b v) ≡ rooted es e r → Inside (n ∷ tags) at (a ++ (t ++ (w ++ v))) es e r
   item-inside {a} {t} c rs at {w} {fs} i n tags b v es e r p h =
       let g = add-is fs (next (n ∷ tags) b v) es e r h in
@@ -190,11 +184,15 @@ module _ (next : List Text → ℕ → Text → Rooted) (ih : (tags : List Text)
       let g = add-is (TapeEvent.close ∷ []) (next tags b v) es e r h in
       let k = ih tags b v (g .0) e r (g .1) in
       let size : length (a ++ (t ++ [])) ≡ length a + length t = simp (length-append, append-nil) in
-      let long : length ((a ++ (t ++ [])) ++ (w ++ k .0)) ≡ length a + length t + (length w + length (k .0)) = simp (length-append, append-nil) in
-      ((a ++ (t ++ [])) ++ (w ++ k .0), closings-as refl refl (g .2) (oneClosed (run-content c rs at [] [] noItem) d q (closings-as (omega (arith, size)) refl refl (k .1))),
-      ap (λ (z : Text). a ++ (t ++ (w ++ z))) (k .2) ∙ simp (append-assoc, append-nil), omega (arith, long, k .3))
+      let long : length ((a ++ (t ++ [])) ++ (w ++ k .0)) ≡ length a + length t + (length w + length (k .0)) = simp (length-append, append-nil) in (
+        (a ++ (t ++ [])) ++ (w ++ k .0),
+        closings-as refl refl (g .2) (oneClosed (run-content c rs at [] [] noItem) d q (closings-as (omega (arith, size)) refl refl (k .1))),
+        ap (λ (z : Text). a ++ (t ++ (w ++ z))) (k .2) ∙ simp (append-assoc, append-nil),
+        omega (arith, long, k .3),
+      )
 
-  element-inside : {a t : Text} → CharData a → Refs t → (at : ℕ) {w m : Text} {x : TapeEvent} → STag (at + length a + length t) w m x → (n : Text) (tags : List Text) (b : ℕ) (v : Text) (es : List TapeEvent) (e : ℕ) (r : Text)
+  element-inside : {a t : Text} → CharData a → Refs t → (at : ℕ) {w m : Text} {x : TapeEvent} → STag (at + length a + length t) w m x
+      → (n : Text) (tags : List Text) (b : ℕ) (v : Text) (es : List TapeEvent) (e : ℕ) (r : Text)
       → b ≡ at + length a + length t + length w → addEvents (x ∷ []) (next (m ∷ n ∷ tags) b v) ≡ rooted es e r → Inside (n ∷ tags) at (a ++ (t ++ (w ++ v))) es e r
   element-inside {a} {t} c rs at {w} {m} {x} d n tags b v es e r p h =
       let g = add-is (x ∷ []) (next (m ∷ n ∷ tags) b v) es e r h in
@@ -226,7 +224,8 @@ module _ (next : List Text → ℕ → Text → Rooted) (ih : (tags : List Text)
   piece-inside {a} {t} c rs at s n tags es e r (starting b v) (p, q) h =
       tag-inside c rs at s n tags es e r (tag (at + length a + length t) s) refl (rw (p, q) at h)
 
-  turn-inside : (at : ℕ) (s : Text) (n : Text) (tags : List Text) (es : List TapeEvent) (e : ℕ) (r : Text) (d : Step) → charData at s ≡ d → onLevel next (levelOf (n ∷ tags) (markupBehind d)) ≡ rooted es e r → Inside (n ∷ tags) at s es e r
+  turn-inside : (at : ℕ) (s : Text) (n : Text) (tags : List Text) (es : List TapeEvent) (e : ℕ) (r : Text) (d : Step) → charData at s ≡ d
+      → onLevel next (levelOf (n ∷ tags) (markupBehind d)) ≡ rooted es e r → Inside (n ∷ tags) at s es e r
   turn-inside at s n tags es e r bad q h = unrooted-not h
   turn-inside at s n tags es e r (behind b v) q h =
       let k = data-sound at s b v q in
@@ -261,13 +260,15 @@ element-as {at} {u} {v} {es} {fs} p q d = subst (λ (z : Text). Element at z fs)
 root-tag : (at : ℕ) {w n : Text} {x : TapeEvent} → STag at w n x → {b : ℕ} {u : Text} {gs : List TapeEvent} → Closings b (n ∷ []) u gs → b ≡ at + length w → Element at (w ++ u) (x ∷ gs)
 root-tag at {w} d (oneClosed {s} {t} k et q allClosed) p = element-as (ap (λ (z : Text). w ++ (s ++ z)) (sym (append-nil t))) refl (wholeElement d (content-from p k) et q)
 
-root-start : (at : ℕ) (s w n : Text) (x : TapeEvent) (b : ℕ) (v : Text) (es : List TapeEvent) (e : ℕ) (r : Text) → STag at w n x → s ≡ w ++ v → b ≡ at + length w → addEvents (x ∷ []) (insideAll (n ∷ []) b v) ≡ rooted es e r → IsElement at s es e r
+root-start : (at : ℕ) (s w n : Text) (x : TapeEvent) (b : ℕ) (v : Text) (es : List TapeEvent) (e : ℕ) (r : Text) → STag at w n x → s ≡ w ++ v → b ≡ at + length w
+    → addEvents (x ∷ []) (insideAll (n ∷ []) b v) ≡ rooted es e r → IsElement at s es e r
 root-start at s w n x b v es e r d p q h =
     let g = add-is (x ∷ []) (insideAll (n ∷ []) b v) es e r h in
     let k = inside-sound (suc (length v)) (n ∷ []) b v (g .0) e r (g .1) in
     (w ++ k .0, element-as refl (g .2) (root-tag at d (k .1) q), p ∙ ap (λ (z : Text). w ++ z) (k .2) ∙ sym (append-assoc w (k .0) r), omega (arith, length-append w (k .0), k .3))
 
-root-empty : (at : ℕ) (s w : Text) (x : TapeEvent) (b : ℕ) (v : Text) (es : List TapeEvent) (e : ℕ) (r : Text) → EmptyElemTag at w x → s ≡ w ++ v → b ≡ at + length w → addEvents (x ∷ []) (insideAll [] b v) ≡ rooted es e r → IsElement at s es e r
+root-empty : (at : ℕ) (s w : Text) (x : TapeEvent) (b : ℕ) (v : Text) (es : List TapeEvent) (e : ℕ) (r : Text) → EmptyElemTag at w x → s ≡ w ++ v → b ≡ at + length w
+    → addEvents (x ∷ []) (insideAll [] b v) ≡ rooted es e r → IsElement at s es e r
 unfolding inside addEvents
 root-empty at s w x b v es e r d p q h =
     let y : x ∷ [] ≡ es = cc in
@@ -328,7 +329,8 @@ instruction-markup : {v : Text} → PI v → (at : ℕ) (r : Text) → (w : Text
 unfolding markup bytes startsWith
 instruction-markup {v} (grammar.instruction {n} {s} a o) at r = (63 ∷ ((n ++ (s ++ bytes "?>")) ++ r), refl, ap passedBy (instruction-complete (grammar.instruction a o) at r))
 
-passed-goes : (v : Text) (at : ℕ) (r : Text) → (w : Text) × (v ++ r ≡ 60 ∷ w) × (markup at (60 ∷ w) ≡ passed (at + length v) r) → 0 < length v → (m : Text) (tags : List Text) (turns : ℕ) → length (v ++ r) < turns → Goes (m ∷ tags) at v [] turns r
+passed-goes : (v : Text) (at : ℕ) (r : Text) → (w : Text) × (v ++ r ≡ 60 ∷ w) × (markup at (60 ∷ w) ≡ passed (at + length v) r) → 0 < length v → (m : Text) (tags : List Text) (turns : ℕ)
+    → length (v ++ r) < turns → Goes (m ∷ tags) at v [] turns r
 passed-goes v at r (w, p, h) z m tags turns l =
     let t = subst (λ (x : Text). turn (m ∷ tags) at x ≡ on (m ∷ tags) [] (at + length v) r) (sym p) (turn-passed (m ∷ tags) at w (at + length v) r h) in
     let g = turns-on turns m tags at (v ++ r) (m ∷ tags) [] (at + length v) r l t in
@@ -410,12 +412,15 @@ items-stops (oneItem {s} {t} {u} i o d) r h = subst Stops (sym (append-assoc s (
 
 -- one text behind the other
 module _ (tags : List Text) (at : ℕ) where
-  goes-then : (s u : Text) (es fs : List TapeEvent) (turns : ℕ) (r : Text) → Goes tags at s es turns (u ++ r) → ((t : ℕ) → length (u ++ r) < t → Goes tags (at + length s) u fs t r) → Goes tags at (s ++ u) (es ++ fs) turns r
+  goes-then : (s u : Text) (es fs : List TapeEvent) (turns : ℕ) (r : Text) → Goes tags at s es turns (u ++ r) → ((t : ℕ) → length (u ++ r) < t → Goes tags (at + length s) u fs t r)
+      → Goes tags at (s ++ u) (es ++ fs) turns r
   goes-then s u es fs turns r g k =
-      let h = k (g .0) (g .1) in
-      (h .0, h .1,
-      ap (inside turns tags at) (append-assoc s u r) ∙ g .2 ∙ ap (addEvents es) (h .2) ∙ add-add es fs (inside (h .0) tags (at + length s + length u) r)
-      ∙ ap (λ (z : ℕ). addEvents (es ++ fs) (inside (h .0) tags z r)) (omega (arith, length-append s u)))
+      let h = k (g .0) (g .1) in (
+        h .0,
+        h .1,
+        ap (inside turns tags at) (append-assoc s u r) ∙ g .2 ∙ ap (addEvents es) (h .2) ∙ add-add es fs (inside (h .0) tags (at + length s + length u) r)
+            ∙ ap (λ (z : ℕ). addEvents (es ++ fs) (inside (h .0) tags z r)) (omega (arith, length-append s u)),
+      )
 
 goes-none : (tags : List Text) (at : ℕ) (turns : ℕ) (r : Text) → length r < turns → Goes tags at [] [] turns r
 goes-none tags at turns r l = (turns, l, sym (add-none (inside turns tags at r)) ∙ ap (λ (z : ℕ). addEvents [] (inside turns tags z r)) (omega arith))
@@ -439,8 +444,10 @@ goes-empty {at} {s} {e} d m tags turns r l =
     let some = ap length (sym (append-nil s) ∙ f .3) in
     (g .0, omega (arith, g .1, length-append s r), g .2)
 
-goes-whole : {at : ℕ} {s n : Text} {e : TapeEvent} → STag at s n e → (t : Text) (es : List TapeEvent) → ((tags : List Text) (turns : ℕ) (r : Text) → Stops r → length (t ++ r) < turns → Goes (n ∷ tags) (at + length s) t es turns r)
-    → {u k : Text} → ETag u k → k ≡ n → (m : Text) (tags : List Text) (turns : ℕ) (r : Text) → length ((s ++ (t ++ u)) ++ r) < turns → Goes (m ∷ tags) at (s ++ (t ++ u)) (e ∷ (es ++ TapeEvent.close ∷ [])) turns r
+goes-whole : {at : ℕ} {s n : Text} {e : TapeEvent} → STag at s n e → (t : Text) (es : List TapeEvent)
+    → ((tags : List Text) (turns : ℕ) (r : Text) → Stops r → length (t ++ r) < turns → Goes (n ∷ tags) (at + length s) t es turns r)
+    → {u k : Text} → ETag u k → k ≡ n → (m : Text) (tags : List Text) (turns : ℕ) (r : Text) → length ((s ++ (t ++ u)) ++ r) < turns → Goes (m ∷ tags) at (s ++ (t ++ u))
+    (e ∷ (es ++ TapeEvent.close ∷ [])) turns r
 goes-whole {at} {s} {n} {e} d t es c {u} {k} x q m tags turns r l =
     let whole : (s ++ (t ++ u)) ++ r ≡ s ++ (t ++ (u ++ r)) = simp append-assoc in
     let size : length ((s ++ (t ++ u)) ++ r) ≡ length s + (length t + (length u + length r)) = simp length-append (omega arith) in
@@ -454,11 +461,15 @@ goes-whole {at} {s} {n} {e} d t es c {u} {k} x q m tags turns r l =
     let some3 = ap length (sym (append-nil u) ∙ some2 .1) in
     let a = turns-on turns m tags at (s ++ (t ++ (u ++ r))) (n ∷ m ∷ tags) (e ∷ []) (at + length s) (t ++ (u ++ r)) (omega arith) (turn-start d (m ∷ tags) (t ++ (u ++ r))) in
     let b = c (m ∷ tags) (a .0) (u ++ r) (less-stops (u ++ r) (47 ∷ z .0) (z .1)) (omega (arith, a .1)) in
-    let g = turns-on (b .0) n (m ∷ tags) (at + length s + length t) (u ++ r) (m ∷ tags) (TapeEvent.close ∷ []) (at + length s + length t + length u) r (b .1) (turn-close x (at + length s + length t) n (m ∷ tags) r q) in
-    (g .0, omega (arith, g .1, length-append u r),
-    ap (inside turns (m ∷ tags) at) whole ∙ a .2 ∙ ap (addEvents (e ∷ [])) (b .2 ∙ ap (addEvents es) (g .2) ∙ add-add es (TapeEvent.close ∷ []) (inside (g .0) (m ∷ tags) (at + length s + length t + length u) r))
-    ∙ add-add (e ∷ []) (es ++ TapeEvent.close ∷ []) (inside (g .0) (m ∷ tags) (at + length s + length t + length u) r)
-    ∙ ap (λ (j : ℕ). addEvents (e ∷ (es ++ TapeEvent.close ∷ [])) (inside (g .0) (m ∷ tags) j r)) (omega arith))
+    let g = turns-on (b .0) n (m ∷ tags) (at + length s + length t) (u ++ r) (m ∷ tags) (TapeEvent.close ∷ []) (at + length s + length t + length u) r (b .1)
+    (turn-close x (at + length s + length t) n (m ∷ tags) r q) in (
+      g .0,
+      omega (arith, g .1, length-append u r),
+      ap (inside turns (m ∷ tags) at) whole ∙ a .2 ∙ ap (addEvents (e ∷ [])) (b .2 ∙ ap (addEvents es) (g .2) ∙ add-add es (TapeEvent.close ∷ [])
+          (inside (g .0) (m ∷ tags) (at + length s + length t + length u) r))
+          ∙ add-add (e ∷ []) (es ++ TapeEvent.close ∷ []) (inside (g .0) (m ∷ tags) (at + length s + length t + length u) r)
+          ∙ ap (λ (j : ℕ). addEvents (e ∷ (es ++ TapeEvent.close ∷ [])) (inside (g .0) (m ∷ tags) j r)) (omega arith),
+    )
 
 goes-content : (at : ℕ) {s : Text} → Opt CharData s → (t : Text) (es : List TapeEvent) (m : Text) (tags : List Text) (turns : ℕ) (r : Text) → Stops (t ++ r)
     → ((turns : ℕ) → length (t ++ r) < turns → Goes (m ∷ tags) (at + length s) t es turns r) → length ((s ++ t) ++ r) < turns → Goes (m ∷ tags) at (s ++ t) es turns r
@@ -472,7 +483,8 @@ PartGoes at s es = (m : Text) (tags : List Text) (turns : ℕ) (r : Text) → le
 abbrev BeforeGoes : ℕ → Text → List TapeEvent → Type 0
 BeforeGoes at s es = (m : Text) (tags : List Text) (turns : ℕ) (r : Text) → Stops r → length (s ++ r) < turns → Goes (m ∷ tags) at s es turns r
 
-items-go : (at : ℕ) (s : Text) (es : List TapeEvent) → PartGoes at s es → {t : Text} → Opt CharData t → {u : Text} {fs : List TapeEvent} → Items (at + length s + length t) u fs → BeforeGoes (at + length s + length t) u fs → BeforeGoes at (s ++ (t ++ u)) (es ++ fs)
+items-go : (at : ℕ) (s : Text) (es : List TapeEvent) → PartGoes at s es → {t : Text} → Opt CharData t → {u : Text} {fs : List TapeEvent} → Items (at + length s + length t) u fs
+    → BeforeGoes (at + length s + length t) u fs → BeforeGoes at (s ++ (t ++ u)) (es ++ fs)
 items-go at s es i {t} o {u} {fs} d k m tags turns r h l =
     goes-then (m ∷ tags) at s (t ++ u) es fs turns r (i m tags turns ((t ++ u) ++ r) (omega (arith, ap length (append-assoc s (t ++ u) r))))
     (λ y z. goes-content (at + length s) o u fs m tags y r (items-stops d r h) (λ w v. k m tags w r h v) z)
@@ -480,16 +492,16 @@ items-go at s es i {t} o {u} {fs} d k m tags turns r h l =
 content-goes : {at : ℕ} {s : Text} {es : List TapeEvent} → Content at s es → BeforeGoes at s es
 content-goes d =
     elim d as (λ at s es x. PartGoes at s es) (λ at s es x. BeforeGoes at s es) (λ at s es x. BeforeGoes at s es) (λ at s es x. PartGoes at s es) [
-      emptyElement x ↦ λ m tags turns r l. goes-empty x m tags turns r l
-    | wholeElement {t} {n} {es} x (c → h) e q ↦ λ m tags turns r l. goes-whole x t es (λ left k v z j. h n left k v z j) e q m tags turns r l
-    | content {at} {t} {es} o (c → h) ↦ λ m tags turns r z l. goes-content at o t es m tags turns r (items-stops c r z) (λ k j. h m tags k r z j) l
-    | noItem {at} ↦ λ m tags turns r z l. goes-none (m ∷ tags) at turns r l
-    | oneItem {at} {s} {es} (i → k) o (c → h) ↦ items-go at s es k o c h
-    | itemElement (c → h) ↦ h
-    | itemReference {at} x ↦ λ m tags turns r l. goes-reference x m tags at turns r l
-    | itemSection {at} {s} x ↦ λ m tags turns r l. passed-goes s at r (section-markup x at r) (section-some x) m tags turns l
-    | itemPI {at} {s} x ↦ λ m tags turns r l. passed-goes s at r (instruction-markup x at r) (instruction-some x) m tags turns l
-    | itemComment {at} {s} x ↦ λ m tags turns r l. passed-goes s at r (comment-markup x at r) (comment-some x) m tags turns l
+      | emptyElement x ↦ λ m tags turns r l. goes-empty x m tags turns r l
+      | wholeElement {t} {n} {es} x (c → h) e q ↦ λ m tags turns r l. goes-whole x t es (λ left k v z j. h n left k v z j) e q m tags turns r l
+      | content {at} {t} {es} o (c → h) ↦ λ m tags turns r z l. goes-content at o t es m tags turns r (items-stops c r z) (λ k j. h m tags k r z j) l
+      | noItem {at} ↦ λ m tags turns r z l. goes-none (m ∷ tags) at turns r l
+      | oneItem {at} {s} {es} (i → k) o (c → h) ↦ items-go at s es k o c h
+      | itemElement (c → h) ↦ h
+      | itemReference {at} x ↦ λ m tags turns r l. goes-reference x m tags at turns r l
+      | itemSection {at} {s} x ↦ λ m tags turns r l. passed-goes s at r (section-markup x at r) (section-some x) m tags turns l
+      | itemPI {at} {s} x ↦ λ m tags turns r l. passed-goes s at r (instruction-markup x at r) (instruction-some x) m tags turns l
+      | itemComment {at} {s} x ↦ λ m tags turns r l. passed-goes s at r (comment-markup x at r) (comment-some x) m tags turns l
     ]
 
 -- [39], the other way
@@ -502,11 +514,13 @@ root-of-tag : (at : ℕ) (s : Text) (d : Tagged) → tag at s ≡ d → root at 
 unfolding root
 root-of-tag at s d h = rw h
 
-root-one : (e : TapeEvent) (kind : ℕ) (pair : Pair) (xs : List AttributePairs) (n : Text) (a : ℕ) (r : Text) → e ≡ TapeEvent.tag kind pair xs → kind ≡ 2 → onLevel insideAll (levelOfTag [] (tagged kind pair xs n a r)) ≡ rooted (e ∷ []) a r
+root-one : (e : TapeEvent) (kind : ℕ) (pair : Pair) (xs : List AttributePairs) (n : Text) (a : ℕ) (r : Text) → e ≡ TapeEvent.tag kind pair xs → kind ≡ 2
+    → onLevel insideAll (levelOfTag [] (tagged kind pair xs n a r)) ≡ rooted (e ∷ []) a r
 unfolding opened addEvents inside
 root-one e kind pair xs n a r p q = rw (ne-eqb kind 1 (λ (y : kind ≡ 1). omega arith), p)
 
-root-more : (e : TapeEvent) (kind : ℕ) (pair : Pair) (xs : List AttributePairs) (n : Text) (a : ℕ) (r : Text) → e ≡ TapeEvent.tag kind pair xs → kind ≡ 1 → onLevel insideAll (levelOfTag [] (tagged kind pair xs n a r)) ≡ addEvents (e ∷ []) (insideAll (n ∷ []) a r)
+root-more : (e : TapeEvent) (kind : ℕ) (pair : Pair) (xs : List AttributePairs) (n : Text) (a : ℕ) (r : Text) → e ≡ TapeEvent.tag kind pair xs → kind ≡ 1
+    → onLevel insideAll (levelOfTag [] (tagged kind pair xs n a r)) ≡ addEvents (e ∷ []) (insideAll (n ∷ []) a r)
 unfolding opened
 root-more e kind pair xs n a r p q = rw (eq-eqb kind 1 q, p)
 
@@ -530,5 +544,6 @@ root-complete {at} (wholeElement {s} {t} {u} {n} {m} {e} {es} d c x q) r =
     let g = turns-on (b .0) n [] (at + length s + length t) (u ++ r) [] (TapeEvent.close ∷ []) (at + length s + length t + length u) r (b .1) (turn-close x (at + length s + length t) n [] r q) in
     let some = ap length (z .1) in
     ap (root at) whole ∙ root-of-tag at (s ++ (t ++ (u ++ r))) _ (f .3) ∙ root-more e 1 (f .0) (f .1) n (at + length s) (t ++ (u ++ r)) (f .2) refl
-    ∙ ap (addEvents (e ∷ [])) (b .2 ∙ ap (addEvents es) (g .2 ∙ ap (addEvents (TapeEvent.close ∷ [])) (end-inside (g .0) _ r (omega (arith, g .1))) ∙ add-rooted (TapeEvent.close ∷ []) [] _ r) ∙ add-rooted es (TapeEvent.close ∷ []) _ r)
+    ∙ ap (addEvents (e ∷ [])) (b .2 ∙ ap (addEvents es) (g .2 ∙ ap (addEvents (TapeEvent.close ∷ [])) (end-inside (g .0) _ r (omega (arith, g .1))) ∙ add-rooted (TapeEvent.close ∷ []) [] _ r)
+    ∙ add-rooted es (TapeEvent.close ∷ []) _ r)
     ∙ add-rooted (e ∷ []) (es ++ TapeEvent.close ∷ []) _ r ∙ rooted-at (omega arith)

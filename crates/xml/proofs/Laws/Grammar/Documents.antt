@@ -1,29 +1,25 @@
--- XML 1.0 by its productions (specs/Grammar.antt) and the recogniser (specs/Call.antt), both ways: `document` accepts a text with a list of events exactly if
+-- XML 1.0 by its productions (specs/Grammar.antt) and the recogniser (specs/Document.antt), both ways: `document` accepts a text with a list of events exactly if
 -- the text derives a document whose tags in order are these events; so a text has at most one such list. It finds a document type exactly behind a derivable
 -- prolog. Each production is shown in the module that has its name. Assumes nothing.
-use Prim.Native.Nat.{ℕ, suc, _+_}
+use Prim.Native.Nat.{ℕ, _+_}
 use mathlib.Core.Path.{_≡_, refl, sym, ap, subst, _∙_}
 use mathlib.Core.Logic.{_↔_}
-use mathlib.Core.List.{List, [], _∷_, _++_, append-nil, append-assoc}
-use mathlib.Core.Bool.{Bool, true, false, _&&_, _||_, false≢true}
+use mathlib.Core.List.{List, [], _∷_, _++_, append-nil}
+use mathlib.Core.Bool.{true, false}
 use native.Mathlib.Omega.{arith}
-use lib.Dec.{eqb, leb}
-use lib.ListN.{length, drop}
-use Rattle.text.specs.Text.{Text, if_then_else_, bytes, first, isText, between}
+use lib.ListN.{length}
+use Rattle.text.specs.Text.{Text, bytes, first, between}
 use Rattle.text.specs.Trim.{isWhiteSpace}
 use Rattle.text.proofs.Laws.Tests.{bool-cases}
-use Rattle.sheet.specs.Lengths.{tapeLengths}
-use Rattle.sheet.specs.Returned.{malformed, doctype}
 use Rattle.xml.specs.Classes.{isLetter, isNameStart}
 use Rattle.xml.specs.Steps.{Step, bad, behind, startsWith}
 use Rattle.xml.specs.Prolog.{isMisc, misc, prolog}
-use Rattle.xml.specs.Tape.{TapeEvent, tapeMarks}
+use Rattle.xml.specs.Tape.{TapeEvent}
 use Rattle.xml.specs.Root.{Rooted, unrooted, rooted, root}
-use Rattle.xml.specs.Call.{Document, withDoctype, notWellFormed, wellFormed, toEnd, rootBehind, documentFrom, prologBehind, document, refused, written, takenOf, tapeOf}
-use Rattle.xml.specs.Grammar.{Many, Misc, Prolog, Element, Derived, BegunByDoctype}
+use Rattle.xml.specs.Document.{Document, withDoctype, notWellFormed, wellFormed, toEnd, rootBehind, documentFrom, prologBehind, document}
+use Rattle.xml.specs.Grammar.{Prolog, Element, Derived, BegunByDoctype}
 use Rattle.xml.specs.Grammar as grammar
-use Rattle.xml.proofs.Laws.Written.{start-other, start-no-space}
-use Rattle.xml.proofs.Laws.Reads.{tape-long, tape-high, tape-taken}
+use Rattle.xml.proofs.Laws.Written.{start-other}
 use Rattle.xml.proofs.Laws.Grammar.Basics.{word-starts, starts-word}
 use Rattle.xml.proofs.Laws.Grammar.Contents.{root-sound, root-complete, element-first}
 use Rattle.xml.proofs.Laws.Grammar.Prolog.{Follows, misc-sound, misc-complete}
@@ -148,6 +144,7 @@ malformed-exactly text = (there, back (document text) refl)
     there : document text ≡ notWellFormed → Neither text
     there h =
         (λ b. let p = doctype-complete b in let z : _≡_ {A = ℕ} 0 1 = cc in omega arith, λ es d. let p = document-complete d in let z : _≡_ {A = ℕ} 0 1 = cc in omega arith)
+
     back : (d : Document) → document text ≡ d → Neither text → document text ≡ notWellFormed
     back withDoctype e n = absurd (n .0 (doctype-sound text e))
     back notWellFormed e n = e

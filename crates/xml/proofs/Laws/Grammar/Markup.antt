@@ -1,26 +1,24 @@
 -- Comments, instructions and CDATA sections (specs/Grammar.antt, [15] to [21]), both ways. A scan up to the first place of a word is the longest text without
 -- it, since neither `?>` nor `]]>` begins inside itself; in a comment the first `--` is that of the end. Assumes nothing.
 use Prim.Native.Nat.{ℕ, suc, _+_, _<_}
-use Prim.Native.Char.{code}
 use mathlib.Core.Path.{_≡_, refl, sym, ap, subst, _∙_}
-use mathlib.Core.Logic.{⊎-elim}
-use mathlib.Core.List.{List, [], _∷_, _++_, append-nil, append-assoc}
-use mathlib.Core.Bool.{Bool, true, false, not, _&&_, _||_, false≢true}
+use mathlib.Core.List.{[], _∷_, _++_, append-assoc}
+use mathlib.Core.Bool.{true, false, false≢true}
 use native.Mathlib.Omega.{arith}
 use lib.Dec.{eqb}
-use lib.ListN.{length, drop, length-append}
+use lib.ListN.{length, length-append}
 use borrow.Author.Tests.{eqb-true, eq-eqb, ne-eqb}
-use Rattle.text.specs.Text.{Text, if_then_else_, bytes, first, every, between}
+use Rattle.text.specs.Text.{Text, bytes, first, every, between}
 use Rattle.text.specs.Trim.{isWhiteSpace}
-use Rattle.text.proofs.Laws.Tests.{bool-cases, and-true, two, or-cases}
+use Rattle.text.proofs.Laws.Tests.{bool-cases, two}
 use Rattle.text.proofs.Laws.Every.{every-cons, every-append-true, every-weaken}
 use Rattle.xml.specs.Classes.{isChar, isLetter, isNameStart, isName}
-use Rattle.xml.specs.Steps.{Step, bad, behind, _andThen_, startsWith, literal, until, comment, isXml, nameOf, name, target, instructionEnd, instruction, section}
-use Rattle.xml.specs.Grammar.{Opt, absent, present, Many, none, more, Run, run, Without, S, Name, CommentPart, noHyphen, oneHyphen, Comment, PITarget, PIText, behindTarget, PI, CDSect}
+use Rattle.xml.specs.Steps.{behind, _andThen_, startsWith, literal, until, comment, nameOf, target, instructionEnd, instruction, section}
+use Rattle.xml.specs.Grammar.{isXml, Opt, absent, present, Many, none, more, run, Without, S, CommentPart, noHyphen, oneHyphen, Comment, PITarget, PIText, behindTarget, PI, CDSect}
 use Rattle.xml.specs.Grammar as grammar
-use Rattle.xml.proofs.Laws.Names.{behind-at, behind-rest, bad-not, name-part, name-size}
-use Rattle.xml.proofs.Laws.Moves.{moves, then-ends, comment-passes, section-passes, target-passes, instruction-passes}
-use Rattle.xml.proofs.Laws.Grammar.Basics.{Splits, Sound, ends-at, behind-same, word-starts, starts-word, literal-sound, literal-complete, name-sound, name-complete, nameOf-complete, name-whole, white-is, white-no-name, white-char, white-opt, s-white, regroup, regroup4}
+use Rattle.xml.proofs.Laws.Names.{bad-not}
+use Rattle.xml.proofs.Laws.Moves.{moves, then-ends, comment-passes, section-passes, instruction-passes}
+use Rattle.xml.proofs.Laws.Grammar.Basics.{Sound, ends-at, behind-same, starts-word, literal-sound, literal-complete, name-sound, name-complete, nameOf-complete, name-whole, white-is, white-no-name, white-char, s-white, regroup, regroup4}
 
 -- [15]: a byte before a comment's text, where no `--` begins
 behind-hyphen : (v r : Text) → Many CommentPart v → (b : ℕ) → startsWith (45 ∷ []) (v ++ (45 ∷ 45 ∷ r)) ≡ false → b ≡ 45 → Many CommentPart (b ∷ v)
@@ -70,7 +68,7 @@ comment-sound at s e r q =
     let b = hyphens-sound (y .0) (y .1) (z .0) (z .1) (y .3) in
     let c = literal-sound (bytes ">") (z .0) (z .1) e r (z .3) in
     let split : s ≡ (bytes "<!--" ++ (b .0 ++ bytes "-->")) ++ r =
-        a .0 ∙ ap (λ (t : Text). bytes "<!--" ++ t) (b .2 ∙ ap (λ (t : Text). b .0 ++ (45 ∷ 45 ∷ t)) (c .0)) ∙ sym (regroup (bytes "<!--") (b .0) (bytes "-->") r) in
+    a .0 ∙ ap (λ (t : Text). bytes "<!--" ++ t) (b .2 ∙ ap (λ (t : Text). b .0 ++ (45 ∷ 45 ∷ t)) (c .0)) ∙ sym (regroup (bytes "<!--") (b .0) (bytes "-->") r) in
     (bytes "<!--" ++ (b .0 ++ bytes "-->"), grammar.comment (b .1), split, ends-at comment (moves comment-passes) at s e r (bytes "<!--" ++ (b .0 ++ bytes "-->")) q split)
 
 pub comment-complete : {v : Text} → Comment v → (at : ℕ) (r : Text) → comment at (v ++ r) ≡ behind (at + length v) r
@@ -224,7 +222,7 @@ instruction-sound at s e r q =
     let c = instruction-end-sound (z .0) (z .1) e r (z .3) in
     let v = bytes "<?" ++ (b .0 ++ (c .0 ++ bytes "?>")) in
     let split : s ≡ v ++ r =
-        a .0 ∙ ap (λ (t : Text). bytes "<?" ++ t) (b .2 ∙ ap (λ (t : Text). b .0 ++ t) (c .2)) ∙ sym (regroup4 (bytes "<?") (b .0) (c .0) (bytes "?>") r) in
+    a .0 ∙ ap (λ (t : Text). bytes "<?" ++ t) (b .2 ∙ ap (λ (t : Text). b .0 ++ t) (c .2)) ∙ sym (regroup4 (bytes "<?") (b .0) (c .0) (bytes "?>") r) in
     (v, grammar.instruction (b .1) (c .1), split, ends-at instruction (moves instruction-passes) at s e r v q split)
 
 mark-no-name : isName 63 ≡ false

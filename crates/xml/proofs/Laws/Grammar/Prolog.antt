@@ -1,28 +1,25 @@
 -- What stands around the root (specs/Grammar.antt, [22] to [27], [32], [80] and [81]), both ways. Assumes nothing.
-use Prim.Native.Nat.{ℕ, zero, suc, _+_, _≤_, _<_}
-use Prim.Native.Char.{code}
+use Prim.Native.Nat.{ℕ, zero, suc, _+_, _<_}
 use mathlib.Core.Path.{_≡_, refl, sym, ap, subst, _∙_}
-use mathlib.Core.Logic.{_⊎_, ⊎-elim}
-use mathlib.Core.List.{List, [], _∷_, _++_, append-nil, append-assoc}
-use mathlib.Core.Bool.{Bool, true, false, not, _&&_, _||_, false≢true}
+use mathlib.Core.List.{[], _∷_, _++_, append-nil, append-assoc}
+use mathlib.Core.Bool.{true, false, false≢true}
 use native.Mathlib.Omega.{arith}
 use lib.Dec.{eqb}
-use lib.ListN.{length, drop, length-append}
-use borrow.Author.Tests.{eqb-true, eq-eqb, ne-eqb, not-true}
-use Rattle.text.specs.Text.{Text, if_then_else_, bytes, first, every, between, isDigit, lower}
+use lib.ListN.{length, length-append}
+use borrow.Author.Tests.{eqb-true}
+use Rattle.text.specs.Text.{Text, bytes, first, every, between, isDigit}
 use Rattle.text.specs.Trim.{isWhiteSpace}
-use Rattle.text.proofs.Laws.Tests.{bool-cases, two, or-false-left, or-false-right}
-use Rattle.xml.specs.Classes.{isLetter, isNameStart, isName, isEncoding}
-use Rattle.xml.specs.Steps.{Step, bad, behind, _andThen_, startsWith, literal, many, oneThen, spaces, space, name, nameOf, isXml, comment, instruction}
+use Rattle.text.proofs.Laws.Tests.{bool-cases, two}
+use Rattle.xml.specs.Classes.{isLetter, isEncoding}
+use Rattle.xml.specs.Steps.{Step, behind, _andThen_, startsWith, literal, many, oneThen, spaces, space, comment, instruction}
+use Rattle.xml.specs.Grammar.{Opt, absent, present, Many, none, more, S, Comment, PI, VersionNum, versionNum, EncName, YesNo, Quoted, single, double, Declares, declares, XMLDecl, xmlDecl, Misc, miscComment, miscPI, miscS}
 use Rattle.xml.specs.Values.{isQuote}
-use Rattle.xml.specs.Prolog.{eq, quoted, versionNumber, encodingName, yesOrNo, declared, endsAt, optional, declaration, isMisc, miscPart, miscFrom, misc, isDeclaration, prolog}
-use Rattle.xml.specs.Grammar.{Opt, absent, present, Many, none, more, Run, run, S, Name, Comment, PITarget, PI, Eq, VersionNum, versionNum, EncName, YesNo, Quoted, single, double, Declares, declares, XMLDecl, xmlDecl, Misc, miscComment, miscPI, miscS, Prolog}
+use Rattle.xml.specs.Prolog.{eq, quoted, versionNumber, encodingName, yesOrNo, declared, endsAt, optional, declaration, isMisc, miscPart, miscFrom, misc}
 use Rattle.xml.specs.Grammar as grammar
-use Rattle.xml.proofs.Laws.Steps.{starts-longer}
-use Rattle.xml.proofs.Laws.Names.{behind-at, behind-rest, bad-not, nameOf-none, nameOf-some}
+use Rattle.xml.proofs.Laws.Names.{behind-at, behind-rest, bad-not}
 use Rattle.xml.proofs.Laws.Moves.{then-ends, spaces-moves, misc-stop}
-use Rattle.xml.proofs.Laws.Grammar.Basics.{Splits, Sound, behind-same, word-starts, starts-word, literal-sound, literal-complete, run-sound, run-complete, nameOf-complete, white-is, white-no-name, space-sound, space-complete, opt-white, s-white, spaces-sound, spaces-complete, eq-sound, eq-complete}
-use Rattle.xml.proofs.Laws.Grammar.Markup.{comment-sound, comment-complete, comment-some, instruction-sound, instruction-complete, instruction-some, behind-target}
+use Rattle.xml.proofs.Laws.Grammar.Basics.{Splits, Sound, behind-same, starts-word, literal-sound, literal-complete, run-sound, run-complete, space-sound, space-complete, s-white, spaces-sound, spaces-complete, eq-sound, eq-complete, Is, is-sound, Then, then-sound, then-is}
+use Rattle.xml.proofs.Laws.Grammar.Markup.{comment-sound, comment-complete, comment-some, instruction-sound, instruction-complete, instruction-some}
 
 -- [27]
 misc-opt : {w t : Text} → Opt S w → Many Misc t → Many Misc (w ++ t)
@@ -47,13 +44,19 @@ misc-from-sound (suc turns) at s a t e r p h =
     let x = then-ends (miscPart a t) spaces (z .0) (z .1) (z .2) in
     let d = misc-part-sound a t (x .0) (x .1) (x .2) in
     let k = misc-from-sound turns (x .0) (x .1) (z .0) (z .1) e r (x .3) (z .3) in
-    let size = length-append (o .0) (d .0 ++ k .0) ∙ ap (λ (j : ℕ). length (o .0) + j) (length-append (d .0) (k .0)) in
-    (o .0 ++ (d .0 ++ k .0), misc-opt (o .1) (more (d .1) (k .1)),
-    o .2 ∙ ap (λ (w : Text). o .0 ++ w) (d .2 ∙ ap (λ (w : Text). d .0 ++ w) (k .2)) ∙ simp append-assoc, omega (arith, size, o .3, d .3, k .3)))
+    let size = length-append (o .0) (d .0 ++ k .0) ∙ ap (λ (j : ℕ). length (o .0) + j) (length-append (d .0) (k .0)) in (
+      o .0 ++ (d .0 ++ k .0),
+      misc-opt (o .1) (more (d .1) (k .1)),
+      o .2 ∙ ap (λ (w : Text). o .0 ++ w) (d .2 ∙ ap (λ (w : Text). d .0 ++ w) (k .2)) ∙ simp append-assoc,
+      omega (arith, size, o .3, d .3, k .3),
+    ))
     (λ y.
-    let k = rw y at h in
-    (o .0 ++ [], misc-opt (o .1) none, o .2 ∙ ap (λ (w : Text). o .0 ++ w) (behind-rest k) ∙ ap (λ (w : Text). w ++ r) (sym (append-nil (o .0))),
-    omega (arith, o .3, behind-at k, ap length (append-nil (o .0)))))
+    let k = rw y at h in (
+      o .0 ++ [],
+      misc-opt (o .1) none,
+      o .2 ∙ ap (λ (w : Text). o .0 ++ w) (behind-rest k) ∙ ap (λ (w : Text). w ++ r) (sym (append-nil (o .0))),
+      omega (arith, o .3, behind-at k, ap length (append-nil (o .0))),
+    ))
 
 pub misc-sound : Sound (Many Misc) misc
 unfolding misc
@@ -87,7 +90,8 @@ instruction-first : {v : Text} → PI v → (r : Text) → (w : Text) × (v ++ r
 unfolding bytes isMisc startsWith
 instruction-first (grammar.instruction {n} {s} a o) r = (63 ∷ ((n ++ (s ++ bytes "?>")) ++ r), refl, refl, refl)
 
-part-leads : (v : Text) (at : ℕ) (u : Text) (e : ℕ) (r w : Text) → v ++ u ≡ 60 ∷ w → isMisc (v ++ u) ≡ true → miscPart at (v ++ u) ≡ behind (at + length v) u → 0 < length v → Leads (at + length v) u e r → Leads at (v ++ u) e r
+part-leads : (v : Text) (at : ℕ) (u : Text) (e : ℕ) (r w : Text) → v ++ u ≡ 60 ∷ w → isMisc (v ++ u) ≡ true → miscPart at (v ++ u) ≡ behind (at + length v) u → 0 < length v
+    → Leads (at + length v) u e r → Leads at (v ++ u) e r
 unfolding miscFrom
 part-leads v at u e r w p m h z (a, t, q, k) =
     (at, v ++ u, subst (λ (x : Text). spaces at x ≡ behind at x) (sym p) (less-stop at w), λ turns l. go turns l)
@@ -128,18 +132,24 @@ quoted-sound P body k at (b ∷ s) e r h =
     let q = eqb-true b 34 y in
     let z = then-ends (body (suc at) s) (literal (34 ∷ [])) e r (subst (λ (x : ℕ). quoted body at (x ∷ s) ≡ behind e r) q h) in
     let d = k (suc at) s (z .0) (z .1) (z .2) in
-    let l = literal-sound (34 ∷ []) (z .0) (z .1) e r (z .3) in
-    (34 ∷ (d .0 ++ (34 ∷ [])), double (d .1), ap (λ (x : ℕ). x ∷ s) q ∙ ap (λ (t : Text). 34 ∷ t) (d .2 ∙ ap (λ (t : Text). d .0 ++ t) (l .0) ∙ sym (append-assoc (d .0) (34 ∷ []) r)),
-    omega (arith, d .3, l .1, length-append (d .0) (34 ∷ []))))
+    let l = literal-sound (34 ∷ []) (z .0) (z .1) e r (z .3) in (
+      34 ∷ (d .0 ++ (34 ∷ [])),
+      double (d .1),
+      ap (λ (x : ℕ). x ∷ s) q ∙ ap (λ (t : Text). 34 ∷ t) (d .2 ∙ ap (λ (t : Text). d .0 ++ t) (l .0) ∙ sym (append-assoc (d .0) (34 ∷ []) r)),
+      omega (arith, d .3, l .1, length-append (d .0) (34 ∷ [])),
+    ))
     (λ y.
     bool-cases (eqb b 39)
     (λ x.
     let q = eqb-true b 39 x in
     let z = then-ends (body (suc at) s) (literal (39 ∷ [])) e r (subst (λ (x : ℕ). quoted body at (x ∷ s) ≡ behind e r) q h) in
     let d = k (suc at) s (z .0) (z .1) (z .2) in
-    let l = literal-sound (39 ∷ []) (z .0) (z .1) e r (z .3) in
-    (39 ∷ (d .0 ++ (39 ∷ [])), single (d .1), ap (λ (x : ℕ). x ∷ s) q ∙ ap (λ (t : Text). 39 ∷ t) (d .2 ∙ ap (λ (t : Text). d .0 ++ t) (l .0) ∙ sym (append-assoc (d .0) (39 ∷ []) r)),
-    omega (arith, d .3, l .1, length-append (d .0) (39 ∷ []))))
+    let l = literal-sound (39 ∷ []) (z .0) (z .1) e r (z .3) in (
+      39 ∷ (d .0 ++ (39 ∷ [])),
+      single (d .1),
+      ap (λ (x : ℕ). x ∷ s) q ∙ ap (λ (t : Text). 39 ∷ t) (d .2 ∙ ap (λ (t : Text). d .0 ++ t) (l .0) ∙ sym (append-assoc (d .0) (39 ∷ []) r)),
+      omega (arith, d .3, l .1, length-append (d .0) (39 ∷ [])),
+    ))
     (λ x. absurd (bad-not (rw (y, x) at h))))
 
 -- a step passes over each derivation that stands before a quote
@@ -211,23 +221,32 @@ declared-sound word P body k at s e r h =
     let b = literal-sound word (x .0) (x .1) (y .0) (y .1) (x .3) in
     let c = eq-sound (y .0) (y .1) (z .0) (z .1) (y .3) in
     let d = quoted-sound P body k (z .0) (z .1) e r (z .3) in
-    let size : length (a .0 ++ (word ++ (c .0 ++ d .0))) ≡ length (a .0) + (length word + (length (c .0) + length (d .0))) = simp length-append in
-    (a .0 ++ (word ++ (c .0 ++ d .0)), declares (a .1) (c .1) (d .1),
-    a .2 ∙ ap (λ (t : Text). a .0 ++ t) (b .0 ∙ ap (λ (t : Text). word ++ t) (c .2 ∙ ap (λ (t : Text). c .0 ++ t) (d .2))) ∙ simp append-assoc,
-    omega (arith, size, a .3, b .1, c .3, d .3))
+    let size : length (a .0 ++ (word ++ (c .0 ++ d .0))) ≡ length (a .0) + (length word + (length (c .0) + length (d .0))) = simp length-append in (
+      a .0 ++ (word ++ (c .0 ++ d .0)),
+      declares (a .1) (c .1) (d .1),
+      a .2 ∙ ap (λ (t : Text). a .0 ++ t) (b .0 ∙ ap (λ (t : Text). word ++ t) (c .2 ∙ ap (λ (t : Text). c .0 ++ t) (d .2))) ∙ simp append-assoc,
+      omega (arith, size, a .3, b .1, c .3, d .3),
+    )
 
 quoted-no-white : {P : Text → Type 0} {q : Text} → Quoted P q → (r : Text) → isWhiteSpace (first (q ++ r)) ≡ false
 unfolding first bytes isWhiteSpace
 quoted-no-white (single d) r = refl
 quoted-no-white (double d) r = refl
 
-declared-complete : (w : ℕ) (word : Text) → isWhiteSpace w ≡ false → (P : Text → Type 0) (body : ℕ → Text → Step) → Fits P body → {v : Text} → Declares (w ∷ word) P v → (at : ℕ) (r : Text) → declared (w ∷ word) body at (v ++ r) ≡ behind (at + length v) r
+declared-complete : (w : ℕ) (word : Text) → isWhiteSpace w ≡ false → (P : Text → Type 0) (body : ℕ → Text → Step) → Fits P body → {v : Text} → Declares (w ∷ word) P v → (at : ℕ) (r : Text)
+    → declared (w ∷ word) body at (v ++ r) ≡ behind (at + length v) r
 unfolding declared first
 declared-complete w word n P body k (declares {s} {e} {q} a c d) at r =
     let whole : (s ++ ((w ∷ word) ++ (e ++ q))) ++ r ≡ s ++ ((w ∷ word) ++ (e ++ (q ++ r))) = simp append-assoc in
     let size : length (s ++ ((w ∷ word) ++ (e ++ q))) ≡ length s + (length (w ∷ word) + (length e + length q)) = simp length-append in
-    rw (whole, space-complete a at ((w ∷ word) ++ (e ++ (q ++ r))) n, literal-complete (w ∷ word) (at + length s) (e ++ (q ++ r)), eq-complete c (at + length s + length (w ∷ word)) (q ++ r) (quoted-no-white d r),
-      quoted-complete P body k d (at + length s + length (w ∷ word) + length e) r)
+    rw (
+      whole,
+      space-complete a at ((w ∷ word) ++ (e ++ (q ++ r))) n,
+      literal-complete (w ∷ word) (at + length s) (e ++ (q ++ r)),
+      eq-complete c (at + length s + length (w ∷ word)) (q ++ r)
+          (quoted-no-white d r),
+      quoted-complete P body k d (at + length s + length (w ∷ word) + length e) r,
+    )
     (behind-same (omega arith))
 
 -- X? in the declaration
@@ -248,7 +267,7 @@ optional-complete w word n P body k absent at r h = rw h (behind-same (omega ari
 optional-complete w word n P body k (present (declares {s} {e} {q} a c d)) at r h =
     let whole : (s ++ ((w ∷ word) ++ (e ++ q))) ++ r ≡ s ++ ((w ∷ word) ++ ((e ++ q) ++ r)) = simp append-assoc in
     let t : endsAt (w ∷ word) (spaces at ((s ++ ((w ∷ word) ++ (e ++ q))) ++ r)) ≡ true =
-        ap (λ (z : Text). endsAt (w ∷ word) (spaces at z)) whole ∙ ends-with (w ∷ word) (present a) at ((w ∷ word) ++ ((e ++ q) ++ r)) n ∙ starts-word (w ∷ word) ((e ++ q) ++ r) in
+    ap (λ (z : Text). endsAt (w ∷ word) (spaces at z)) whole ∙ ends-with (w ∷ word) (present a) at ((w ∷ word) ++ ((e ++ q) ++ r)) n ∙ starts-word (w ∷ word) ((e ++ q) ++ r) in
     rw t (declared-complete w word n P body k (declares a c d) at r)
 
 no-standalone : {s : Text} → Opt S s → (at : ℕ) (r : Text) → endsAt (bytes "standalone") (spaces at (s ++ (63 ∷ r))) ≡ false
@@ -263,37 +282,43 @@ no-encoding {s = t} (present (declares {s} {e} {q} a c d)) o at r =
     ∙ ends-with (bytes "encoding") (present a) at ((bytes "standalone" ++ (e ++ q)) ++ (t ++ (63 ∷ r))) refl
 
 -- [23]
+abbrev Version : Text → Type 0
+Version = Declares (bytes "version") VersionNum
+
+abbrev Encoding : Text → Type 0
+Encoding = Opt (Declares (bytes "encoding") EncName)
+
+abbrev Standalone : Text → Type 0
+Standalone = Opt (Declares (bytes "standalone") YesNo)
+
+declaration-of : (v : Text) → Then (Then (Then (Then (Then (Is (bytes "<?xml")) Version) Encoding) Standalone) (Opt S)) (Is (bytes "?>")) v → XMLDecl v
+declaration-of v (p, q, (p1, s, (p2, d, (p3, e, (p4, a, z4, v4, e4), v3, e3), v2, e2), v1, e1), z0, e0) =
+    let whole : v ≡ bytes "<?xml" ++ (a ++ (e ++ (d ++ (s ++ bytes "?>")))) = rw (e0, e1, e2, e3, e4, z4, z0) (simp append-assoc) in
+    subst XMLDecl (sym whole) (xmlDecl v4 v3 v2 v1)
+
 pub declaration-sound : Sound XMLDecl declaration
-unfolding declaration bytes
+unfolding declaration
 declaration-sound at s e r h =
-    let version = declared (bytes "version") versionNumber in
-    let encoding = optional (bytes "encoding") encodingName in
-    let standalone = optional (bytes "standalone") yesOrNo in
-    let z = then-ends (literal (bytes "<?xml") at s andThen version andThen encoding andThen standalone andThen spaces) (literal (bytes "?>")) e r h in
-    let y = then-ends (literal (bytes "<?xml") at s andThen version andThen encoding andThen standalone) spaces (z .0) (z .1) (z .2) in
-    let x = then-ends (literal (bytes "<?xml") at s andThen version andThen encoding) standalone (y .0) (y .1) (y .2) in
-    let w = then-ends (literal (bytes "<?xml") at s andThen version) encoding (x .0) (x .1) (x .2) in
-    let v = then-ends (literal (bytes "<?xml") at s) version (w .0) (w .1) (w .2) in
-    let a = literal-sound (bytes "<?xml") at s (v .0) (v .1) (v .2) in
-    let b = declared-sound (bytes "version") VersionNum versionNumber version-sound (v .0) (v .1) (w .0) (w .1) (v .3) in
-    let c = optional-sound (bytes "encoding") EncName encodingName encoding-sound (w .0) (w .1) (x .0) (x .1) (w .3) in
-    let d = optional-sound (bytes "standalone") YesNo yesOrNo yes-sound (x .0) (x .1) (y .0) (y .1) (x .3) in
-    let o = spaces-sound (y .0) (y .1) (z .0) (z .1) (y .3) in
-    let l = literal-sound (bytes "?>") (z .0) (z .1) e r (z .3) in
-    let size : length (b .0 ++ (c .0 ++ (d .0 ++ (o .0 ++ bytes "?>")))) ≡ length (b .0) + (length (c .0) + (length (d .0) + (length (o .0) + 2))) = simp length-append in
-    (bytes "<?xml" ++ (b .0 ++ (c .0 ++ (d .0 ++ (o .0 ++ bytes "?>")))), xmlDecl (b .1) (c .1) (d .1) (o .1),
-    a .0 ∙ ap (λ (t : Text). bytes "<?xml" ++ t)
-    (b .2 ∙ ap (λ (t : Text). b .0 ++ t) (c .2 ∙ ap (λ (t : Text). c .0 ++ t) (d .2 ∙ ap (λ (t : Text). d .0 ++ t) (o .2 ∙ ap (λ (t : Text). o .0 ++ t) (l .0)))) ∙ simp append-assoc),
-    omega (arith, size, a .1, b .3, c .3, d .3, o .3, l .1))
+    let k = then-sound _ _ _ _
+    (then-sound _ _ _ _
+    (then-sound _ _ _ _
+    (then-sound _ _ _ _
+    (then-sound _ _ _ _ (is-sound (bytes "<?xml")) (declared-sound (bytes "version") VersionNum versionNumber version-sound))
+    (optional-sound (bytes "encoding") EncName encodingName encoding-sound))
+    (optional-sound (bytes "standalone") YesNo yesOrNo yes-sound)) spaces-sound) (is-sound (bytes "?>")) at s e r h in
+    (k .0, declaration-of (k .0) (k .1), k .2, k .3)
 
 pub declaration-complete : {v : Text} → XMLDecl v → (at : ℕ) (r : Text) → declaration at (v ++ r) ≡ behind (at + length v) r
-unfolding declaration bytes literal startsWith isWhiteSpace first
+unfolding declaration bytes isWhiteSpace first
 declaration-complete (xmlDecl {v} {e} {d} {s} a b c o) at r =
     let whole : (v ++ (e ++ (d ++ (s ++ (63 ∷ 62 ∷ []))))) ++ r ≡ v ++ (e ++ (d ++ (s ++ (63 ∷ 62 ∷ r)))) = simp append-assoc in
     let size : length (v ++ (e ++ (d ++ (s ++ (63 ∷ 62 ∷ []))))) ≡ length v + (length e + (length d + (length s + 2))) = simp length-append in
-    rw (whole,
-      declared-complete 118 (bytes "ersion") refl VersionNum versionNumber version-fits a (at + 5) (e ++ (d ++ (s ++ (63 ∷ 62 ∷ r)))),
-      optional-complete 101 (bytes "ncoding") refl EncName encodingName encoding-fits b (at + 5 + length v) (d ++ (s ++ (63 ∷ 62 ∷ r))) (no-encoding c o (at + 5 + length v) (62 ∷ r)),
-      optional-complete 115 (bytes "tandalone") refl YesNo yesOrNo yes-fits c (at + 5 + length v + length e) (s ++ (63 ∷ 62 ∷ r)) (no-standalone o (at + 5 + length v + length e) (62 ∷ r)),
-      spaces-complete o (at + 5 + length v + length e + length d) (63 ∷ 62 ∷ r) refl)
-    (behind-same (omega arith))
+    ap (λ (t : Text). declaration at (bytes "<?xml" ++ t)) whole
+    ∙ then-is (literal (bytes "?>")) (then-is spaces (then-is (optional (bytes "standalone") yesOrNo) (then-is (optional (bytes "encoding") encodingName)
+    (then-is (declared (bytes "version") versionNumber) (literal-complete (bytes "<?xml") at (v ++ (e ++ (d ++ (s ++ (63 ∷ 62 ∷ r))))))
+    (declared-complete 118 (bytes "ersion") refl VersionNum versionNumber version-fits a (at + 5) (e ++ (d ++ (s ++ (63 ∷ 62 ∷ r))))))
+    (optional-complete 101 (bytes "ncoding") refl EncName encodingName encoding-fits b (at + 5 + length v) (d ++ (s ++ (63 ∷ 62 ∷ r))) (no-encoding c o (at + 5 + length v) (62 ∷ r))))
+    (optional-complete 115 (bytes "tandalone") refl YesNo yesOrNo yes-fits c (at + 5 + length v + length e) (s ++ (63 ∷ 62 ∷ r)) (no-standalone o (at + 5 + length v + length e) (62 ∷ r))))
+    (spaces-complete o (at + 5 + length v + length e + length d) (63 ∷ 62 ∷ r) refl))
+    (literal-complete (bytes "?>") (at + 5 + length v + length e + length d + length s) r)
+    ∙ behind-same (omega arith)

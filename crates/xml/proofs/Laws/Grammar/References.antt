@@ -1,24 +1,22 @@
 -- References (specs/Grammar.antt, [66] to [68]), both ways, and that the bytes of a reference behind its `&` are plain bytes of text and of values. Assumes
 -- nothing.
-use Prim.Native.Nat.{ℕ, suc, _+_, _-_, _*_, _≤_, _<_}
-use Prim.Native.Char.{code}
-use mathlib.Core.Path.{_≡_, refl, sym, ap, subst, _∙_}
-use mathlib.Core.Logic.{_⊎_, ⊎-elim}
-use mathlib.Core.List.{List, [], _∷_, _++_, append-nil, append-assoc}
-use mathlib.Core.Bool.{Bool, true, false, not, _&&_, _||_, false≢true}
+use Prim.Native.Nat.{ℕ, _+_, _-_, _*_, _<_}
+use mathlib.Core.Path.{_≡_, refl, sym, ap, _∙_}
+use mathlib.Core.List.{[], _∷_, _++_, append-assoc}
+use mathlib.Core.Bool.{Bool, true, false, not, _&&_, false≢true}
 use native.Mathlib.Omega.{arith}
-use lib.Dec.{eqb, ltb, leb}
-use lib.ListN.{length, drop, length-append}
-use borrow.Author.Tests.{eqb-true, eq-eqb, ne-eqb, lt-ltb, le-ltb, leb-true, lt-leb, not-true, ltb-true}
-use Rattle.text.specs.Text.{Text, if_then_else_, bytes, first, every, between, isDigit}
+use lib.Dec.{eqb, ltb}
+use lib.ListN.{length, drop}
+use borrow.Author.Tests.{eqb-true, lt-ltb, not-true, ltb-true}
+use Rattle.text.specs.Text.{Text, bytes, every, between, isDigit}
 use Rattle.text.proofs.Laws.Tests.{bool-cases, and-true, two, four}
 use Rattle.text.proofs.Laws.Texts.{between-low, between-high}
-use Rattle.text.proofs.Laws.Every.{every-append-true, every-weaken, between-each, EachFrom}
+use Rattle.text.proofs.Laws.Every.{every-append-true, every-weaken}
 use Rattle.xml.specs.Classes.{isChar, isLetter, isNameStart, isName}
 use Rattle.xml.specs.Steps.{startsWith}
-use Rattle.xml.specs.Values.{digitOf, isNumber, isEntity, isReference, isQuote, isInText, isInValue}
-use Rattle.xml.specs.Grammar.{Run, run, Name, isHexDigit, numberOf, CharRef, decimal, hex, Predefined, amp, lt, gt, apos, quot, EntityRef, entity, Reference, entityRef, charRef}
-use Rattle.xml.proofs.Laws.Grammar.Basics.{class-in, word-starts, starts-word, regroup}
+use Rattle.xml.specs.Grammar.{digitOf, Run, run, isHexDigit, numberOf, decimal, hex, amp, lt, gt, apos, quot, entity, Reference, entityRef, charRef}
+use Rattle.xml.specs.Values.{isNumber, isEntity, isReference, isQuote, isInText, isInValue}
+use Rattle.xml.proofs.Laws.Grammar.Basics.{class-in, word-starts, regroup}
 
 -- a digit of a base
 digit-decimal : (b : ℕ) → isDigit b ≡ true → digitOf b < 10
@@ -108,16 +106,22 @@ unfolding isReference bytes
 reference-sound s h =
     bool-cases (startsWith (bytes "&#x") s)
     (λ y.
-    let n = number-sound 16 0 isHexDigit hex-digit (drop 3 s) (rw y at h) in
-    (bytes "&#x" ++ (n .0 ++ bytes ";"), n .1, charRef (hex (some-digits 16 isHexDigit (n .0) (n .2) (n .3)) (n .3)),
-    word-starts (bytes "&#x") s y ∙ ap (λ (t : Text). bytes "&#x" ++ t) (n .4) ∙ sym (regroup (bytes "&#x") (n .0) (bytes ";") (n .1))))
+    let n = number-sound 16 0 isHexDigit hex-digit (drop 3 s) (rw y at h) in (
+      bytes "&#x" ++ (n .0 ++ bytes ";"),
+      n .1,
+      charRef (hex (some-digits 16 isHexDigit (n .0) (n .2) (n .3)) (n .3)),
+      word-starts (bytes "&#x") s y ∙ ap (λ (t : Text). bytes "&#x" ++ t) (n .4) ∙ sym (regroup (bytes "&#x") (n .0) (bytes ";") (n .1)),
+    ))
     (λ y.
     let g = rw y at h in
     bool-cases (startsWith (bytes "&#") s)
     (λ z.
-    let n = number-sound 10 0 isDigit decimal-digit (drop 2 s) (rw z at g) in
-    (bytes "&#" ++ (n .0 ++ bytes ";"), n .1, charRef (decimal (some-digits 10 isDigit (n .0) (n .2) (n .3)) (n .3)),
-    word-starts (bytes "&#") s z ∙ ap (λ (t : Text). bytes "&#" ++ t) (n .4) ∙ sym (regroup (bytes "&#") (n .0) (bytes ";") (n .1))))
+    let n = number-sound 10 0 isDigit decimal-digit (drop 2 s) (rw z at g) in (
+      bytes "&#" ++ (n .0 ++ bytes ";"),
+      n .1,
+      charRef (decimal (some-digits 10 isDigit (n .0) (n .2) (n .3)) (n .3)),
+      word-starts (bytes "&#") s z ∙ ap (λ (t : Text). bytes "&#" ++ t) (n .4) ∙ sym (regroup (bytes "&#") (n .0) (bytes ";") (n .1)),
+    ))
     (λ z. entity-sound s (rw z at g)))
 
 -- the classes of a reference's bytes

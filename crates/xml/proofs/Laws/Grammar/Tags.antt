@@ -1,30 +1,29 @@
 -- Attributes and tags (specs/Grammar.antt, [40] to [42] and [44]), both ways. Assumes nothing.
-use Prim.Native.Nat.{ℕ, zero, suc, _+_, _-_, _≤_, _<_}
-use Prim.Native.Char.{code}
+use Prim.Native.Nat.{ℕ, zero, suc, _+_, _<_}
 use mathlib.Core.Path.{_≡_, refl, sym, ap, subst, _∙_}
-use mathlib.Core.Logic.{_⊎_, inl, inr, ⊎-elim}
+use mathlib.Core.Logic.{_⊎_, inl, inr}
 use mathlib.Core.List.{List, [], _∷_, _++_, append-nil, append-assoc}
-use mathlib.Core.Bool.{Bool, true, false, not, _&&_, _||_, false≢true}
+use mathlib.Core.Bool.{true, false, not, false≢true}
 use native.Mathlib.Omega.{arith}
 use lib.Dec.{eqb}
 use lib.ListN.{length, drop, length-append}
-use borrow.Author.Tests.{eqb-true, eqb-false, eq-eqb, ne-eqb, not-true}
-use Rattle.text.specs.Text.{Text, if_then_else_, bytes, first, between}
+use borrow.Author.Tests.{eq-eqb, ne-eqb, not-true}
+use Rattle.text.specs.Text.{Text, bytes, first, between}
 use Rattle.text.specs.Trim.{isWhiteSpace}
-use Rattle.text.proofs.Laws.Tests.{bool-cases, two, and-true}
+use Rattle.text.proofs.Laws.Tests.{bool-cases, two}
 use Rattle.xsd_parser.specs.Tape.{Pair}
 use Rattle.xml.specs.Classes.{isLetter, isNameStart, isName}
 use Rattle.xml.specs.Steps.{Step, bad, behind, startsWith, literal, spaces, name, nameOf}
 use Rattle.xml.specs.Values.{value}
 use Rattle.xml.specs.Prolog.{eq}
 use Rattle.xml.specs.Tape.{AttributePairs, TapeEvent}
-use Rattle.xml.specs.Tags.{Part, wrong, last, more, span, attributeFrom, attributeBehind, valueBehind, eqBehind, attribute, partBehind, partOf, isAmong, Ended, unended, ended, onPart, attributesFrom, attributes, Tagged, untagged, tagged, taggedBy, attributesBehind, nameBehind, tag}
-use Rattle.xml.specs.Grammar.{Opt, absent, present, Run, run, S, Name, Eq, equals, AttValue, doubleQuoted, singleQuoted, Attribute, Attributes, noAttribute, oneMore, newKey, TagBody, tagBody, eventAt, STag, startTag, EmptyElemTag, emptyTag}
+use Rattle.xml.specs.Tags.{Part, wrong, last, more, span, attributeFrom, attributeBehind, valueBehind, eqBehind, attribute, partBehind, partOf, Ended, unended, ended, onPart, attributesFrom, attributes, untagged, tagged, taggedBy, attributesBehind, nameBehind, tag}
+use Rattle.xml.specs.Grammar.{isAmong, Opt, absent, present, run, S, Name, Eq, equals, AttValue, doubleQuoted, singleQuoted, Attribute, Attributes, noAttribute, oneMore, newKey, TagBody, tagBody, STag, startTag, EmptyElemTag, emptyTag}
 use Rattle.xml.specs.Grammar as grammar
-use Rattle.xml.proofs.Laws.Names.{behind-at, behind-rest, bad-not}
-use Rattle.xml.proofs.Laws.Written.{pair-same, attribute-same, start-other, start-no-space, less-written}
+use Rattle.xml.proofs.Laws.Names.{behind-at}
+use Rattle.xml.proofs.Laws.Written.{pair-same, attribute-same, start-other, start-no-space, less-written, equals-no-name, tagged-same}
 use Rattle.xml.proofs.Laws.Tags.{attributes-last, tag-found}
-use Rattle.xml.proofs.Laws.Grammar.Basics.{literal-sound, word-starts, name-sound, name-complete, name-whole, nameOf-complete, white-no-name, spaces-sound, spaces-complete, eq-sound, eq-complete, white-opt, s-white}
+use Rattle.xml.proofs.Laws.Grammar.Basics.{literal-sound, word-starts, name-sound, name-complete, name-whole, nameOf-complete, white-no-name, spaces-sound, spaces-complete, eq-sound, eq-complete}
 use Rattle.xml.proofs.Laws.Grammar.Texts.{value-sound, value-complete}
 
 -- [41]: a part that is an attribute, step by step
@@ -54,7 +53,8 @@ pairs-are : (at e q a k E v : ℕ) → e ≡ at + k → q ≡ e + E → a ≡ q 
     → attributeFrom at e q a ≡ record { key = record { offset = at; size = k }; value = record { offset = at + k + E + 1; size = v } }
 pairs-are at e q a k E v h i j = attribute-same _ _ _ _ (pair-same _ _ _ _ refl (omega arith)) (pair-same _ _ _ _ (omega arith) (omega arith))
 
-pub attribute-sound : (at : ℕ) (s : Text) (x : AttributePairs) (key : Text) (a : ℕ) (r : Text) → attribute at s ≡ more x key a r → (t : Text) × Attribute at t key x × (s ≡ t ++ r) × (a ≡ at + length t)
+pub attribute-sound : (at : ℕ) (s : Text) (x : AttributePairs) (key : Text) (a : ℕ) (r : Text) → attribute at s ≡ more x key a r → (t : Text) × Attribute at t key x × (s ≡ t ++ r)
+    × (a ≡ at + length t)
 unfolding attribute
 attribute-sound at s x key a r h =
     let p = eq-part at s (name at s) h in
@@ -68,16 +68,14 @@ attribute-sound at s x key a r h =
     let n = sym (name-whole at s (p .0) (p .1) (k .0) (p .2) (k .2) (k .3)) ∙ w .2 in
     let pairs = sym (pairs-are at (p .0) (o .0) a (length (k .0)) (length (e .0)) (length (v .0)) (k .3) (e .3) (sym end)) ∙ w .1 in
     let t = k .0 ++ (e .0 ++ v .1) in
-    let size = length-append (k .0) (e .0 ++ v .1) ∙ ap (λ (j : ℕ). length (k .0) + j) (length-append (e .0) (v .1)) in
-    (t, attribute-as n pairs (grammar.attribute (k .1) (e .1) (v .2)),
-    k .2 ∙ ap (λ (z : Text). k .0 ++ z) (e .2 ∙ ap (λ (z : Text). e .0 ++ z) (v .3)) ∙ simp append-assoc,
-    omega (arith, size, k .3, e .3, end, c .1))
+    let size = length-append (k .0) (e .0 ++ v .1) ∙ ap (λ (j : ℕ). length (k .0) + j) (length-append (e .0) (v .1)) in (
+      t,
+      attribute-as n pairs (grammar.attribute (k .1) (e .1) (v .2)),
+      k .2 ∙ ap (λ (z : Text). k .0 ++ z) (e .2 ∙ ap (λ (z : Text). e .0 ++ z) (v .3)) ∙ simp append-assoc,
+      omega (arith, size, k .3, e .3, end, c .1),
+    )
 
 -- [41], the other way
-equals-no-name : isName 61 ≡ false
-unfolding isName isNameStart isLetter between
-equals-no-name = refl
-
 eq-no-name : {e : Text} → Eq e → (r : Text) → isName (first (e ++ r)) ≡ false
 unfolding first bytes
 eq-no-name (equals absent b) r = equals-no-name
@@ -187,7 +185,8 @@ attributes-from {at} {b} {u} {ks} {xs} p d = subst (λ (z : ℕ). Attributes z u
 ends-from : (at b : ℕ) (s : Text) (kind a : ℕ) (r : Text) → at ≡ b → EndsAt at s kind a r → EndsAt b s kind a r
 ends-from at b s kind a r p d = subst (λ (z : ℕ). EndsAt z s kind a r) p d
 
-end-here : (keys : List Text) (before : List AttributePairs) (at : ℕ) (s : Text) (kind : ℕ) (xs : List AttributePairs) (a : ℕ) (r : Text) → before ≡ xs → EndsAt at s kind a r → Derived keys before at s kind xs a r
+end-here : (keys : List Text) (before : List AttributePairs) (at : ℕ) (s : Text) (kind : ℕ) (xs : List AttributePairs) (a : ℕ) (r : Text) → before ≡ xs → EndsAt at s kind a r
+    → Derived keys before at s kind xs a r
 unfolding newKey
 end-here keys before at s kind xs a r e d = ([], [], [], s, noAttribute, refl, sym e ∙ sym (append-nil before), refl, ends-from at (at + 0) s kind a r (omega arith) d)
 
@@ -196,10 +195,17 @@ one-before : (keys : List Text) (before : List AttributePairs) (at : ℕ) (s : T
     → Derived (key ∷ keys) (before ++ x ∷ []) b v kind xs a r → Derived keys before at s kind xs a r
 unfolding newKey
 one-before keys before at s x key b v kind xs a r n t w c d p e (ks, ys, u, o, ds, k, h, q, f) =
-    let size = length-append t (w ++ u) ∙ ap (λ (j : ℕ). length t + j) (length-append w u) in
-    (key ∷ ks, x ∷ ys, t ++ (w ++ u), o, oneMore c d (attributes-from e ds), rw n k,
-    h ∙ append-assoc before (x ∷ []) ys,
-    p ∙ ap (λ (z : Text). t ++ (w ++ z)) q ∙ simp append-assoc, ends-from (b + length u) (at + length (t ++ (w ++ u))) o kind a r (omega (arith, size)) f)
+    let size = length-append t (w ++ u) ∙ ap (λ (j : ℕ). length t + j) (length-append w u) in (
+      key ∷ ks,
+      x ∷ ys,
+      t ++ (w ++ u),
+      o,
+      oneMore c d (attributes-from e ds),
+      rw n k,
+      h ∙ append-assoc before (x ∷ []) ys,
+      p ∙ ap (λ (z : Text). t ++ (w ++ z)) q ∙ simp append-assoc,
+      ends-from (b + length u) (at + length (t ++ (w ++ u))) o kind a r (omega (arith, size)) f,
+    )
 
 on-part-sound : (next : List Text → List AttributePairs → ℕ → Text → Ended) (kind : ℕ) (xs : List AttributePairs) (a : ℕ) (r : Text)
     → ((keys : List Text) (before : List AttributePairs) (at : ℕ) (s : Text) → next keys before at s ≡ ended kind xs a r → Derived keys before at s kind xs a r)
@@ -231,7 +237,8 @@ abbrev pub IsTag : ℕ → Text → ℕ → Pair → List AttributePairs → Tex
 IsTag at s kind pair xs n a r =
     (v : Text) × (((kind ≡ 1) × STag at v n (TapeEvent.tag kind pair xs)) ⊎ ((kind ≡ 2) × EmptyElemTag at v (TapeEvent.tag kind pair xs))) × (s ≡ v ++ r) × (a ≡ at + length v)
 
-tag-join : (at : ℕ) (s t u n v o : Text) (kind a : ℕ) (r : Text) (ks : List Text) (xs : List AttributePairs) → s ≡ 60 ∷ t → t ≡ n ++ u → Name n → u ≡ v ++ o → Attributes (at + 1 + length n) v ks xs → newKey [] ks ≡ true
+tag-join : (at : ℕ) (s t u n v o : Text) (kind a : ℕ) (r : Text) (ks : List Text) (xs : List AttributePairs) → s ≡ 60 ∷ t → t ≡ n ++ u → Name n → u ≡ v ++ o
+    → Attributes (at + 1 + length n) v ks xs → newKey [] ks ≡ true
     → EndsAt (at + 1 + length n + length v) o kind a r → IsTag at s kind (record { offset = at + 1; size = length n }) xs n a r
 unfolding bytes
 tag-join at s t u n v o kind a r ks xs p q m h ds k (w, c, inl (y, z, f)) =
@@ -246,7 +253,8 @@ tag-join at s t u n v o kind a r ks xs p q m h ds k (w, c, inr (y, z, f)) =
 untagged-not : {kind : ℕ} {pair : Pair} {xs : List AttributePairs} {n : Text} {a : ℕ} {r : Text} {A : Type 0} → untagged ≡ tagged kind pair xs n a r → A
 untagged-not q = let z : _≡_ {A = ℕ} 0 1 = cc in absurd (omega arith)
 
-tag-by : (pair : Pair) (m : Text) (d : Ended) (kind : ℕ) (p : Pair) (xs : List AttributePairs) (n : Text) (a : ℕ) (r : Text) → taggedBy pair m d ≡ tagged kind p xs n a r → (d ≡ ended kind xs a r) × (pair ≡ p) × (m ≡ n)
+tag-by : (pair : Pair) (m : Text) (d : Ended) (kind : ℕ) (p : Pair) (xs : List AttributePairs) (n : Text) (a : ℕ) (r : Text) → taggedBy pair m d ≡ tagged kind p xs n a r
+    → (d ≡ ended kind xs a r) × (pair ≡ p) × (m ≡ n)
 tag-by pair m unended kind p xs n a r h = untagged-not h
 tag-by pair m (ended k ys b u) kind p xs n a r h = (cc, cc, cc)
 
@@ -260,7 +268,8 @@ tag-less : (d : Step) (kind : ℕ) (p : Pair) (xs : List AttributePairs) (n : Te
 tag-less bad kind p xs n a r h = untagged-not h
 tag-less (behind b t) kind p xs n a r h = (b, t, refl, h)
 
-is-tag-as : (at : ℕ) (s : Text) (kind : ℕ) (p q : Pair) (xs ys : List AttributePairs) (m n : Text) (a : ℕ) (r : Text) → p ≡ q → xs ≡ ys → m ≡ n → IsTag at s kind p xs m a r → IsTag at s kind q ys n a r
+is-tag-as : (at : ℕ) (s : Text) (kind : ℕ) (p q : Pair) (xs ys : List AttributePairs) (m n : Text) (a : ℕ) (r : Text) → p ≡ q → xs ≡ ys → m ≡ n → IsTag at s kind p xs m a r
+    → IsTag at s kind q ys n a r
 is-tag-as at s kind p q xs ys m n a r x y z d = rw (← x, ← y, ← z) d
 
 pub tag-sound : (at : ℕ) (s : Text) (kind : ℕ) (pair : Pair) (xs : List AttributePairs) (n : Text) (a : ℕ) (r : Text) → tag at s ≡ tagged kind pair xs n a r → IsTag at s kind pair xs n a r
@@ -303,10 +312,11 @@ part-more-complete at {t} {w} {k} {x} c d r =
     let f = attribute-first d in
     let g : isWhiteSpace (first (w ++ r)) ≡ false = ap (λ (z : Text). isWhiteSpace (first (z ++ r))) (f .2) ∙ start-no-space (f .0) (f .3) in
     let z : partBehind at (behind (at + length t) (w ++ r)) ≡ attribute (at + length t) (w ++ r) =
-        subst (λ (z : Text). partBehind at (behind (at + length t) (z ++ r)) ≡ attribute (at + length t) (z ++ r)) (sym (f .2)) (part-behind at (at + length t) (f .0) (f .1 ++ r) (f .3) (omega (arith, s-some c))) in
+    subst (λ (z : Text). partBehind at (behind (at + length t) (z ++ r)) ≡ attribute (at + length t) (z ++ r)) (sym (f .2))
+    (part-behind at (at + length t) (f .0) (f .1 ++ r) (f .3) (omega (arith, s-some c))) in
     ap (partBehind at) (spaces-complete (present c) at (w ++ r) g) ∙ z ∙ attribute-complete d r
 
-greater-no-white : isWhiteSpace 62 ≡ false
+pub greater-no-white : isWhiteSpace 62 ≡ false
 unfolding isWhiteSpace
 greater-no-white = refl
 
@@ -322,7 +332,8 @@ empty-end : {t : Text} → Opt S t → (at : ℕ) (r : Text) → partOf at (t ++
 unfolding partOf bytes startsWith first
 empty-end o at r = rw (spaces-complete o at (47 ∷ 62 ∷ r) slash-no-white)
 
-attributes-complete : {at : ℕ} {u : Text} {ks : List Text} {xs : List AttributePairs} → Attributes at u ks xs → (turns : ℕ) (keys : List Text) (before : List AttributePairs) → newKey keys ks ≡ true → length u < turns
+attributes-complete : {at : ℕ} {u : Text} {ks : List Text} {xs : List AttributePairs} → Attributes at u ks xs → (turns : ℕ) (keys : List Text) (before : List AttributePairs)
+    → newKey keys ks ≡ true → length u < turns
     → (t : Text) (kind a : ℕ) (r : Text) → partOf (at + length u) t ≡ last kind a r → attributesFrom turns keys before at (u ++ t) ≡ ended kind (before ++ xs) a r
 unfolding attributesFrom newKey
 attributes-complete {at} noAttribute turns keys before n l t kind a r h =
@@ -337,16 +348,14 @@ attributes-complete {at} (oneMore {s} {t = w} {u} {k} {x} {ks} {xs} c d ds) (suc
     (attributes-complete ds turns (k ∷ keys) (before ++ x ∷ []) (f .1) (omega arith) t kind a r (ap (λ (z : ℕ). partOf z t) (omega arith) ∙ h)
     ∙ ap (λ (z : List AttributePairs). ended kind z a r) (append-assoc before (x ∷ []) xs))
 
-attributes-no-name : {at : ℕ} {u : Text} {ks : List Text} {xs : List AttributePairs} → Attributes at u ks xs → {t : Text} → Opt S t → (r : Text) → isName (first r) ≡ false → isName (first (u ++ (t ++ r))) ≡ false
+attributes-no-name : {at : ℕ} {u : Text} {ks : List Text} {xs : List AttributePairs} → Attributes at u ks xs → {t : Text} → Opt S t → (r : Text) → isName (first r) ≡ false
+    → isName (first (u ++ (t ++ r))) ≡ false
 unfolding first
 attributes-no-name noAttribute absent r h = h
 attributes-no-name noAttribute (present (run {b} y e)) r h = white-no-name b y
 attributes-no-name (oneMore (run {b} y e) d ds) o r h = white-no-name b y
 
 -- [40] and [44], the other way
-tagged-same : {kind : ℕ} {p q : Pair} {xs : List AttributePairs} {n m : Text} {a b : ℕ} {r : Text} → p ≡ q → n ≡ m → a ≡ b → tagged kind p xs n a r ≡ tagged kind q xs m b r
-tagged-same p q h = cc
-
 body-complete : {at : ℕ} {s n : Text} {xs : List AttributePairs} → TagBody at s n xs → (end : Text) (kind : ℕ) (r : Text) → isName (first (end ++ r)) ≡ false
     → ((t : Text) → Opt S t → (p : ℕ) → partOf p (t ++ (end ++ r)) ≡ last kind (p + length t + length end) r)
     → tag at ((s ++ end) ++ r) ≡ tagged kind (record { offset = at + 1; size = length n }) xs n (at + length (s ++ end)) r
@@ -358,10 +367,11 @@ body-complete {at} (tagBody {n} {s} {t} {ks} {xs} m ds k o) end kind r h p =
     let l = length-append s (t ++ (end ++ r)) in
     rw whole
     (tag-found at (60 ∷ (n ++ (s ++ (t ++ (end ++ r))))) (less-written at (n ++ (s ++ (t ++ (end ++ r))))) (name-complete m (at + 1) (s ++ (t ++ (end ++ r))) c)
-    (attributes-complete ds (suc (length (s ++ (t ++ (end ++ r))))) [] [] k (omega arith) (t ++ (end ++ r)) kind (at + 1 + length n + length s + length t + length end) r (p t o (at + 1 + length n + length s)))
-    ∙ tagged-same (pair-same _ _ _ _ refl (omega arith)) (nameOf-complete m (s ++ (t ++ (end ++ r))) c) (omega arith))
+    (attributes-complete ds (suc (length (s ++ (t ++ (end ++ r))))) [] [] k (omega arith) (t ++ (end ++ r)) kind (at + 1 + length n + length s + length t + length end) r
+    (p t o (at + 1 + length n + length s)))
+    ∙ tagged-same kind _ _ xs _ n _ _ r (pair-same _ _ _ _ refl (omega arith)) (nameOf-complete m (s ++ (t ++ (end ++ r))) c) (omega arith))
 
-greater-no-name : isName 62 ≡ false
+pub greater-no-name : isName 62 ≡ false
 unfolding isName isNameStart isLetter between
 greater-no-name = refl
 

@@ -1,25 +1,24 @@
 -- Attribute values [10] and character data [14] (specs/Grammar.antt), both ways. The scan goes byte by byte through a reference, whose bytes behind `&` are
 -- plain ones. Assumes nothing.
 use Prim.Native.Nat.{ℕ, zero, suc, _+_, _≤_, _<_}
-use Prim.Native.Char.{code}
 use mathlib.Core.Path.{_≡_, refl, sym, ap, subst, _∙_}
 use mathlib.Core.Logic.{_⊎_, ⊎-elim}
-use mathlib.Core.List.{List, [], _∷_, _++_, append-nil, append-assoc}
-use mathlib.Core.Bool.{Bool, true, false, not, _&&_, _||_, false≢true}
+use mathlib.Core.List.{[], _∷_, _++_, append-assoc}
+use mathlib.Core.Bool.{true, false, not}
 use native.Mathlib.Omega.{arith}
 use lib.Dec.{eqb}
 use lib.ListN.{length, length-append}
-use borrow.Author.Tests.{eqb-true, eq-eqb, ne-eqb, not-true}
-use Rattle.text.specs.Text.{Text, if_then_else_, bytes, first, every}
-use Rattle.text.proofs.Laws.Tests.{bool-cases, and-true, two, three, four, or-cases}
+use borrow.Author.Tests.{eqb-true, eq-eqb, not-true}
+use Rattle.text.specs.Text.{Text, bytes, first, every}
+use Rattle.text.proofs.Laws.Tests.{bool-cases, two, three, four, or-cases}
 use Rattle.text.proofs.Laws.Every.{every-cons, every-head, every-tail}
 use Rattle.xml.specs.Classes.{isChar}
-use Rattle.xml.specs.Steps.{Step, bad, behind, startsWith}
+use Rattle.xml.specs.Steps.{behind, startsWith}
 use Rattle.xml.specs.Values.{isReference, isPlain, valueEnd, isQuote, value, charData, isInText, isInValue}
 use Rattle.xml.specs.Grammar.{Many, none, more, Without, Reference, isValueChar, ValuePart, valueChar, valueReference, AttValue, doubleQuoted, singleQuoted, isTextChar, CharData}
 use Rattle.xml.specs.Grammar as grammar
-use Rattle.xml.proofs.Laws.Names.{behind-at, behind-rest, bad-not}
-use Rattle.xml.proofs.Laws.Values.{other-quote, in-value, in-data}
+use Rattle.xml.proofs.Laws.Names.{behind-rest, bad-not}
+use Rattle.xml.proofs.Laws.Values.{in-value, in-data}
 use Rattle.xml.proofs.Laws.Grammar.Basics.{behind-same, regroup}
 use Rattle.xml.proofs.Laws.Grammar.Markup.{without-more, without-tail, some-not}
 use Rattle.xml.proofs.Laws.Grammar.References.{reference-sound, reference-complete, isInBoth, reference-bytes}

@@ -9,11 +9,18 @@ use Rattle.xml_parts.proofs.prolog.eq.Tie as tie
 
 returns : tie.Need-returns
 unfolding eq bytes
-returns c = rw (sym (c .before .before .before .before .spaces .ensures), bad-of (c .before .before .before .before .before .before .args .text .now) (c .enum-told .given .1) (c .before .before .literal .ensures))
+returns c =
+    let c4 = c .before .before .before .before in
+    let c6 = c4 .before .before in
+    rw (sym (c4 .spaces .ensures), bad-of (c6 .args .text .now) (c .enum-told .given .1) (c .before .before .literal .ensures))
 
 returns-2 : tie.Need-returns-2
 unfolding eq bytes
-returns-2 c = rw (sym (c .before .before .before .before .before .before .spaces .ensures), to-of (c .before .before .before .before .before .before .before .before .args .text .now) (c .before .before .behind .given .1) (c .before .before .before .before .literal .ensures)) (c .spaces2 .ensures)
+returns-2 c =
+    let c4 = c .before .before .before .before in
+    let c6 = c4 .before .before in
+    let c8 = c6 .before .before in
+    rw (sym (c6 .spaces .ensures), to-of (c8 .args .text .now) (c .before .before .behind .given .1) (c4 .literal .ensures)) (c .spaces2 .ensures)
 
 pub eq-spec : {M : Type 1} → statement M
 eq-spec = tie.close (tie.spec (λ c κs. search needs) (λ c. search needs) (λ c κs. search needs) (λ c. search needs) (λ c. search needs) returns (λ c κs. search needs) returns-2)

@@ -40,21 +40,41 @@ enum-told c = omega arith
 
 returns : tie.Need-returns Inv-loop μ-loop
 returns c =
-    let at = c .before .before .before .before .before in
-    sym (misc-bad (at .loop .inv .0) (at .loop .i) _ (sym (c .before .before .before .before .is-misc .ensures) ∙ c .before .before .before .if1 .taken) (bad-of (c .before .before .before .before .before .before .before .before .args .text .now) (c .enum-told .given .1) (c .before .before .misc-part .ensures))) ∙ at .loop .inv .2
+    let c3 = c .before .before .before in
+    let c4 = c3 .before in
+    let c5 = c4 .before in
+    let c8 = c5 .before .before .before in
+    let at = c5 in
+    sym (misc-bad (at .loop .inv .0) (at .loop .i) _ (sym (c4 .is-misc .ensures) ∙ c3 .if1 .taken) (bad-of (c8 .args .text .now) (c .enum-told .given .1)
+    (c .before .before .misc-part .ensures))) ∙ at .loop .inv .2
 
 spaces-requires-2 : tie.Need-spaces-requires-2 Inv-loop μ-loop
 spaces-requires-2 c κs = search needs
 
 loop-less : tie.Need-loop-less Inv-loop μ-loop
 loop-less c =
-    let at = c .before .before .before .before .before .before .before in
-    omega (arith, misc-ahead (c .before .before .before .before .before .before .before .before .before .before .args .text .now) (at .loop .i) _ _ (sym (c .before .before .before .before .before .before .is-misc .ensures) ∙ c .before .before .before .before .before .if1 .taken) (to-of (c .before .before .before .before .before .before .before .before .before .before .args .text .now) (c .before .before .behind .given .1) (c .before .before .before .before .misc-part .ensures)) (sym (c .spaces2 .ensures)))
+    let c4 = c .before .before .before .before in
+    let c5 = c4 .before in
+    let c6 = c5 .before in
+    let c7 = c6 .before in
+    let c10 = c7 .before .before .before in
+    let at = c7 in
+    omega (
+      arith,
+      misc-ahead (c10 .args .text .now) (at .loop .i) _ _ (sym (c6 .is-misc .ensures) ∙ c5 .if1 .taken)
+          (to-of (c10 .args .text .now) (c .before .before .behind .given .1) (c4 .misc-part .ensures)) (sym (c .spaces2 .ensures)),
+    )
 
 loop-again : tie.Need-loop-again Inv-loop μ-loop
 loop-again c =
-    let at = c .before .before .before .before .before .before .before in
-    misc-on (c .before .before .before .before .before .before .before .before .before .before .args .text .now) (at .loop .inv .0) (at .loop .i) _ _ _ (at .loop .inv .1) (sym (c .before .before .before .before .before .before .is-misc .ensures) ∙ c .before .before .before .before .before .if1 .taken) (to-of (c .before .before .before .before .before .before .before .before .before .before .args .text .now) (c .before .before .behind .given .1) (c .before .before .before .before .misc-part .ensures)) (sym (c .spaces2 .ensures)) (at .loop .inv .2)
+    let c4 = c .before .before .before .before in
+    let c5 = c4 .before in
+    let c6 = c5 .before in
+    let c7 = c6 .before in
+    let c10 = c7 .before .before .before in
+    let at = c7 in
+    misc-on (c10 .args .text .now) (at .loop .inv .0) (at .loop .i) _ _ _ (at .loop .inv .1) (sym (c6 .is-misc .ensures) ∙ c5 .if1 .taken)
+    (to-of (c10 .args .text .now) (c .before .before .behind .given .1) (c4 .misc-part .ensures)) (sym (c .spaces2 .ensures)) (at .loop .inv .2)
 
 returns-2 : tie.Need-returns-2 Inv-loop μ-loop
 returns-2 c =

@@ -8,11 +8,20 @@ use Rattle.xml_parts.proofs.prolog.prolog.Tie as tie
 
 returns : tie.Need-returns
 unfolding prolog
-returns c = rw (sym (c .before .before .before .before .is-declaration .ensures) ∙ c .before .before .before .if1 .taken, bad-of (c .before .before .before .before .before .before .args .text .now) (c .enum-told .given .1) (c .before .before .declaration .ensures))
+returns c =
+    let c3 = c .before .before .before in
+    let c4 = c3 .before in
+    let c6 = c4 .before .before in
+    rw (sym (c4 .is-declaration .ensures) ∙ c3 .if1 .taken, bad-of (c6 .args .text .now) (c .enum-told .given .1) (c .before .before .declaration .ensures))
 
 returns-2 : tie.Need-returns-2
 unfolding prolog
-returns-2 c = rw (sym (c .before .before .before .before .before .before .is-declaration .ensures) ∙ c .before .before .before .before .before .if1 .taken, to-of (c .before .before .before .before .before .before .before .before .args .text .now) (c .before .before .behind .given .1) (c .before .before .before .before .declaration .ensures)) (c .misc .ensures)
+returns-2 c =
+    let c4 = c .before .before .before .before in
+    let c5 = c4 .before in
+    let c6 = c5 .before in
+    let c8 = c6 .before .before in
+    rw (sym (c6 .is-declaration .ensures) ∙ c5 .if1 .taken, to-of (c8 .args .text .now) (c .before .before .behind .given .1) (c4 .declaration .ensures)) (c .misc .ensures)
 
 returns-3 : tie.Need-returns-3
 unfolding prolog

@@ -29,9 +29,15 @@ returns-3 c =
 
 returns-4 : tie.Need-returns-4
 returns-4 c =
-    let a = c .before .before .before .before .before .before .before .before .before .before .before .args in
-    let b = rw (add-one (a .at)) at (to-of (c .before .before .before .before .before .before .before .before .before .before .before .args .text .now) (c .before .before .before .end .given .1) (c .before .before .before .before .before .body-end .ensures)) in
-    rw (quoted-on (bodyOf (a .inner)) (a .text .now) (a .at) (a .at) (omega arith) (sym (c .before .before .before .before .before .before .before .is-quote .ensures) ∙ not-false _ (c .before .before .before .before .before .before .if2 .left)), b) (c .literal .ensures)
+    let c3 = c .before .before .before in
+    let c5 = c3 .before .before in
+    let c6 = c5 .before in
+    let c7 = c6 .before in
+    let c11 = c7 .before .before .before .before in
+    let a = c11 .args in
+    let b = rw (add-one (a .at)) at (to-of (c11 .args .text .now) (c3 .end .given .1) (c5 .body-end .ensures)) in
+    rw (quoted-on (bodyOf (a .inner)) (a .text .now) (a .at) (a .at) (omega arith) (sym (c7 .is-quote .ensures) ∙ not-false _ (c6 .if2 .left)), b) (c .literal .ensures)
 
 pub quoted-spec : {M : Type 1} → statement M
-quoted-spec = tie.close (tie.spec returns (λ c. search needs) (λ c κs. search needs) returns-2 (λ c. search needs) (λ c κs. search needs) (λ c. search needs) (λ c. search needs) returns-3 (λ c. search needs) (λ c κs. search needs) returns-4)
+quoted-spec = tie.close (tie.spec returns (λ c. search needs) (λ c κs. search needs) returns-2 (λ c. search needs) (λ c κs. search needs) (λ c. search needs) (λ c. search needs) returns-3
+    (λ c. search needs) (λ c κs. search needs) returns-4)

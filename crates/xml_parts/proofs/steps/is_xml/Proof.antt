@@ -9,7 +9,11 @@ returns : tie.Need-returns
 returns c = sym (xml-other (c .before .before .args .name .now) (c .if1 .taken))
 
 returns-2 : tie.Need-returns-2
-returns-2 c = rw (xml-three (c .before .before .before .before .before .before .before .before .args .name .now) (c .before .before .before .before .before .before .if1 .left), c .before .before .before .before .to-lower .ensures, c .before .before .to-lower2 .ensures, c .to-lower3 .ensures)
+returns-2 c =
+    let c4 = c .before .before .before .before in
+    let c6 = c4 .before .before in
+    let c8 = c6 .before .before in
+    rw (xml-three (c8 .args .name .now) (c6 .if1 .left), c4 .to-lower .ensures, c .before .before .to-lower2 .ensures, c .to-lower3 .ensures)
 
 pub is-xml-spec : {M : Type 1} → statement M
 is-xml-spec =

@@ -41,9 +41,11 @@ loop-less c = omega arith
 
 loop-again : tie.Need-loop-again Inv-loop μ-loop
 loop-again c =
-    let at = c .before .before .before .before in
+    let c4 = c .before .before .before .before in
+    let at = c4 in
     let a = at .before .before .args in
-    rw (add-one (at .loop .i)) (sym (many-on (classOf (a .class)) (a .text .now) (at .loop .i) (at .loop .i) (omega arith) (sym (c .before .in-class .ensures) ∙ not-false _ (c .if1 .left))) ∙ at .loop .inv)
+    rw (add-one (at .loop .i)) (sym (many-on (classOf (a .class)) (a .text .now) (at .loop .i) (at .loop .i) (omega arith) (sym (c .before .in-class .ensures) ∙ not-false _ (c .if1 .left)))
+    ∙ at .loop .inv)
 
 returns-2 : tie.Need-returns-2 Inv-loop μ-loop
 returns-2 c =

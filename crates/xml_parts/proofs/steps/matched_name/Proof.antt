@@ -12,16 +12,40 @@ returns : tie.Need-returns
 returns c = sym (matched-differ (c .before .before .before .same-end .ensures) (sym (c .before .is-name .ensures ∙ ap isName (c .before .before .byte-at .ensures)) ∙ c .if1 .taken))
 
 returns-2 : tie.Need-returns-2
-returns-2 c = sym (matched-longer (c .before .before .before .before .before .before .same-end .ensures) (sym (c .before .before .before .before .is-name .ensures ∙ ap isName (c .before .before .before .before .before .byte-at .ensures)) ∙ c .before .before .before .if1 .left) (sym (c .before .is-name2 .ensures ∙ ap isName (c .before .before .byte-at2 .ensures)) ∙ c .if2 .taken))
+returns-2 c =
+    let c3 = c .before .before .before in
+    let c4 = c3 .before in
+    let c5 = c4 .before in
+    let c6 = c5 .before in
+    sym (matched-longer (c6 .same-end .ensures) (sym (c4 .is-name .ensures ∙ ap isName (c5 .byte-at .ensures)) ∙ c3 .if1 .left)
+    (sym (c .before .is-name2 .ensures ∙ ap isName (c .before .before .byte-at2 .ensures)) ∙ c .if2 .taken))
 
 returns-3 : tie.Need-returns-3
-returns-3 c = sym (matched-same (c .before .before .before .before .before .before .before .before .before .same-end .ensures) (sym (c .before .before .before .before .before .before .before .is-name .ensures ∙ ap isName (c .before .before .before .before .before .before .before .before .byte-at .ensures)) ∙ c .before .before .before .before .before .before .if1 .left) (sym (c .before .before .before .before .is-name2 .ensures ∙ ap isName (c .before .before .before .before .before .byte-at2 .ensures)) ∙ c .before .before .before .if2 .left) ∙ name-no-start _ _ (sym (c .before .in-class .ensures ∙ ap isNameStart (c .before .before .byte-at3 .ensures)) ∙ not-true _ (c .if3 .taken)))
+returns-3 c =
+    let c3 = c .before .before .before in
+    let c4 = c3 .before in
+    let c5 = c4 .before in
+    let c6 = c5 .before in
+    let c7 = c6 .before in
+    let c8 = c7 .before in
+    let c9 = c8 .before in
+    sym (matched-same (c9 .same-end .ensures) (sym (c7 .is-name .ensures ∙ ap isName (c8 .byte-at .ensures)) ∙ c6 .if1 .left)
+    (sym (c4 .is-name2 .ensures ∙ ap isName (c5 .byte-at2 .ensures)) ∙ c3 .if2 .left) ∙ name-no-start _ _
+    (sym (c .before .in-class .ensures ∙ ap isNameStart (c .before .before .byte-at3 .ensures)) ∙ not-true _ (c .if3 .taken)))
 
 returns-4 : tie.Need-returns-4
 returns-4 c =
-    let u = c .before .before .before .before .before .before .before .before .before .same-end .ensures in
-    let ended = sym (c .before .before .before .before .before .before .before .is-name .ensures ∙ ap isName (c .before .before .before .before .before .before .before .before .byte-at .ensures)) ∙ c .before .before .before .before .before .before .if1 .left in
-    sym (run-none _ _ ended) ∙ u .same-run ∙ name-run _ _ (sym (c .before .in-class .ensures ∙ ap isNameStart (c .before .before .byte-at3 .ensures)) ∙ not-false _ (c .if3 .left)) ∙ sym (matched-same u ended (sym (c .before .before .before .before .is-name2 .ensures ∙ ap isName (c .before .before .before .before .before .byte-at2 .ensures)) ∙ c .before .before .before .if2 .left))
+    let c3 = c .before .before .before in
+    let c4 = c3 .before in
+    let c5 = c4 .before in
+    let c6 = c5 .before in
+    let c7 = c6 .before in
+    let c8 = c7 .before in
+    let c9 = c8 .before in
+    let u = c9 .same-end .ensures in
+    let ended = sym (c7 .is-name .ensures ∙ ap isName (c8 .byte-at .ensures)) ∙ c6 .if1 .left in
+    sym (run-none _ _ ended) ∙ u .same-run ∙ name-run _ _ (sym (c .before .in-class .ensures ∙ ap isNameStart (c .before .before .byte-at3 .ensures)) ∙ not-false _ (c .if3 .left)) ∙ sym
+    (matched-same u ended (sym (c4 .is-name2 .ensures ∙ ap isName (c5 .byte-at2 .ensures)) ∙ c3 .if2 .left))
 
 pub matched-name-spec : {M : Type 1} → statement M
 matched-name-spec =

@@ -21,8 +21,10 @@ returns-2 c =
 
 returns-3 : tie.Need-returns-3
 returns-3 c =
-    let a = c .before .before .before .before .before .before .args in
-    (rw (add-one (a .at)) at (c .many .ensures)) ∙ sym (one-on (classOf (a .one)) (classOf (a .class)) (a .text .now) (a .at) (a .at) (omega arith) (sym (c .before .before .in-class .ensures) ∙ not-false _ (c .before .if2 .left)))
+    let c6 = c .before .before .before .before .before .before in
+    let a = c6 .args in
+    (rw (add-one (a .at)) at (c .many .ensures)) ∙ sym (one-on (classOf (a .one)) (classOf (a .class)) (a .text .now) (a .at) (a .at) (omega arith)
+    (sym (c .before .before .in-class .ensures) ∙ not-false _ (c .before .if2 .left)))
 
 pub one-then-spec : {M : Type 1} → statement M
 one-then-spec =

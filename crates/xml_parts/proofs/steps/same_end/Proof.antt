@@ -29,7 +29,8 @@ loop-holds : tie.Need-loop-holds Inv-loop μ-loop
 loop-holds c = (omega arith, omega (arith, c .beside .ensures .from), omega arith, refl, refl)
 
 -- both places are inside
-is-inside : (c : tie.In-loop Inv-loop μ-loop) → let at = c .before in (at .loop .i < length (at .before .before .before .args .text .now)) × (at .loop .j < length (at .before .before .before .args .text .now))
+is-inside : (c : tie.In-loop Inv-loop μ-loop) → let at = c .before in (at .loop .i < length (at .before .before .before .args .text .now))
+    × (at .loop .j < length (at .before .before .before .args .text .now))
 is-inside c =
     let at = c .before in
     let p = at .before .beside .ensures .inside (at .loop .i) (at .loop .inv .0) (c .loop-test .taken) in
@@ -69,13 +70,21 @@ loop-less c = omega (arith, c .before .before .before .before .before .loop-test
 
 loop-again : tie.Need-loop-again Inv-loop μ-loop
 loop-again c =
-    let at = c .before .before .before .before .before .before in
+    let c5 = c .before .before .before .before .before in
+    let c6 = c5 .before in
+    let at = c6 in
     let text = at .before .before .before .args .text .now in
     let i = at .loop .i in
     let j = at .loop .j in
     let inv = at .loop .inv in
-    let e = is-in-name c in
-    (omega (arith, inv .0), omega (arith, c .before .before .before .before .before .loop-test .taken), omega (arith, inv .0, inv .2), rw (add-one i, add-one j) (sym (same-name-on text i j e (c .before .before .if1 .left)) ∙ inv .3), rw (add-one i) (sym (many-on isName text i i (is-inside (c .before .before .before .before .before) .0) e) ∙ inv .4))
+    let e = is-in-name c in (
+      omega (arith, inv .0),
+      omega (arith, c5 .loop-test .taken),
+      omega (arith, inv .0, inv .2),
+      rw (add-one i, add-one j)
+          (sym (same-name-on text i j e (c .before .before .if1 .left)) ∙ inv .3),
+      rw (add-one i) (sym (many-on isName text i i (is-inside (c5) .0) e) ∙ inv .4),
+    )
 
 returns-3 : tie.Need-returns-3 Inv-loop μ-loop
 returns-3 c =

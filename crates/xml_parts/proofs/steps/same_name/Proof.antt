@@ -39,44 +39,69 @@ is-name-requires-2 c κs = search needs
 
 returns : tie.Need-returns Inv-loop μ-loop
 returns c =
-    let at = c .before .before .before .before .before in
-    let text = (c .before .before .before .before .before .before .before .args .text .now) in
-    let e : isName (getD text (at .loop .i) 0) ≡ false = sym (c .before .before .is-name .ensures ∙ ap isName (c .before .before .before .before .byte-at .ensures ∙ first-drop (c .before .before .before .before .before .before .before .args .text .now) (c .before .before .before .before .before .loop .i))) ∙ not-true _ (c .before .if1 .taken) in
-    let f = c .is-name2 .ensures ∙ ap isName (c .before .before .before .byte-at2 .ensures) in
+    let c3 = c .before .before .before in
+    let c4 = c3 .before in
+    let c5 = c4 .before in
+    let c7 = c5 .before .before in
+    let at = c5 in
+    let text = (c7 .args .text .now) in
+    let e : isName (getD text (at .loop .i) 0) ≡ false = sym (c .before .before .is-name .ensures ∙ ap isName (c4 .byte-at .ensures ∙ first-drop (c7 .args .text .now) (c5 .loop .i)))
+    ∙ not-true _ (c .before .if1 .taken) in
+    let f = c .is-name2 .ensures ∙ ap isName (c3 .byte-at2 .ensures) in
     ap not f ∙ sym (same-nothing (drop (at .loop .i) text) (drop (at .loop .j) text) (ap isName (first-drop text (at .loop .i)) ∙ e)) ∙ at .loop .inv
 
 returns-2 : tie.Need-returns-2 Inv-loop μ-loop
 returns-2 c =
-    let at = c .before .before .before .before .before in
-    let text = (c .before .before .before .before .before .before .before .args .text .now) in
-    let e : isName (getD text (at .loop .i) 0) ≡ true = sym (c .before .before .is-name .ensures ∙ ap isName (c .before .before .before .before .byte-at .ensures ∙ first-drop (c .before .before .before .before .before .before .before .args .text .now) (c .before .before .before .before .before .loop .i))) ∙ not-false _ (c .before .if1 .left) in
+    let c3 = c .before .before .before in
+    let c4 = c3 .before in
+    let c5 = c4 .before in
+    let c7 = c5 .before .before in
+    let at = c5 in
+    let text = (c7 .args .text .now) in
+    let e : isName (getD text (at .loop .i) 0) ≡ true = sym (c .before .before .is-name .ensures ∙ ap isName (c4 .byte-at .ensures ∙ first-drop (c7 .args .text .now) (c5 .loop .i)))
+    ∙ not-false _ (c .before .if1 .left) in
     sym (same-name-differ text (at .loop .i) (at .loop .j) e
-    (λ q. c .if2 .taken (c .before .before .before .before .byte-at .ensures ∙ first-drop text (at .loop .i) ∙ q ∙ sym (c .before .before .before .byte-at2 .ensures ∙ first-drop text (at .loop .j)))))
+    (λ q. c .if2 .taken (c4 .byte-at .ensures ∙ first-drop text (at .loop .i) ∙ q ∙ sym (c3 .byte-at2 .ensures ∙ first-drop text (at .loop .j)))))
     ∙ at .loop .inv
 
 add-i : tie.Need-add-i Inv-loop μ-loop
 add-i c =
-    let e = sym (c .before .before .is-name .ensures ∙ ap isName (c .before .before .before .before .byte-at .ensures ∙ first-drop (c .before .before .before .before .before .before .before .args .text .now) (c .before .before .before .before .before .loop .i))) ∙ not-false _ (c .before .if1 .left) in
-    omega (arith, name-inside (c .before .before .before .before .before .before .before .args .text .now) (c .before .before .before .before .before .loop .i) e)
+    let c4 = c .before .before .before .before in
+    let c5 = c4 .before in
+    let c7 = c5 .before .before in
+    let e = sym (c .before .before .is-name .ensures ∙ ap isName (c4 .byte-at .ensures ∙ first-drop (c7 .args .text .now) (c5 .loop .i))) ∙ not-false _ (c .before .if1 .left) in
+    omega (arith, name-inside (c7 .args .text .now) (c5 .loop .i) e)
 
 add-j : tie.Need-add-j Inv-loop μ-loop
 add-j c =
-    let text = (c .before .before .before .before .before .before .before .args .text .now) in
-    let q = sym (c .before .before .before .before .byte-at .ensures ∙ first-drop text (c .before .before .before .before .before .loop .i)) ∙ c .if2 .left ∙ c .before .before .before .byte-at2 .ensures ∙ first-drop text (c .before .before .before .before .before .loop .j) in
-    let e = sym (c .before .before .is-name .ensures ∙ ap isName (c .before .before .before .before .byte-at .ensures ∙ first-drop (c .before .before .before .before .before .before .before .args .text .now) (c .before .before .before .before .before .loop .i))) ∙ not-false _ (c .before .if1 .left) in
-    omega (arith, name-inside text (c .before .before .before .before .before .loop .j) (ap isName (sym q) ∙ e))
+    let c3 = c .before .before .before in
+    let c4 = c3 .before in
+    let c5 = c4 .before in
+    let c7 = c5 .before .before in
+    let text = (c7 .args .text .now) in
+    let q = sym (c4 .byte-at .ensures ∙ first-drop text (c5 .loop .i)) ∙ c .if2 .left ∙ c3 .byte-at2 .ensures ∙ first-drop text (c5 .loop .j) in
+    let e = sym (c .before .before .is-name .ensures ∙ ap isName (c4 .byte-at .ensures ∙ first-drop (c7 .args .text .now) (c5 .loop .i))) ∙ not-false _ (c .before .if1 .left) in
+    omega (arith, name-inside text (c5 .loop .j) (ap isName (sym q) ∙ e))
 
 loop-less : tie.Need-loop-less Inv-loop μ-loop
 loop-less c =
-    let e = sym (c .before .before .is-name .ensures ∙ ap isName (c .before .before .before .before .byte-at .ensures ∙ first-drop (c .before .before .before .before .before .before .before .args .text .now) (c .before .before .before .before .before .loop .i))) ∙ not-false _ (c .before .if1 .left) in
-    omega (arith, name-inside (c .before .before .before .before .before .before .before .args .text .now) (c .before .before .before .before .before .loop .i) e)
+    let c4 = c .before .before .before .before in
+    let c5 = c4 .before in
+    let c7 = c5 .before .before in
+    let e = sym (c .before .before .is-name .ensures ∙ ap isName (c4 .byte-at .ensures ∙ first-drop (c7 .args .text .now) (c5 .loop .i))) ∙ not-false _ (c .before .if1 .left) in
+    omega (arith, name-inside (c7 .args .text .now) (c5 .loop .i) e)
 
 loop-again : tie.Need-loop-again Inv-loop μ-loop
 loop-again c =
-    let at = c .before .before .before .before .before in
-    let text = (c .before .before .before .before .before .before .before .args .text .now) in
-    let e : isName (getD text (at .loop .i) 0) ≡ true = sym (c .before .before .is-name .ensures ∙ ap isName (c .before .before .before .before .byte-at .ensures ∙ first-drop (c .before .before .before .before .before .before .before .args .text .now) (c .before .before .before .before .before .loop .i))) ∙ not-false _ (c .before .if1 .left) in
-    let q = sym (c .before .before .before .before .byte-at .ensures ∙ first-drop text (at .loop .i)) ∙ c .if2 .left ∙ c .before .before .before .byte-at2 .ensures ∙ first-drop text (at .loop .j) in
+    let c3 = c .before .before .before in
+    let c4 = c3 .before in
+    let c5 = c4 .before in
+    let c7 = c5 .before .before in
+    let at = c5 in
+    let text = (c7 .args .text .now) in
+    let e : isName (getD text (at .loop .i) 0) ≡ true = sym (c .before .before .is-name .ensures ∙ ap isName (c4 .byte-at .ensures ∙ first-drop (c7 .args .text .now) (c5 .loop .i)))
+    ∙ not-false _ (c .before .if1 .left) in
+    let q = sym (c4 .byte-at .ensures ∙ first-drop text (at .loop .i)) ∙ c .if2 .left ∙ c3 .byte-at2 .ensures ∙ first-drop text (at .loop .j) in
     rw (add-one (at .loop .i), add-one (at .loop .j)) (sym (same-name-on text (at .loop .i) (at .loop .j) e q) ∙ at .loop .inv)
 
 pub same-name-spec : {M : Type 1} → statement M

@@ -12,7 +12,11 @@ returns c = rw (bad-of (c .before .before .before .before .before .args .text .n
 
 returns-2 : tie.Need-returns-2
 unfolding section bytes
-returns-2 c = rw (to-of (c .before .before .before .before .before .before .before .before .args .text .now) (c .before .before .before .inside .given .1) (c .before .before .before .before .before .literal .ensures)) (c .until .ensures)
+returns-2 c =
+    let c3 = c .before .before .before in
+    let c5 = c3 .before .before in
+    let c8 = c5 .before .before .before in
+    rw (to-of (c8 .args .text .now) (c3 .inside .given .1) (c5 .literal .ensures)) (c .until .ensures)
 
 pub section-spec : {M : Type 1} → statement M
 section-spec = tie.close (tie.spec (λ c. search needs) (λ c κs. search needs) (λ c. search needs) (λ c. search needs) returns (λ c. search needs) (λ c κs. search needs) returns-2)

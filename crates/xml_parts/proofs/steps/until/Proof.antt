@@ -43,9 +43,14 @@ is-char-requires c κs = search needs
 
 returns-2 : tie.Need-returns-2 Inv-loop μ-loop
 returns-2 c =
-    let at = c .before .before .before .before .before .before in
-    let a = c .before .before .before .before .before .before .before .before .before .args in
-    sym (until-wrong (a .word .now) (a .text .now) (at .loop .i) (at .loop .i) (omega arith) (sym (c .before .before .before .before .starts .ensures) ∙ c .before .before .before .if1 .left) (sym (c .before .is-char .ensures) ∙ not-true _ (c .if2 .taken))) ∙ at .loop .inv
+    let c3 = c .before .before .before in
+    let c4 = c3 .before in
+    let c6 = c4 .before .before in
+    let c9 = c6 .before .before .before in
+    let at = c6 in
+    let a = c9 .args in
+    sym (until-wrong (a .word .now) (a .text .now) (at .loop .i) (at .loop .i) (omega arith) (sym (c4 .starts .ensures) ∙ c3 .if1 .left)
+    (sym (c .before .is-char .ensures) ∙ not-true _ (c .if2 .taken))) ∙ at .loop .inv
 
 add-i : tie.Need-add-i Inv-loop μ-loop
 add-i c = omega arith
@@ -55,9 +60,14 @@ loop-less c = omega arith
 
 loop-again : tie.Need-loop-again Inv-loop μ-loop
 loop-again c =
-    let at = c .before .before .before .before .before .before in
-    let a = c .before .before .before .before .before .before .before .before .before .args in
-    rw (add-one (at .loop .i)) (sym (until-on (a .word .now) (a .text .now) (at .loop .i) (at .loop .i) (omega arith) (sym (c .before .before .before .before .starts .ensures) ∙ c .before .before .before .if1 .left) (sym (c .before .is-char .ensures) ∙ not-false _ (c .if2 .left))) ∙ at .loop .inv)
+    let c3 = c .before .before .before in
+    let c4 = c3 .before in
+    let c6 = c4 .before .before in
+    let c9 = c6 .before .before .before in
+    let at = c6 in
+    let a = c9 .args in
+    rw (add-one (at .loop .i)) (sym (until-on (a .word .now) (a .text .now) (at .loop .i) (at .loop .i) (omega arith) (sym (c4 .starts .ensures) ∙ c3 .if1 .left)
+    (sym (c .before .is-char .ensures) ∙ not-false _ (c .if2 .left))) ∙ at .loop .inv)
 
 returns-3 : tie.Need-returns-3 Inv-loop μ-loop
 returns-3 c =

@@ -56,9 +56,14 @@ is-plain-requires c κs = search needs
 returns-3 : tie.Need-returns-3 Inv-loop μ-loop
 unfolding bytes
 returns-3 c =
-    let at = c .before .before .before .before .before .before .before .before in
-    let a = c .before .before .before .before .before .before .before .before .before .before .before .args in
-    sym (data-wrong (a .text .now) (at .loop .i) (at .loop .i) (omega arith) (c .before .before .before .before .before .if1 .left) (sym (c .before .before .before .starts .ensures) ∙ c .before .before .if2 .left) (sym (c .before .is-plain .ensures) ∙ not-true _ (c .if3 .taken))) ∙ at .loop .inv
+    let c3 = c .before .before .before in
+    let c5 = c3 .before .before in
+    let c8 = c5 .before .before .before in
+    let c11 = c8 .before .before .before in
+    let at = c8 in
+    let a = c11 .args in
+    sym (data-wrong (a .text .now) (at .loop .i) (at .loop .i) (omega arith) (c5 .if1 .left) (sym (c3 .starts .ensures) ∙ c .before .before .if2 .left)
+    (sym (c .before .is-plain .ensures) ∙ not-true _ (c .if3 .taken))) ∙ at .loop .inv
 
 add-text-run : tie.Need-add-text-run Inv-loop μ-loop
 add-text-run c = omega arith
@@ -72,11 +77,16 @@ loop-less c = omega (arith, many-moves isInText _ _ _ _ (sym (c .text-run2 .ensu
 loop-again : tie.Need-loop-again Inv-loop μ-loop
 unfolding bytes
 loop-again c =
-    let at = c .before .before .before .before .before .before .before .before .before in
+    let c3 = c .before .before .before in
+    let c4 = c3 .before in
+    let c6 = c4 .before .before in
+    let c9 = c6 .before .before .before in
+    let at = c9 in
     let a = at .before .before .before .args in
     let i = at .loop .i in
     ap (λ (d : Step). d andThen charData) (c .text-run2 .ensures) ∙ sym (data-run (i + 1) (drop (i + 1) (a .text .now)))
-    ∙ rw (add-one i) (sym (data-on (a .text .now) i i (omega arith) (c .before .before .before .before .before .before .if1 .left) (sym (c .before .before .before .before .starts .ensures) ∙ c .before .before .before .if2 .left) (sym (c .before .before .is-plain .ensures) ∙ not-false _ (c .before .if3 .left))) ∙ at .loop .inv)
+    ∙ rw (add-one i) (sym (data-on (a .text .now) i i (omega arith) (c6 .if1 .left) (sym (c4 .starts .ensures) ∙ c3 .if2 .left)
+    (sym (c .before .before .is-plain .ensures) ∙ not-false _ (c .before .if3 .left))) ∙ at .loop .inv)
 
 returns-4 : tie.Need-returns-4 Inv-loop μ-loop
 returns-4 c =
@@ -85,4 +95,6 @@ returns-4 c =
     sym (data-end (a .text .now) (at .loop .i) (at .loop .i) (c .loop-test .left)) ∙ at .loop .inv
 
 pub char-data-spec : {M : Type 1} → statement M
-char-data-spec = tie.close (tie.spec Inv-loop μ-loop text-run-requires loop-holds shared-slice-read-if1 returns slice-aggregate-starts starts-requires returns-2 is-plain-requires returns-3 add-text-run text-run-requires-2 loop-less loop-again returns-4)
+char-data-spec = tie.close
+    (tie.spec Inv-loop μ-loop text-run-requires loop-holds shared-slice-read-if1 returns slice-aggregate-starts starts-requires returns-2 is-plain-requires returns-3 add-text-run
+    text-run-requires-2 loop-less loop-again returns-4)

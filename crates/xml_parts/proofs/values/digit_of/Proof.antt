@@ -4,7 +4,7 @@ use native.Mathlib.Omega.{arith}
 use mathlib.Core.Path.{sym, _∙_}
 use Rattle.text.specs.Text.{between, isDigit}
 use Rattle.text.proofs.Laws.Texts.{between-low, between-high}
-use Rattle.xml.specs.Values.{digitOf}
+use Rattle.xml.specs.Grammar.{digitOf}
 use Rattle.xml_parts.proofs.values.digit_of.Statement.{statement}
 use Rattle.xml_parts.proofs.values.digit_of.Tie as tie
 
@@ -36,11 +36,20 @@ cast-result-3 c = omega (arith, between-high 65 70 (c .before .before .before .b
 
 returns-3 : tie.Need-returns-3
 unfolding digitOf
-returns-3 c = rw (sym (c .before .before .before .before .before .is-digit .ensures) ∙ c .before .before .before .before .if1 .left, sym (c .before .before .before .in-range .ensures) ∙ c .before .before .if2 .left, sym (c .before .in-range2 .ensures) ∙ c .if3 .taken)
+returns-3 c =
+    let c3 = c .before .before .before in
+    let c4 = c3 .before in
+    let c5 = c4 .before in
+    rw (sym (c5 .is-digit .ensures) ∙ c4 .if1 .left, sym (c3 .in-range .ensures) ∙ c .before .before .if2 .left, sym (c .before .in-range2 .ensures) ∙ c .if3 .taken)
 
 returns-4 : tie.Need-returns-4
 unfolding digitOf
-returns-4 c = rw (sym (c .before .before .before .before .before .is-digit .ensures) ∙ c .before .before .before .before .if1 .left, sym (c .before .before .before .in-range .ensures) ∙ c .before .before .if2 .left, sym (c .before .in-range2 .ensures) ∙ c .if3 .left)
+returns-4 c =
+    let c3 = c .before .before .before in
+    let c4 = c3 .before in
+    let c5 = c4 .before in
+    rw (sym (c5 .is-digit .ensures) ∙ c4 .if1 .left, sym (c3 .in-range .ensures) ∙ c .before .before .if2 .left, sym (c .before .in-range2 .ensures) ∙ c .if3 .left)
 
 pub digit-of-spec : {M : Type 1} → statement M
-digit-of-spec = tie.close (tie.spec (λ c κs. search needs) sub-result cast-result returns (λ c κs. search needs) sub-result-2 cast-result-2 returns-2 (λ c κs. search needs) sub-result-3 cast-result-3 returns-3 returns-4)
+digit-of-spec = tie.close (tie.spec (λ c κs. search needs) sub-result cast-result returns (λ c κs. search needs) sub-result-2 cast-result-2 returns-2
+    (λ c κs. search needs) sub-result-3 cast-result-3 returns-3 returns-4)

@@ -5,7 +5,8 @@ use Prim.Native.Nat.{suc, _-_, _≤_, _<_, _*_, _+_}
 use mathlib.Core.Path.{_≡_, refl, sym, _∙_}
 use native.Mathlib.Numerals.{add-one}
 use lib.ListN.{length, getD, drop}
-use Rattle.xml.specs.Values.{isNumber, digitOf}
+use Rattle.xml.specs.Values.{isNumber}
+use Rattle.xml.specs.Grammar.{digitOf}
 use Rattle.xml.proofs.Laws.Values.{number-end, number-stop, number-wrong, number-on, number-past, step-fits}
 use Rattle.xml_parts.proofs.values.is_number.Statement.{statement}
 use Rattle.xml_parts.proofs.values.is_number.Tie as tie
@@ -46,17 +47,22 @@ mul-v c = omega (arith, step-fits _ _ (c .before .before .before .before .before
 
 add-v : tie.Need-add-v Inv-loop μ-loop
 add-v c =
-    let digit : c .before .digit-of .result < c .before .before .before .before .before .before .before .args .base = omega (arith, c .if2 .left) in
-    omega (arith, step-fits _ _ (c .before .before .before .before .before .loop .inv .0) (c .before .before .before .before .before .before .before .pre .1), c .before .before .before .before .before .before .before .pre .1)
+    let c5 = c .before .before .before .before .before in
+    let c7 = c5 .before .before in
+    let digit : c .before .digit-of .result < c7 .args .base = omega (arith, c .if2 .left) in
+    omega (arith, step-fits _ _ (c5 .loop .inv .0) (c7 .pre .1), c7 .pre .1)
 
 returns-3 : tie.Need-returns-3 Inv-loop μ-loop
 returns-3 c =
-    let at = c .before .before .before .before .before .before in
-    let a = c .before .before .before .before .before .before .before .before .args in
+    let c3 = c .before .before .before in
+    let c6 = c3 .before .before .before in
+    let c8 = c6 .before .before in
+    let at = c6 in
+    let a = c8 .args in
     let d = digitOf (getD (a .text .now) (at .loop .i) 0) in
     let less : d < a .base = omega (arith, c .before .if2 .left, c .before .before .digit-of .ensures) in
-    let past = number-past (a .base) (at .loop .v * a .base + d) (drop (suc (at .loop .i)) (a .text .now)) (c .before .before .before .before .before .before .before .before .pre .0) (omega (arith, c .if3 .taken, c .before .before .digit-of .ensures)) in
-    sym past ∙ sym (number-on (a .base) (at .loop .v) (a .text .now) (at .loop .i) (omega arith) (c .before .before .before .if1 .left) less) ∙ at .loop .inv .1
+    let past = number-past (a .base) (at .loop .v * a .base + d) (drop (suc (at .loop .i)) (a .text .now)) (c8 .pre .0) (omega (arith, c .if3 .taken, c .before .before .digit-of .ensures)) in
+    sym past ∙ sym (number-on (a .base) (at .loop .v) (a .text .now) (at .loop .i) (omega arith) (c3 .if1 .left) less) ∙ at .loop .inv .1
 
 add-i : tie.Need-add-i Inv-loop μ-loop
 add-i c = omega arith
@@ -66,12 +72,15 @@ loop-less c = omega arith
 
 loop-again : tie.Need-loop-again Inv-loop μ-loop
 loop-again c =
-    let at = c .before .before .before .before .before .before in
-    let a = c .before .before .before .before .before .before .before .before .args in
+    let c3 = c .before .before .before in
+    let c6 = c3 .before .before .before in
+    let c8 = c6 .before .before in
+    let at = c6 in
+    let a = c8 .args in
     let d = digitOf (getD (a .text .now) (at .loop .i) 0) in
     let less : d < a .base = omega (arith, c .before .if2 .left, c .before .before .digit-of .ensures) in (
       omega (arith, c .if3 .left),
-      rw (add-one (at .loop .i), c .before .before .digit-of .ensures) (sym (number-on (a .base) (at .loop .v) (a .text .now) (at .loop .i) (omega arith) (c .before .before .before .if1 .left) less) ∙ at .loop .inv .1),
+      rw (add-one (at .loop .i), c .before .before .digit-of .ensures) (sym (number-on (a .base) (at .loop .v) (a .text .now) (at .loop .i) (omega arith) (c3 .if1 .left) less) ∙ at .loop .inv .1),
     )
 
 returns-4 : tie.Need-returns-4 Inv-loop μ-loop

@@ -17,7 +17,9 @@ add-is-number c =
 
 returns : tie.Need-returns
 unfolding isReference bytes
-returns c = rw (sym (c .before .before .starts .ensures) ∙ c .before .if1 .taken) (c .is-number .ensures ∙ ap (isNumber 16 0) (sym (drop-drop 3 (c .before .before .before .before .before .args .at) (c .before .before .before .before .before .args .text .now))))
+returns c =
+    let c5 = c .before .before .before .before .before in
+    rw (sym (c .before .before .starts .ensures) ∙ c .before .if1 .taken) (c .is-number .ensures ∙ ap (isNumber 16 0) (sym (drop-drop 3 (c5 .args .at) (c5 .args .text .now))))
 
 add-is-number-2 : tie.Need-add-is-number-2
 add-is-number-2 c =
@@ -26,11 +28,20 @@ add-is-number-2 c =
 
 returns-2 : tie.Need-returns-2
 unfolding isReference bytes
-returns-2 c = rw (sym (c .before .before .before .before .before .starts .ensures) ∙ c .before .before .before .before .if1 .left, sym (c .before .before .starts2 .ensures) ∙ c .before .if2 .taken) (c .is-number2 .ensures ∙ ap (isNumber 10 0) (sym (drop-drop 2 (c .before .before .before .before .before .before .before .before .args .at) (c .before .before .before .before .before .before .before .before .args .text .now))))
+returns-2 c =
+    let c4 = c .before .before .before .before in
+    let c5 = c4 .before in
+    let c8 = c5 .before .before .before in
+    rw (sym (c5 .starts .ensures) ∙ c4 .if1 .left, sym (c .before .before .starts2 .ensures) ∙ c .before .if2 .taken)
+    (c .is-number2 .ensures ∙ ap (isNumber 10 0) (sym (drop-drop 2 (c8 .args .at) (c8 .args .text .now))))
 
 returns-3 : tie.Need-returns-3
 unfolding isReference bytes
-returns-3 c = rw (sym (c .before .before .before .before .before .starts .ensures) ∙ c .before .before .before .before .if1 .left, sym (c .before .before .starts2 .ensures) ∙ c .before .if2 .left) (c .is-entity .ensures)
+returns-3 c =
+    let c4 = c .before .before .before .before in
+    let c5 = c4 .before in
+    rw (sym (c5 .starts .ensures) ∙ c4 .if1 .left, sym (c .before .before .starts2 .ensures) ∙ c .before .if2 .left) (c .is-entity .ensures)
 
 pub is-reference-spec : {M : Type 1} → statement M
-is-reference-spec = tie.close (tie.spec (λ c. search needs) (λ c κs. search needs) add-is-number (λ c κs. search needs) returns (λ c. search needs) (λ c κs. search needs) add-is-number-2 (λ c κs. search needs) returns-2 (λ c κs. search needs) returns-3)
+is-reference-spec = tie.close (tie.spec (λ c. search needs) (λ c κs. search needs) add-is-number (λ c κs. search needs) returns (λ c. search needs) (λ c κs. search needs) add-is-number-2
+    (λ c κs. search needs) returns-2 (λ c κs. search needs) returns-3)

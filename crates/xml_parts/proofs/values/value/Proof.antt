@@ -20,8 +20,10 @@ returns-2 c =
 
 returns-3 : tie.Need-returns-3
 returns-3 c =
-    let a = c .before .before .before .before .before .before .args in
-    (rw (add-one (a .at)) at (c .value-end .ensures)) ∙ sym (value-quoted (a .text .now) (a .at) (a .at) (omega arith) (sym (c .before .before .is-quote .ensures) ∙ not-false _ (c .before .if2 .left)))
+    let c6 = c .before .before .before .before .before .before in
+    let a = c6 .args in
+    (rw (add-one (a .at)) at (c .value-end .ensures)) ∙ sym (value-quoted (a .text .now) (a .at) (a .at) (omega arith)
+    (sym (c .before .before .is-quote .ensures) ∙ not-false _ (c .before .if2 .left)))
 
 value-end-requires : tie.Need-value-end-requires
 value-end-requires c κs = (sym (c .before .is-quote .ensures) ∙ not-false _ (c .if2 .left), search needs)

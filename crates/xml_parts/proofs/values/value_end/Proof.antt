@@ -50,9 +50,13 @@ is-plain-requires c κs = search needs
 
 returns-3 : tie.Need-returns-3 Inv-loop μ-loop
 returns-3 c =
-    let at = c .before .before .before .before .before .before in
-    let a = c .before .before .before .before .before .before .before .before .before .args in
-    sym (value-wrong (a .quote) (a .text .now) (at .loop .i) (at .loop .i) (omega arith) (c .before .before .before .if1 .left) (c .before .before .if2 .left) (sym (c .before .is-plain .ensures) ∙ not-true _ (c .if3 .taken))) ∙ at .loop .inv
+    let c3 = c .before .before .before in
+    let c6 = c3 .before .before .before in
+    let c9 = c6 .before .before .before in
+    let at = c6 in
+    let a = c9 .args in
+    sym (value-wrong (a .quote) (a .text .now) (at .loop .i) (at .loop .i) (omega arith) (c3 .if1 .left) (c .before .before .if2 .left)
+    (sym (c .before .is-plain .ensures) ∙ not-true _ (c .if3 .taken))) ∙ at .loop .inv
 
 add-value-run : tie.Need-add-value-run Inv-loop μ-loop
 add-value-run c = omega arith
@@ -65,11 +69,15 @@ loop-less c = omega (arith, many-moves isInValue _ _ _ _ (sym (c .value-run2 .en
 
 loop-again : tie.Need-loop-again Inv-loop μ-loop
 loop-again c =
-    let at = c .before .before .before .before .before .before .before in
+    let c3 = c .before .before .before in
+    let c4 = c3 .before in
+    let c7 = c4 .before .before .before in
+    let at = c7 in
     let a = at .before .before .before .args in
     let i = at .loop .i in
     ap (λ (d : Step). d andThen valueEnd (a .quote)) (c .value-run2 .ensures) ∙ sym (value-run (a .quote) (at .before .before .before .pre .0) (i + 1) (drop (i + 1) (a .text .now)))
-    ∙ rw (add-one i) (sym (value-on (a .quote) (a .text .now) i i (omega arith) (c .before .before .before .before .if1 .left) (c .before .before .before .if2 .left) (sym (c .before .before .is-plain .ensures) ∙ not-false _ (c .before .if3 .left))) ∙ at .loop .inv)
+    ∙ rw (add-one i) (sym (value-on (a .quote) (a .text .now) i i (omega arith) (c4 .if1 .left) (c3 .if2 .left)
+    (sym (c .before .before .is-plain .ensures) ∙ not-false _ (c .before .if3 .left))) ∙ at .loop .inv)
 
 returns-4 : tie.Need-returns-4 Inv-loop μ-loop
 returns-4 c =
@@ -78,4 +86,5 @@ returns-4 c =
     sym (value-end (a .quote) (a .text .now) (at .loop .i) (at .loop .i) (c .loop-test .left)) ∙ at .loop .inv
 
 pub value-end-spec : {M : Type 1} → statement M
-value-end-spec = tie.close (tie.spec Inv-loop μ-loop value-run-requires loop-holds shared-slice-read-b add-t11 returns returns-2 is-plain-requires returns-3 add-value-run value-run-requires-2 loop-less loop-again returns-4)
+value-end-spec = tie.close
+    (tie.spec Inv-loop μ-loop value-run-requires loop-holds shared-slice-read-b add-t11 returns returns-2 is-plain-requires returns-3 add-value-run value-run-requires-2 loop-less loop-again returns-4)

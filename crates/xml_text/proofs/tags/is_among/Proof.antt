@@ -5,7 +5,7 @@ use Prim.Native.Nat.{suc, _-_, _≤_}
 use mathlib.Core.Path.{_≡_, refl, sym, _∙_}
 use lib.ListN.{length, getD, drop}
 use Rattle.xml.specs.Steps.{nameOf}
-use Rattle.xml.specs.Tags.{isAmong}
+use Rattle.xml.specs.Grammar.{isAmong}
 use Rattle.xml_text.specs.Answers.{namesUpTo}
 use Rattle.xml_text.proofs.Laws.Tags.{among-none, among-hit, among-on}
 use Rattle.xml_text.proofs.tags.is_among.Statement.{statement}
@@ -37,18 +37,26 @@ same-name-requires c κs = search needs
 
 returns : tie.Need-returns Inv-loop μ-loop
 returns c =
-    let at = c .before .before .before .before in
-    let a = c .before .before .before .before .before .before .before .args in
-    sym (among-hit (nameOf (drop (a .key) (a .text .now))) (a .text .now) (a .keys .now) (at .loop .k) (at .loop .k - 1) (omega arith) (sym (c .before .same-name .ensures) ∙ c .if1 .taken)) ∙ at .loop .inv .1
+    let c4 = c .before .before .before .before in
+    let c7 = c4 .before .before .before in
+    let at = c4 in
+    let a = c7 .args in
+    sym (among-hit (nameOf (drop (a .key) (a .text .now))) (a .text .now) (a .keys .now) (at .loop .k) (at .loop .k - 1) (omega arith) (sym (c .before .same-name .ensures) ∙ c .if1 .taken))
+    ∙ at .loop .inv .1
 
 loop-less : tie.Need-loop-less Inv-loop μ-loop
 loop-less c = omega arith
 
 loop-again : tie.Need-loop-again Inv-loop μ-loop
 loop-again c =
-    let at = c .before .before .before .before in
-    let a = c .before .before .before .before .before .before .before .args in
-    (omega arith, sym (among-on (nameOf (drop (a .key) (a .text .now))) (a .text .now) (a .keys .now) (at .loop .k) (at .loop .k - 1) (omega arith) (sym (c .before .same-name .ensures) ∙ c .if1 .left)) ∙ at .loop .inv .1)
+    let c4 = c .before .before .before .before in
+    let c7 = c4 .before .before .before in
+    let at = c4 in
+    let a = c7 .args in (
+      omega arith,
+      sym (among-on (nameOf (drop (a .key) (a .text .now))) (a .text .now) (a .keys .now) (at .loop .k) (at .loop .k - 1) (omega arith)
+          (sym (c .before .same-name .ensures) ∙ c .if1 .left)) ∙ at .loop .inv .1,
+    )
 
 returns-2 : tie.Need-returns-2 Inv-loop μ-loop
 returns-2 c =

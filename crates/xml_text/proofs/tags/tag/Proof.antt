@@ -22,7 +22,6 @@ unfolding tag bytes
 returns c =
     let c7 = c .before .before .before .before .before .before .before in
     rw (bad-of (c7 .args .text .now) (c .enum-told .given .1) (c .before .before .literal .ensures))
-    
 
 returns-2 : tie.Need-returns-2
 unfolding tag bytes
@@ -31,121 +30,245 @@ returns-2 c =
     let c6 = c4 .before .before in
     let c11 = c6 .before .before .before .before .before in
     rw (to-of (c11 .args .text .now) (c4 .start .given .1) (c6 .literal .ensures), bad-of (c11 .args .text .now) (c .enum-told2 .given .1) (c .before .before .name .ensures))
-    
 
 add-attributes : tie.Need-add-attributes
 add-attributes c =
-    let c5 = c .before .before .before .before .before in
+    let c3 = c .before .before .before in
+    let c5 = c3 .before .before in
+    let c5 = c5 in
     let c7 = c5 .before .before in
     let c9 = c7 .before .before in
     let c14 = c9 .before .before .before .before .before in
-    omega (arith, inside-text (literal-passes (60 ∷ []) (omega arith)) (c14 .args .text .now) (c14 .args .at) _ (to-of (c14 .args .text .now) (c7 .start .given .1) (c9 .literal .ensures)), inside-text name-passes (c14 .args .text .now) _ _ (to-of (c14 .args .text .now) (c .before .before .before .end .given .1) (c5 .name .ensures)), c14 .pre)
-    
+    omega (
+      arith,
+      inside-text (literal-passes (60 ∷ []) (omega arith)) (c14 .args .text .now) (c14 .args .at) _
+          (to-of (c14 .args .text .now) (c7 .start .given .1) (c9 .literal .ensures)),
+      inside-text name-passes (c14 .args .text .now) _ _
+          (to-of (c14 .args .text .now) (c3 .end .given .1) (c5 .name .ensures)),
+      c14 .pre,
+    )
 
 attributes-requires : tie.Need-attributes-requires
 attributes-requires c κs =
-    let c5 = c .before .before .before .before .before in
+    let c3 = c .before .before .before in
+    let c5 = c3 .before .before in
+    let c5 = c5 in
     let c7 = c5 .before .before in
     let c9 = c7 .before .before in
-    let c14 = c9 .before .before .before .before .before in
-    ((omega (arith, inside-text (literal-passes (60 ∷ []) (omega arith)) (c14 .args .text .now) (c14 .args .at) _ (to-of (c14 .args .text .now) (c7 .start .given .1) (c9 .literal .ensures)), inside-text name-passes (c14 .args .text .now) _ _ (to-of (c14 .args .text .now) (c .before .before .before .end .given .1) (c5 .name .ensures)), c14 .pre), omega (arith, inside-text (literal-passes (60 ∷ []) (omega arith)) (c14 .args .text .now) (c14 .args .at) _ (to-of (c14 .args .text .now) (c7 .start .given .1) (c9 .literal .ensures)), inside-text name-passes (c14 .args .text .now) _ _ (to-of (c14 .args .text .now) (c .before .before .before .end .given .1) (c5 .name .ensures)), c14 .pre), omega (arith, inside-text (literal-passes (60 ∷ []) (omega arith)) (c14 .args .text .now) (c14 .args .at) _ (to-of (c14 .args .text .now) (c7 .start .given .1) (c9 .literal .ensures)), inside-text name-passes (c14 .args .text .now) _ _ (to-of (c14 .args .text .now) (c .before .before .before .end .given .1) (c5 .name .ensures)), c14 .pre)), search needs)
-    
+    let c14 = c9 .before .before .before .before .before in (
+      (
+        omega (
+          arith,
+          inside-text (literal-passes (60 ∷ []) (omega arith)) (c14 .args .text .now) (c14 .args .at) _
+              (to-of (c14 .args .text .now) (c7 .start .given .1) (c9 .literal .ensures)),
+          inside-text name-passes (c14 .args .text .now) _ _
+              (to-of (c14 .args .text .now) (c3 .end .given .1) (c5 .name .ensures)),
+          c14 .pre,
+        ),
+        omega (
+          arith,
+          inside-text (literal-passes (60 ∷ []) (omega arith)) (c14 .args .text .now)
+              (c14 .args .at) _ (to-of (c14 .args .text .now) (c7 .start .given .1) (c9 .literal .ensures)),
+          inside-text name-passes (c14 .args .text .now) _ _
+              (to-of (c14 .args .text .now) (c3 .end .given .1) (c5 .name .ensures)),
+          c14 .pre,
+        ),
+        omega (
+          arith,
+          inside-text (literal-passes (60 ∷ []) (omega arith)) (c14 .args .text .now)
+              (c14 .args .at) _ (to-of (c14 .args .text .now) (c7 .start .given .1) (c9 .literal .ensures)),
+          inside-text name-passes (c14 .args .text .now) _ _
+              (to-of (c14 .args .text .now) (c3 .end .given .1) (c5 .name .ensures)),
+          c14 .pre,
+        ),
+      ),
+      search needs,
+    )
 
 returns-3 : tie.Need-returns-3
 unfolding tag bytes
 returns-3 c =
     let c6 = c .before .before .before .before .before .before in
+    let c6 = c6 in
     let c10 = c6 .before .before .before .before in
     let c12 = c10 .before .before in
     let c14 = c12 .before .before in
     let c16 = c14 .before .before in
     let c21 = c16 .before .before .before .before .before in
-    rw (to-of (c21 .args .text .now) (c14 .start .given .1) (c16 .literal .ensures), to-of (c21 .args .text .now) (c10 .end .given .1) (c12 .name .ensures), ends-bad (c21 .args .text .now) _ _ _ _ (c .enum-told3 .given .1) (c6 .attributes .ensures))
-    
+    rw (
+      to-of (c21 .args .text .now) (c14 .start .given .1) (c16 .literal .ensures),
+      to-of (c21 .args .text .now) (c10 .end .given .1) (c12 .name .ensures),
+      ends-bad
+          (c21 .args .text .now) _ _ _ _ (c .enum-told3 .given .1) (c6 .attributes .ensures),
+    )
 
 add-put : tie.Need-add-put
 add-put c =
     let c6 = c .before .before .before .before .before .before in
+    let c6 = c6 in
     let c12 = c6 .before .before .before .before .before .before in
     let c16 = c12 .before .before .before .before in
     let c18 = c16 .before .before in
     let c20 = c18 .before .before in
     let c22 = c20 .before .before in
     let c27 = c22 .before .before .before .before .before in
-    omega (arith, inside-text (literal-passes (60 ∷ []) (omega arith)) (c27 .args .text .now) (c27 .args .at) _ (to-of (c27 .args .text .now) (c20 .start .given .1) (c22 .literal .ensures)), inside-text name-passes (c27 .args .text .now) _ _ (to-of (c27 .args .text .now) (c16 .end .given .1) (c18 .name .ensures)), (ends-to (c27 .args .text .now) _ _ _ _ (c6 .kind .given .1) (c12 .attributes .ensures)) .4, (ends-to (c27 .args .text .now) _ _ _ _ (c6 .kind .given .1) (c12 .attributes .ensures)) .5, c27 .pre)
-    
+    omega (
+      arith,
+      inside-text (literal-passes (60 ∷ []) (omega arith)) (c27 .args .text .now) (c27 .args .at) _
+          (to-of (c27 .args .text .now) (c20 .start .given .1) (c22 .literal .ensures)),
+      inside-text name-passes (c27 .args .text .now) _ _
+          (to-of (c27 .args .text .now) (c16 .end .given .1) (c18 .name .ensures)),
+      (ends-to (c27 .args .text .now) _ _ _ _ (c6 .kind .given .1) (c12 .attributes .ensures)) .4,
+      (ends-to (c27 .args .text .now) _ _ _ _ (c6 .kind .given .1) (c12 .attributes .ensures)) .5,
+      c27 .pre,
+    )
 
 cast-put : tie.Need-cast-put
 cast-put c =
     let c6 = c .before .before .before .before .before .before in
+    let c6 = c6 in
     let c12 = c6 .before .before .before .before .before .before in
     let c16 = c12 .before .before .before .before in
     let c18 = c16 .before .before in
     let c20 = c18 .before .before in
     let c22 = c20 .before .before in
     let c27 = c22 .before .before .before .before .before in
-    omega (arith, inside-text (literal-passes (60 ∷ []) (omega arith)) (c27 .args .text .now) (c27 .args .at) _ (to-of (c27 .args .text .now) (c20 .start .given .1) (c22 .literal .ensures)), inside-text name-passes (c27 .args .text .now) _ _ (to-of (c27 .args .text .now) (c16 .end .given .1) (c18 .name .ensures)), (ends-to (c27 .args .text .now) _ _ _ _ (c6 .kind .given .1) (c12 .attributes .ensures)) .4, (ends-to (c27 .args .text .now) _ _ _ _ (c6 .kind .given .1) (c12 .attributes .ensures)) .5, c27 .pre)
-    
+    omega (
+      arith,
+      inside-text (literal-passes (60 ∷ []) (omega arith)) (c27 .args .text .now) (c27 .args .at) _
+          (to-of (c27 .args .text .now) (c20 .start .given .1) (c22 .literal .ensures)),
+      inside-text name-passes (c27 .args .text .now) _ _
+          (to-of (c27 .args .text .now) (c16 .end .given .1) (c18 .name .ensures)),
+      (ends-to (c27 .args .text .now) _ _ _ _ (c6 .kind .given .1) (c12 .attributes .ensures)) .4,
+      (ends-to (c27 .args .text .now) _ _ _ _ (c6 .kind .given .1) (c12 .attributes .ensures)) .5,
+      c27 .pre,
+    )
 
 add-put-pair : tie.Need-add-put-pair
 add-put-pair c =
     let c10 = c .before .before .before .before .before .before .before .before .before .before in
+    let c10 = c10 in
     let c16 = c10 .before .before .before .before .before .before in
     let c20 = c16 .before .before .before .before in
     let c22 = c20 .before .before in
     let c24 = c22 .before .before in
     let c26 = c24 .before .before in
     let c31 = c26 .before .before .before .before .before in
-    omega (arith, inside-text (literal-passes (60 ∷ []) (omega arith)) (c31 .args .text .now) (c31 .args .at) _ (to-of (c31 .args .text .now) (c24 .start .given .1) (c26 .literal .ensures)), inside-text name-passes (c31 .args .text .now) _ _ (to-of (c31 .args .text .now) (c20 .end .given .1) (c22 .name .ensures)), (ends-to (c31 .args .text .now) _ _ _ _ (c10 .kind .given .1) (c16 .attributes .ensures)) .4, (ends-to (c31 .args .text .now) _ _ _ _ (c10 .kind .given .1) (c16 .attributes .ensures)) .5, c31 .pre)
-    
+    omega (
+      arith,
+      inside-text (literal-passes (60 ∷ []) (omega arith)) (c31 .args .text .now) (c31 .args .at) _
+          (to-of (c31 .args .text .now) (c24 .start .given .1) (c26 .literal .ensures)),
+      inside-text name-passes (c31 .args .text .now) _ _
+          (to-of (c31 .args .text .now) (c20 .end .given .1) (c22 .name .ensures)),
+      (ends-to (c31 .args .text .now) _ _ _ _ (c10 .kind .given .1) (c16 .attributes .ensures)) .4,
+      (ends-to (c31 .args .text .now) _ _ _ _ (c10 .kind .given .1) (c16 .attributes .ensures)) .5,
+      c31 .pre,
+    )
 
 put-pair-requires : tie.Need-put-pair-requires
 put-pair-requires c κs =
     let c10 = c .before .before .before .before .before .before .before .before .before .before in
+    let c10 = c10 in
     let c16 = c10 .before .before .before .before .before .before in
     let c20 = c16 .before .before .before .before in
     let c22 = c20 .before .before in
     let c24 = c22 .before .before in
     let c26 = c24 .before .before in
-    let c31 = c26 .before .before .before .before .before in
-    (omega (arith, inside-text (literal-passes (60 ∷ []) (omega arith)) (c31 .args .text .now) (c31 .args .at) _ (to-of (c31 .args .text .now) (c24 .start .given .1) (c26 .literal .ensures)), inside-text name-passes (c31 .args .text .now) _ _ (to-of (c31 .args .text .now) (c20 .end .given .1) (c22 .name .ensures)), (ends-to (c31 .args .text .now) _ _ _ _ (c10 .kind .given .1) (c16 .attributes .ensures)) .4, (ends-to (c31 .args .text .now) _ _ _ _ (c10 .kind .given .1) (c16 .attributes .ensures)) .5, c31 .pre), omega (arith, inside-text (literal-passes (60 ∷ []) (omega arith)) (c31 .args .text .now) (c31 .args .at) _ (to-of (c31 .args .text .now) (c24 .start .given .1) (c26 .literal .ensures)), inside-text name-passes (c31 .args .text .now) _ _ (to-of (c31 .args .text .now) (c20 .end .given .1) (c22 .name .ensures)), (ends-to (c31 .args .text .now) _ _ _ _ (c10 .kind .given .1) (c16 .attributes .ensures)) .4, (ends-to (c31 .args .text .now) _ _ _ _ (c10 .kind .given .1) (c16 .attributes .ensures)) .5, c31 .pre), omega (arith, inside-text (literal-passes (60 ∷ []) (omega arith)) (c31 .args .text .now) (c31 .args .at) _ (to-of (c31 .args .text .now) (c24 .start .given .1) (c26 .literal .ensures)), inside-text name-passes (c31 .args .text .now) _ _ (to-of (c31 .args .text .now) (c20 .end .given .1) (c22 .name .ensures)), (ends-to (c31 .args .text .now) _ _ _ _ (c10 .kind .given .1) (c16 .attributes .ensures)) .4, (ends-to (c31 .args .text .now) _ _ _ _ (c10 .kind .given .1) (c16 .attributes .ensures)) .5, c31 .pre))
-    
+    let c31 = c26 .before .before .before .before .before in (
+      omega (
+        arith,
+        inside-text (literal-passes (60 ∷ []) (omega arith)) (c31 .args .text .now) (c31 .args .at) _
+            (to-of (c31 .args .text .now) (c24 .start .given .1) (c26 .literal .ensures)),
+        inside-text name-passes (c31 .args .text .now) _ _
+            (to-of (c31 .args .text .now) (c20 .end .given .1) (c22 .name .ensures)),
+        (ends-to (c31 .args .text .now) _ _ _ _ (c10 .kind .given .1) (c16 .attributes .ensures)) .4,
+        (ends-to (c31 .args .text .now) _ _ _ _ (c10 .kind .given .1) (c16 .attributes .ensures)) .5,
+        c31 .pre,
+      ),
+      omega (
+        arith,
+        inside-text (literal-passes (60 ∷ []) (omega arith)) (c31 .args .text .now) (c31 .args .at) _
+            (to-of (c31 .args .text .now) (c24 .start .given .1) (c26 .literal .ensures)),
+        inside-text name-passes (c31 .args .text .now) _ _
+            (to-of (c31 .args .text .now) (c20 .end .given .1) (c22 .name .ensures)),
+        (ends-to (c31 .args .text .now) _ _ _ _ (c10 .kind .given .1) (c16 .attributes .ensures)) .4,
+        (ends-to (c31 .args .text .now) _ _ _ _ (c10 .kind .given .1) (c16 .attributes .ensures)) .5,
+        c31 .pre,
+      ),
+      omega (
+        arith,
+        inside-text (literal-passes (60 ∷ []) (omega arith)) (c31 .args .text .now) (c31 .args .at) _
+            (to-of (c31 .args .text .now) (c24 .start .given .1) (c26 .literal .ensures)),
+        inside-text name-passes (c31 .args .text .now) _ _
+            (to-of (c31 .args .text .now) (c20 .end .given .1) (c22 .name .ensures)),
+        (ends-to (c31 .args .text .now) _ _ _ _ (c10 .kind .given .1) (c16 .attributes .ensures)) .4,
+        (ends-to (c31 .args .text .now) _ _ _ _ (c10 .kind .given .1) (c16 .attributes .ensures)) .5,
+        c31 .pre,
+      ),
+    )
 
 add-t22 : tie.Need-add-t22
 add-t22 c =
     let c13 = c .before .before .before .before .before .before .before .before .before .before .before .before .before in
+    let c13 = c13 in
     let c19 = c13 .before .before .before .before .before .before in
     let c23 = c19 .before .before .before .before in
     let c25 = c23 .before .before in
     let c27 = c25 .before .before in
     let c29 = c27 .before .before in
     let c34 = c29 .before .before .before .before .before in
-    omega (arith, inside-text (literal-passes (60 ∷ []) (omega arith)) (c34 .args .text .now) (c34 .args .at) _ (to-of (c34 .args .text .now) (c27 .start .given .1) (c29 .literal .ensures)), inside-text name-passes (c34 .args .text .now) _ _ (to-of (c34 .args .text .now) (c23 .end .given .1) (c25 .name .ensures)), (ends-to (c34 .args .text .now) _ _ _ _ (c13 .kind .given .1) (c19 .attributes .ensures)) .4, (ends-to (c34 .args .text .now) _ _ _ _ (c13 .kind .given .1) (c19 .attributes .ensures)) .5, c34 .pre)
-    
+    omega (
+      arith,
+      inside-text (literal-passes (60 ∷ []) (omega arith)) (c34 .args .text .now) (c34 .args .at) _
+          (to-of (c34 .args .text .now) (c27 .start .given .1) (c29 .literal .ensures)),
+      inside-text name-passes (c34 .args .text .now) _ _
+          (to-of (c34 .args .text .now) (c23 .end .given .1) (c25 .name .ensures)),
+      (ends-to (c34 .args .text .now) _ _ _ _ (c13 .kind .given .1) (c19 .attributes .ensures)) .4,
+      (ends-to (c34 .args .text .now) _ _ _ _ (c13 .kind .given .1) (c19 .attributes .ensures)) .5,
+      c34 .pre,
+    )
 
 mul-t31 : tie.Need-mul-t31
 mul-t31 c =
     let c13 = c .before .before .before .before .before .before .before .before .before .before .before .before .before in
+    let c13 = c13 in
     let c19 = c13 .before .before .before .before .before .before in
     let c23 = c19 .before .before .before .before in
     let c25 = c23 .before .before in
     let c27 = c25 .before .before in
     let c29 = c27 .before .before in
     let c34 = c29 .before .before .before .before .before in
-    omega (arith, inside-text (literal-passes (60 ∷ []) (omega arith)) (c34 .args .text .now) (c34 .args .at) _ (to-of (c34 .args .text .now) (c27 .start .given .1) (c29 .literal .ensures)), inside-text name-passes (c34 .args .text .now) _ _ (to-of (c34 .args .text .now) (c23 .end .given .1) (c25 .name .ensures)), (ends-to (c34 .args .text .now) _ _ _ _ (c13 .kind .given .1) (c19 .attributes .ensures)) .4, (ends-to (c34 .args .text .now) _ _ _ _ (c13 .kind .given .1) (c19 .attributes .ensures)) .5, c34 .pre)
-    
+    omega (
+      arith,
+      inside-text (literal-passes (60 ∷ []) (omega arith)) (c34 .args .text .now) (c34 .args .at) _
+          (to-of (c34 .args .text .now) (c27 .start .given .1) (c29 .literal .ensures)),
+      inside-text name-passes (c34 .args .text .now) _ _
+          (to-of (c34 .args .text .now) (c23 .end .given .1) (c25 .name .ensures)),
+      (ends-to (c34 .args .text .now) _ _ _ _ (c13 .kind .given .1) (c19 .attributes .ensures)) .4,
+      (ends-to (c34 .args .text .now) _ _ _ _ (c13 .kind .given .1) (c19 .attributes .ensures)) .5,
+      c34 .pre,
+    )
 
 add-t32 : tie.Need-add-t32
 add-t32 c =
     let c13 = c .before .before .before .before .before .before .before .before .before .before .before .before .before in
+    let c13 = c13 in
     let c19 = c13 .before .before .before .before .before .before in
     let c23 = c19 .before .before .before .before in
     let c25 = c23 .before .before in
     let c27 = c25 .before .before in
     let c29 = c27 .before .before in
     let c34 = c29 .before .before .before .before .before in
-    omega (arith, inside-text (literal-passes (60 ∷ []) (omega arith)) (c34 .args .text .now) (c34 .args .at) _ (to-of (c34 .args .text .now) (c27 .start .given .1) (c29 .literal .ensures)), inside-text name-passes (c34 .args .text .now) _ _ (to-of (c34 .args .text .now) (c23 .end .given .1) (c25 .name .ensures)), (ends-to (c34 .args .text .now) _ _ _ _ (c13 .kind .given .1) (c19 .attributes .ensures)) .4, (ends-to (c34 .args .text .now) _ _ _ _ (c13 .kind .given .1) (c19 .attributes .ensures)) .5, c34 .pre)
-    
+    omega (
+      arith,
+      inside-text (literal-passes (60 ∷ []) (omega arith)) (c34 .args .text .now) (c34 .args .at) _
+          (to-of (c34 .args .text .now) (c27 .start .given .1) (c29 .literal .ensures)),
+      inside-text name-passes (c34 .args .text .now) _ _
+          (to-of (c34 .args .text .now) (c23 .end .given .1) (c25 .name .ensures)),
+      (ends-to (c34 .args .text .now) _ _ _ _ (c13 .kind .given .1) (c19 .attributes .ensures)) .4,
+      (ends-to (c34 .args .text .now) _ _ _ _ (c13 .kind .given .1) (c19 .attributes .ensures)) .5,
+      c34 .pre,
+    )
 
 returns-4 : tie.Need-returns-4
 unfolding tag bytes eventMarks
@@ -188,4 +311,6 @@ returns-4 c =
     )
 
 pub tag-spec : {M : Type 1} → statement M
-tag-spec = tie.close (tie.spec (λ c. search needs) (λ c κs. search needs) (λ c. search needs) (λ c. search needs) returns (λ c κs. search needs) (λ c. search needs) (λ c. search needs) returns-2 add-attributes attributes-requires (λ c. search needs) (λ c. search needs) (λ c. search needs) (λ c. search needs) returns-3 (λ c κs. search needs) add-put cast-put (λ c κs. search needs) add-put-pair put-pair-requires add-t22 mul-t31 add-t32 (λ c. search needs) (λ c. search needs) returns-4)
+tag-spec = tie.close (tie.spec (λ c. search needs) (λ c κs. search needs) (λ c. search needs) (λ c. search needs) returns (λ c κs. search needs) (λ c. search needs)
+    (λ c. search needs) returns-2 add-attributes attributes-requires (λ c. search needs) (λ c. search needs) (λ c. search needs) (λ c. search needs) returns-3
+    (λ c κs. search needs) add-put cast-put (λ c κs. search needs) add-put-pair put-pair-requires add-t22 mul-t31 add-t32 (λ c. search needs) (λ c. search needs) returns-4)
