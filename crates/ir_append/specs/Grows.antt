@@ -12,8 +12,8 @@ use lib.ListN.{length}
 use Rattle.sheet.specs.Limits.{rowsLimit, namesLimit}
 use Rattle.sheet.specs.Rows.{Row, namesOf}
 use Rattle.sheet.specs.Lengths.{fits}
-use Rattle.xsd_rows.specs.declared.numbers.Used.{Used}
-use Rattle.xsd_rows.specs.Packing.{Holds}
+use Rattle.rows.specs.declared.numbers.Used.{Used}
+use Rattle.rows.specs.Packing.{Holds}
 use Rattle.ir_append.specs.declared.Grown.{Grown}
 
 pub record Room (rows names : List ℕ) (used : Used) : Type 0 where

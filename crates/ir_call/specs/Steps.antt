@@ -16,7 +16,7 @@ use lib.ListN.{length}
 use Rattle.sheet.specs.Limits.{leastRows, rowsLimit, namesLimit}
 use Rattle.sheet.specs.Rows.{numbers}
 use Rattle.sheet.specs.Calls.{sheet, answered}
-use Rattle.xsd_rows.specs.declared.numbers.Used.{Used}
+use Rattle.rows.specs.declared.numbers.Used.{Used}
 use Rattle.ir_types.specs.Types.{TypeGraph}
 use Rattle.ir_types.specs.Row0.{GraphRow0, graphRow0Of, graphRow0Ten}
 use Rattle.ir_types.specs.Rows.{rowsOf, rowsUsed}
@@ -25,8 +25,9 @@ use Rattle.xsd_types.specs.State.{State}
 use Rattle.ir_lower.specs.Lower.{lower, unknownRow}
 use Rattle.ir_lower.specs.Repeated.{firstRepeated, repeatedRow}
 use Rattle.ir_lower.specs.Call.{Lowered, zeros}
-use Rattle.ir_rows.specs.Places.{rowsFrom}
-use Rattle.ir_rows.specs.Lowered.{rootRows, unknownPlace}
+use Rattle.xsd_types.specs.Places.{rowsFrom}
+use Rattle.xsd_types.specs.Refused.{refusedPlace}
+use Rattle.ir_rows.specs.Lowered.{rootRows}
 use Rattle.ir_rows.specs.Types.{finishedPlaces, headsAt, graphRows}
 use Rattle.ir_append.specs.declared.Grown.{Grown}
 use Rattle.ir_call.specs.declared.GraphRow0.{GraphRow0 as Numbers}
@@ -64,10 +65,10 @@ row0Of used roots types = numbers (graphRow0Ten (graphRow0Of (used .rows) (used 
 -- the rows up to `end` are the finished items of the state
 pub record Lowers (rows names : List ℕ) (end : ℕ) (rootSeen : Bool) (s : State) : Type 0 where
   pub root : rootSeen ≡ s .reader .rootSeen
-  pub place : unknownPlace 2 (rowsFrom rows names 2 end) ≡ unknownRow 2 (s .reader .schema .items)
-  pub refuses : lower (s .reader .schema) ≡ none → 1 ≤ unknownPlace 2 (rowsFrom rows names 2 end)
+  pub place : refusedPlace 2 (rowsFrom rows names 2 end) ≡ unknownRow 2 (s .reader .schema .items)
+  pub refuses : lower (s .reader .schema) ≡ none → 1 ≤ refusedPlace 2 (rowsFrom rows names 2 end)
   pub repeated : firstRepeated [] (headsAt rows names end) ≡ repeatedRow (s .reader .schema)
-  pub lowers : (g : TypeGraph) → lower (s .reader .schema) ≡ some g → (unknownPlace 2 (rowsFrom rows names 2 end) ≡ 0) × GraphOf rows names end g
+  pub lowers : (g : TypeGraph) → lower (s .reader .schema) ≡ some g → (refusedPlace 2 (rowsFrom rows names 2 end) ≡ 0) × GraphOf rows names end g
 
 pub record GraphStands (g : TypeGraph) (rows names rows′ names′ : List ℕ) (used : Used) : Type 0 where
   pub fits : graphFits (length rows) (length names) g ≡ true

@@ -2,17 +2,17 @@
 use ir_append::Grown;
 use ir_checks::count_roots;
 use ir_checks::count_types;
-use ir_checks::first_unknown;
 use ir_index::Indexed;
 use ir_index::index_types;
 use ir_write::put_graph;
+use rows::Answer;
+use rows::lengths;
+use rows::numbers::Used;
+use rows::row;
 use sheet::returned;
-use xsd_good::clear;
-use xsd_good::clear::Answer;
-use xsd_progress::Progress;
-use xsd_rows::numbers::Used;
-use xsd_rows::row;
-use xsd_types::contexts;
+use xsd_good::row0;
+use xsd_good::scan;
+use xsd_refused::first_refused;
 ghost use mathlib.Core.Bool.{true, _&&_};
 ghost use mathlib.Core.Path.{_≡_};
 ghost use mathlib.Core.List.{[], _∷_};
@@ -28,7 +28,6 @@ ghost use Rattle.ir_types.specs.Row0.{graphRow0Ten};
 ghost use Rattle.ir_lower.specs.Repeated.{firstRepeated};
 ghost use Rattle.ir_lower.specs.Call.{LowerIs, zeros, written, repeatedOrWritten, lowerFinished, lowerState};
 ghost use Rattle.ir_rows.specs.Types.{finishedPlaces, headsAt, entryPlaces};
-ghost use Rattle.ir_rows.specs.End.{finishedEnd};
 ghost use Rattle.ir_index.specs.Index.{AllIn};
 ghost use Rattle.ir_call.specs.Steps.{Sized, lowered, Finished, Cleared, Lowers, GraphOf, asRow0, row0Of, GraphWritten};
 
@@ -41,17 +40,7 @@ fn answer(number: u32, place: usize) -> Answer
 fn lower_lengths(rows: usize, names: usize, graph_rows: usize, graph_names: usize) -> bool
     ensures { λ r. ⌜ r ≡ (sheetLengths rows names && sheetLengths «graph_rows» «graph_names») ⌝ }
 {
-    clear::sheet_lengths(rows, names) & clear::sheet_lengths(graph_rows, graph_names)
-}
-
-fn finished_end(p: Progress) -> usize
-    ensures { λ r. ⌜ r ≡ finishedEnd p ⌝ }
-{
-    if contexts::SIMPLE_TYPE <= p.mode.context {
-        p.head
-    } else {
-        p.used.rows
-    }
+    lengths::sheet_lengths(rows, names) & lengths::sheet_lengths(graph_rows, graph_names)
 }
 
 fn zero_graph(graph_rows: &mut [u32], graph_names: &mut [u8])
@@ -201,7 +190,7 @@ fn lower_finished(
     if !root_seen {
         return answer(returned::NO_ROOT, 0);
     }
-    let unknown = first_unknown(rows, names, end);
+    let unknown = first_refused(rows, names, end);
     if unknown != 0 {
         return answer(returned::UNKNOWN_BASE, unknown);
     }
@@ -219,15 +208,16 @@ fn lower_good(
     requires { ⌜ (good (sheet (now rows) (now names)) ≡ true) × Sized (now rows) (now names) × Sized (now «graph_rows») (now «graph_names») ⌝ }
     ensures { λ r. ⌜ lowered (r .number) (r .place) (now («graph_rows» .exit)) (now («graph_names» .exit)) (now (scratch .exit)) ≡ lowerState (stateOf (sheet (now (rows .entry)) (now (names .entry)))) (sheet (now («graph_rows» .entry)) (now («graph_names» .entry))) (now (scratch .entry)) ⌝ }
 {
-    let p = xsd_progress::progress_of(rows);
-    let end = finished_end(p);
+    let z = row0::row0_at(rows);
+    let n = z.rows_used as usize;
+    let end = scan::finished_end(rows, z.context, n);
     if scratch.len() < count_types(rows, end) {
         return answer(returned::SHORT_SCRATCH, 0);
     }
     lower_finished(
         rows,
         names,
-        p.mode.root_seen,
+        z.root_seen == 1,
         end,
         graph_rows,
         graph_names,

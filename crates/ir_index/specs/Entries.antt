@@ -25,7 +25,8 @@ use Rattle.text.specs.Text.{Text, if_then_else_}
 use Rattle.sheet.specs.Rows.{textAt}
 use Rattle.ir_types.specs.Distinct.{among}
 use Rattle.ir_lower.specs.Repeated.{firstRepeated}
-use Rattle.ir_rows.specs.Places.{rowsFrom, nameAt}
+use Rattle.xsd_types.specs.Places.{rowsFrom}
+use Rattle.ir_rows.specs.Places.{nameAt}
 use Rattle.ir_rows.specs.Types.{isSimple, isComplex, isType, placesOf, headAt, placesIn}
 use Rattle.ir_index.specs.declared.Indexed.{Indexed}
 use Rattle.ir_index.specs.Prints.{fingerprint}

@@ -16,9 +16,10 @@ ghost use Rattle.ir_index.specs.Prints.{mixed, fingerprint};
 ghost use Rattle.ir_index.specs.Entries.{isKind, kindPlaces, headName, namesIn, hasPrint, HeadAt, EntryOf, Entries, Known, Entered, KindEntered};
 use names::cased;
 use names::same::same_normalized;
+use rows::numbers::row_tag;
+use rows::numbers::wide;
+use rows::parts::pair_text;
 use sheet::limits;
-use tape::pairs::part_of;
-use tape::pairs::wide;
 use text::has_byte;
 use xsd_types::tags;
 
@@ -68,9 +69,7 @@ fn name_at<'a>(rows: &[u32], names: &'a [u8], place: usize) -> &'a [u8]
     requires { ⌜ 10 * place + 10 ≤ length (now rows) ⌝ }
     ensures { λ r. ⌜ now r ≡ headName (now (rows .entry)) (now (names .entry)) place ⌝ }
 {
-    let at = wide(rows[limits::ROW * place + 1]);
-    let len = wide(rows[limits::ROW * place + 2]);
-    part_of(names, at, len)
+    pair_text(rows, names, limits::ROW * place + 1)
 }
 
 // The fingerprints are compared first: names that differ mostly differ there.
@@ -200,7 +199,7 @@ fn enter_kind(
     let mut count = n;
     let mut place = 2;
     while place < end {
-        if is_kind(complex, rows[limits::ROW * place]) {
+        if is_kind(complex, row_tag(rows, place)) {
             if !enter(rows, names, place, scratch, count, flags) {
                 return Indexed::Repeated(place);
             }

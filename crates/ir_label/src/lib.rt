@@ -3,13 +3,13 @@
 pub mod words;
 
 use ir_types::tags;
+use rows::ten::Ten;
+use rows::ten::ten_at;
 use sheet::limits;
 use sheet::returned;
-use xsd_good::forms::row;
-use xsd_good::forms::row::Ten;
 ghost use mathlib.Core.Path.{_≡_};
 ghost use Prim.Native.Nat.{_≤_};
-ghost use Rattle.xsd_good.specs.Forms.{asTen};
+ghost use Rattle.rows.specs.Ten.{asTen};
 ghost use Rattle.ir_types.specs.Label.{noLabel, hasReference, namedLabel, wordLabel, rowLabel, label as labelled, LabelIs, LabelNumberIs};
 ghost use Rattle.ir_label.specs.Spot.{spotOf};
 
@@ -106,7 +106,7 @@ pub fn find_label(rows: &[u32], names: &[u8], words: &[u8], k: usize) -> Spot
     if n / limits::ROW <= k {
         return nowhere();
     }
-    row_spot(names, words, row::ten_at(rows, limits::ROW * k))
+    row_spot(names, words, ten_at(rows, limits::ROW * k))
 }
 
 pub fn label<'a>(rows: &[u32], names: &'a [u8], words: &'a [u8], k: usize) -> &'a [u8]

@@ -9,8 +9,8 @@ use Rattle.text.specs.Text.{Text, if_then_else_, every}
 use Rattle.builtin.specs.Builtin.{RustType, mapBuiltin}
 use Rattle.names.specs.Names.{normalizeTypeName, xmlToSnakeCase, codeToPascalCase}
 use Rattle.xsd_types.specs.Types.{Element, Facet, SimpleType, MaxOccurs, SequenceElement, ChoiceVariant, Attribute, ComplexContent, ComplexType, Item, Schema, elements, simpleTypes, complexTypes}
-use Rattle.xsd_types.specs.State.{isEmpty}
 use Rattle.xsd_types.specs.Rows.{itemRows}
+use Rattle.xsd_types.specs.Refused.{allEnums, refusedBase, refusedItem}
 use Rattle.ir_types.specs.Types.{TypeRef, Cardinality, FieldDef, VariantDef, Constraint, CodeValue, AttrDef, TypeDef, RootElement, TypeGraph}
 
 -- 001, `resolve_type_ref`: built-in names win
@@ -22,20 +22,6 @@ unfoldable pub resolveTypeRef : Text → TypeRef
 resolveTypeRef name = resolved name (mapBuiltin name)
 
 -- ---- simple types
-
-unfoldable pub isEnumeration : Facet → Bool
-isEnumeration (Facet.enumeration v) = true
-isEnumeration (Facet.pattern v) = false
-isEnumeration (Facet.minLength n) = false
-isEnumeration (Facet.maxLength n) = false
-isEnumeration (Facet.minInclusive v) = false
-isEnumeration (Facet.maxInclusive v) = false
-isEnumeration (Facet.totalDigits n) = false
-isEnumeration (Facet.fractionDigits n) = false
-
--- "Facets all enumerations and not none: code enum"
-unfoldable pub allEnums : List Facet → Bool
-allEnums fs = not (isEmpty fs) && every isEnumeration fs
 
 -- 001, `lower_code_enum`: filter_map over the enumerations
 unfoldable pub codes : List Facet → List CodeValue
@@ -71,14 +57,6 @@ lowerSimpleType t =
     if allEnums (t .facets)
     then some (TypeDef.codeEnum (t .event) (normalizeTypeName (t .name)) (codes (t .facets)))
     else lowerNewtype t (mapBuiltin (t .base))
-
--- a simple type that lowering refuses
-unfoldable pub isNone : {A : Type 0} → Option A → Bool
-isNone none = true
-isNone (some x) = false
-
-unfoldable pub unknownBase : SimpleType → Bool
-unknownBase t = isNone (lowerSimpleType t)
 
 -- ---- complex types
 
@@ -120,7 +98,7 @@ lowerComplexType t = lowerContent (t .event) (normalizeTypeName (t .name)) (t .c
 -- a finished simple type that lowering refuses is there
 unfoldable pub anyUnknown : List SimpleType → Bool
 anyUnknown [] = false
-anyUnknown (t ∷ ts) = unknownBase t || anyUnknown ts
+anyUnknown (t ∷ ts) = refusedBase t || anyUnknown ts
 
 -- the definitions of those that it does not refuse
 unfoldable pub withDefinition : Option TypeDef → List TypeDef → List TypeDef
@@ -151,14 +129,9 @@ unfoldable pub lower : Schema → Option TypeGraph
 lower s = if anyUnknown (simpleTypes (s .items)) then none else some (graphOf s)
 
 -- 13: "place is the row of the first such simple type": row is the first item's row in the schema sheet
-unfoldable pub isUnknown : Item → Bool
-isUnknown (Item.element e) = false
-isUnknown (Item.simpleType t) = unknownBase t
-isUnknown (Item.complexType t) = false
-
 unfoldable pub unknownRow : ℕ → List Item → ℕ
 unknownRow row [] = 0
-unknownRow row (i ∷ is) = if isUnknown i then row else unknownRow (row + length (itemRows i)) is
+unknownRow row (i ∷ is) = if refusedItem i then row else unknownRow (row + length (itemRows i)) is
 
 -- 14: "scratch below one number for each finished type"
 unfoldable pub finishedTypes : Schema → ℕ

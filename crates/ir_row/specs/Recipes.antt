@@ -19,7 +19,7 @@ use Rattle.text.specs.Text.{Text, if_then_else_, between}
 use Rattle.builtin.specs.Builtin.{mapBuiltin, reference}
 use Rattle.sheet.specs.Rows.{Row, textAt}
 use Rattle.xsd_types.specs.Tags.{namespaceTag, simpleTypeTag, enumerationTag, minLengthTag, maxLengthTag, totalDigitsTag, fractionDigitsTag, simpleContentTag, noContentTag, boundElementTag, attributeTag}
-use Rattle.xsd_good.specs.declared.forms.row.Ten.{Ten}
+use Rattle.rows.specs.declared.ten.Ten.{Ten}
 use Rattle.ir_types.specs.Types.{Cardinality}
 use Rattle.ir_types.specs.Rows.{cardinalityB, cardinalityC}
 use Rattle.ir_rows.specs.Lowered.{loweredAs}

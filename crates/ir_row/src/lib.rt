@@ -5,16 +5,17 @@ use ir_append::Spelling;
 use ir_append::append_spelled;
 use ir_append::grow_characters;
 use ir_append::grow_digits;
-use ir_checks::reference_of;
 use ir_types::tags as graph;
 use number::CharacterCount;
 use number::DigitCount;
+use rows::form::in_range;
+use rows::numbers::Used;
+use rows::numbers::wide;
+use rows::parts::part_of;
+use rows::ten::Ten;
+use rows::ten::ten_at;
 use sheet::limits;
-use tape::pairs::part_of;
-use tape::pairs::wide;
-use xsd_good::forms::row;
-use xsd_good::forms::row::Ten;
-use xsd_rows::numbers::Used;
+use xsd_refused::reference_of;
 use xsd_types::tags as schema;
 ghost use Prim.Native.Nat.{ℕ, _+_, _*_, _/_, _%_, _^_, _≤_, _<_};
 ghost use mathlib.Core.Path.{_≡_};
@@ -24,7 +25,7 @@ ghost use Rattle.builtin.specs.Builtin.{mapBuiltin, reference as referenceNumbe
 ghost use Rattle.xsd_types.specs.Types.{MaxOccurs};
 ghost use Rattle.xsd_types.specs.Tags.{simpleTypeTag, fractionDigitsTag, anyTag, boundElementTag};
 ghost use Rattle.ir_lower.specs.Lower.{lowerCardinality};
-ghost use Rattle.ir_rows.specs.Places.{rowAt};
+ghost use Rattle.xsd_types.specs.Places.{rowAt};
 ghost use Rattle.ir_rows.specs.Lowered.{loweredRow};
 ghost use Rattle.ir_append.specs.Grows.{Room, Grows};
 ghost use Rattle.ir_row.specs.Recipes.{hasRecipe, refers, referenceSpelling, namespaceSpelling, textsRecipe, childRecipe, IsCardinality, Lowers, isCount, tenRows};
@@ -47,9 +48,9 @@ pub struct FieldNumbers {
 fn has_recipe(codes: bool, tag: u32) -> bool
     ensures { λ r. ⌜ r ≡ hasRecipe codes tag ⌝ }
 {
-    row::in_range(schema::NAMESPACE, schema::ATTRIBUTE, tag)
-        & !row::in_range(schema::MIN_LENGTH, schema::MAX_LENGTH, tag)
-        & !row::in_range(schema::TOTAL_DIGITS, schema::FRACTION_DIGITS, tag)
+    in_range(schema::NAMESPACE, schema::ATTRIBUTE, tag)
+        & !in_range(schema::MIN_LENGTH, schema::MAX_LENGTH, tag)
+        & !in_range(schema::TOTAL_DIGITS, schema::FRACTION_DIGITS, tag)
         & (tag != schema::NO_CONTENT)
         & ((tag != schema::ENUMERATION) | codes)
 }
@@ -59,7 +60,7 @@ fn refers_to(tag: u32) -> bool
 {
     (tag == schema::SIMPLE_TYPE)
         | (tag == schema::SIMPLE_CONTENT)
-        | row::in_range(schema::BOUND_ELEMENT, schema::ATTRIBUTE, tag)
+        | in_range(schema::BOUND_ELEMENT, schema::ATTRIBUTE, tag)
 }
 
 fn reference_text(reference: u32) -> Spelling
@@ -278,7 +279,7 @@ fn row_reference(tag: u32, second: &[u8]) -> u32
 fn count_of(low: u32, high: u32) -> CharacterCount
     ensures { λ r. ⌜ (r .0 % 2 ^ 32 ≡ low) × (r .0 / 2 ^ 32 ≡ high) ⌝ }
 {
-    CharacterCount(row::wide(low) + row::wide(high) * 4294967296)
+    CharacterCount(low as u64 + high as u64 * 4294967296)
 }
 
 // `out` and `texts` are the graph's rows and names.
@@ -316,7 +317,7 @@ pub fn put_lowered(
     requires { ⌜ Room (now out) (now texts) used × (10 * place + 10 ≤ length (now rows)) ⌝ }
     ensures { λ r. ⌜ Grows (now (out .entry)) (now (texts .entry)) used (loweredRow codes (rowAt (now (rows .entry)) (now (names .entry)) place)) (now (out .exit)) (now (texts .exit)) r ⌝ }
 {
-    let t = row::ten_at(rows, limits::ROW * place);
+    let t = ten_at(rows, limits::ROW * place);
     let tag = t.tag;
     match tag {
         schema::MIN_LENGTH => {

@@ -21,8 +21,8 @@ use Rattle.ir_types.specs.Unfold.{computes as graphs}
 use Rattle.ir_lower.specs.Lower.{lower}
 use Rattle.ir_lower.specs.Repeated.{firstRepeated}
 use Rattle.ir_lower.specs.Unfold.{computes as lowerings}
-use Rattle.ir_rows.specs.Places.{rowsFrom}
-use Rattle.ir_rows.specs.Lowered.{unknownPlace}
+use Rattle.xsd_types.specs.Places.{rowsFrom}
+use Rattle.xsd_types.specs.Refused.{refusedPlace}
 use Rattle.ir_rows.specs.Types.{finishedPlaces, headsAt, graphRows}
 use Rattle.ir_rows.specs.Unfold.{computes as places}
 
@@ -67,6 +67,6 @@ values : List Item
 values = complex (bytes "V") (ComplexContent.simpleContent (bytes "decimal") (record { name = bytes "Ccy"; typeName = bytes "Cur"; required = true } ∷ [])) ∷ []
 
 open-rows : let x = sheetOf (state values opened) 60 40 in
-    (made x 4 ≡ graphOf (lower (state values opened .reader .schema))) × (unknownPlace 2 (rowsFrom (x .rows) (x .names) 2 4) ≡ 0) × (unknownPlace 2 (rowsFrom (x .rows) (x .names) 2 6) ≡ 4)
+    (made x 4 ≡ graphOf (lower (state values opened .reader .schema))) × (refusedPlace 2 (rowsFrom (x .rows) (x .names) 2 4) ≡ 0) × (refusedPlace 2 (rowsFrom (x .rows) (x .names) 2 6) ≡ 4)
 unfolding made graphOf simple complex state opened values texts builtinNames conversions sheets schemas graphs lowerings places
 open-rows = (refl, refl, refl)

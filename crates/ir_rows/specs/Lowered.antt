@@ -2,12 +2,9 @@
 --     referenceTexts    the texts of a reference to a type: none for a built-in one
 --     loweredAs         the graph's rows for a row of a tag, a, b and c with its first and second text; codeEnum says that it belongs to a code enum
 --     loweredRow        the same of a row
---     onlyCodes         the facets that a list of rows begins with are enumerations
---     isCodeEnum        "Facets all enumerations and not none", of the rows behind a head
 --     childRows         the graph's rows for the children that a list of rows begins with
 --     typeRowsOf        the graph's rows for the type that a list of rows begins with
 --     rootRows          the graph's rows for the elements
---     unknownPlace      the place of the first simple type that lowering refuses, 0 where there is none; the list's first row is at place p
 use Prim.Native.Nat.{ℕ, _+_}
 use mathlib.Core.List.{List, [], _∷_, _++_}
 use mathlib.Core.Bool.{Bool, true, false, not, _&&_}
@@ -20,10 +17,11 @@ use Rattle.xsd_types.specs.Types.{MaxOccurs}
 use Rattle.xsd_types.specs.Tags as schema
 use Rattle.xsd_types.specs.Good.{isHead}
 use Rattle.xsd_types.specs.Back.{text0, text1}
+use Rattle.xsd_types.specs.Refused.{isCodeEnum}
 use Rattle.ir_types.specs.Types.{Cardinality}
 use Rattle.ir_types.specs.Tags as graph
 use Rattle.ir_types.specs.Rows.{cardinalityB, cardinalityC}
-use Rattle.ir_lower.specs.Lower.{isNone, lowerCardinality}
+use Rattle.ir_lower.specs.Lower.{lowerCardinality}
 
 -- "0 named (the pair, normalised), 1 String .. (pair unused)"
 unfoldable pub referenceTexts : Text → List Text
@@ -78,14 +76,6 @@ loweredAs codeEnum tag a b c t u =
 unfoldable pub loweredRow : Bool → Row → List Row
 loweredRow codeEnum r = loweredAs codeEnum (r .tag) (r .a) (r .b) (r .c) (text0 r) (text1 r)
 
-unfoldable pub onlyCodes : List Row → Bool
-onlyCodes [] = true
-onlyCodes (r ∷ rs) = if eqb (r .tag) schema.enumerationTag then onlyCodes rs else not (between schema.patternTag schema.fractionDigitsTag (r .tag))
-
-unfoldable pub isCodeEnum : List Row → Bool
-isCodeEnum [] = false
-isCodeEnum (r ∷ rs) = eqb (r .tag) schema.enumerationTag && onlyCodes rs
-
 unfoldable pub childRows : Bool → List Row → List Row
 childRows codeEnum [] = []
 childRows codeEnum (r ∷ rs) = if isHead (r .tag) then [] else loweredRow codeEnum r ++ childRows codeEnum rs
@@ -98,11 +88,3 @@ typeRowsOf (r ∷ rs) = loweredRow (isCodeEnum rs) r ++ childRows (isCodeEnum rs
 unfoldable pub rootRows : List Row → List Row
 rootRows [] = []
 rootRows (r ∷ rs) = if eqb (r .tag) schema.elementTag then loweredRow false r ++ rootRows rs else rootRows rs
-
--- 13: "place is the row of the first such simple type"
-unfoldable pub isUnknown : Row → List Row → Bool
-isUnknown r rs = eqb (r .tag) schema.simpleTypeTag && not (isCodeEnum rs) && isNone (mapBuiltin (text1 r))
-
-unfoldable pub unknownPlace : ℕ → List Row → ℕ
-unknownPlace p [] = 0
-unknownPlace p (r ∷ rs) = if isUnknown r rs then p else unknownPlace (p + 1) rs

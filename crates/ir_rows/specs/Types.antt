@@ -17,7 +17,8 @@ use Rattle.text.specs.Text.{if_then_else_, between}
 use Rattle.sheet.specs.Rows.{Row}
 use Rattle.xsd_types.specs.Tags.{simpleTypeTag, sequenceTag, anyTag}
 use Rattle.ir_lower.specs.Repeated.{Head}
-use Rattle.ir_rows.specs.Places.{rowAt, rowsFrom, nameAt}
+use Rattle.xsd_types.specs.Places.{rowAt, rowsFrom}
+use Rattle.ir_rows.specs.Places.{nameAt}
 use Rattle.ir_rows.specs.Lowered.{loweredRow, typeRowsOf, rootRows}
 
 unfoldable pub isSimple : ℕ → Bool

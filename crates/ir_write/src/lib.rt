@@ -1,10 +1,10 @@
 // The graph's rows written one behind the other from the rows of a schema sheet: the namespace, the elements, the types that are kept.
 use ir_append::Grown;
-use ir_checks::is_code_enum;
 use ir_row::put_lowered;
-use sheet::limits;
+use rows::numbers::Used;
+use rows::numbers::row_tag;
 use xsd_good::forms::row;
-use xsd_rows::numbers::Used;
+use xsd_refused::is_code_enum;
 use xsd_types::tags;
 ghost use mathlib.Core.Path.{_≡_};
 ghost use mathlib.Core.Bool.{true};
@@ -13,8 +13,8 @@ ghost use Prim.Native.Nat.{_+_, _*_, _%_, _≤_, _<_};
 ghost use lib.Dec.{ltb};
 ghost use lib.ListN.{length};
 ghost use Rattle.text.specs.Text.{every};
-ghost use Rattle.ir_rows.specs.Places.{rowAt, rowsFrom};
-ghost use Rattle.ir_rows.specs.Lowered.{loweredRow, childRows, typeRowsOf, rootRows, isCodeEnum};
+ghost use Rattle.xsd_types.specs.Places.{rowAt, rowsFrom};
+ghost use Rattle.ir_rows.specs.Lowered.{loweredRow, childRows, typeRowsOf, rootRows};
 ghost use Rattle.ir_rows.specs.Types.{typesRows, graphRows, entryPlaces};
 ghost use Rattle.ir_append.specs.Grows.{Room, Grows};
 
@@ -46,7 +46,7 @@ fn put_children(
     let mut used = from;
     let mut place = children.first;
     while place < children.end {
-        if row::is_head(rows[limits::ROW * place]) {
+        if row::is_head(row_tag(rows, place)) {
             return Grown::To(used);
         }
         let codes = children.code_enum;
@@ -96,7 +96,7 @@ fn put_root(
     requires { ⌜ Room (now «graph_rows») (now «graph_names») used × (10 * place + 10 ≤ length (now rows)) ⌝ }
     ensures { λ r. ⌜ Grows (now («graph_rows» .entry)) (now («graph_names» .entry)) used (rootRows (rowAt (now (rows .entry)) (now (names .entry)) place ∷ [])) (now («graph_rows» .exit)) (now («graph_names» .exit)) r ⌝ }
 {
-    if rows[limits::ROW * place] != tags::ELEMENT {
+    if row_tag(rows, place) != tags::ELEMENT {
         return Grown::To(used);
     }
     put_lowered(graph_rows, graph_names, used, rows, names, place, false)

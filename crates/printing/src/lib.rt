@@ -1,9 +1,9 @@
 // The printing program's work (paper 01, "Specimens"): a tape is cleared, read and lowered, and what came of it is printed.
 use libc::STDOUT_FILENO;
 use program::print;
-use tape::pairs::wide;
+use rows::Answer;
+use rows::numbers::wide;
 use xsd_good::clear;
-use xsd_good::clear::Answer;
 ghost use mathlib.Core.Path.{_≡_};
 ghost use Prim.Native.Nat.{_+_, _≤_};
 ghost use lib.ListN.{length, getD};

@@ -1,7 +1,7 @@
 // A sheet printed as paper 01 has it: the used rows, a line each, then the used names and a newline.
 use libc::STDOUT_FILENO;
+use rows::numbers::wide;
 use tape::pairs::mark_at;
-use tape::pairs::wide;
 
 // What stands behind the number at a place of the rows: a space, or a newline behind each tenth.
 fn put_gap(at: usize) {

@@ -2,14 +2,14 @@
 // sevens; the marks are empty tags with an empty name, four numbers each.
 use crate::sheets;
 use program::numbers;
+use rows::numbers::wide;
+use rows::parts::part_of;
 use sheet::limits::MARKS;
 use sheet::limits::NAMES;
 use sheet::limits::ROW;
 use sheet::limits::ROWS;
 use sheet::limits::TEXT;
 use tape::pairs::mark_at;
-use tape::pairs::part_of;
-use tape::pairs::wide;
 use xsd_parser::kinds;
 
 // The mark at a place: each tag is empty, with no attribute and an empty pair at 0.

@@ -23,10 +23,10 @@ mod sheets;
 use libc::STDOUT_FILENO;
 use program::lines;
 use program::numbers;
+use rows::numbers::wide;
 use sheet::limits::NAMES;
 use sheet::limits::ROWS;
 use tape::pairs::mark_at;
-use tape::pairs::wide;
 
 // The lengths of the kept sheet's buffers.
 struct Lent {

@@ -1,6 +1,6 @@
 // What more than one part prints.
 use libc::STDOUT_FILENO;
-use xsd_good::clear::Answer;
+use rows::Answer;
 
 pub fn put_number(n: u64) {
     io::write_all(STDOUT_FILENO, b" ");

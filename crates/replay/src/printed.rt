@@ -5,8 +5,8 @@
 use libc::STDOUT_FILENO;
 use program::lines;
 use program::numbers;
+use rows::parts::part_of;
 use tape::pairs::mark_at;
-use tape::pairs::part_of;
 
 // A number below 256 as a byte, 255 for any other.
 fn byte_of(n: u32) -> u8 {

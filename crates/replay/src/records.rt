@@ -2,6 +2,7 @@
 use crate::output;
 use libc::STDOUT_FILENO;
 use number::U32;
+use rows::numbers::wide;
 use sheet::refusal;
 use tape::Record;
 use tape::TagRecord;
@@ -88,7 +89,7 @@ pub fn put_case(place: &[u8], marks: &[u32], text: &[u8], label: &[u8]) {
     io::write_all(STDOUT_FILENO, b": ");
     match number::parse_u32(place) {
         U32::Value(at) => {
-            put_record(read_at(text, marks, pairs::wide(at)));
+            put_record(read_at(text, marks, wide(at)));
         }
         U32::Invalid => {
             put_value(text, marks, label);

@@ -2,8 +2,8 @@
 use crate::output;
 use libc::STDOUT_FILENO;
 use program::print;
+use rows::numbers::wide;
 use tape::pairs::mark_at;
-use tape::pairs::wide;
 use xsd_good::clear;
 
 // Writes the second number at the place that the first says.

@@ -6,6 +6,7 @@ pub mod pairs;
 pub mod tests;
 pub mod view;
 
+use rows::numbers::wide;
 use sheet::refusal::Refusal;
 use xsd_parser::kinds;
 ghost use mathlib.Core.Path.{_≡_};
@@ -71,7 +72,7 @@ pub fn record_at(text: &[u8], marks: &[u32], at: usize, plain: bool) -> Record
         return Record::Bad(Refusal::BadRecord);
     }
     let kind = marks[at];
-    let count = pairs::wide(marks[at + 1]);
+    let count = wide(marks[at + 1]);
     if !form::has_form(kind, count, left - 2) {
         return Record::Bad(Refusal::BadRecord);
     }

@@ -1,30 +1,10 @@
 // The pairs of the tape (paper 01, "Tape"): the numbers of the marks, and the part of the text under a pair.
+use rows::numbers::wide;
+use rows::parts::part_of;
 ghost use mathlib.Core.Path.{_≡_};
-ghost use lib.ListN.{take, drop, getD};
+ghost use lib.ListN.{getD};
 ghost use Rattle.xsd_parser.specs.Tape.{pairText};
 ghost use Rattle.tape.specs.Pairs.{pairAt, PairInside};
-
-// A number of the marks as a place or a count.
-pub fn wide(x: u32) -> usize
-    ensures { λ r. ⌜ r ≡ x ⌝ }
-{
-    x as usize
-}
-
-// The first bytes behind an offset, as many as asked for and as there are.
-pub fn part_of(text: &[u8], offset: usize, size: usize) -> &[u8]
-    ensures { λ r. ⌜ now r ≡ take size (drop offset (now (text .entry))) ⌝ }
-{
-    let n = text.len();
-    if n <= offset {
-        return &text[n..];
-    }
-    if n - offset <= size {
-        return &text[offset..];
-    }
-    let end = offset + size;
-    &text[offset..end]
-}
 
 // The number at a place of the marks, 0 past the end.
 pub fn mark_at(marks: &[u32], at: usize) -> u32

@@ -1,5 +1,6 @@
 // The pairs of a record (paper 01, "Tape") judged for the refusals 4 and 5.
 use crate::pairs;
+use rows::numbers::wide;
 ghost use mathlib.Core.Path.{_≡_};
 ghost use Prim.Native.Nat.{_+_, _*_, _≤_};
 ghost use lib.ListN.{length, drop};
@@ -24,7 +25,7 @@ pub fn pairs_inside(limit: usize, marks: &[u32], from: usize, n: usize) -> bool
     let mut left = n;
     while 0 < left {
         let offset = marks[at];
-        if pairs::wide(offset) < end {
+        if wide(offset) < end {
             return false;
         }
         end = pair_end(offset, marks[at + 1]);

@@ -1,6 +1,7 @@
 // The call.
 use crate::root::WholeRoot;
 use crate::root::root;
+use rows::Answer;
 use sheet::limits;
 use sheet::returned;
 use xml_parts::classes::CLASSES;
@@ -8,7 +9,6 @@ use xml_parts::prolog::misc;
 use xml_parts::prolog::prolog;
 use xml_parts::steps::Moved;
 use xml_parts::steps::starts;
-use xsd_good::clear::Answer;
 ghost use mathlib.Core.Path.{_≡_};
 ghost use mathlib.Core.List.{[]};
 ghost use Prim.Native.Nat.{_≤_};

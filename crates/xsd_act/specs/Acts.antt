@@ -10,8 +10,8 @@ use Rattle.text.specs.Text.{Text}
 use Rattle.sheet.specs.Rows.{Row, namesOf}
 use Rattle.sheet.specs.Lengths.{fits}
 use Rattle.xsd_parser.specs.Handlers.{Outcome, ok}
-use Rattle.xsd_rows.specs.declared.numbers.Used.{Used}
-use Rattle.xsd_rows.specs.Packing.{Holds}
+use Rattle.rows.specs.declared.numbers.Used.{Used}
+use Rattle.rows.specs.Packing.{Holds}
 use Rattle.xsd_actions.specs.Actions.{Action, Fitting}
 use Rattle.xsd_act.specs.Ready.{Ready, rowsAfterAll}
 

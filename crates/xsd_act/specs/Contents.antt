@@ -4,7 +4,7 @@
 use Prim.Native.Nat.{ℕ}
 use mathlib.Core.Bool.{Bool}
 use Rattle.text.specs.Text.{if_then_else_}
-use Rattle.xsd_rows.specs.declared.numbers.RowNumbers.{RowNumbers}
+use Rattle.rows.specs.declared.numbers.RowNumbers.{RowNumbers}
 use Rattle.xsd_actions.specs.declared.NewContent.{NewContent}
 
 abbrev pub contentPairs : Bool → ℕ

@@ -15,7 +15,7 @@ use Rattle.text.specs.Text.{Text}
 use Rattle.sheet.specs.Limits.{textLimit, namesLimit}
 use Rattle.sheet.specs.Rows.{Row, namesOf}
 use Rattle.xsd_parser.specs.Handlers.{Outcome, ok}
-use Rattle.xsd_rows.specs.declared.numbers.Used.{Used}
+use Rattle.rows.specs.declared.numbers.Used.{Used}
 use Rattle.xsd_replace.specs.Head.{HeadAt}
 use Rattle.xsd_replace.specs.Spots.{Spot, TextAt}
 use Rattle.xsd_actions.specs.Actions.{Action, Fitting}

@@ -9,8 +9,8 @@ use lib.ListN.{length}
 use Rattle.text.specs.Text.{Text}
 use Rattle.sheet.specs.Rows.{Row}
 use Rattle.xsd_types.specs.Rows.{namespaceRow}
-use Rattle.xsd_rows.specs.declared.numbers.Used.{Used}
-use Rattle.xsd_rows.specs.Packing.{Holds}
+use Rattle.rows.specs.declared.numbers.Used.{Used}
+use Rattle.rows.specs.Packing.{Holds}
 use Rattle.xsd_replace.specs.Spots.{Paired}
 use Rattle.xsd_actions.specs.Actions.{Action, namespaceAfter, rowsAfter, Fitting}
 

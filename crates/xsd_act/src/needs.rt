@@ -1,19 +1,19 @@
 // How many rows and bytes of names a schema sheet uses after a decision is done to it, so that the
 // caller asks for room before anything is stored.
+use rows::numbers::Used;
 use tape::pairs::pair_part;
 use xsd_actions::Decision;
 use xsd_actions::NewContent;
 use xsd_actions::NewRow;
 use xsd_replace::head::name_end;
 use xsd_replace::spot::text_length;
-use xsd_rows::numbers::Used;
 ghost use mathlib.Core.Path.{_≡_};
 ghost use Prim.Native.Nat.{_+_, _-_, _≤_};
 ghost use lib.ListN.{length};
 ghost use Rattle.text.specs.Text.{Text, join};
 ghost use Rattle.sheet.specs.Limits.{textLimit, namesLimit};
 ghost use Rattle.xsd_parser.specs.Handlers.{ok};
-ghost use Rattle.xsd_rows.specs.Texts.{usedTexts, usedLength};
+ghost use Rattle.rows.specs.Texts.{usedTexts, usedLength};
 ghost use Rattle.xsd_actions.specs.Actions.{Action};
 ghost use Rattle.xsd_actions.specs.Answers.{newRow, following, decision};
 ghost use Rattle.xsd_act.specs.Ready.{ReadyFor};

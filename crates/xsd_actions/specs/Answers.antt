@@ -9,7 +9,7 @@ use Rattle.sheet.specs.Rows.{Row, row}
 use Rattle.xsd_parser.specs.Tape.{pairText}
 use Rattle.xsd_parser.specs.Handlers.{Outcome, ok, refuse}
 use Rattle.tape.specs.Pairs.{pairAt}
-use Rattle.xsd_rows.specs.Texts.{usedTexts}
+use Rattle.rows.specs.Texts.{usedTexts}
 use Rattle.xsd_actions.specs.declared.NewRow.{NewRow}
 use Rattle.xsd_actions.specs.declared.NewContent.{NewContent}
 use Rattle.xsd_actions.specs.declared.Decision.{Decision}

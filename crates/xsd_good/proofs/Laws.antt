@@ -1,7 +1,7 @@
 -- Laws of the definitions in specs/ and of those that they cite, those below before those above. The head of each file says what it holds.
-pub mod Rows
 pub mod Scan
 pub mod Heads
-pub mod Buffers
+pub mod Open
+pub mod Held
 pub mod Good
 pub mod Clear

@@ -3,3 +3,4 @@ pub mod Forms
 pub mod Row0
 pub mod Scan
 pub mod Heads
+pub mod End

@@ -1,35 +1,21 @@
 // Clearing a schema sheet.
 use crate::row0;
 use crate::row0::Row0;
+use rows::Answer;
+use rows::lengths::sheet_lengths;
+use rows::row;
 use sheet::limits;
 use sheet::returned;
-use xsd_rows::row;
 use xsd_types::contexts;
 use xsd_types::tags;
 ghost use Prim.Native.Nat.{_≤_};
 ghost use mathlib.Core.Path.{_≡_};
 ghost use lib.Dec.{eqb};
-ghost use Rattle.sheet.specs.Lengths.{sheetLengths};
 ghost use Rattle.sheet.specs.Calls.{sheet, answered};
 ghost use Rattle.xsd_types.specs.State.{firstState};
 ghost use Rattle.xsd_types.specs.Rows.{row0};
 ghost use Rattle.xsd_types.specs.Clear.{ClearIs};
 ghost use Rattle.xsd_good.specs.Row0.{asRow0};
-
-pub fn sheet_lengths(rows: usize, names: usize) -> bool
-    ensures { λ r. ⌜ r ≡ sheetLengths rows names ⌝ }
-{
-    (rows % limits::ROW == 0)
-        & (limits::LEAST_ROWS <= rows)
-        & (rows <= limits::ROWS)
-        & (names <= limits::NAMES)
-}
-
-// A call's number and place, of paper 01's "Returned numbers".
-pub struct Answer {
-    pub number: u32,
-    pub place: usize,
-}
 
 // Row 0 of a cleared sheet: two rows are used, and nothing was read.
 fn cleared_row0(choice: u32) -> Row0

@@ -1,12 +1,11 @@
 // The test of a good schema sheet. `forms`: the tests of one row; `row0`: row 0 and its tests; `scan`: one pass over the rows; `clear`: clearing.
-mod buffers;
 pub mod clear;
 pub mod forms;
 pub mod row0;
 pub mod scan;
 
-use crate::forms::row;
 use crate::row0::tests;
+use rows::behind;
 use sheet::limits;
 ghost use mathlib.Core.Path.{_≡_};
 ghost use Rattle.sheet.specs.Calls.{sheet};
@@ -24,12 +23,13 @@ pub fn is_good(rows: &[u32], names: &[u8]) -> bool
         return false;
     }
     let n = z.rows_used as usize;
+    let used = z.names_used as usize;
     let s = scan::scan_sheet(rows, n, z.names_used);
     tests::row0_form(z)
         & s.ok
-        & (s.end == row::wide(z.names_used))
-        & buffers::zeros_behind(rows, names, z)
-        & buffers::names_test(names, z)
+        & (s.end == used)
+        & behind::zeros_behind(rows, names, n, used)
+        & behind::names_test(names, used)
         & tests::limits(z)
         & tests::root_test(z)
         & tests::nesting_test(z)

@@ -1,7 +1,7 @@
 // Row 0 of a schema sheet: its numbers by name, made from a sheet's rows and turned back here alone, and its tests (tests).
 pub mod tests;
 
-use crate::forms::row;
+use rows::ten::ten_of;
 ghost use mathlib.Core.Path.{_≡_};
 ghost use mathlib.Core.List.{[], _∷_};
 ghost use Prim.Native.Nat.{_≤_};
@@ -29,7 +29,7 @@ pub fn row0_at(rows: &[u32]) -> Row0
     requires { ⌜ 10 ≤ length (now rows) ⌝ }
     ensures { λ r. ⌜ asRow0 r ≡ row0From (ten (now (rows .entry))) ⌝ }
 {
-    let t = row::ten_of(rows);
+    let t = ten_of(rows);
     Row0 {
         first: t.tag,
         rows_used: t.at0,

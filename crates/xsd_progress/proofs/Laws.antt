@@ -5,6 +5,5 @@ pub mod Change
 pub mod Open
 pub mod Pairs
 pub mod Bounds
-pub mod Words
 pub mod States
 pub mod Row0

@@ -9,8 +9,8 @@ use Rattle.xsd_types.specs.Contexts.{simpleTypeContext}
 use Rattle.xsd_types.specs.State.{Reader}
 use Rattle.xsd_types.specs.Rows.{namespaceRow, itemsRows, contextNumber}
 use Rattle.xsd_actions.specs.Actions.{headTag, behind}
-use Rattle.xsd_rows.specs.declared.numbers.Used.{Used}
-use Rattle.xsd_rows.specs.Packing.{Holds}
+use Rattle.rows.specs.declared.numbers.Used.{Used}
+use Rattle.rows.specs.Packing.{Holds}
 
 -- the head stands behind row 0, row 1 and the items' rows
 pub record TagOfHead (rows : List ℕ) (context head tag : ℕ) : Type 0 where

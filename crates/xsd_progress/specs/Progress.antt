@@ -20,7 +20,7 @@ use Rattle.xsd_types.specs.State.{State, proper}
 use Rattle.xsd_types.specs.Row0.{Row0, row0From, row0Ten}
 use Rattle.xsd_types.specs.Rows.{rowsOf, itemsRows, contextNumber}
 use Rattle.xsd_good.specs.Heads.{headRow}
-use Rattle.xsd_rows.specs.Packing.{Holds}
+use Rattle.rows.specs.Packing.{Holds}
 use Rattle.xsd_actions.specs.Actions.{modeOf}
 use Rattle.xsd_progress.specs.declared.Progress.{Progress}
 

@@ -8,7 +8,7 @@ use xsd_actions::Mode;
 use xsd_good::row0;
 use xsd_good::row0::Row0;
 use xsd_good::scan;
-use xsd_rows::numbers::Used;
+use rows::numbers::Used;
 ghost use mathlib.Core.Bool.{true};
 ghost use mathlib.Core.Path.{_≡_};
 ghost use Prim.Native.Nat.{_*_, _≤_};

@@ -22,7 +22,7 @@ use Rattle.xsd_types.specs.State.{Reader, State, proper}
 use Rattle.xsd_parser.specs.Event.{Tag, Event}
 use Rattle.xsd_parser.specs.Handlers.{Outcome, ok, refuse}
 use Rattle.xsd_parser.specs.Step.{counted, roomFor}
-use Rattle.xsd_rows.specs.declared.numbers.Used.{Used}
+use Rattle.rows.specs.declared.numbers.Used.{Used}
 use Rattle.xsd_actions.specs.Actions.{Action, Acted}
 use Rattle.xsd_actions.specs.Answers.{decision}
 use Rattle.xsd_progress.specs.Answers.{eventAs}

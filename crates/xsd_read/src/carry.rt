@@ -1,12 +1,12 @@
 // An event that is counted and decided, done to a schema sheet where it has room.
+use rows::numbers::Used;
+use rows::numbers::has_room;
 use sheet::refusal::Refusal;
 use xsd_act::needs;
 use xsd_actions::Decision;
 use xsd_progress::Progress;
 use xsd_progress::open_tags::Arrival;
 use xsd_progress::open_tags::event_after;
-use xsd_rows::numbers::Used;
-use xsd_rows::numbers::has_room;
 use xsd_types::contexts;
 ghost use mathlib.Core.Path.{_≡_};
 ghost use Prim.Native.Nat.{_≤_};

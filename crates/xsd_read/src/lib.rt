@@ -4,11 +4,11 @@ pub mod event;
 pub mod records;
 
 use crate::records::read_records;
+use rows::Answer;
+use rows::lengths;
+use rows::row;
 use sheet::limits;
 use sheet::returned;
-use xsd_good::clear;
-use xsd_good::clear::Answer;
-use xsd_rows::row;
 ghost use mathlib.Core.Bool.{_&&_};
 ghost use mathlib.Core.Path.{_≡_};
 ghost use Rattle.sheet.specs.Lengths.{sheetLengths, tapeLengths};
@@ -20,7 +20,7 @@ ghost use Rattle.xsd_read.specs.Good.{GoodSheet, GoodRead};
 fn read_lengths(rows: usize, names: usize, text: usize, marks: usize) -> bool
     ensures { λ r. ⌜ r ≡ (sheetLengths rows names && tapeLengths text marks) ⌝ }
 {
-    clear::sheet_lengths(rows, names) & ((text <= limits::TEXT) & (marks <= limits::MARKS))
+    lengths::sheet_lengths(rows, names) & ((text <= limits::TEXT) & (marks <= limits::MARKS))
 }
 
 // A call that is refused before any record is read.

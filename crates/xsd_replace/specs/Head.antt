@@ -8,10 +8,10 @@ use mathlib.Core.List.{List, [], _∷_, _++_}
 use lib.ListN.{length}
 use Rattle.text.specs.Text.{Text}
 use Rattle.sheet.specs.Rows.{Row, row, namesOf}
-use Rattle.xsd_rows.specs.declared.numbers.Used.{Used}
-use Rattle.xsd_rows.specs.declared.numbers.RowNumbers.{RowNumbers}
-use Rattle.xsd_rows.specs.Texts.{usedTexts, usedLength}
-use Rattle.xsd_rows.specs.Packing.{Holds, rowOf}
+use Rattle.rows.specs.declared.numbers.Used.{Used}
+use Rattle.rows.specs.declared.numbers.RowNumbers.{RowNumbers}
+use Rattle.rows.specs.Texts.{usedTexts, usedLength}
+use Rattle.rows.specs.Packing.{Holds, rowOf}
 
 pub record HeadAt (rows names : List ℕ) (used : Used) (place : ℕ) (z : List ℕ) (rs : List Row) (name : Text) : Type 0 where
   pub tag : ℕ

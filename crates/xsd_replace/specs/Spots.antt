@@ -11,8 +11,8 @@ use mathlib.Core.List.{List, [], _∷_, _++_}
 use lib.ListN.{length}
 use Rattle.text.specs.Text.{Text}
 use Rattle.sheet.specs.Rows.{Row, row}
-use Rattle.xsd_rows.specs.declared.numbers.Used.{Used}
-use Rattle.xsd_rows.specs.Packing.{Holds}
+use Rattle.rows.specs.declared.numbers.Used.{Used}
+use Rattle.rows.specs.Packing.{Holds}
 use Rattle.xsd_replace.specs.Offsets.{RightPairs}
 
 pub data Paired : List Row → Type 0 where

@@ -2,11 +2,11 @@
 // was the packing, and of what it is the packing now.
 use buffer::zero_names;
 use buffer::zero_rows;
-use xsd_rows::numbers::RowNumbers;
-use xsd_rows::numbers::Used;
-use xsd_rows::numbers::pair_at;
-use xsd_rows::row::set_row;
-use xsd_rows::texts::put_texts;
+use rows::numbers::RowNumbers;
+use rows::numbers::Used;
+use rows::numbers::pair_at;
+use rows::row::set_row;
+use rows::texts::put_texts;
 ghost use mathlib.Core.Path.{_≡_};
 ghost use mathlib.Core.List.{List};
 ghost use Prim.Native.Nat.{ℕ, _+_, _-_, _*_, _≤_};

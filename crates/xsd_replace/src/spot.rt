@@ -2,8 +2,8 @@
 // the sheet was the packing, and of what it is the packing now.
 use crate::offsets::reoffset;
 use buffer::replace::replace_names;
-use xsd_rows::numbers::Used;
-use xsd_rows::numbers::pair_at;
+use rows::numbers::Used;
+use rows::numbers::pair_at;
 ghost use mathlib.Core.Path.{_≡_};
 ghost use mathlib.Core.List.{List};
 ghost use Prim.Native.Nat.{ℕ, _+_, _*_, _≤_};

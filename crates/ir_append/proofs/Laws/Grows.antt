@@ -16,10 +16,10 @@ use Rattle.text.proofs.Laws.Tests.{not-true-false, two, and-true}
 use Rattle.sheet.specs.Rows.{Row, namesOf}
 use Rattle.sheet.specs.Lengths.{fits}
 use Rattle.sheet.proofs.Laws.Packs.{namesOf-append}
-use Rattle.xsd_rows.specs.declared.numbers.Used.{Used}
-use Rattle.xsd_rows.specs.Packing.{numbersOf}
-use Rattle.xsd_rows.proofs.Laws.Write.{names-one, length-numbersOf}
-use Rattle.xsd_rows.proofs.Laws.More.{holds-more}
+use Rattle.rows.specs.declared.numbers.Used.{Used}
+use Rattle.rows.specs.Packing.{numbersOf}
+use Rattle.rows.proofs.Laws.Write.{names-one, length-numbersOf}
+use Rattle.rows.proofs.Laws.More.{holds-more}
 use Rattle.ir_append.specs.declared.Grown.{Grown}
 use Rattle.ir_append.specs.Grows.{Room, GrownTo, Short, Grows}
 

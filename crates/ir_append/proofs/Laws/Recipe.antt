@@ -7,7 +7,7 @@ use mathlib.Core.List.{List, [], _∷_, _++_, append-nil}
 use lib.ListN.{length}
 use Rattle.text.specs.Text.{Text, join, if_then_else_}
 use Rattle.sheet.specs.Rows.{row, numbers, packRow, pairs}
-use Rattle.xsd_rows.specs.Packing.{numbersOf}
+use Rattle.rows.specs.Packing.{numbersOf}
 use Rattle.ir_append.specs.declared.Spelling.{Spelling}
 use Rattle.ir_append.specs.declared.Recipe.{Recipe}
 use Rattle.ir_append.specs.Spelled.{spelledText, isNothing, spelledTexts, recipeRow, orderly}

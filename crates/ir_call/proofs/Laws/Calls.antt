@@ -1,6 +1,6 @@
 -- What the steps of a lowering answer and leave is the definition's, number by number: each by the definition's tests, since zeros and room depend on
 -- lengths alone. Assumes nothing.
-use Prim.Native.Nat.{ℕ, _%_, _≤_, _<_}
+use Prim.Native.Nat.{ℕ, _+_, _%_, _≤_, _<_}
 use mathlib.Core.Path.{_≡_, refl, sym, ap, _∙_, subst}
 use mathlib.Core.Bool.{Bool, true, false, _&&_}
 use mathlib.Core.Option.{Option, some, none}
@@ -13,24 +13,21 @@ use Rattle.text.proofs.Laws.Tests.{two, four}
 use Rattle.sheet.specs.Lengths.{Answer, sheetLengths, lengthsOf, goodLengths}
 use Rattle.sheet.specs.Calls.{sheet, answered}
 use Rattle.sheet.specs.Limits.{rowNumbers, leastRows, rowsLimit, namesLimit}
-use Rattle.xsd_rows.specs.declared.numbers.Used.{Used}
+use Rattle.rows.specs.declared.numbers.Used.{Used}
 use Rattle.xsd_types.specs.State.{State}
 use Rattle.xsd_types.specs.Good.{good}
 use Rattle.xsd_types.specs.Back.{stateOf}
-use Rattle.xsd_progress.specs.declared.Progress.{Progress}
-use Rattle.xsd_progress.specs.Progress.{At}
-use Rattle.xsd_actions.specs.declared.Mode.{Mode}
-use Rattle.xsd_actions.specs.Actions.{modeOf}
+use Rattle.xsd_types.specs.Rows.{itemsRows}
+use Rattle.xsd_good.specs.End.{Held}
 use Rattle.ir_types.specs.Types.{TypeGraph}
 use Rattle.ir_types.specs.Sheet.{graphFits}
 use Rattle.ir_lower.specs.Lower.{lower, finishedTypes}
 use Rattle.ir_lower.specs.Call.{Lowered, zeros, unchanged, cleared, written, repeatedOrWritten, refusedOrWritten, lowerFinished, lowerState, lowering}
 use Rattle.ir_lower.specs.Repeated.{firstRepeated, repeatedRow}
 use Rattle.ir_lower.proofs.Laws.Left.{length-zeros}
-use Rattle.ir_rows.specs.Places.{rowsFrom}
-use Rattle.ir_rows.specs.Lowered.{unknownPlace}
+use Rattle.xsd_types.specs.Places.{rowsFrom}
+use Rattle.xsd_types.specs.Refused.{refusedPlace}
 use Rattle.ir_rows.specs.Types.{finishedPlaces, headsAt}
-use Rattle.ir_rows.specs.End.{finishedEnd}
 use Rattle.ir_rows.proofs.Laws.Graph.{finished-types, unknown-place, unknown-refused, unknown-lowered, repeated-heads, root-count, type-count, graph-rows}
 use Rattle.ir_index.specs.declared.Indexed.{Indexed}
 use Rattle.ir_index.specs.Index.{AllIn, IndexIs}
@@ -114,14 +111,14 @@ module _ {rows names : List ℕ} {end : ℕ} {root : Bool} {s : State} (l : Lowe
       let seen = sym (l .root) ∙ f in
       rw seen (λ i. left (e i) (r i) (n i) (z i))
 
-  refused-place : {gr₁ gn₁ scratch₁ : List ℕ} {a : Answer} {unknown : ℕ} (o : Option TypeGraph) → lower (s .reader .schema) ≡ o → (unknown ≡ 0 → ⊥) → unknown ≡ unknownPlace 2 (rowsFrom rows names 2 end)
+  refused-place : {gr₁ gn₁ scratch₁ : List ℕ} {a : Answer} {unknown : ℕ} (o : Option TypeGraph) → lower (s .reader .schema) ≡ o → (unknown ≡ 0 → ⊥) → unknown ≡ refusedPlace 2 (rowsFrom rows names 2 end)
       → a ≡ answered 13 unknown → gr₁ ≡ zeros gr → gn₁ ≡ zeros gn → scratch₁ ≡ zeros scratch
       → left a gr₁ gn₁ scratch₁ ≡ refusedOrWritten (s .reader .schema) o (sheet gr gn) scratch
   unfolding cleared
   refused-place none q some? u e r n z = λ i. left ((e ∙ ap (answered 13) (u ∙ l .place)) i) (r i) (n i) (z i)
   refused-place (some g) q some? u e r n z = absurd (some? (u ∙ l .lowers g q .0))
 
-  pub finished-unknown : {gr₁ gn₁ scratch₁ : List ℕ} {a : Answer} {unknown : ℕ} → root ≡ true → (unknown ≡ 0 → ⊥) → unknown ≡ unknownPlace 2 (rowsFrom rows names 2 end)
+  pub finished-unknown : {gr₁ gn₁ scratch₁ : List ℕ} {a : Answer} {unknown : ℕ} → root ≡ true → (unknown ≡ 0 → ⊥) → unknown ≡ refusedPlace 2 (rowsFrom rows names 2 end)
       → a ≡ answered 13 unknown → gr₁ ≡ zeros gr → gn₁ ≡ zeros gn → scratch₁ ≡ zeros scratch
       → left a gr₁ gn₁ scratch₁ ≡ lowerFinished s (sheet gr gn) scratch
   unfolding lowerFinished
@@ -129,14 +126,14 @@ module _ {rows names : List ℕ} {end : ℕ} {root : Bool} {s : State} (l : Lowe
       let seen = sym (l .root) ∙ t in
       rw seen (refused-place (lower (s .reader .schema)) refl some? u e r n z)
 
-  known-graph : {x : Lowered} (o : Option TypeGraph) → lower (s .reader .schema) ≡ o → 0 ≡ unknownPlace 2 (rowsFrom rows names 2 end)
+  known-graph : {x : Lowered} (o : Option TypeGraph) → lower (s .reader .schema) ≡ o → 0 ≡ refusedPlace 2 (rowsFrom rows names 2 end)
       → ((g : TypeGraph) → GraphOf rows names end g → x ≡ repeatedOrWritten (firstRepeated [] (headsAt rows names end)) g (sheet (zeros gr) (zeros gn)) (zeros scratch))
       → x ≡ refusedOrWritten (s .reader .schema) o (sheet gr gn) scratch
   known-graph none q u w = absurd (omega (arith, l .refuses q))
   known-graph (some g) q u w =
       w g (l .lowers g q .1) ∙ rw (l .repeated) (written-zeros (repeatedRow (s .reader .schema)) g gr gn scratch)
 
-  pub finished-known : {x : Lowered} → root ≡ true → 0 ≡ unknownPlace 2 (rowsFrom rows names 2 end)
+  pub finished-known : {x : Lowered} → root ≡ true → 0 ≡ refusedPlace 2 (rowsFrom rows names 2 end)
       → ((g : TypeGraph) → GraphOf rows names end g → x ≡ repeatedOrWritten (firstRepeated [] (headsAt rows names end)) g (sheet (zeros gr) (zeros gn)) (zeros scratch)) → x ≡ lowerFinished s (sheet gr gn) scratch
   unfolding lowerFinished
   finished-known t u w =
@@ -145,30 +142,29 @@ module _ {rows names : List ℕ} {end : ℕ} {root : Bool} {s : State} (l : Lowe
 
 -- ---- 14
 
-module _ {s : State} {rows names : List ℕ} {p : Progress} (at : At s rows names p) where
-  pub lowers-at : Lowers rows names (finishedEnd p) (p .mode .«root_seen») s
-  unfolding modeOf
-  lowers-at =
+module _ {s : State} {rows names : List ℕ} {end : ℕ} (h : Held s rows names) (e : end ≡ 2 + length (itemsRows (s .reader .schema .items))) where
+  pub lowers-held : {seen : Bool} → seen ≡ s .reader .rootSeen → Lowers rows names end seen s
+  lowers-held root =
       record {
-        root = ap (λ (m : Mode). m .«root_seen») (at .mode);
-        place = unknown-place at;
-        refuses = unknown-refused at;
-        repeated = repeated-heads at;
-        lowers = λ g q. (unknown-lowered at g q, record { rowsAre = graph-rows at g q; roots = root-count at g q; types = type-count at g q });
+        root = root;
+        place = unknown-place s (h .packs) (h .proper) e;
+        refuses = unknown-refused s (h .packs) (h .proper) e;
+        repeated = repeated-heads s (h .packs) (h .proper) e;
+        lowers = λ g q. (unknown-lowered s (h .packs) (h .proper) e g q, record { rowsAre = graph-rows s (h .packs) (h .proper) e g q; roots = root-count s (h .packs) (h .proper) e g q; types = type-count s (h .packs) (h .proper) e g q });
       }
 
-  pub state-short : (gr gn scratch : List ℕ) {n : ℕ} {a : Answer} → n ≡ length (finishedPlaces rows names (finishedEnd p)) → length scratch < n → a ≡ answered 14 0
+  pub state-short : (gr gn scratch : List ℕ) {n : ℕ} {a : Answer} → n ≡ length (finishedPlaces rows names end) → length scratch < n → a ≡ answered 14 0
       → left a gr gn scratch ≡ lowerState s (sheet gr gn) scratch
   unfolding lowerState unchanged
-  state-short gr gn scratch e h f =
-      let short = lt-leb (finishedTypes (s .reader .schema)) (length scratch) (rw (← finished-types at, ← e) h) in
+  state-short gr gn scratch c l f =
+      let short = lt-leb (finishedTypes (s .reader .schema)) (length scratch) (rw (← finished-types s (h .packs) (h .proper) e, ← c) l) in
       rw short (λ i. left (f i) gr gn scratch)
 
-  pub state-enough : (gr gn scratch : List ℕ) {n : ℕ} {x : Lowered} → n ≡ length (finishedPlaces rows names (finishedEnd p)) → n ≤ length scratch
+  pub state-enough : (gr gn scratch : List ℕ) {n : ℕ} {x : Lowered} → n ≡ length (finishedPlaces rows names end) → n ≤ length scratch
       → x ≡ lowerFinished s (sheet gr gn) scratch → x ≡ lowerState s (sheet gr gn) scratch
   unfolding lowerState
-  state-enough gr gn scratch e h f =
-      let enough = le-leb (finishedTypes (s .reader .schema)) (length scratch) (rw (← finished-types at, ← e) h) in
+  state-enough gr gn scratch c l f =
+      let enough = le-leb (finishedTypes (s .reader .schema)) (length scratch) (rw (← finished-types s (h .packs) (h .proper) e, ← c) l) in
       rw enough f
 
 -- ---- 1 and 2

@@ -10,10 +10,10 @@ use borrow.Author.Tests.{eqb-true}
 use Rattle.text.proofs.Laws.Tests.{if-cases}
 use Rattle.sheet.specs.Rows.{Row}
 use Rattle.xsd_types.specs.Back.{text0, text1}
-use Rattle.ir_rows.specs.Places.{rowsFrom}
+use Rattle.xsd_types.specs.Places.{rowsFrom}
 use Rattle.ir_rows.specs.Lowered.{loweredAs, loweredRow, rootRows}
 use Rattle.ir_rows.specs.Types.{isSimple, isComplex, placesOf, typePlaces, finishedPlaces, entryPlaces}
-use Rattle.ir_rows.proofs.Laws.Places.{length-rowsFrom}
+use Rattle.xsd_types.proofs.Laws.Places.{length-rowsFrom}
 
 placesOf-few : (test : ℕ → Bool) (p : ℕ) (rs : List Row) → length (placesOf test p rs) ≤ length rs
 unfolding placesOf

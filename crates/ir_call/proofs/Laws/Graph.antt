@@ -10,9 +10,9 @@ use borrow.Author.Tests.{le-leb}
 use Rattle.text.proofs.Laws.Tests.{and-true}
 use Rattle.sheet.specs.Rows.{Row, numbers, pack, namesOf, filled, sheetOfRows}
 use Rattle.sheet.specs.Lengths.{fits}
-use Rattle.xsd_rows.specs.declared.numbers.Used.{Used}
-use Rattle.xsd_rows.specs.Packing.{Packs, Holds, Row0Put}
-use Rattle.xsd_rows.proofs.Laws.Sheet.{packs-sheet}
+use Rattle.rows.specs.declared.numbers.Used.{Used}
+use Rattle.rows.specs.Packing.{Packs, Holds, Row0Put}
+use Rattle.rows.proofs.Laws.Sheet.{packs-sheet}
 use Rattle.ir_types.specs.Types.{TypeGraph}
 use Rattle.ir_types.specs.Row0.{graphRow0Ten}
 use Rattle.ir_types.specs.Rows.{rowsOf, rowsUsed, namesUsed, row0}

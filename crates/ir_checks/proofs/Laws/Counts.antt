@@ -9,10 +9,10 @@ use lib.ListN.{length, getD, length-append}
 use borrow.Author.Tests.{eqb-true, ne-eqb}
 use Rattle.text.specs.Text.{if_then_else_, between}
 use Rattle.sheet.specs.Rows.{Row}
-use Rattle.ir_rows.specs.Places.{rowAt, rowsFrom}
+use Rattle.xsd_types.specs.Places.{rowAt, rowsFrom}
 use Rattle.ir_rows.specs.Lowered.{loweredAs, loweredRow, rootRows}
 use Rattle.ir_rows.specs.Types.{isSimple, isComplex, isType, placesOf, typePlaces}
-use Rattle.ir_rows.proofs.Laws.Places.{rowsFrom-cons, rowsFrom-end, rowAt-tag}
+use Rattle.xsd_types.proofs.Laws.Places.{rowsFrom-cons, rowsFrom-end, rowAt-tag}
 
 one-more : (s c : Bool) (p : ℕ) (xs ys : List ℕ) → (s ≡ true → c ≡ false) → s || c ≡ true → length ((if s then p ∷ xs else xs) ++ (if c then p ∷ ys else ys)) ≡ 1 + length (xs ++ ys)
 one-more true false p xs ys apart e = omega arith

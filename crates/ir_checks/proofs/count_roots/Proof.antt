@@ -1,12 +1,12 @@
 -- `ir_checks::count_roots` meets its contract. The loop's invariant: the elements counted and those from row p on are all of them, and no more are counted
 -- than rows were passed. The measure is how many rows are left. Assumes nothing.
 use Prim.Native.Nat.{ℕ, _+_, _-_, _≤_, _<_}
-use mathlib.Core.Path.{_≡_}
+use mathlib.Core.Path.{_≡_, sym, _∙_}
 use mathlib.Core.Logic.{⊎-elim}
 use mathlib.Core.List.{List}
 use native.Mathlib.Omega.{arith}
 use lib.ListN.{length}
-use Rattle.ir_rows.specs.Places.{rowsFrom}
+use Rattle.xsd_types.specs.Places.{rowsFrom}
 use Rattle.ir_rows.specs.Lowered.{rootRows}
 use Rattle.ir_checks.proofs.Laws.Counts.{roots-at, roots-not-at, roots-end}
 use Rattle.ir_checks.proofs.count_roots.Statement.{statement}
@@ -22,14 +22,8 @@ abbrev μ-loop : tie.MeasureT-loop
 loop-holds : tie.Need-loop-holds Inv-loop μ-loop
 loop-holds c = (omega arith, omega arith, λ names. omega arith)
 
-mul-if1 : tie.Need-mul-if1 Inv-loop μ-loop
-mul-if1 c = omega arith
-
-mul-if1-2 : tie.Need-mul-if1-2 Inv-loop μ-loop
-mul-if1-2 c = omega arith
-
-shared-slice-read-if1 : tie.Need-shared-slice-read-if1 Inv-loop μ-loop
-shared-slice-read-if1 c = omega arith
+row-tag-requires : tie.Need-row-tag-requires Inv-loop μ-loop
+row-tag-requires c κs = omega arith
 
 add-roots : tie.Need-add-roots Inv-loop μ-loop
 add-roots c = omega arith
@@ -43,17 +37,18 @@ loop-less c = omega arith
 loop-again : tie.Need-loop-again Inv-loop μ-loop
 loop-again c =
     let at = c .before .before .before in
-    let args = at .before .args in
+    let args = at .before .before .args in
     let inside : at .loop .p < args .end = omega arith in
+    let tag = c .before .row-tag .ensures in
     ⊎-elim
-    (λ w. (omega arith, omega arith, λ names. omega (arith, at .loop .inv .2 names, roots-at (args .rows .now) names (at .loop .p) (args .end) inside (w .0 .taken))))
-    (λ w. (omega arith, omega arith, λ names. omega (arith, at .loop .inv .2 names, roots-not-at (args .rows .now) names (at .loop .p) (args .end) inside (w .0 .left))))
+    (λ w. (omega arith, omega arith, λ names. omega (arith, at .loop .inv .2 names, roots-at (args .rows .now) names (at .loop .p) (args .end) inside (sym tag ∙ w .0 .taken))))
+    (λ w. (omega arith, omega arith, λ names. omega (arith, at .loop .inv .2 names, roots-not-at (args .rows .now) names (at .loop .p) (args .end) inside (λ e. w .0 .left (tag ∙ e)))))
     (c .if1 .came)
 
 returns : tie.Need-returns Inv-loop μ-loop
 returns c =
     let at = c .before in
-    let args = at .before .args in
+    let args = at .before .before .args in
     λ names. omega (arith, at .loop .inv .2 names, roots-end (args .rows .now) names (at .loop .p) (args .end) (c .loop-test .left))
 
 pub count-roots-spec : {M : Type 1} → statement M
@@ -63,9 +58,7 @@ count-roots-spec =
     Inv-loop
     μ-loop
     loop-holds
-    mul-if1
-    mul-if1-2
-    shared-slice-read-if1
+    row-tag-requires
     add-roots
     add-p
     loop-less

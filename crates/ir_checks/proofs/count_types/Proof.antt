@@ -1,13 +1,13 @@
 -- `ir_checks::count_types` meets its contract. The loop's invariant: the types counted and those from row p on are all of them, and no more are counted
 -- than rows were passed. The measure is how many rows are left. Assumes nothing.
 use Prim.Native.Nat.{ℕ, _+_, _-_, _≤_, _<_}
-use mathlib.Core.Path.{_≡_, sym, _∙_}
+use mathlib.Core.Path.{_≡_, sym, ap, _∙_}
 use mathlib.Core.Logic.{⊎-elim}
 use mathlib.Core.List.{List}
 use native.Mathlib.Omega.{arith}
 use lib.ListN.{length}
-use Rattle.ir_rows.specs.Places.{rowsFrom}
-use Rattle.ir_rows.specs.Types.{typePlaces}
+use Rattle.xsd_types.specs.Places.{rowsFrom}
+use Rattle.ir_rows.specs.Types.{isType, typePlaces}
 use Rattle.ir_checks.proofs.Laws.Counts.{types-at, types-not-at, types-end}
 use Rattle.ir_checks.proofs.count_types.Statement.{statement}
 use Rattle.ir_checks.proofs.count_types.Tie as tie
@@ -22,14 +22,8 @@ abbrev μ-loop : tie.MeasureT-loop
 loop-holds : tie.Need-loop-holds Inv-loop μ-loop
 loop-holds c = (omega arith, omega arith, λ names. omega arith)
 
-mul-is-type : tie.Need-mul-is-type Inv-loop μ-loop
-mul-is-type c = omega arith
-
-mul-is-type-2 : tie.Need-mul-is-type-2 Inv-loop μ-loop
-mul-is-type-2 c = omega arith
-
-shared-slice-read-is-type : tie.Need-shared-slice-read-is-type Inv-loop μ-loop
-shared-slice-read-is-type c = omega arith
+row-tag-requires : tie.Need-row-tag-requires Inv-loop μ-loop
+row-tag-requires c κs = omega arith
 
 is-type-requires : tie.Need-is-type-requires Inv-loop μ-loop
 is-type-requires c κs = tt
@@ -48,7 +42,7 @@ loop-again c =
     let at = c .before .before .before .before in
     let args = at .before .before .args in
     let inside : at .loop .p < args .end = omega arith in
-    let tag = sym (c .before .is-type .ensures) in
+    let tag = sym (c .before .is-type .ensures ∙ ap isType (c .before .before .row-tag .ensures)) in
     ⊎-elim
     (λ w. (omega arith, omega arith, λ names. omega (arith, at .loop .inv .2 names, types-at (args .rows .now) names (at .loop .p) (args .end) inside (tag ∙ w .0 .taken))))
     (λ w. (omega arith, omega arith, λ names. omega (arith, at .loop .inv .2 names, types-not-at (args .rows .now) names (at .loop .p) (args .end) inside (tag ∙ w .0 .left))))
@@ -67,9 +61,7 @@ count-types-spec =
     Inv-loop
     μ-loop
     loop-holds
-    mul-is-type
-    mul-is-type-2
-    shared-slice-read-is-type
+    row-tag-requires
     is-type-requires
     add-types
     add-p

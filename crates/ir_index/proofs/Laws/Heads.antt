@@ -9,9 +9,10 @@ use lib.Seq.{getD-drop}
 use Rattle.text.proofs.Laws.Tests.{or-left, or-right}
 use Rattle.names.specs.Names.{normalizeTypeName}
 use Rattle.sheet.specs.Rows.{ten}
-use Rattle.ir_rows.specs.Places.{rowAt, nameAt}
+use Rattle.xsd_types.specs.Places.{rowAt}
+use Rattle.ir_rows.specs.Places.{nameAt}
 use Rattle.ir_rows.specs.Types.{isSimple, isComplex, isType}
-use Rattle.ir_rows.proofs.Laws.Lowered.{name-at as first-text}
+use Rattle.xsd_types.proofs.Laws.Places.{name-at as first-text}
 use Rattle.ir_rows.proofs.Laws.Inside.{type-head}
 use Rattle.ir_index.specs.Entries.{isKind, headName}
 

@@ -4,9 +4,9 @@ use mathlib.Core.Path.{_≡_, refl, ap, _∙_}
 use mathlib.Core.Bool.{Bool, true, false}
 use mathlib.Core.List.{List, [], _∷_, _++_}
 use lib.ListN.{getD}
-use Rattle.ir_rows.specs.Places.{rowsFrom}
+use Rattle.xsd_types.specs.Places.{rowsFrom}
 use Rattle.ir_rows.specs.Types.{placesOf, typePlaces}
-use Rattle.ir_rows.proofs.Laws.Places.{rowAt-tag, rowsFrom-cons, rowsFrom-end}
+use Rattle.xsd_types.proofs.Laws.Places.{rowAt-tag, rowsFrom-cons, rowsFrom-end}
 use Rattle.ir_index.specs.Entries.{isKind, kindPlaces}
 
 module _ (rows names : List ℕ) (end : ℕ) (complex : Bool) (p : ℕ) where

@@ -1,7 +1,7 @@
 -- `ir_index::enter_kind` meets its contract. The loop's invariant: what is stored with what is left is what was stored at the start with all, the first
 -- name that came before is the same, and there is room. The measure is how many rows are left. Assumes nothing.
 use Prim.Native.Nat.{_*_, _-_}
-use mathlib.Core.Path.{_≡_, refl, sym, _∙_}
+use mathlib.Core.Path.{_≡_, refl, sym, ap, _∙_}
 use mathlib.Core.Logic.{⊎-elim}
 use native.Mathlib.Omega.{arith}
 use lib.ListN.{length, getD}
@@ -24,14 +24,8 @@ abbrev μ-loop : tie.MeasureT-loop
 loop-holds : tie.Need-loop-holds Inv-loop μ-loop
 loop-holds c = (refl, refl, walk-start _ _ (c .before .before .before .before .pre .0))
 
-mul-is-kind : tie.Need-mul-is-kind Inv-loop μ-loop
-mul-is-kind c = omega arith
-
-mul-is-kind-2 : tie.Need-mul-is-kind-2 Inv-loop μ-loop
-mul-is-kind-2 c = omega arith
-
-shared-slice-read-is-kind : tie.Need-shared-slice-read-is-kind Inv-loop μ-loop
-shared-slice-read-is-kind c = omega arith
+row-tag-requires : tie.Need-row-tag-requires Inv-loop μ-loop
+row-tag-requires c κs = omega arith
 
 is-kind-requires : tie.Need-is-kind-requires Inv-loop μ-loop
 is-kind-requires c κs = tt
@@ -41,14 +35,14 @@ enter-requires c κs =
     let at = c .before .before .before .before .before .before in
     let start = at .before .before .before .before .before in
     let w = at .loop .inv .2 in
-    let e : isKind (start .args .complex) (getD (start .args .rows .now) (10 * at .loop .place) 0) ≡ true = sym (c .before .before .before .is-kind .ensures) ∙ c .before .before .if1 .taken in
+    let e : isKind (start .args .complex) (getD (start .args .rows .now) (10 * at .loop .place) 0) ≡ true = sym (c .before .before .before .is-kind .ensures ∙ ap (isKind (start .args .complex)) (c .before .before .before .before .row-tag .ensures)) ∙ c .before .before .if1 .taken in
     let room = walk-room w (c .before .before .before .before .before .loop-test .taken) e in
     let head : HeadAt (start .args .rows .now) (at .loop .place) = record { inside = omega (arith, start .pre .1 .0, c .before .before .before .before .before .loop-test .taken); isHead = kind-type (start .args .complex) _ e } in
     (w .known, (head, (start .pre .1 .1, omega (arith, room, start .pre .1 .2, at .loop .inv .0))))
 
 -- the row at hand is a head of the kind
 is-kind-at : (c : tie.Then1 Inv-loop μ-loop) → let at = c .before .before .before .before in isKind (at .before .before .before .before .before .args .complex) (getD (at .before .before .before .before .before .args .rows .now) (10 * at .loop .place) 0) ≡ true
-is-kind-at c = sym (c .before .is-kind .ensures) ∙ c .if1 .taken
+is-kind-at c = sym (c .before .is-kind .ensures ∙ ap (isKind _) (c .before .before .row-tag .ensures)) ∙ c .if1 .taken
 
 -- the call of `enter`, from behind it
 abbrev entered : tie.After-slice-known4 Inv-loop μ-loop → tie.After-enter Inv-loop μ-loop
@@ -88,8 +82,8 @@ loop-again c =
     let w = at .loop .inv .2 in
     ⊎-elim
     (λ v. rw (v .9, v .10, v .11)
-    (v .3 .kept .1 .1 .1 .0 ∙ at .loop .inv .0, v .3 .kept .1 .1 .1 .1 .1 .0 ∙ at .loop .inv .1, walk-in w (omega arith) (sym (c .before .is-kind .ensures) ∙ v .0 .taken) (added-of _ _ _ _ _ _ _ (v .3 .result) (v .3 .ensures) (not-false _ (v .8 .left)))))
-    (λ v. rw (v .1, v .2, v .3) (at .loop .inv .0, at .loop .inv .1, walk-on w (omega arith) (sym (c .before .is-kind .ensures) ∙ v .0 .left)))
+    (v .3 .kept .1 .1 .1 .0 ∙ at .loop .inv .0, v .3 .kept .1 .1 .1 .1 .1 .0 ∙ at .loop .inv .1, walk-in w (omega arith) (sym (c .before .is-kind .ensures ∙ ap (isKind _) (c .before .before .row-tag .ensures)) ∙ v .0 .taken) (added-of _ _ _ _ _ _ _ (v .3 .result) (v .3 .ensures) (not-false _ (v .8 .left)))))
+    (λ v. rw (v .1, v .2, v .3) (at .loop .inv .0, at .loop .inv .1, walk-on w (omega arith) (sym (c .before .is-kind .ensures ∙ ap (isKind _) (c .before .before .row-tag .ensures)) ∙ v .0 .left)))
     (c .if1 .came)
 
 same-length-3 : tie.Need-same-length-3 Inv-loop μ-loop
@@ -108,9 +102,7 @@ enter-kind-spec =
     Inv-loop
     μ-loop
     loop-holds
-    mul-is-kind
-    mul-is-kind-2
-    shared-slice-read-is-kind
+    row-tag-requires
     is-kind-requires
     enter-requires
     same-length

@@ -2,7 +2,7 @@
 use mathlib.Core.Path.{sym, ap, _∙_}
 use native.Mathlib.Omega.{arith}
 use borrow.Author.Tests.{not-true, not-false}
-use Rattle.xsd_good.specs.Forms.{asTen}
+use Rattle.rows.specs.Ten.{asTen}
 use Rattle.ir_types.proofs.Laws.Label.{reference-bound}
 use Rattle.ir_label.specs.Spot.{spotOf}
 use Rattle.ir_label.proofs.Laws.Spots.{row-none, row-word, row-name, second-pair, third-pair}

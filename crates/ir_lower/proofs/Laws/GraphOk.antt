@@ -14,7 +14,8 @@ use Rattle.xsd_types.specs.Types.{Element, Facet, SimpleType, MaxOccurs, Sequen
 use Rattle.xsd_types.specs.State.{elementOk, facetOk, maxOccursOk, sequenceElementOk, choiceVariantOk, attributeOk, namespaceOk, contentOk, started, itemOk, schemaOk, itemPasses}
 use Rattle.ir_types.specs.Types.{TypeDef, TypeGraph}
 use Rattle.ir_types.specs.Ok.{isSmall, refOk, cardinalityOk, fieldOk, variantOk, constraintOk, codeOk, attrOk, typeOk, rootOk, graphOk}
-use Rattle.ir_lower.specs.Lower.{resolved, resolveTypeRef, allEnums, codes, constraints, lowerNewtype, lowerSimpleType, lowerCardinality, lowerField, lowerVariant, lowerAttribute, lowerContent, lowerComplexType, withDefinition, simpleDefinitions, finishedDefinitions, rootOf, graphOf, lower}
+use Rattle.xsd_types.specs.Refused.{allEnums}
+use Rattle.ir_lower.specs.Lower.{resolved, resolveTypeRef, codes, constraints, lowerNewtype, lowerSimpleType, lowerCardinality, lowerField, lowerVariant, lowerAttribute, lowerContent, lowerComplexType, withDefinition, simpleDefinitions, finishedDefinitions, rootOf, graphOf, lower}
 use Rattle.ir_lower.proofs.Laws.Types.{lower-some}
 use Rattle.text.proofs.Laws.Tests.{and-true-left, and-true-right, keep-left, test-cases, and-true}
 use Rattle.text.proofs.Laws.Every.{every-append-true, every-map, every-both}

@@ -13,7 +13,8 @@ use Rattle.builtin.specs.Builtin.{RustType, mapBuiltin}
 use Rattle.names.specs.Names.{normalizeTypeName}
 use Rattle.xsd_types.specs.Types.{SimpleType, ComplexContent, ComplexType, Schema, simpleTypes, complexTypes}
 use Rattle.ir_types.specs.Types.{TypeRef, TypeDef, TypeGraph}
-use Rattle.ir_lower.specs.Lower.{resolveTypeRef, allEnums, codes, lowerNewtype, lowerSimpleType, lowerContent, lowerComplexType, withDefinition, simpleDefinitions, finishedDefinitions, lower}
+use Rattle.xsd_types.specs.Refused.{allEnums}
+use Rattle.ir_lower.specs.Lower.{resolveTypeRef, codes, lowerNewtype, lowerSimpleType, lowerContent, lowerComplexType, withDefinition, simpleDefinitions, finishedDefinitions, lower}
 use Rattle.ir_lower.specs.Finished.{references, typeNamesIn}
 use Rattle.ir_lower.proofs.Laws.References.{resolve-named, content-references}
 use Rattle.ir_lower.proofs.Laws.Types.{lower-types}

@@ -12,7 +12,9 @@ use Rattle.builtin.specs.Builtin.{RustType, mapBuiltin}
 use Rattle.xsd_types.specs.Types.{SimpleType, ComplexContent, ComplexType, Schema, elements, simpleTypes, complexTypes}
 use Rattle.ir_types.specs.Types.{TypeDef, TypeGraph, nameOf}
 use Rattle.ir_types.specs.Distinct.{typeNames}
-use Rattle.ir_lower.specs.Lower.{allEnums, codes, lowerNewtype, lowerSimpleType, isNone, unknownBase, lowerContent, lowerComplexType, anyUnknown, withDefinition, simpleDefinitions, finishedDefinitions, rootOf, graphOf, lower}
+use Rattle.xsd_types.specs.Refused.{allEnums, isNone, refusedBase}
+use Rattle.ir_lower.proofs.Laws.Refusals.{refused-base}
+use Rattle.ir_lower.specs.Lower.{codes, lowerNewtype, lowerSimpleType, lowerContent, lowerComplexType, anyUnknown, withDefinition, simpleDefinitions, finishedDefinitions, rootOf, graphOf, lower}
 use Rattle.ir_lower.specs.Finished.{simpleName, complexName, finishedNames}
 
 -- an accepted schema has no refused simple type, and its graph has all its types
@@ -59,13 +61,13 @@ content-name event n (ComplexContent.simpleContent base xs) = refl
 content-name event n (ComplexContent.any ns) = refl
 
 simple-names : (ts : List SimpleType) → anyUnknown ts ≡ false → typeNames (simpleDefinitions ts) ≡ map simpleName ts
-unfolding anyUnknown simpleDefinitions withDefinition typeNames unknownBase isNone
+unfolding anyUnknown simpleDefinitions withDefinition typeNames isNone
 simple-names [] u = refl
 simple-names (t ∷ ts) u =
     (elim (lowerSimpleType t) as (λ o. lowerSimpleType t ≡ o → isNone o ≡ false → map nameOf (withDefinition o (simpleDefinitions ts)) ≡ simpleName t ∷ map simpleName ts) [
       | none ↦ λ q k. absurd (true≢false k)
-      | some d ↦ λ q k. rw (simple-name t d q, simple-names ts (or-false-right (unknownBase t) (anyUnknown ts) u))
-    ]) refl (or-false-left (unknownBase t) (anyUnknown ts) u)
+      | some d ↦ λ q k. rw (simple-name t d q, simple-names ts (or-false-right (refusedBase t) (anyUnknown ts) u))
+    ]) refl (refused-base t ∙ or-false-left (refusedBase t) (anyUnknown ts) u)
 
 complex-names : (ts : List ComplexType) → typeNames (map lowerComplexType ts) ≡ map complexName ts
 unfolding typeNames lowerComplexType complexName

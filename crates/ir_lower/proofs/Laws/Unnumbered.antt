@@ -15,7 +15,8 @@ use Rattle.xsd_types.specs.Unnumbered.{clearedRow, unnumberedItem, unnumberedSc
 use Rattle.xsd_types.proofs.Laws.Unnumbered.{item-cleared}
 use Rattle.ir_types.specs.Types.{TypeDef, RootElement}
 use Rattle.ir_types.specs.Unnumbered.{unnumberedRoot, unnumberedType, unnumberedGraph}
-use Rattle.ir_lower.specs.Lower.{allEnums, lowerNewtype, lowerSimpleType, isNone, unknownBase, lowerContent, lowerComplexType, anyUnknown, withDefinition, simpleDefinitions, finishedDefinitions, rootOf, graphOf, lower, isUnknown, unknownRow}
+use Rattle.xsd_types.specs.Refused.{allEnums, refusedBase, refusedItem}
+use Rattle.ir_lower.specs.Lower.{lowerNewtype, lowerSimpleType, lowerContent, lowerComplexType, anyUnknown, withDefinition, simpleDefinitions, finishedDefinitions, rootOf, graphOf, lower, unknownRow}
 use Rattle.ir_lower.specs.Finished.{simpleName, complexName}
 use Rattle.ir_lower.specs.Repeated.{Head, simpleHead, complexHead, headsOf, heads, repeatedRow}
 use Rattle.ir_lower.specs.Unnumbered.{unnumberedLowered}
@@ -76,9 +77,9 @@ complex-unnumbered : (t : ComplexType) → unnumberedType (lowerComplexType t) �
 unfolding lowerComplexType complexAs
 complex-unnumbered t = content-unnumbered (t .event) (normalizeTypeName (t .name)) (t .content)
 
-unknown-as : (t : SimpleType) → unknownBase (simpleAs t) ≡ unknownBase t
-unfolding unknownBase isNone definitionAs
-unknown-as t = ap isNone (sym (simple-unnumbered t)) ∙ elim (lowerSimpleType t) as (λ o. isNone (definitionAs o) ≡ isNone o) [ none ↦ refl | some d ↦ refl ]
+unknown-as : (t : SimpleType) → refusedBase (simpleAs t) ≡ refusedBase t
+unfolding refusedBase simpleAs
+unknown-as t = refl
 
 any-unnumbered : (ts : List SimpleType) → anyUnknown (map simpleAs ts) ≡ anyUnknown ts
 unfolding anyUnknown
@@ -129,8 +130,8 @@ lower-unnumbered s =
     (sym (ap anyUnknown (simples-unnumbered (s .items)) ∙ any-unnumbered (simpleTypes (s .items))))
 
 -- the place of 13
-unknown-unnumbered : (i : Item) → isUnknown (unnumberedItem i) ≡ isUnknown i
-unfolding isUnknown unnumberedItem simpleAs
+unknown-unnumbered : (i : Item) → refusedItem (unnumberedItem i) ≡ refusedItem i
+unfolding refusedItem unnumberedItem simpleAs
 unknown-unnumbered (Item.element e) = refl
 unknown-unnumbered (Item.simpleType t) = unknown-as t
 unknown-unnumbered (Item.complexType t) = refl

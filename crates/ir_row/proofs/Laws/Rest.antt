@@ -5,16 +5,21 @@ use mathlib.Core.Logic.{_⊎_, inl, inr, ⊎-elim}
 use mathlib.Core.List.{List, [], _∷_}
 use mathlib.Core.Bool.{Bool, true, false, false≢true}
 use lib.Dec.{eqb}
-use lib.ListN.{drop}
+use lib.ListN.{take, drop}
 use borrow.Author.Tests.{ne-eqb}
 use Rattle.text.specs.Text.{Text, if_then_else_, between}
-use Rattle.sheet.specs.Rows.{Row, row, ten}
-use Rattle.xsd_good.specs.declared.forms.row.Ten.{Ten as Numbers}
-use Rattle.xsd_good.specs.Forms.{asTen}
-use Rattle.ir_rows.specs.Places.{rowAt}
+use Rattle.sheet.specs.Rows.{Row, row, ten, textAt}
+use Rattle.rows.specs.declared.ten.Ten.{Ten as Numbers}
+use Rattle.rows.specs.Ten.{asTen}
+use Rattle.xsd_types.specs.Places.{rowAt}
 use Rattle.ir_rows.specs.Lowered.{codeRows, loweredAs, loweredRow}
 use Rattle.ir_row.specs.Recipes.{hasRecipe, isCount, tenRows}
 use Rattle.ir_rows.proofs.Laws.Lowered.{lowered-at}
+
+-- the bytes under a pair are the row's text
+pub textAt-read : (names : List ℕ) {at len x y : ℕ} → at ≡ x → len ≡ y → take len (drop at names) ≡ textAt names x y
+unfolding textAt
+textAt-read names e f = rw (e, f)
 
 if-same : (b : Bool) → if_then_else_ {A = List Row} b [] [] ≡ []
 if-same true = refl

@@ -3,10 +3,9 @@ use mathlib.Core.Path.{sym, _∙_}
 use borrow.Author.Tests.{not-true, not-false}
 use Rattle.sheet.specs.Rows.{textAt}
 use Rattle.ir_append.proofs.Laws.Grows.{grows-none}
-use Rattle.ir_checks.proofs.Laws.Unknown.{textAt-read}
 use Rattle.ir_row.specs.Recipes.{tenRows}
 use Rattle.ir_row.proofs.Laws.Recipes.{lowers-read}
-use Rattle.ir_row.proofs.Laws.Rest.{lowered-none}
+use Rattle.ir_row.proofs.Laws.Rest.{textAt-read, lowered-none}
 use borrow.Author.Needs.{needs}
 use Rattle.ir_row.proofs.put_spelled.Statement.{statement}
 use Rattle.ir_row.proofs.put_spelled.Tie as tie

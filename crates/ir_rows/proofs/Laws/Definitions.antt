@@ -21,10 +21,11 @@ use Rattle.xsd_types.proofs.Laws.Groups.{asGroup}
 use Rattle.xsd_types.proofs.Laws.Items.{name-back}
 use Rattle.ir_types.specs.Types.{TypeDef}
 use Rattle.ir_types.specs.Rows.{refA, refText, variantRow, constraintRow, codeRow, attrRow, typeRows, fieldRow as graphField}
-use Rattle.ir_lower.specs.Lower.{resolved, resolveTypeRef, isEnumeration, allEnums, codes, constraints, lowerNewtype, lowerSimpleType, lowerCardinality, lowerField, lowerVariant, lowerAttribute, lowerContent, lowerComplexType}
+use Rattle.xsd_types.specs.Refused.{isEnumeration, allEnums, isCodeEnum}
+use Rattle.ir_lower.specs.Lower.{resolved, resolveTypeRef, codes, constraints, lowerNewtype, lowerSimpleType, lowerCardinality, lowerField, lowerVariant, lowerAttribute, lowerContent, lowerComplexType}
 use Rattle.ir_lower.specs.Finished.{simpleName, complexName}
-use Rattle.ir_rows.specs.Lowered.{referenceTexts, valueRow, opaqueRow, fieldRow, simpleRow, codeRows, loweredAs, loweredRow, isCodeEnum, childRows, typeRowsOf}
-use Rattle.ir_rows.proofs.Laws.Items.{headFirst, isCodeEnum-facets}
+use Rattle.ir_rows.specs.Lowered.{referenceTexts, valueRow, opaqueRow, fieldRow, simpleRow, codeRows, loweredAs, loweredRow, childRows, typeRowsOf}
+use Rattle.xsd_types.proofs.Laws.Refused.{headFirst, isCodeEnum-facets}
 
 -- ---- a reference: its number and its text
 

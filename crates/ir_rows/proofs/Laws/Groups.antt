@@ -15,8 +15,9 @@ use Rattle.sheet.specs.Rows.{Row}
 use Rattle.xsd_types.specs.Good.{isHead, isChild}
 use Rattle.xsd_types.proofs.Laws.Order.{tags, childOf, child-no-head}
 use Rattle.xsd_types.proofs.Laws.Groups.{isGroup, headTag}
-use Rattle.ir_rows.specs.Lowered.{rootRows, isUnknown, unknownPlace}
+use Rattle.ir_rows.specs.Lowered.{rootRows}
 use Rattle.ir_rows.specs.Types.{isSimple, isComplex, placesOf}
+use Rattle.xsd_types.specs.Refused.{refusedRow, refusedPlace}
 
 -- a tag that is no head is none of the heads' tags
 other-tag : (k n : ℕ) → isHead k ≡ true → isHead n ≡ false → eqb n k ≡ false
@@ -79,19 +80,19 @@ unfolding rootRows isGroup headTag
 rootRows-group [] more g n = absurd (false≢true g)
 rootRows-group (h ∷ cs) more g n = rw n (rootRows-children (h .tag) cs more (and-true-right (isHead (h .tag)) _ g))
 
-unknownPlace-children : (h k : ℕ) (cs more : List Row) → every (isChild h) (tags cs) ≡ true → unknownPlace k (cs ++ more) ≡ unknownPlace (k + length cs) more
-unfolding unknownPlace isUnknown isHead between
-unknownPlace-children h k [] more e = ap (λ (n : ℕ). unknownPlace n more) (omega arith)
-unknownPlace-children h k (c ∷ cs) more e =
+refusedPlace-children : (h k : ℕ) (cs more : List Row) → every (isChild h) (tags cs) ≡ true → refusedPlace k (cs ++ more) ≡ refusedPlace (k + length cs) more
+unfolding refusedPlace refusedRow isHead between
+refusedPlace-children h k [] more e = ap (λ (n : ℕ). refusedPlace n more) (omega arith)
+refusedPlace-children h k (c ∷ cs) more e =
     let count : k + 1 + length cs ≡ k + length (c ∷ cs) = omega arith in
     rw (child-other h (c .tag) (every-head (isChild h) (c .tag) (tags cs) e) 3 refl)
-    (unknownPlace-children h (k + 1) cs more (every-tail (isChild h) (c .tag) (tags cs) e) ∙ ap (λ (n : ℕ). unknownPlace n more) count)
+    (refusedPlace-children h (k + 1) cs more (every-tail (isChild h) (c .tag) (tags cs) e) ∙ ap (λ (n : ℕ). refusedPlace n more) count)
 
 -- behind the head of a type that is refused, or is not
-pub unknownPlace-group : (k : ℕ) (r : Row) (cs more : List Row) → isGroup (r ∷ cs) ≡ true
-    → unknownPlace k (r ∷ cs ++ more) ≡ (if isUnknown r (cs ++ more) then k else unknownPlace (k + length (r ∷ cs)) more)
-unfolding unknownPlace isGroup
-unknownPlace-group k r cs more g =
+pub refusedPlace-group : (k : ℕ) (r : Row) (cs more : List Row) → isGroup (r ∷ cs) ≡ true
+    → refusedPlace k (r ∷ cs ++ more) ≡ (if refusedRow r (cs ++ more) then k else refusedPlace (k + length (r ∷ cs)) more)
+unfolding refusedPlace isGroup
+refusedPlace-group k r cs more g =
     let count : k + 1 + length cs ≡ k + length (r ∷ cs) = omega arith in
-    let behind = unknownPlace-children (r .tag) (k + 1) cs more (and-true-right (isHead (r .tag)) _ g) ∙ ap (λ (n : ℕ). unknownPlace n more) count in
+    let behind = refusedPlace-children (r .tag) (k + 1) cs more (and-true-right (isHead (r .tag)) _ g) ∙ ap (λ (n : ℕ). refusedPlace n more) count in
     rw behind

@@ -11,9 +11,9 @@ use Rattle.text.proofs.Laws.Tests.{and-true, or-cases, if-keeps}
 use Rattle.text.proofs.Laws.Every.{every-append-true}
 use Rattle.sheet.specs.Rows.{Row}
 use Rattle.xsd_types.specs.Good.{isHead}
-use Rattle.ir_rows.specs.Places.{rowsFrom}
+use Rattle.xsd_types.specs.Places.{rowsFrom}
 use Rattle.ir_rows.specs.Types.{isSimple, isComplex, isType, placesOf, typePlaces, finishedPlaces}
-use Rattle.ir_rows.proofs.Laws.Places.{rowsFrom-some, rowsFrom-parts}
+use Rattle.xsd_types.proofs.Laws.Places.{rowsFrom-some, rowsFrom-parts}
 use Rattle.ir_rows.proofs.Laws.Groups.{simple-head, complex-head}
 
 pub type-head : (tag : ℕ) → isType tag ≡ true → isHead tag ≡ true

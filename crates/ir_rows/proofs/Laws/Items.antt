@@ -1,6 +1,5 @@
 -- What lowering's scans make of the rows of finished items: how many types there are, where the first refused one stands, and the elements' rows.
 -- Item by item, each a head with its children. Assumes nothing.
---     headFirst     the rows begin with a head, or there are none
 use Prim.Native.Nat.{ℕ, suc, _+_, _≤_}
 use mathlib.Core.Path.{_≡_, refl, sym, ap, _∙_}
 use mathlib.Core.Bool.{Bool, true, false, not, _&&_, false≢true}
@@ -18,81 +17,18 @@ use Rattle.xsd_types.specs.State.{started, isEmpty}
 use Rattle.xsd_types.specs.Rows.{facetRow, simpleTypeRows, complexTypeRows, itemRows, itemsRows}
 use Rattle.xsd_types.specs.Good.{isHead}
 use Rattle.xsd_types.specs.Back.{text0, text1}
+use Rattle.xsd_types.specs.Refused.{isNone, refusedBase, refusedItem, refusedRow, refusedPlace}
 use Rattle.xsd_types.proofs.Laws.Groups.{isGroup, headTag}
 use Rattle.xsd_types.proofs.Laws.Items.{group-item}
-use Rattle.xsd_types.proofs.Laws.Heads.{HeadTag, headTags}
+use Rattle.xsd_types.proofs.Laws.Refused.{headFirst-items, simple-refused}
 use Rattle.ir_types.specs.Types.{TypeDef, TypeGraph}
 use Rattle.ir_types.specs.Rows.{rootRow}
-use Rattle.ir_lower.specs.Lower.{isEnumeration, allEnums, codes, lowerNewtype, lowerSimpleType, isNone, unknownBase, anyUnknown, rootOf, lower, unknownRow, finishedTypes, isUnknown as itemUnknown}
+use Rattle.ir_lower.specs.Lower.{anyUnknown, rootOf, lower, unknownRow, finishedTypes}
 use Rattle.ir_lower.proofs.Laws.Refusals.{refusal, refused-exactly, unknownRow-least}
 use Rattle.names.specs.Names.{normalizeTypeName}
-use Rattle.ir_rows.specs.Lowered.{loweredAs, loweredRow, onlyCodes, isCodeEnum, rootRows, isUnknown, unknownPlace}
+use Rattle.ir_rows.specs.Lowered.{loweredAs, loweredRow, rootRows}
 use Rattle.ir_rows.specs.Types.{isSimple, isComplex, placesOf, typePlaces}
-use Rattle.ir_rows.proofs.Laws.Groups.{simple-heads, complex-heads, placesOf-group, rootRows-group, unknownPlace-group}
-
-unfoldable pub headFirst : List Row → Bool
-headFirst [] = true
-headFirst (r ∷ rs) = isHead (r .tag)
-
-pub headFirst-group : (rs more : List Row) → isGroup rs ≡ true → headFirst (rs ++ more) ≡ true
-unfolding headFirst isGroup
-headFirst-group [] more g = absurd (false≢true g)
-headFirst-group (r ∷ rs) more g = and-true-left _ _ g
-
-pub headFirst-items : (is : List Item) → headFirst (itemsRows is) ≡ true
-unfolding itemsRows headFirst
-headFirst-items [] = refl
-headFirst-items (i ∷ is) = headFirst-group (itemRows i) (itemsRows is) (group-item i)
-
--- ---- a code enum by its facets' rows
-
-head-no-code : {k : ℕ} → HeadTag k → (eqb k 4 ≡ false) × (between 5 11 k ≡ false)
-unfolding between
-head-no-code HeadTag.element = (refl, refl)
-head-no-code HeadTag.simple = (refl, refl)
-head-no-code HeadTag.sequence = (refl, refl)
-head-no-code HeadTag.choice = (refl, refl)
-head-no-code HeadTag.content = (refl, refl)
-head-no-code HeadTag.any = (refl, refl)
-head-no-code HeadTag.absent = (refl, refl)
-
-onlyCodes-more : (more : List Row) → headFirst more ≡ true → onlyCodes more ≡ true
-unfolding onlyCodes headFirst
-onlyCodes-more [] h = refl
-onlyCodes-more (r ∷ rs) h = let n = head-no-code (headTags (r .tag) h) in rw (n .0, n .1)
-
-onlyCodes-facets : (fs : List Facet) (more : List Row) → headFirst more ≡ true → onlyCodes (map facetRow fs ++ more) ≡ every isEnumeration fs
-unfolding onlyCodes every isEnumeration facetRow row between
-onlyCodes-facets [] more h = onlyCodes-more more h
-onlyCodes-facets (Facet.enumeration v ∷ fs) more h = onlyCodes-facets fs more h
-onlyCodes-facets (Facet.pattern v ∷ fs) more h = refl
-onlyCodes-facets (Facet.minLength n ∷ fs) more h = refl
-onlyCodes-facets (Facet.maxLength n ∷ fs) more h = refl
-onlyCodes-facets (Facet.minInclusive v ∷ fs) more h = refl
-onlyCodes-facets (Facet.maxInclusive v ∷ fs) more h = refl
-onlyCodes-facets (Facet.totalDigits n ∷ fs) more h = refl
-onlyCodes-facets (Facet.fractionDigits n ∷ fs) more h = refl
-
-isCodeEnum-more : (more : List Row) → headFirst more ≡ true → isCodeEnum more ≡ false
-unfolding isCodeEnum headFirst
-isCodeEnum-more [] h = refl
-isCodeEnum-more (r ∷ rs) h = rw (head-no-code (headTags (r .tag) h) .0)
-
-facet-code : (f : Facet) → eqb (facetRow f .tag) 4 ≡ isEnumeration f
-unfolding isEnumeration facetRow row
-facet-code (Facet.enumeration v) = refl
-facet-code (Facet.pattern v) = refl
-facet-code (Facet.minLength n) = refl
-facet-code (Facet.maxLength n) = refl
-facet-code (Facet.minInclusive v) = refl
-facet-code (Facet.maxInclusive v) = refl
-facet-code (Facet.totalDigits n) = refl
-facet-code (Facet.fractionDigits n) = refl
-
-pub isCodeEnum-facets : (fs : List Facet) (more : List Row) → headFirst more ≡ true → isCodeEnum (map facetRow fs ++ more) ≡ allEnums fs
-unfolding isCodeEnum allEnums isEmpty every
-isCodeEnum-facets [] more h = isCodeEnum-more more h
-isCodeEnum-facets (f ∷ fs) more h = rw (facet-code f, onlyCodes-facets fs more h)
+use Rattle.ir_rows.proofs.Laws.Groups.{simple-heads, complex-heads, placesOf-group, rootRows-group, refusedPlace-group}
 
 -- ---- how many types there are
 
@@ -168,56 +104,43 @@ typePlaces-finished k s = typePlaces-count k (s .items)
 
 -- ---- the first refused simple type
 
--- neither a code enum nor of a built-in base
-unknownBase-is : (t : SimpleType) → unknownBase t ≡ (not (allEnums (t .facets)) && isNone (mapBuiltin (t .base)))
-unfolding unknownBase lowerSimpleType lowerNewtype isNone
-unknownBase-is t =
-    elim (allEnums (t .facets))
-    as (λ b. isNone (if b then some (TypeDef.codeEnum (t .event) (normalizeTypeName (t .name)) (codes (t .facets))) else lowerNewtype t (mapBuiltin (t .base))) ≡ (not b && isNone (mapBuiltin (t .base))))
-    [ true ↦ refl | false ↦ elim (mapBuiltin (t .base)) as (λ o. isNone (lowerNewtype t o) ≡ isNone o) [ none ↦ refl | some r ↦ refl ] ]
-
--- the rows of a refused item
-simple-unknown : (t : SimpleType) (more : List Row) → headFirst more ≡ true → isUnknown (row 3 (t .name ∷ t .base ∷ []) 0 0 (t .event)) (map facetRow (t .facets) ++ more) ≡ unknownBase t
-unfolding isUnknown row text1
-simple-unknown t more h = rw (isCodeEnum-facets (t .facets) more h) (sym (unknownBase-is t))
-
-unknown-tag : (r : Row) (rs : List Row) → eqb (r .tag) 3 ≡ false → isUnknown r rs ≡ false
-unfolding isUnknown
+unknown-tag : (r : Row) (rs : List Row) → eqb (r .tag) 3 ≡ false → refusedRow r rs ≡ false
+unfolding refusedRow
 unknown-tag r rs e = rw e
 
-unknown-other : (k : ℕ) (rs more : List Row) → isGroup rs ≡ true → eqb (headTag rs) 3 ≡ false → unknownPlace k (rs ++ more) ≡ unknownPlace (k + length rs) more
+unknown-other : (k : ℕ) (rs more : List Row) → isGroup rs ≡ true → eqb (headTag rs) 3 ≡ false → refusedPlace k (rs ++ more) ≡ refusedPlace (k + length rs) more
 unfolding headTag isGroup
 unknown-other k [] more g e = absurd (false≢true g)
-unknown-other k (r ∷ cs) more g e = unknownPlace-group k r cs more g ∙ rw (unknown-tag r (cs ++ more) e)
+unknown-other k (r ∷ cs) more g e = refusedPlace-group k r cs more g ∙ rw (unknown-tag r (cs ++ more) e)
 
-pub unknownPlace-items : (k : ℕ) (is : List Item) → unknownPlace k (itemsRows is) ≡ unknownRow k is
-unfolding unknownPlace itemsRows unknownRow itemUnknown itemRows simpleTypeRows headTag row
-unknownPlace-items k [] = refl
-unknownPlace-items k (Item.element e ∷ is) = unknown-other k (itemRows (Item.element e)) (itemsRows is) (group-item (Item.element e)) refl ∙ unknownPlace-items _ is
-unknownPlace-items k (Item.simpleType t ∷ is) =
-    unknownPlace-group k (row 3 (t .name ∷ t .base ∷ []) 0 0 (t .event)) (map facetRow (t .facets)) (itemsRows is) (group-item (Item.simpleType t))
-    ∙ rw (simple-unknown t (itemsRows is) (headFirst-items is), unknownPlace-items (k + length (itemRows (Item.simpleType t))) is)
-unknownPlace-items k (Item.complexType t ∷ is) =
-    unknown-other k (itemRows (Item.complexType t)) (itemsRows is) (group-item (Item.complexType t)) (content-others (t .event) (t .name) (t .content) .1) ∙ unknownPlace-items _ is
+pub refusedPlace-items : (k : ℕ) (is : List Item) → refusedPlace k (itemsRows is) ≡ unknownRow k is
+unfolding refusedPlace itemsRows unknownRow refusedItem itemRows simpleTypeRows headTag row
+refusedPlace-items k [] = refl
+refusedPlace-items k (Item.element e ∷ is) = unknown-other k (itemRows (Item.element e)) (itemsRows is) (group-item (Item.element e)) refl ∙ refusedPlace-items _ is
+refusedPlace-items k (Item.simpleType t ∷ is) =
+    refusedPlace-group k (row 3 (t .name ∷ t .base ∷ []) 0 0 (t .event)) (map facetRow (t .facets)) (itemsRows is) (group-item (Item.simpleType t))
+    ∙ rw (simple-refused t (itemsRows is) (headFirst-items is), refusedPlace-items (k + length (itemRows (Item.simpleType t))) is)
+refusedPlace-items k (Item.complexType t ∷ is) =
+    unknown-other k (itemRows (Item.complexType t)) (itemsRows is) (group-item (Item.complexType t)) (content-others (t .event) (t .name) (t .content) .1) ∙ refusedPlace-items _ is
 
-unknown-some : (k : ℕ) (is : List Item) → 1 ≤ k → anyUnknown (simpleTypes is) ≡ true → 1 ≤ unknownPlace k (itemsRows is)
-unknown-some k is h e = rw (unknownPlace-items k is) (omega (arith, unknownRow-least k is e))
+unknown-some : (k : ℕ) (is : List Item) → 1 ≤ k → anyUnknown (simpleTypes is) ≡ true → 1 ≤ refusedPlace k (itemsRows is)
+unknown-some k is h e = rw (refusedPlace-items k is) (omega (arith, unknownRow-least k is e))
 
 unknown-none : (k : ℕ) (is : List Item) → anyUnknown (simpleTypes is) ≡ false → unknownRow k is ≡ 0
-unfolding anyUnknown simpleTypes unknownRow itemUnknown
+unfolding anyUnknown simpleTypes unknownRow refusedItem
 unknown-none k [] e = refl
 unknown-none k (Item.element x ∷ is) e = unknown-none _ is e
 unknown-none k (Item.simpleType t ∷ is) e =
-    rw (or-false-left (unknownBase t) (anyUnknown (simpleTypes is)) e) (unknown-none _ is (or-false-right (unknownBase t) (anyUnknown (simpleTypes is)) e))
+    rw (or-false-left (refusedBase t) (anyUnknown (simpleTypes is)) e) (unknown-none _ is (or-false-right (refusedBase t) (anyUnknown (simpleTypes is)) e))
 unknown-none k (Item.complexType t ∷ is) e = unknown-none _ is e
 
 -- lowering refuses exactly where the place is not 0
-pub unknownPlace-refused : (k : ℕ) (s : Schema) → 1 ≤ k → lower s ≡ none → 1 ≤ unknownPlace k (itemsRows (s .items))
-unknownPlace-refused k s h e = unknown-some k (s .items) h (refused-exactly s .0 e)
+pub refusedPlace-refused : (k : ℕ) (s : Schema) → 1 ≤ k → lower s ≡ none → 1 ≤ refusedPlace k (itemsRows (s .items))
+refusedPlace-refused k s h e = unknown-some k (s .items) h (refused-exactly s .0 e)
 
-pub unknownPlace-lowered : (k : ℕ) (s : Schema) (g : TypeGraph) → lower s ≡ some g → unknownPlace k (itemsRows (s .items)) ≡ 0
+pub refusedPlace-lowered : (k : ℕ) (s : Schema) (g : TypeGraph) → lower s ≡ some g → refusedPlace k (itemsRows (s .items)) ≡ 0
 unfolding isNone
-unknownPlace-lowered k s g e = unknownPlace-items k (s .items) ∙ unknown-none k (s .items) (sym (refusal s) ∙ ap isNone e)
+refusedPlace-lowered k s g e = refusedPlace-items k (s .items) ∙ unknown-none k (s .items) (sym (refusal s) ∙ ap isNone e)
 
 -- ---- the elements
 

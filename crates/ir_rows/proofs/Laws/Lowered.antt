@@ -18,23 +18,14 @@ use Rattle.sheet.specs.Rows.{Row, row, Ten, textAt, unpackRow}
 use Rattle.xsd_types.specs.Types.{MaxOccurs}
 use Rattle.xsd_types.specs.Good.{usedPairs, isHead}
 use Rattle.xsd_types.specs.Back.{text0, text1}
-use Rattle.ir_lower.specs.Lower.{isNone, lowerCardinality}
-use Rattle.ir_rows.specs.Lowered.{referenceTexts, valueRow, opaqueRow, fieldRow, simpleRow, codeRows, loweredAs, loweredRow, isCodeEnum, isUnknown}
+use Rattle.ir_lower.specs.Lower.{lowerCardinality}
+use Rattle.ir_rows.specs.Lowered.{referenceTexts, valueRow, opaqueRow, fieldRow, simpleRow, codeRows, loweredAs, loweredRow}
+use Rattle.xsd_types.proofs.Laws.Places.{text0-at, text1-at}
 
 -- two branches that are each equal to another, the first where the test passes
 pub if-same : {A : Type 0} (b : Bool) {x y p q : A} → (b ≡ true → x ≡ p) → y ≡ q → (if b then x else y) ≡ (if b then p else q)
 if-same true f e = f refl
 if-same false f e = e
-
--- the first and the second of three texts, where so many are taken
-pub first-taken : (n : ℕ) (x y z : Text) → 1 ≤ n → getD (take n (x ∷ y ∷ z ∷ [])) 0 [] ≡ x
-first-taken zero x y z h = absurd (omega arith)
-first-taken (suc n) x y z h = refl
-
-pub second-taken : (n : ℕ) (x y z : Text) → 2 ≤ n → getD (take n (x ∷ y ∷ z ∷ [])) 1 [] ≡ y
-second-taken zero x y z h = absurd (omega arith)
-second-taken (suc zero) x y z h = absurd (omega arith)
-second-taken (suc (suc n)) x y z h = refl
 
 -- two texts in place of two others: only those that a row of the tag and the a uses are looked at
 module _ (codeEnum : Bool) (tag a b c : ℕ) (p q x y : Text) (one : 1 ≤ usedPairs tag a → p ≡ x) (two : 2 ≤ usedPairs tag a → q ≡ y) where
@@ -76,42 +67,8 @@ module _ (codeEnum : Bool) (tag a b c : ℕ) (p q x y : Text) (one : 1 ≤ usedP
       (if-same (eqb tag 19) (λ e. both-at 19 (omega arith) (λ t u. row 10 (t ∷ t ∷ referenceTexts u) (reference (mapBuiltin u)) 0 0 ∷ []) e)
       (if-same (eqb tag 20) (λ e. both-at 20 (omega arith) (λ t u. row 19 (t ∷ xmlToSnakeCase t ∷ referenceTexts u) (reference (mapBuiltin u)) a 0 ∷ []) e) refl))))))))))))))))))
 
--- a head uses a pair, a simple type's two
-used-simple : (a : ℕ) → 2 ≤ usedPairs 3 a
-unfolding usedPairs between
-used-simple a = omega arith
-
-used-head : (tag a : ℕ) → isHead tag ≡ true → 1 ≤ usedPairs tag a
-unfolding isHead usedPairs between EachFrom
-used-head tag a h =
-    ⊎-elim (between-each (λ (n : ℕ). 1 ≤ usedPairs n a) 2 1 3 tag refl (omega arith))
-    (between-each (λ (n : ℕ). 1 ≤ usedPairs n a) 12 4 16 tag refl (omega arith))
-    (or-cases (between 2 3 tag) (between 12 16 tag) h)
-
 module _ (names : List ℕ) (t : Ten) where
-  -- a row of numbers that uses a pair has its text
-  pub text0-at : 1 ≤ usedPairs (t .tag) (t .a) → text0 (unpackRow usedPairs names t) ≡ textAt names (t .at0) (t .len0)
-  unfolding text0 unpackRow
-  text0-at h = first-taken (usedPairs (t .tag) (t .a)) (textAt names (t .at0) (t .len0)) (textAt names (t .at1) (t .len1)) (textAt names (t .at2) (t .len2)) h
-
-  pub text1-at : 2 ≤ usedPairs (t .tag) (t .a) → text1 (unpackRow usedPairs names t) ≡ textAt names (t .at1) (t .len1)
-  unfolding text1 unpackRow
-  text1-at h = second-taken (usedPairs (t .tag) (t .a)) (textAt names (t .at0) (t .len0)) (textAt names (t .at1) (t .len1)) (textAt names (t .at2) (t .len2)) h
-
   -- the graph's rows for a row of numbers
   pub lowered-at : (codeEnum : Bool) → loweredRow codeEnum (unpackRow usedPairs names t) ≡ loweredAs codeEnum (t .tag) (t .a) (t .b) (t .c) (textAt names (t .at0) (t .len0)) (textAt names (t .at1) (t .len1))
   unfolding loweredRow unpackRow
-  lowered-at codeEnum = loweredAs-same codeEnum (t .tag) (t .a) (t .b) (t .c) _ _ (textAt names (t .at0) (t .len0)) (textAt names (t .at1) (t .len1)) text0-at text1-at
-
-  -- a simple type that lowering refuses, by its second text
-  pub unknown-at : (rs : List Row) → isUnknown (unpackRow usedPairs names t) rs ≡ (eqb (t .tag) 3 && not (isCodeEnum rs) && isNone (mapBuiltin (textAt names (t .at1) (t .len1))))
-  unfolding isUnknown unpackRow
-  unknown-at rs =
-      ⊎-elim
-      (λ e. ap (λ (u : Text). eqb (t .tag) 3 && not (isCodeEnum rs) && isNone (mapBuiltin u)) (text1-at (rw (eqb-true (t .tag) 3 e) (used-simple (t .a)))))
-      (λ e. rw e)
-      (test-cases (eqb (t .tag) 3))
-
-  -- the name of a head
-  pub name-at : isHead (t .tag) ≡ true → text0 (unpackRow usedPairs names t) ≡ textAt names (t .at0) (t .len0)
-  name-at h = text0-at (used-head (t .tag) (t .a) h)
+  lowered-at codeEnum = loweredAs-same codeEnum (t .tag) (t .a) (t .b) (t .c) _ _ (textAt names (t .at0) (t .len0)) (textAt names (t .at1) (t .len1)) (text0-at names t) (text1-at names t)

@@ -17,14 +17,18 @@ use Rattle.xsd_types.proofs.Laws.Groups.{isGroup, asGroup}
 use Rattle.xsd_types.proofs.Laws.Items.{group-item}
 use Rattle.ir_types.specs.Types.{TypeDef, TypeGraph}
 use Rattle.ir_types.specs.Rows.{typeRows, typesRows as graphTypes}
-use Rattle.ir_lower.specs.Lower.{lowerSimpleType, isNone, unknownBase, lowerComplexType, anyUnknown, withDefinition, simpleDefinitions, finishedDefinitions, lower}
+use Rattle.xsd_types.specs.Refused.{isNone, refusedBase}
+use Rattle.xsd_types.proofs.Laws.Refused.{headFirst-items}
+use Rattle.ir_lower.proofs.Laws.Refusals.{refused-base}
+use Rattle.ir_lower.specs.Lower.{lowerSimpleType, lowerComplexType, anyUnknown, withDefinition, simpleDefinitions, finishedDefinitions, lower}
 use Rattle.ir_lower.specs.Repeated.{simpleHead, complexHead, headsOf, heads}
 use Rattle.ir_lower.proofs.Laws.Types.{lower-some, lower-types}
-use Rattle.ir_rows.specs.Places.{rowAt, rowsFrom, nameAt}
+use Rattle.xsd_types.specs.Places.{rowAt, rowsFrom}
+use Rattle.ir_rows.specs.Places.{nameAt}
 use Rattle.ir_rows.specs.Lowered.{typeRowsOf}
 use Rattle.ir_rows.specs.Types.{isSimple, isComplex, placesOf, typePlaces, finishedPlaces, headAt, headsAt, typesRows}
-use Rattle.ir_rows.proofs.Laws.Places.{rowAt-first, rowsFrom-behind}
-use Rattle.ir_rows.proofs.Laws.Items.{headFirst-items, simpleItem, complexItem, simple-places, complex-places}
+use Rattle.xsd_types.proofs.Laws.Places.{rowAt-first, rowsFrom-behind}
+use Rattle.ir_rows.proofs.Laws.Items.{simpleItem, complexItem, simple-places, complex-places}
 use Rattle.ir_rows.proofs.Laws.Definitions.{complex-rows, simple-rows, simple-head-name, complex-head-name}
 
 pub data Matched (rows names : List ℕ) (end : ℕ) : List ℕ → List TypeDef → Type 0 where
@@ -50,12 +54,12 @@ module _ (rows names : List ℕ) (end : ℕ) where
   -- ---- the places of a schema's types stand for their definitions
 
   -- a simple type that is not refused has a definition
-  matched-known : (k : ℕ) (t : SimpleType) (ps : List ℕ) (ds : List TypeDef) → ((d : TypeDef) → lowerSimpleType t ≡ some d → typeRowsOf (rowsFrom rows names k end) ≡ typeRows d) → unknownBase t ≡ false
+  matched-known : (k : ℕ) (t : SimpleType) (ps : List ℕ) (ds : List TypeDef) → ((d : TypeDef) → lowerSimpleType t ≡ some d → typeRowsOf (rowsFrom rows names k end) ≡ typeRows d) → refusedBase t ≡ false
       → Matched rows names end ps ds → Matched rows names end (k ∷ ps) (withDefinition (lowerSimpleType t) ds)
-  unfolding unknownBase isNone withDefinition
+  unfolding isNone withDefinition
   matched-known k t ps ds stands u m =
       (elim (lowerSimpleType t) as (λ o. lowerSimpleType t ≡ o → isNone o ≡ false → Matched rows names end (k ∷ ps) (withDefinition o ds))
-      [ none ↦ λ q w. absurd (true≢false w) | some d ↦ λ q w. both (stands d q) m ]) refl u
+      [ none ↦ λ q w. absurd (true≢false w) | some d ↦ λ q w. both (stands d q) m ]) refl (refused-base t ∙ u)
 
   simple-matched : (k : ℕ) (is : List Item) → rowsFrom rows names k end ≡ itemsRows is → anyUnknown (simpleTypes is) ≡ false → Matched rows names end (placesOf isSimple k (itemsRows is)) (simpleDefinitions (simpleTypes is))
   unfolding itemsRows simpleTypes simpleItem placesOf anyUnknown simpleDefinitions
@@ -63,9 +67,9 @@ module _ (rows names : List ℕ) (end : ℕ) where
   simple-matched k (Item.element x ∷ is) e u =
       rw (simple-places k (Item.element x) (itemsRows is)) (simple-matched _ is (rowsFrom-behind rows names k end (itemRows (Item.element x)) (itemsRows is) e) u)
   simple-matched k (Item.simpleType t ∷ is) e u =
-      let rest = simple-matched _ is (rowsFrom-behind rows names k end (itemRows (Item.simpleType t)) (itemsRows is) e) (or-false-right (unknownBase t) (anyUnknown (simpleTypes is)) u) in
+      let rest = simple-matched _ is (rowsFrom-behind rows names k end (itemRows (Item.simpleType t)) (itemsRows is) e) (or-false-right (refusedBase t) (anyUnknown (simpleTypes is)) u) in
       rw (simple-places k (Item.simpleType t) (itemsRows is))
-      (matched-known k t _ _ (λ d q. ap typeRowsOf e ∙ simple-rows t (itemsRows is) (headFirst-items is) d q) (or-false-left (unknownBase t) (anyUnknown (simpleTypes is)) u) rest)
+      (matched-known k t _ _ (λ d q. ap typeRowsOf e ∙ simple-rows t (itemsRows is) (headFirst-items is) d q) (or-false-left (refusedBase t) (anyUnknown (simpleTypes is)) u) rest)
   simple-matched k (Item.complexType t ∷ is) e u =
       rw (simple-places k (Item.complexType t) (itemsRows is)) (simple-matched _ is (rowsFrom-behind rows names k end (itemRows (Item.complexType t)) (itemsRows is) e) u)
 

@@ -3,7 +3,7 @@ use Prim.Native.Nat.{ℕ}
 use mathlib.Core.Path.{_≡_}
 use mathlib.Core.List.{List, [], _++_}
 use Rattle.sheet.specs.Rows.{Row}
-use Rattle.xsd_rows.specs.declared.numbers.Used.{Used}
+use Rattle.rows.specs.declared.numbers.Used.{Used}
 use Rattle.ir_append.specs.declared.Grown.{Grown}
 use Rattle.ir_append.specs.Grows.{Room, GrownTo, Short}
 use Rattle.ir_append.proofs.Laws.Grows.{grows-none, room-after, grows-then, short-more}

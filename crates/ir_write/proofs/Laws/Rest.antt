@@ -8,11 +8,12 @@ use lib.ListN.{getD}
 use Rattle.text.specs.Text.{if_then_else_}
 use Rattle.sheet.specs.Rows.{Row}
 use Rattle.xsd_types.specs.Good.{isHead}
-use Rattle.ir_rows.specs.Places.{rowAt, rowsFrom}
-use Rattle.ir_rows.specs.Lowered.{loweredRow, childRows, typeRowsOf, rootRows, isCodeEnum}
+use Rattle.xsd_types.specs.Places.{rowAt, rowsFrom}
+use Rattle.xsd_types.specs.Refused.{isCodeEnum}
+use Rattle.ir_rows.specs.Lowered.{loweredRow, childRows, typeRowsOf, rootRows}
 use Rattle.ir_rows.specs.Types.{typesRows, graphRows}
 use Rattle.text.proofs.Laws.Tests.{if-cases}
-use Rattle.ir_rows.proofs.Laws.Places.{rowAt-tag, rowsFrom-cons, rowsFrom-end}
+use Rattle.xsd_types.proofs.Laws.Places.{rowAt-tag, rowsFrom-cons, rowsFrom-end}
 
 -- an element, or no element, and those behind it
 roots-one : (r : Row) (rs : List Row) → rootRows (r ∷ rs) ≡ rootRows (r ∷ []) ++ rootRows rs

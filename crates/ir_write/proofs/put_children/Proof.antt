@@ -1,11 +1,12 @@
 -- `ir_write::put_children` meets its contract. The invariant: the children from the first place on are added where those from the place at hand on are (`Onward`). Assumes nothing.
 use Prim.Native.Nat.{_+_, _-_}
-use mathlib.Core.Path.{_≡_, refl, sym, _∙_}
+use mathlib.Core.Path.{_≡_, refl, sym, ap, _∙_}
 use mathlib.Core.List.{_++_}
 use lib.ListN.{length}
 use borrow.Author.Needs.{needs}
 use Rattle.ir_append.proofs.Laws.Grows.{grown-of, short-of}
-use Rattle.ir_rows.specs.Places.{rowAt, rowsFrom}
+use Rattle.xsd_types.specs.Good.{isHead}
+use Rattle.xsd_types.specs.Places.{rowAt, rowsFrom}
 use Rattle.ir_rows.specs.Lowered.{loweredRow, childRows}
 use Rattle.ir_write.specs.Onward.{Onward}
 use Rattle.ir_write.proofs.Laws.Onward.{onward-start, onward-step, onward-end, onward-full}
@@ -23,14 +24,8 @@ abbrev μ-loop : tie.MeasureT-loop
 loop-holds : tie.Need-loop-holds Inv-loop μ-loop
 loop-holds c = (onward-start _ (c .before .before .before .before .pre .0), refl, refl)
 
-mul-is-head : tie.Need-mul-is-head Inv-loop μ-loop
-mul-is-head c = search needs
-
-mul-is-head-2 : tie.Need-mul-is-head-2 Inv-loop μ-loop
-mul-is-head-2 c = search needs
-
-shared-slice-read-is-head : tie.Need-shared-slice-read-is-head Inv-loop μ-loop
-shared-slice-read-is-head c = search needs
+row-tag-requires : tie.Need-row-tag-requires Inv-loop μ-loop
+row-tag-requires c κs = search needs
 
 is-head-requires : tie.Need-is-head-requires Inv-loop μ-loop
 is-head-requires c κs = search needs
@@ -45,7 +40,7 @@ returns : tie.Need-returns Inv-loop μ-loop
 returns c =
     let at = c .before .before .before .before .before in
     let a = at .before .before .before .before .before .args in
-    onward-end (at .loop .inv .0) (children-head (a .rows .now) (a .names .now) (a .children .«code_enum») (at .loop .place) (a .children .end) (c .before .before .before .if1 .taken) (sym (c .before .is-head .ensures) ∙ c .if2 .taken))
+    onward-end (at .loop .inv .0) (children-head (a .rows .now) (a .names .now) (a .children .«code_enum») (at .loop .place) (a .children .end) (c .before .before .before .if1 .taken) (sym (c .before .is-head .ensures ∙ ap isHead (c .before .before .row-tag .ensures)) ∙ c .if2 .taken))
 
 put-lowered-requires : tie.Need-put-lowered-requires Inv-loop μ-loop
 put-lowered-requires c κs =
@@ -70,7 +65,7 @@ on : (c : tie.Else2 Inv-loop μ-loop) → let at = c .before .before .before .be
 on c =
     let at = c .before .before .before .before .before in
     let a = at .before .before .before .before .before .args in
-    children-on (a .rows .now) (a .names .now) (a .children .«code_enum») (at .loop .place) (a .children .end) (c .before .before .before .if1 .taken) (sym (c .before .is-head .ensures) ∙ c .if2 .left)
+    children-on (a .rows .now) (a .names .now) (a .children .«code_enum») (at .loop .place) (a .children .end) (c .before .before .before .if1 .taken) (sym (c .before .is-head .ensures ∙ ap isHead (c .before .before .row-tag .ensures)) ∙ c .if2 .left)
 
 returns-2 : tie.Need-returns-2 Inv-loop μ-loop
 returns-2 c =
@@ -118,9 +113,7 @@ put-children-spec =
     Inv-loop
     μ-loop
     loop-holds
-    mul-is-head
-    mul-is-head-2
-    shared-slice-read-is-head
+    row-tag-requires
     is-head-requires
     same-length
     same-length-2

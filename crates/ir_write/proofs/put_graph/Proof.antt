@@ -4,7 +4,7 @@ use mathlib.Core.Bool.{false}
 use mathlib.Core.List.{_++_}
 use borrow.Author.Needs.{needs}
 use Rattle.ir_append.proofs.Laws.Grows.{room-after, grown-of, short-of}
-use Rattle.ir_rows.specs.Places.{rowAt, rowsFrom}
+use Rattle.xsd_types.specs.Places.{rowAt, rowsFrom}
 use Rattle.ir_rows.specs.Lowered.{loweredRow, rootRows}
 use Rattle.ir_rows.specs.Types.{typesRows, entryPlaces}
 use Rattle.ir_write.proofs.Laws.Onward.{onward-start, onward-step, onward-full}

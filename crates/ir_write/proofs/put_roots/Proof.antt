@@ -6,7 +6,7 @@ use mathlib.Core.List.{[], _∷_}
 use lib.ListN.{length}
 use borrow.Author.Needs.{needs}
 use Rattle.ir_append.proofs.Laws.Grows.{grown-of, short-of}
-use Rattle.ir_rows.specs.Places.{rowAt, rowsFrom}
+use Rattle.xsd_types.specs.Places.{rowAt, rowsFrom}
 use Rattle.ir_rows.specs.Lowered.{rootRows}
 use Rattle.ir_write.specs.Onward.{Onward}
 use Rattle.ir_write.proofs.Laws.Onward.{onward-start, onward-step, onward-end, onward-full}

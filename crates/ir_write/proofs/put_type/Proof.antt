@@ -2,7 +2,7 @@
 use Prim.Native.Nat.{_+_, _-_}
 use borrow.Author.Needs.{needs}
 use Rattle.ir_append.proofs.Laws.Grows.{room-after, grown-of, short-of}
-use Rattle.ir_rows.specs.Places.{rowAt, rowsFrom}
+use Rattle.xsd_types.specs.Places.{rowAt, rowsFrom}
 use Rattle.ir_rows.specs.Lowered.{loweredRow, childRows}
 use Rattle.ir_write.proofs.Laws.Onward.{onward-start, onward-step, onward-full}
 use Rattle.ir_write.proofs.Laws.Rest.{type-on}

@@ -10,7 +10,7 @@ use borrow.Author.Needs.{needs}
 use Rattle.text.proofs.Laws.Tests.{two}
 use Rattle.ir_rows.specs.Lowered.{typeRowsOf}
 use Rattle.ir_append.proofs.Laws.Grows.{grown-of, short-of}
-use Rattle.ir_rows.specs.Places.{rowsFrom}
+use Rattle.xsd_types.specs.Places.{rowsFrom}
 use Rattle.text.specs.Text.{every}
 use Rattle.ir_rows.specs.Types.{typesRows, entryPlaces}
 use Rattle.ir_rows.proofs.Laws.Entries.{entries-on, entries-end}

@@ -13,7 +13,7 @@ use Rattle.xsd_types.specs.Clear.{Cleared, ClearIs}
 use Rattle.xsd_parser.specs.Read.{ReadIs}
 use Rattle.ir_lower.specs.Call.{Lowered, LowerIs}
 use Rattle.runs.specs.Runs.{Answered, Ran, run}
-use Rattle.xsd_progress.proofs.Laws.Words.{words-each}
+use Rattle.rows.proofs.Laws.Words.{words-each}
 use Rattle.runs.specs.Trace.{Trace}
 use Rattle.runs.proofs.Runs.{runs}
 use Rattle.printing.specs.Work.{workCalls, readAnswered, WorkIs}

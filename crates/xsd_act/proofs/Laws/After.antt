@@ -8,10 +8,10 @@ use lib.ListN.{length, length-append}
 use Rattle.text.specs.Text.{Text, join}
 use Rattle.sheet.specs.Rows.{Row, row, namesOf}
 use Rattle.xsd_types.specs.Rows.{namespaceRow}
-use Rattle.xsd_rows.specs.declared.numbers.Used.{Used}
+use Rattle.rows.specs.declared.numbers.Used.{Used}
 use Rattle.xsd_replace.specs.Spots.{Spot, spotRow, spotRows, TextAt}
 use Rattle.xsd_actions.specs.Actions.{Action, namespaceAfter, rowsAfter, firstText, headWith, baseWith, NamedHead, BasedHead}
-use Rattle.xsd_rows.proofs.Laws.Write.{names-one, length-more}
+use Rattle.rows.proofs.Laws.Write.{names-one, length-more}
 use Rattle.xsd_replace.proofs.Laws.Spot.{spot-bytes}
 use Rattle.xsd_act.specs.Ready.{rowsAfterAll}
 use Rattle.xsd_act.specs.Needs.{Counted}

@@ -5,7 +5,7 @@ use mathlib.Core.Bool.{Bool, true, false}
 use mathlib.Core.List.{List, [], _∷_}
 use native.Mathlib.Omega.{arith}
 use Rattle.text.specs.Text.{Text, if_then_else_}
-use Rattle.xsd_rows.specs.Texts.{usedTexts, usedLength}
+use Rattle.rows.specs.Texts.{usedTexts, usedLength}
 use Rattle.xsd_actions.specs.declared.NewContent.{NewContent}
 use Rattle.xsd_actions.specs.Answers.{textAtMark, following}
 use Rattle.xsd_act.specs.Contents.{contentPairs}

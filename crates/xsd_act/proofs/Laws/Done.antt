@@ -7,11 +7,11 @@ use Rattle.text.specs.Text.{Text}
 use Rattle.sheet.specs.Rows.{Row, row}
 use Rattle.xsd_types.specs.Rows.{namespaceRow}
 use Rattle.xsd_parser.specs.Handlers.{ok}
-use Rattle.xsd_rows.specs.declared.numbers.Used.{Used}
-use Rattle.xsd_rows.specs.declared.numbers.RowNumbers.{RowNumbers}
-use Rattle.xsd_rows.specs.Texts.{usedTexts}
-use Rattle.xsd_rows.specs.Packing.{Holds, rowOf}
-use Rattle.xsd_rows.specs.Append.{Appended}
+use Rattle.rows.specs.declared.numbers.Used.{Used}
+use Rattle.rows.specs.declared.numbers.RowNumbers.{RowNumbers}
+use Rattle.rows.specs.Texts.{usedTexts}
+use Rattle.rows.specs.Packing.{Holds, rowOf}
+use Rattle.rows.specs.Append.{Appended}
 use Rattle.xsd_replace.specs.Head.{HeadReplaced}
 use Rattle.xsd_replace.specs.Spots.{TextReplaced}
 use Rattle.xsd_actions.specs.Actions.{Action, namespaceAfter, rowsAfter, Fitting}

@@ -8,7 +8,7 @@ use Rattle.text.specs.Text.{Text, join}
 use Rattle.sheet.specs.Rows.{Row, row, namesOf}
 use Rattle.xsd_types.specs.Rows.{namespaceRow}
 use Rattle.xsd_parser.specs.Handlers.{ok, refuse}
-use Rattle.xsd_rows.specs.declared.numbers.Used.{Used}
+use Rattle.rows.specs.declared.numbers.Used.{Used}
 use Rattle.xsd_actions.specs.Actions.{Action, namespaceAfter, rowsAfter, Fitting}
 use Rattle.xsd_act.specs.Ready.{Ready, rowsAfterAll}
 use Rattle.xsd_act.specs.Needs.{Counted, RowNeeded, HeadNeeded, TextNeeded, Needed}

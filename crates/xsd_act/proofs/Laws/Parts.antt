@@ -10,8 +10,8 @@ use lib.Seq.{take-nil}
 use Rattle.text.specs.Text.{Text, join}
 use Rattle.sheet.specs.Rows.{row}
 use Rattle.xsd_parser.specs.Tape.{Pair, pairText}
-use Rattle.xsd_rows.specs.Texts.{usedTexts, usedLength}
-use Rattle.xsd_rows.proofs.Laws.Texts.{used-bytes}
+use Rattle.rows.specs.Texts.{usedTexts, usedLength}
+use Rattle.rows.proofs.Laws.Texts.{used-bytes}
 use Rattle.xsd_actions.specs.declared.NewRow.{NewRow}
 use Rattle.xsd_actions.specs.declared.NewContent.{NewContent}
 use Rattle.xsd_actions.specs.Actions.{openSimpleRow, openComplexRow}

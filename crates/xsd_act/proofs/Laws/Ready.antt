@@ -8,8 +8,8 @@ use lib.ListN.{getD}
 use Rattle.text.specs.Text.{Text}
 use Rattle.sheet.specs.Rows.{Row}
 use Rattle.xsd_types.specs.Rows.{namespaceA, namespaceRow}
-use Rattle.xsd_rows.specs.declared.numbers.Used.{Used}
-use Rattle.xsd_rows.specs.Packing.{Holds}
+use Rattle.rows.specs.declared.numbers.Used.{Used}
+use Rattle.rows.specs.Packing.{Holds}
 use Rattle.xsd_replace.specs.Offsets.{RightPairs}
 use Rattle.xsd_replace.specs.Head.{HeadAt}
 use Rattle.xsd_replace.proofs.Laws.Head.{head-last}

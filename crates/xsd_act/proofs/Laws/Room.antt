@@ -10,10 +10,10 @@ use Rattle.sheet.specs.Rows.{Row, row, namesOf}
 use Rattle.sheet.specs.Lengths.{fits}
 use Rattle.xsd_types.specs.Rows.{namespaceRow}
 use Rattle.xsd_parser.specs.Handlers.{Outcome, ok}
-use Rattle.xsd_rows.specs.declared.numbers.Used.{Used}
-use Rattle.xsd_rows.proofs.Laws.Room.{fits-room}
-use Rattle.xsd_rows.specs.Texts.{usedTexts, usedLength}
-use Rattle.xsd_rows.proofs.Laws.Texts.{used-bytes}
+use Rattle.rows.specs.declared.numbers.Used.{Used}
+use Rattle.rows.proofs.Laws.Room.{fits-room}
+use Rattle.rows.specs.Texts.{usedTexts, usedLength}
+use Rattle.rows.proofs.Laws.Texts.{used-bytes}
 use Rattle.xsd_replace.specs.Head.{HeadRoom}
 use Rattle.xsd_replace.specs.Spots.{TextRoom}
 use Rattle.xsd_actions.specs.Actions.{Action, NamedHead, BasedHead, Fitting}

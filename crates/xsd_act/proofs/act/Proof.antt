@@ -7,7 +7,7 @@ use native.Mathlib.Omega.{arith}
 use Rattle.text.specs.Text.{join}
 use Rattle.sheet.specs.Rows.{row}
 use Rattle.xsd_parser.specs.Handlers.{ok}
-use Rattle.xsd_rows.specs.declared.numbers.Used.{Used}
+use Rattle.rows.specs.declared.numbers.Used.{Used}
 use Rattle.xsd_actions.specs.declared.Decision.{Decision}
 use Rattle.xsd_actions.specs.Actions.{Action, namespaceAfter, rowsAfter, openSimpleRow, openComplexRow, Fitting}
 use Rattle.xsd_actions.specs.Answers.{decision}

@@ -19,7 +19,7 @@ use Rattle.xsd_types.specs.State.{eventNumberOk}
 use Rattle.xsd_good.specs.declared.scan.Scan.{Scan}
 use Rattle.xsd_good.specs.Scan.{failed, firstPasses, firstRow, nextPasses, nextRow, scanned, scannedSheet}
 use Rattle.text.proofs.Laws.Table.{part-from}
-use Rattle.xsd_good.proofs.Laws.Rows.{tens-none, tens-more, tens-two}
+use Rattle.rows.proofs.Laws.Tens.{tens-none, tens-more, tens-two}
 
 abbrev pub tags : List Ten → List ℕ
 tags ts = map (λ (t : Ten). t .tag) ts

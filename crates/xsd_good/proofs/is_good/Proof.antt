@@ -2,7 +2,7 @@
 -- do not lie inside the buffers, `good` fails too. Assumes nothing.
 use Prim.Native.Nat.{_*_, _≤_}
 use mathlib.Core.Bool.{true}
-use mathlib.Core.Path.{_≡_, sym, _∙_}
+use mathlib.Core.Path.{_≡_, refl, sym, _∙_}
 use lib.ListN.{length}
 use borrow.Author.Tests.{not-true, not-false}
 use borrow.Author.Needs.{needs}
@@ -33,7 +33,7 @@ inside p =
 
 scan-sheet-requires : tie.Need-scan-sheet-requires
 scan-sheet-requires c κs =
-    let h = inside (c .before) in
+    let h = inside (c .before .before) in
     (h .0, h .1)
 
 zeros-behind-requires : tie.Need-zeros-behind-requires
@@ -53,11 +53,11 @@ returns-3 : tie.Need-returns-3
 returns-3 c =
     let d = c .before in
     let r = d .before .before .before .before .before in
-    let q = r .before .before .before .before .before in
-    let p = q .before .before .before in
+    let q = r .before .before .before .before in
+    let p = q .before .before .before .before in
     let a = p .before .before .before .before .before .before .args in
     let z = asRow0 (p .before .before .row0-at .result) in
-    good-tests (a .rows .now) (a .names .now) z (q .before .scan-sheet .result) (q .row0-form .ensures) (r .before .before .before .wide .ensures) (r .before .zeros-behind .ensures) (r .names-test .ensures) (d .before .before .before .before .limits .ensures) (d .before .before .before .root-test .ensures) (d .before .before .nesting-test .ensures) (d .before .context-test .ensures) (d .extension-test .ensures) (c .events-test .ensures) (p .before .before .row0-at .ensures) (fits p) (q .before .scan-sheet .ensures)
+    good-tests (a .rows .now) (a .names .now) z (q .before .scan-sheet .result) (q .row0-form .ensures) refl (r .before .zeros-behind .ensures) (r .names-test .ensures) (d .before .before .before .before .limits .ensures) (d .before .before .before .root-test .ensures) (d .before .before .nesting-test .ensures) (d .before .context-test .ensures) (d .extension-test .ensures) (c .events-test .ensures) (p .before .before .row0-at .ensures) (fits p) (q .before .scan-sheet .ensures)
 
 pub is-good-spec : {M : Type 1} → statement M
 is-good-spec =
@@ -68,8 +68,8 @@ is-good-spec =
     (λ c κs. search needs)
     returns-2
     (λ c. search needs)
+    (λ c. search needs)
     scan-sheet-requires
-    (λ c κs. search needs)
     (λ c κs. search needs)
     zeros-behind-requires
     names-test-requires

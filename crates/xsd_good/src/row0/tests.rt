@@ -1,6 +1,8 @@
 // The tests of row 0: "A sheet is good if".
-use crate::forms::row;
 use crate::row0::Row0;
+use rows::form::in_range;
+use rows::form::is_flag;
+use rows::numbers::wide;
 use sheet::limits;
 use xsd_types::contexts;
 use xsd_types::tags;
@@ -22,9 +24,9 @@ pub fn row0_form(z: Row0) -> bool
 {
     (z.first == 0)
         & (z.context <= contexts::COMPLEX_TYPE)
-        & row::is_flag(z.root_seen)
-        & row::is_flag(z.extension)
-        & row::is_flag(z.choice)
+        & is_flag(z.root_seen)
+        & is_flag(z.extension)
+        & is_flag(z.choice)
 }
 
 pub fn limits(z: Row0) -> bool
@@ -43,7 +45,7 @@ pub fn nesting_test(z: Row0) -> bool
     ensures { λ r. ⌜ r ≡ nestingTest (asRow0 z) ⌝ }
 {
     if contexts::SIMPLE_TYPE <= z.context {
-        row::wide(z.nesting) + 2 <= row::wide(z.open_tags)
+        wide(z.nesting) + 2 <= wide(z.open_tags)
     } else if z.context == contexts::SCHEMA {
         ((z.choice == 1) | (z.nesting == 0)) & (z.nesting < z.open_tags)
     } else {
@@ -57,7 +59,7 @@ pub fn context_test(context: u32, head: u32) -> bool
     if context == contexts::SIMPLE_TYPE {
         head == tags::SIMPLE_TYPE
     } else if context == contexts::COMPLEX_TYPE {
-        row::in_range(tags::SEQUENCE, tags::NO_CONTENT, head)
+        in_range(tags::SEQUENCE, tags::NO_CONTENT, head)
     } else {
         head != tags::NO_CONTENT
     }

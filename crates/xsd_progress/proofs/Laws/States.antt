@@ -8,7 +8,7 @@ use Rattle.xsd_types.specs.State.{State}
 use Rattle.xsd_types.specs.Rows.{extensionFlag, row0, rowsUsed, namesUsed, nesting}
 use Rattle.xsd_types.proofs.Laws.Rows.{bit-again}
 use Rattle.xsd_types.proofs.Laws.Made.{flag-context}
-use Rattle.xsd_rows.proofs.Laws.Middle.{rows-fit, names-fit}
+use Rattle.rows.proofs.Laws.Middle.{rows-fit, names-fit}
 use Rattle.xsd_actions.specs.declared.Mode.{Mode}
 use Rattle.xsd_actions.specs.Actions.{modeOf}
 use Rattle.xsd_progress.specs.declared.Progress.{Progress}

@@ -7,7 +7,7 @@ use Rattle.xsd_types.specs.Row0.{Row0, row0From}
 use Rattle.xsd_good.specs.Row0.{asRow0}
 use Rattle.xsd_good.specs.Heads.{headRow}
 use Rattle.xsd_progress.specs.Progress.{progressOf, progressIn}
-use Rattle.xsd_progress.proofs.Laws.Words.{words-each}
+use Rattle.rows.proofs.Laws.Words.{words-each}
 use borrow.Author.Needs.{needs}
 use Rattle.xsd_progress.proofs.progress_of.Statement.{statement}
 use Rattle.xsd_progress.proofs.progress_of.Tie as tie

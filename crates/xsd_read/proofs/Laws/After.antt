@@ -19,8 +19,8 @@ use Rattle.xsd_types.specs.Sheet.{stateFits}
 use Rattle.xsd_parser.specs.Event.{Event}
 use Rattle.xsd_parser.specs.Handlers.{ok, refuse}
 use Rattle.xsd_parser.specs.Step.{counted, roomFor}
-use Rattle.xsd_rows.specs.declared.numbers.Used.{Used}
-use Rattle.xsd_rows.specs.Packing.{Holds}
+use Rattle.rows.specs.declared.numbers.Used.{Used}
+use Rattle.rows.specs.Packing.{Holds}
 use Rattle.xsd_actions.specs.declared.Decision.{Decision}
 use Rattle.xsd_actions.specs.declared.Mode.{Mode}
 use Rattle.xsd_actions.specs.Actions.{Action, Acted, modeOf, modeAfter, behind}

@@ -14,8 +14,8 @@ use Rattle.xsd_types.specs.Row0.{Row0, row0Ten}
 use Rattle.xsd_types.specs.Rows.{rowsOf}
 use Rattle.xsd_types.specs.Sheet.{sheetOf}
 use Rattle.xsd_types.specs.Back.{stateOf}
-use Rattle.xsd_rows.specs.Packing.{Row0Put}
-use Rattle.xsd_rows.proofs.Laws.Sheet.{packs-sheet}
+use Rattle.rows.specs.Packing.{Row0Put}
+use Rattle.rows.proofs.Laws.Sheet.{packs-sheet}
 use Rattle.xsd_parser.specs.Read.{readState, sheetOfReading}
 use Rattle.xsd_progress.specs.declared.Progress.{Progress}
 use Rattle.xsd_progress.specs.Progress.{progressIn, progressRow0, row0Numbers, At, lentTo, Standing}

@@ -1,6 +1,6 @@
 -- `xsd_read::read_good` meets its contract: the records are read from where the sheet stands, and row 0 is that of where the reading ends. Assumes nothing.
 use native.Mathlib.Omega.{arith}
-use Rattle.xsd_progress.proofs.Laws.Row0.{good-used}
+use Rattle.xsd_good.proofs.Laws.Held.{good-used}
 use Rattle.xsd_read.proofs.Laws.Good.{standing-first, reached-small, good-read}
 use borrow.Author.Needs.{needs}
 use Rattle.xsd_read.proofs.read_good.Statement.{statement}

@@ -8,18 +8,18 @@ use lib.ListN.{length, getD, length-append}
 use lib.Seq.{paste}
 use Rattle.text.specs.Text.{Text, join}
 use Rattle.sheet.specs.Rows.{Row, row, numbers, packRow, pack, pairs, namesOf, filled}
-use Rattle.xsd_rows.specs.declared.numbers.Used.{Used}
-use Rattle.xsd_rows.specs.declared.numbers.RowNumbers.{RowNumbers}
-use Rattle.xsd_rows.specs.Texts.{usedTexts, usedLength}
-use Rattle.xsd_rows.specs.Packing.{Holds, rowOf, numbersOf}
+use Rattle.rows.specs.declared.numbers.Used.{Used}
+use Rattle.rows.specs.declared.numbers.RowNumbers.{RowNumbers}
+use Rattle.rows.specs.Texts.{usedTexts, usedLength}
+use Rattle.rows.specs.Packing.{Holds, rowOf, numbersOf}
 use Rattle.xsd_replace.specs.Head.{HeadAt}
 use Rattle.buffer.proofs.Laws.Buffer.{zeros, filled-cut, filled-append}
 use Rattle.sheet.proofs.Laws.Numbers.{length-numbers}
 use Rattle.sheet.proofs.Laws.Packs.{length-pack, namesOf-append}
-use Rattle.xsd_rows.proofs.Laws.Texts.{used-bytes, join-rest}
-use Rattle.xsd_rows.proofs.Laws.Pack.{used-append, used-length}
-use Rattle.xsd_rows.proofs.Laws.Write.{length-more, names-one, rows-more, packs-of}
-use Rattle.xsd_rows.proofs.Laws.Middle.{number-at, rows-fit, names-fit}
+use Rattle.rows.proofs.Laws.Texts.{used-bytes, join-rest}
+use Rattle.rows.proofs.Laws.Pack.{used-append, used-length}
+use Rattle.rows.proofs.Laws.Write.{length-more, names-one, rows-more, packs-of}
+use Rattle.rows.proofs.Laws.Middle.{number-at, rows-fit, names-fit}
 
 -- the first pair of a row that uses one
 pub first-at : (k tag : ℕ) (name : Text) (more : List Text) (a b c : ℕ) → getD (numbersOf k (row tag (name ∷ more) a b c)) 1 0 ≡ k

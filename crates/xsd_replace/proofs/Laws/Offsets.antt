@@ -10,15 +10,15 @@ use lib.Seq.{paste}
 use Rattle.text.specs.Text.{Text, join}
 use Rattle.sheet.specs.Rows.{Ten, Row, row, numbers, pack, namesOf}
 use Rattle.xsd_types.specs.Good.{usedPairs}
-use Rattle.xsd_rows.specs.Numbers.{numbersAt}
-use Rattle.xsd_rows.specs.declared.numbers.RowNumbers.{RowNumbers}
-use Rattle.xsd_rows.specs.Texts.{usedTexts, usedLength}
-use Rattle.xsd_rows.specs.Packing.{rowOf, numbersOf}
+use Rattle.rows.specs.Numbers.{numbersAt}
+use Rattle.rows.specs.declared.numbers.RowNumbers.{RowNumbers}
+use Rattle.rows.specs.Texts.{usedTexts, usedLength}
+use Rattle.rows.specs.Packing.{rowOf, numbersOf}
 use Rattle.xsd_replace.specs.Offsets.{LikeRow, Like, Offsets}
 use Rattle.buffer.proofs.Laws.Buffer.{paste-at}
-use Rattle.xsd_rows.proofs.Laws.Texts.{used-bytes}
-use Rattle.xsd_rows.proofs.Laws.Write.{length-numbersOf}
-use Rattle.xsd_rows.proofs.Laws.Middle.{getD-middle, pack-first}
+use Rattle.rows.proofs.Laws.Texts.{used-bytes}
+use Rattle.rows.proofs.Laws.Write.{length-numbersOf}
+use Rattle.rows.proofs.Laws.Middle.{getD-middle, pack-first}
 
 -- the first of the rows whose offsets are still to be set
 pub record First (rows : List ℕ) (i end at : ℕ) (goal : List ℕ) (total : ℕ) : Type 0 where

@@ -9,15 +9,15 @@ use lib.ListN.{length, getD, set, length-append}
 use lib.Seq.{set-append-left}
 use Rattle.text.specs.Text.{Text, join}
 use Rattle.sheet.specs.Rows.{Row, row, ten, numbers, packRow, pack, pairs, namesOf, filled}
-use Rattle.xsd_rows.specs.declared.numbers.Used.{Used}
-use Rattle.xsd_rows.specs.Packing.{Holds, numbersOf}
+use Rattle.rows.specs.declared.numbers.Used.{Used}
+use Rattle.rows.specs.Packing.{Holds, numbersOf}
 use Rattle.xsd_replace.specs.Offsets.{RightPairs, LikeRow, Like, Offsets}
 use Rattle.xsd_replace.specs.Spots.{Paired, Spot, spotRow, spotRows, TextAt}
 use Rattle.buffer.proofs.Laws.Buffer.{zeros}
 use Rattle.sheet.proofs.Laws.Packs.{namesOf-append}
-use Rattle.xsd_rows.proofs.Laws.Pack.{used-length}
-use Rattle.xsd_rows.proofs.Laws.Write.{length-numbersOf, packs-of}
-use Rattle.xsd_rows.proofs.Laws.Middle.{number-at, filled-around, pack-first, rows-fit, names-fit}
+use Rattle.rows.proofs.Laws.Pack.{used-length}
+use Rattle.rows.proofs.Laws.Write.{length-numbersOf, packs-of}
+use Rattle.rows.proofs.Laws.Middle.{number-at, filled-around, pack-first, rows-fit, names-fit}
 
 -- a store behind the first part of a list, and one in its middle
 pub set-behind : (p x : List ℕ) (i v : ℕ) → set (p ++ x) (length p + i) v ≡ p ++ set x i v

@@ -1,7 +1,7 @@
 -- `xsd_act::needs::bytes_of` meets its contract: past one pair both texts are used. Assumes nothing.
 use mathlib.Core.Path.{sym}
 use native.Mathlib.Omega.{arith}
-use Rattle.xsd_rows.proofs.Laws.Texts.{used-both}
+use Rattle.rows.proofs.Laws.Texts.{used-both}
 use borrow.Author.Needs.{needs}
 use Rattle.xsd_act.proofs.needs.bytes_of.Statement.{statement}
 use Rattle.xsd_act.proofs.needs.bytes_of.Tie as tie

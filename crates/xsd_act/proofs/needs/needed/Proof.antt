@@ -5,7 +5,7 @@ use native.Mathlib.Omega.{arith}
 use lib.ListN.{length}
 use Rattle.text.specs.Text.{join}
 use Rattle.sheet.specs.Rows.{row}
-use Rattle.xsd_rows.specs.declared.numbers.Used.{Used}
+use Rattle.rows.specs.declared.numbers.Used.{Used}
 use Rattle.xsd_actions.specs.declared.Decision.{Decision}
 use Rattle.xsd_actions.specs.Actions.{Action, openSimpleRow, openComplexRow, Fitting, namespaceAfter, rowsAfter}
 use Rattle.xsd_actions.specs.Answers.{decision, textAtMark}

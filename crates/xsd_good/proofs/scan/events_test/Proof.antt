@@ -7,7 +7,7 @@ use native.Mathlib.Omega.{arith}
 use lib.ListN.{length, drop}
 use Rattle.sheet.specs.Rows.{tens}
 use Rattle.xsd_types.specs.Good.{eventsTest}
-use Rattle.xsd_good.specs.Forms.{asTen}
+use Rattle.rows.specs.Ten.{asTen}
 use Rattle.xsd_good.proofs.Laws.Scan.{events-step, events-stop}
 use Rattle.xsd_good.proofs.scan.events_test.Statement.{statement}
 use Rattle.xsd_good.proofs.scan.events_test.Tie as tie

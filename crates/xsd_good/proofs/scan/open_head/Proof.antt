@@ -1,8 +1,9 @@
 -- `xsd_good::scan::open_head` meets its contract. The loop's invariant: the rows before row i answer for those before row n. The measure is i.
 -- Assumes nothing.
 use Prim.Native.Nat.{_≤_}
-use mathlib.Core.Path.{_≡_, refl, sym, _∙_}
+use mathlib.Core.Path.{_≡_, refl, sym, ap, _∙_}
 use native.Mathlib.Omega.{arith}
+use Rattle.xsd_types.specs.Good.{isHead}
 use Rattle.xsd_good.specs.Heads.{headRow}
 use Rattle.xsd_good.proofs.Laws.Heads.{head-none, head-hit, head-on}
 use Rattle.xsd_good.proofs.scan.open_head.Statement.{statement}
@@ -20,14 +21,8 @@ loop-holds c = (omega arith, refl)
 sub-i : tie.Need-sub-i Inv-loop μ-loop
 sub-i c = omega arith
 
-mul-is-head : tie.Need-mul-is-head Inv-loop μ-loop
-mul-is-head c = omega arith
-
-mul-is-head-2 : tie.Need-mul-is-head-2 Inv-loop μ-loop
-mul-is-head-2 c = omega arith
-
-shared-slice-read-is-head : tie.Need-shared-slice-read-is-head Inv-loop μ-loop
-shared-slice-read-is-head c = omega arith
+row-tag-requires : tie.Need-row-tag-requires Inv-loop μ-loop
+row-tag-requires c κs = omega arith
 
 is-head-requires : tie.Need-is-head-requires Inv-loop μ-loop
 is-head-requires c κs = tt
@@ -35,7 +30,7 @@ is-head-requires c κs = tt
 returns : tie.Need-returns Inv-loop μ-loop
 returns c =
     let at = c .before .before .before .before in
-    head-hit (at .before .before .args .rows .now) (at .loop .i) (omega arith) (sym (c .before .is-head .ensures) ∙ c .if1 .taken) ∙ at .loop .inv .1
+    head-hit (at .before .before .args .rows .now) (at .loop .i) (omega arith) (sym (c .before .is-head .ensures ∙ ap isHead (c .before .before .row-tag .ensures)) ∙ c .if1 .taken) ∙ at .loop .inv .1
 
 loop-less : tie.Need-loop-less Inv-loop μ-loop
 loop-less c = omega arith
@@ -43,7 +38,7 @@ loop-less c = omega arith
 loop-again : tie.Need-loop-again Inv-loop μ-loop
 loop-again c =
     let at = c .before .before .before .before in
-    (omega arith, head-on (at .before .before .args .rows .now) (at .loop .i) (omega arith) (sym (c .before .is-head .ensures) ∙ c .if1 .left) ∙ at .loop .inv .1)
+    (omega arith, head-on (at .before .before .args .rows .now) (at .loop .i) (omega arith) (sym (c .before .is-head .ensures ∙ ap isHead (c .before .before .row-tag .ensures)) ∙ c .if1 .left) ∙ at .loop .inv .1)
 
 returns-2 : tie.Need-returns-2 Inv-loop μ-loop
 returns-2 c =
@@ -58,9 +53,7 @@ open-head-spec =
     μ-loop
     loop-holds
     sub-i
-    mul-is-head
-    mul-is-head-2
-    shared-slice-read-is-head
+    row-tag-requires
     is-head-requires
     returns
     loop-less

@@ -5,7 +5,7 @@ use mathlib.Core.Path.{_≡_, refl, _∙_}
 use native.Mathlib.Omega.{arith}
 use lib.ListN.{length, drop}
 use Rattle.sheet.specs.Rows.{tens}
-use Rattle.xsd_good.specs.Forms.{asTen}
+use Rattle.rows.specs.Ten.{asTen}
 use Rattle.xsd_good.specs.Scan.{scanned}
 use Rattle.xsd_good.proofs.Laws.Scan.{next-end, scan-step, scan-stops}
 use Rattle.xsd_good.proofs.scan.scan_rows.Statement.{statement}

@@ -2,7 +2,7 @@
 use native.Mathlib.Omega.{arith}
 use lib.ListN.{length-take, length-drop}
 use borrow.Author.Needs.{needs}
-use Rattle.xsd_good.specs.Forms.{asTen}
+use Rattle.rows.specs.Ten.{asTen}
 use Rattle.xsd_good.proofs.Laws.Scan.{first-end, scan-starts}
 use Rattle.xsd_good.proofs.scan.scan_sheet.Statement.{statement}
 use Rattle.xsd_good.proofs.scan.scan_sheet.Tie as tie

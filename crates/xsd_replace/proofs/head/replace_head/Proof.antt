@@ -4,8 +4,8 @@ use Prim.Native.Nat.{_+_, _-_, _≤_}
 use mathlib.Core.Path.{_≡_, _∙_}
 use native.Mathlib.Omega.{arith}
 use lib.ListN.{length}
-use Rattle.xsd_rows.specs.Texts.{usedLength}
-use Rattle.xsd_rows.proofs.Laws.Texts.{used-rest}
+use Rattle.rows.specs.Texts.{usedLength}
+use Rattle.rows.proofs.Laws.Texts.{used-rest}
 use borrow.Author.Needs.{needs}
 use Rattle.xsd_replace.proofs.Laws.Head.{HeadNumbers, head-numbers, head-replaced}
 use Rattle.xsd_replace.proofs.head.replace_head.Statement.{statement}

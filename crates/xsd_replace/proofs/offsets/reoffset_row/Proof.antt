@@ -5,7 +5,7 @@ use mathlib.Core.Path.{_≡_, sym, ap, _∙_}
 use mathlib.Core.List.{List, []}
 use lib.ListN.{length, getD}
 use Rattle.text.specs.Text.{join}
-use Rattle.xsd_rows.specs.Texts.{usedLength}
+use Rattle.rows.specs.Texts.{usedLength}
 use native.Mathlib.Omega.{arith}
 use Rattle.xsd_replace.proofs.Laws.Offsets.{First, FirstNumbers, offsets-first, first-numbers, first-row, first-bytes, offsets-next}
 use borrow.Author.Needs.{needs}

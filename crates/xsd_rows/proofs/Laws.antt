@@ -1,9 +1,0 @@
--- Laws of the definitions in specs/ and of those that they cite, those below before those above. The head of each file says what it holds.
-pub mod Room
-pub mod Texts
-pub mod Pack
-pub mod Made
-pub mod Write
-pub mod Middle
-pub mod Sheet
-pub mod More

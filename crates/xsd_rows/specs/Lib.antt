@@ -1,5 +1,0 @@
--- The definitions of the crate `xsd_rows`, those below before those above. The head of each file says what it holds.
-pub mod Numbers
-pub mod Texts
-pub mod Packing
-pub mod Append
