@@ -6,13 +6,11 @@ use rows::numbers::wide;
 use sheet::refusal;
 use tape::Record;
 use tape::TagRecord;
-use tape::attributes::Found;
+use tape::attributes::SeenTag;
 use tape::pairs;
-use tape::view::attribute;
+use tape::view::event_marks;
+use tape::view::in_view;
 use xsd_parser::kinds;
-ghost use mathlib.Core.Path.{_≡_};
-ghost use mathlib.Core.Bool.{false};
-ghost use Rattle.text.specs.Text.{contains, colon};
 ghost use Rattle.tape.specs.Answers.{RecordAt, EventPlaced};
 
 // Of a close, where the next record starts; of a tag, its kind, its number of attributes and where its pairs start before that.
@@ -50,34 +48,44 @@ fn read_at(text: &[u8], marks: &[u32], at: usize) -> Record
     tape::record_at(text, marks, at, text::is_text(text))
 }
 
-// Where the value stands that a word without a colon is looked up to in a record that was read. A close has no attributes.
-fn tag_value(text: &[u8], marks: &[u32], t: TagRecord, word: &[u8]) -> Found
-    requires { ⌜ contains colon (now word) ≡ false ⌝ }
+// Where a value stands that is seen of a tag, by its key, 0 where there is none: the cases ask for two keys.
+fn place_of(seen: SeenTag, word: &[u8]) -> usize {
+    if text::same_text(word, b"name") {
+        return seen.name;
+    }
+    if text::same_text(word, b"type") {
+        return seen.typ;
+    }
+    0
+}
+
+fn put_found(text: &[u8], marks: &[u32], at: usize) {
+    if at == 0 {
+        io::write_all(STDOUT_FILENO, b"nothing");
+    } else {
+        io::write_all(STDOUT_FILENO, pairs::pair_part(text, marks, at));
+    }
+}
+
+// The value that a word is looked up to in a record that was read. A close has no attributes.
+fn put_tag_value(text: &[u8], marks: &[u32], t: TagRecord, word: &[u8])
     requires { ⌜ EventPlaced (now text) (now marks) 0 t ⌝ }
 {
     if t.kind == kinds::CLOSE {
-        return Found::Nothing;
+        io::write_all(STDOUT_FILENO, b"nothing");
+        return;
     }
-    attribute(text, marks, t.pairs, t.count, word)
+    let own = event_marks(marks, t.pairs, t.count);
+    put_found(text, own, place_of(in_view(text, own, t.count), word));
 }
 
-// The same in the first record, where it is a tag that is not refused. No local name has a colon.
-fn looked_up(text: &[u8], marks: &[u32], word: &[u8]) -> Found {
-    if text::has_byte(word, b':') {
-        return Found::Nothing;
-    }
-    match read_at(text, marks, 0) {
-        Record::Event(t) => tag_value(text, marks, t, word),
-        _ => Found::Nothing,
-    }
-}
-
+// The same in the first record, where it is a tag that is not refused.
 fn put_value(text: &[u8], marks: &[u32], word: &[u8]) {
-    match looked_up(text, marks, word) {
-        Found::At(i) => {
-            io::write_all(STDOUT_FILENO, pairs::pair_part(text, marks, i));
+    match read_at(text, marks, 0) {
+        Record::Event(t) => {
+            put_tag_value(text, marks, t, word);
         }
-        Found::Nothing => {
+        _ => {
             io::write_all(STDOUT_FILENO, b"nothing");
         }
     }

@@ -1,37 +1,55 @@
--- A lookup in the attributes of a tag by a text word, and what the answer of the code, which is an enum, says.
+-- What is seen of a tag on the tape: where the values stand that are looked up, and what these places say.
 --     lookupText    xsd_parser's `lookup` where the word is a text
---     foundValue    the value that a lookup leads to
---     foundInside   its pair stands inside so many marks
---     Asked         what a lookup in a tag asks: no local name has a colon, and the tag was judged
---     Answered      what it answers
-use Prim.Native.Nat.{ℕ, _+_, _≤_}
+--     valueAt       the value whose pair stands at a place of the marks; 0 is no value's place
+--     orElse        a value, or another where there is none
+--     keptFirst     the places with one more, unless the key has one or is none of the nine
+--     PlacesOf      the places of the nine keys say what the lookups in these attributes give
+--     seenAt        what the code's record says is seen
+use Prim.Native.Nat.{ℕ, zero, suc, _<_}
 use mathlib.Core.Path.{_≡_}
-use mathlib.Core.Bool.{false}
+use mathlib.Core.Bool.{_&&_}
 use mathlib.Core.List.{List, [], _∷_}
 use mathlib.Core.Option.{Option, some, none}
-use lib.ListN.{length}
-use Rattle.text.specs.Text.{Text, if_then_else_, contains, same, colon, localName}
+use lib.Dec.{eqb, ltb}
+use lib.ListN.{length, getD, set}
+use Rattle.text.specs.Text.{Text, if_then_else_, same, localName}
 use Rattle.xsd_parser.specs.Event.{Attr}
+use Rattle.xsd_parser.specs.Seen.{Seen}
 use Rattle.xsd_parser.specs.Tape.{pairText}
-use Rattle.tape.specs.Pairs.{pairAt, TagInside, tagAt}
-use Rattle.tape.specs.declared.attributes.Found.{Found}
+use Rattle.tape.specs.Pairs.{pairAt}
+use Rattle.tape.specs.Keys.{keyWords, keyCount}
+use Rattle.tape.specs.declared.attributes.SeenTag.{SeenTag}
 
 unfoldable pub lookupText : List Attr → Text → Option Text
 lookupText [] word = none
 lookupText (x ∷ xs) word = if same (localName (x .key)) word then some (x .value) else lookupText xs word
 
-unfoldable pub foundValue : Text → List ℕ → Found → Option Text
-foundValue text marks (Found.At i) = some (pairText text (pairAt marks i))
-foundValue text marks Found.Nothing = none
+unfoldable pub valueAt : Text → List ℕ → ℕ → Option Text
+valueAt text marks zero = none
+valueAt text marks (suc n) = some (pairText text (pairAt marks (suc n)))
 
-unfoldable pub foundInside : ℕ → Found → Type 0
-foundInside n (Found.At i) = i + 2 ≤ n
-foundInside n Found.Nothing = Unit
+unfoldable pub orElse : Option Text → Option Text → Option Text
+orElse none other = other
+orElse (some v) other = some v
 
-pub record Asked (text : Text) (marks : List ℕ) (pairs count : ℕ) (word : Text) : Type 0 where
-  pub clean : contains colon word ≡ false
-  pub inside : TagInside text marks pairs count
+unfoldable pub keptFirst : List ℕ → ℕ → ℕ → List ℕ
+keptFirst places key at = if ltb key keyCount && eqb (getD places key 0) 0 then set places key at else places
 
-pub record Answered (text : Text) (marks : List ℕ) (pairs count : ℕ) (word : Text) (r : Found) : Type 0 where
-  pub value : foundValue text marks r ≡ lookupText (tagAt text marks pairs count .attributes) word
-  pub inside : foundInside (length marks) r
+pub record PlacesOf (text : Text) (marks : List ℕ) (attributes : List Attr) (places : List ℕ) : Type 0 where
+  pub many : length places ≡ keyCount
+  pub values : (k : ℕ) → k < keyCount → valueAt text marks (getD places k 0) ≡ lookupText attributes (getD keyWords k [])
+
+unfoldable pub seenAt : Text → List ℕ → SeenTag → Seen
+seenAt text marks t =
+    record {
+      word = t .word;
+      name = valueAt text marks (t .name);
+      typeName = valueAt text marks (t .typ);
+      base = valueAt text marks (t .base);
+      value = valueAt text marks (t .value);
+      minOccurs = valueAt text marks (t .«min_occurs»);
+      maxOccurs = valueAt text marks (t .«max_occurs»);
+      usage = valueAt text marks (t .usage);
+      namespace = valueAt text marks (t .namespace);
+      targetNamespace = valueAt text marks (t .«target_namespace»);
+    }

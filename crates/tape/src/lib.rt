@@ -1,10 +1,11 @@
 // The tape (paper 01, "Tape"): a record at a place of the marks, judged for 3 (`form`), 4 and 5 (`tests`). `pairs`: the parts of the text
-// under its pairs; `attributes`: the lookup in a tag that was judged; `view`: the event view.
+// under its pairs; `words`: the word of a tag and the number of a key; `attributes`: what is seen of a tag that was judged; `view`: the event view.
 pub mod attributes;
 pub mod form;
 pub mod pairs;
 pub mod tests;
 pub mod view;
+pub mod words;
 
 use rows::numbers::wide;
 use sheet::refusal::Refusal;

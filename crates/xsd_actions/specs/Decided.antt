@@ -1,4 +1,4 @@
--- Which action 000's handlers take, by the event and its number n in the run, the mode and the tag of the open head alone, or the refusal 9 or 10.
+-- Which action 000's handlers take, by what is seen of the event's tag and its number n in the run, the mode and the tag of the open head alone, or the refusal 9 or 10.
 --     decided       for an event
 --     decidedStart, decidedEmpty, decidedClose    for each kind, in the order of 000's clauses
 --     Decides       what the handlers do is what was decided
@@ -9,15 +9,17 @@ use mathlib.Core.Bool.{Bool, _&&_}
 use mathlib.Core.Option.{Option, some, none}
 use lib.Dec.{eqb}
 use Rattle.text.specs.Text.{Text, if_then_else_}
-use Rattle.number.specs.Number.{number}
 use Rattle.sheet.specs.Rows.{Row, row}
 use Rattle.xsd_types.specs.Tags.{elementTag, sequenceTag, choiceTag, simpleContentTag, anyTag, noContentTag}
 use Rattle.xsd_types.specs.Contexts.{noneContext, schemaContext, simpleTypeContext}
 use Rattle.xsd_types.specs.Types.{Facet}
 use Rattle.xsd_types.specs.State.{Reader}
 use Rattle.xsd_types.specs.Rows.{facetRow, occursRow, variantRow, attributeRow}
-use Rattle.xsd_parser.specs.Event.{Tag, Event, tagIs, attrValue, orEmpty}
-use Rattle.xsd_parser.specs.Handlers.{Outcome, ok, refuse, _andThen_, onParsed, requireName, parseMinOccurs, parseMaxOccurs, isRequired, facetValue}
+use Rattle.xsd_parser.specs.declared.words.Word.{Word}
+use Rattle.xsd_parser.specs.Words.{facetWord}
+use Rattle.xsd_parser.specs.Event.{Event, orEmpty}
+use Rattle.xsd_parser.specs.Seen.{Seen, seen, tagIs}
+use Rattle.xsd_parser.specs.Handlers.{Outcome, ok, refuse, _andThen_, onParsed, requireName, parseMinOccurs, parseMaxOccurs, isRequired, facetValue, onFacet}
 use Rattle.xsd_parser.specs.Step.{handled}
 use Rattle.xsd_actions.specs.declared.Mode.{Mode}
 use Rattle.xsd_actions.specs.Actions.{Action, Acted}
@@ -28,75 +30,75 @@ typed none typeName f = Action.keep
 typed (some name) none f = Action.keep
 typed (some name) (some typeName) f = Action.add (f name typeName)
 
-unfoldable pub named : Tag → (Text → Text → Row) → Action
-named t f = typed (attrValue t "name") (attrValue t "type") f
+unfoldable pub named : Seen → (Text → Text → Row) → Action
+named t f = typed (t .name) (t .typeName) f
 
-unfoldable pub topElement : ℕ → Tag → Action
+unfoldable pub topElement : ℕ → Seen → Action
 topElement n t = named t (λ name typeName. row elementTag (name ∷ typeName ∷ []) 0 0 n)
 
-unfoldable pub rootFound : Tag → Action
-rootFound t = if tagIs t "schema" then Action.root (orEmpty (attrValue t "targetNamespace")) else Action.keep
+unfoldable pub rootFound : Seen → Action
+rootFound t = if tagIs t Word.Schema then Action.root (orEmpty (t .targetNamespace)) else Action.keep
 
-unfoldable pub baseSet : Tag → Action
-baseSet t = Action.base (orEmpty (attrValue t "base"))
+unfoldable pub baseSet : Seen → Action
+baseSet t = Action.base (orEmpty (t .base))
 
 -- 000, `on_element_inside_complex`
-unfoldable pub occursAdded : Tag → Option Text → Option Text → Outcome Action
+unfoldable pub occursAdded : Seen → Option Text → Option Text → Outcome Action
 occursAdded t none typeName = ok Action.keep
 occursAdded t (some name) none = ok Action.keep
 occursAdded t (some name) (some typeName) =
-    onParsed (parseMinOccurs (attrValue t "minOccurs")) (λ min. min) andThen λ min.
-    parseMaxOccurs (attrValue t "maxOccurs") andThen λ max.
+    onParsed (parseMinOccurs (t .minOccurs)) (λ min. min) andThen λ min.
+    parseMaxOccurs (t .maxOccurs) andThen λ max.
     ok (Action.add (occursRow name typeName min max))
 
-unfoldable pub elementInside : Tag → ℕ → Outcome Action
+unfoldable pub elementInside : Seen → ℕ → Outcome Action
 elementInside t head =
-    if eqb head sequenceTag then occursAdded t (attrValue t "name") (attrValue t "type") else
+    if eqb head sequenceTag then occursAdded t (t .name) (t .typeName) else
     if eqb head choiceTag then ok (named t (λ name typeName. variantRow (record { name = name; typeName = typeName }))) else ok Action.keep
 
 -- 000, `on_attribute_inside_complex`
-unfoldable pub attributeInside : Tag → Bool → Action
+unfoldable pub attributeInside : Seen → Bool → Action
 attributeInside t flag =
     if flag
-    then named t (λ name typeName. attributeRow (record { name = name; typeName = typeName; required = isRequired (attrValue t "use") }))
+    then named t (λ name typeName. attributeRow (record { name = name; typeName = typeName; required = isRequired (t .usage) }))
     else Action.keep
 
 -- ---- on_start
 
-unfoldable pub directChild : ℕ → Tag → Outcome Action
+unfoldable pub directChild : ℕ → Seen → Outcome Action
 directChild n t =
-    if tagIs t "simpleType" then requireName t (Action.openSimple n) else
-    if tagIs t "complexType" then requireName t (Action.openComplex n) else
-    if tagIs t "element" then ok (topElement n t) else ok Action.keep
+    if tagIs t Word.SimpleType then requireName t (Action.openSimple n) else
+    if tagIs t Word.ComplexType then requireName t (Action.openComplex n) else
+    if tagIs t Word.Element then ok (topElement n t) else ok Action.keep
 
 -- order 3: "only its direct children become elements or types"; with choice 0 nesting is 0 in context 1
-unfoldable pub startInSchema : ℕ → Tag → ℕ → Outcome Action
+unfoldable pub startInSchema : ℕ → Seen → ℕ → Outcome Action
 startInSchema n t depth = if eqb depth 0 then directChild n t else ok Action.keep
 
-unfoldable pub startInSimpleType : Tag → ℕ → Action
-startInSimpleType t depth = if eqb depth 1 && tagIs t "restriction" then baseSet t else Action.keep
+unfoldable pub startInSimpleType : Seen → ℕ → Action
+startInSimpleType t depth = if eqb depth 1 && tagIs t Word.Restriction then baseSet t else Action.keep
 
-unfoldable pub contentStart : Tag → Action
+unfoldable pub contentStart : Seen → Action
 contentStart t =
-    if tagIs t "sequence" then Action.content sequenceTag [] 0 else
-    if tagIs t "choice" then Action.content choiceTag [] 0 else
-    if tagIs t "simpleContent" then Action.content simpleContentTag ([] ∷ []) 0 else Action.keep
+    if tagIs t Word.Sequence then Action.content sequenceTag [] 0 else
+    if tagIs t Word.Choice then Action.content choiceTag [] 0 else
+    if tagIs t Word.SimpleContent then Action.content simpleContentTag ([] ∷ []) 0 else Action.keep
 
-unfoldable pub extended : Tag → ℕ → Action
+unfoldable pub extended : Seen → ℕ → Action
 extended t head = if eqb head simpleContentTag then baseSet t else Action.keep
 
-unfoldable pub startAtTwo : Tag → ℕ → Outcome Action
+unfoldable pub startAtTwo : Seen → ℕ → Outcome Action
 startAtTwo t head =
-    if tagIs t "extension" then ok (extended t head) else
-    if tagIs t "element" then elementInside t head else ok Action.keep
+    if tagIs t Word.Extension then ok (extended t head) else
+    if tagIs t Word.Element then elementInside t head else ok Action.keep
 
-unfoldable pub startInComplexType : Tag → ℕ → ℕ → Outcome Action
+unfoldable pub startInComplexType : Seen → ℕ → ℕ → Outcome Action
 startInComplexType t depth head =
     if eqb depth 1 then ok (contentStart t) else
     if eqb depth 2 then startAtTwo t head else ok Action.keep
 
 -- the nesting is counted after the raise, as in 000
-unfoldable pub decidedStart : ℕ → Tag → Mode → ℕ → Outcome Action
+unfoldable pub decidedStart : ℕ → Seen → Mode → ℕ → Outcome Action
 decidedStart n t m head =
     if eqb (m .context) noneContext then ok (rootFound t) else
     if eqb (m .context) schemaContext then startInSchema n t (m .nesting) else
@@ -107,33 +109,24 @@ decidedStart n t m head =
 unfoldable pub facetAdded : Facet → Action
 facetAdded f = Action.add (facetRow f)
 
-unfoldable pub emptyInSimpleType : Tag → Outcome Action
+unfoldable pub emptyInSimpleType : Seen → Outcome Action
 emptyInSimpleType t =
-    let v = facetValue t in
-    if tagIs t "restriction" then ok (baseSet t) else
-    if tagIs t "enumeration" then ok (facetAdded (Facet.enumeration v)) else
-    if tagIs t "pattern" then ok (facetAdded (Facet.pattern v)) else
-    if tagIs t "minLength" then onParsed (number 64 v) (λ n. facetAdded (Facet.minLength n)) else
-    if tagIs t "maxLength" then onParsed (number 64 v) (λ n. facetAdded (Facet.maxLength n)) else
-    if tagIs t "minInclusive" then ok (facetAdded (Facet.minInclusive v)) else
-    if tagIs t "maxInclusive" then ok (facetAdded (Facet.maxInclusive v)) else
-    if tagIs t "totalDigits" then onParsed (number 32 v) (λ n. facetAdded (Facet.totalDigits n)) else
-    if tagIs t "fractionDigits" then onParsed (number 32 v) (λ n. facetAdded (Facet.fractionDigits n)) else ok Action.keep
+    if tagIs t Word.Restriction then ok (baseSet t) else onFacet (facetWord (t .word)) (facetValue t) facetAdded Action.keep
 
 unfoldable pub anyContent : Option Text → Action
 anyContent none = Action.content anyTag [] 0
 anyContent (some n) = Action.content anyTag (n ∷ []) 1
 
-unfoldable pub emptyInComplexType : Tag → Bool → ℕ → Outcome Action
+unfoldable pub emptyInComplexType : Seen → Bool → ℕ → Outcome Action
 emptyInComplexType t flag head =
-    if tagIs t "element" then elementInside t head else
-    if tagIs t "any" then ok (anyContent (attrValue t "namespace")) else
-    if tagIs t "attribute" then ok (attributeInside t flag) else ok Action.keep
+    if tagIs t Word.Element then elementInside t head else
+    if tagIs t Word.Any then ok (anyContent (t .namespace)) else
+    if tagIs t Word.Attribute then ok (attributeInside t flag) else ok Action.keep
 
-unfoldable pub decidedEmpty : ℕ → Tag → Mode → ℕ → Outcome Action
+unfoldable pub decidedEmpty : ℕ → Seen → Mode → ℕ → Outcome Action
 decidedEmpty n t m head =
     if eqb (m .context) noneContext then ok (rootFound t) else
-    if eqb (m .context) schemaContext then ok (if eqb (m .nesting) 0 && tagIs t "element" then topElement n t else Action.keep) else
+    if eqb (m .context) schemaContext then ok (if eqb (m .nesting) 0 && tagIs t Word.Element then topElement n t else Action.keep) else
     if eqb (m .context) simpleTypeContext then emptyInSimpleType t else emptyInComplexType t (m .extension) head
 
 -- ---- on_end
@@ -143,8 +136,8 @@ unfoldable pub decidedClose : Mode → ℕ → Action
 decidedClose m head = if eqb head noContentTag && eqb (m .nesting) 0 then Action.content anyTag [] 0 else Action.keep
 
 unfoldable pub decided : ℕ → Event → Mode → ℕ → Outcome Action
-decided n (Event.start t) m head = decidedStart n t m head
-decided n (Event.empty t) m head = decidedEmpty n t m head
+decided n (Event.start t) m head = decidedStart n (seen t) m head
+decided n (Event.empty t) m head = decidedEmpty n (seen t) m head
 decided n Event.close m head = ok (decidedClose m head)
 
 pub data Decides (byStandard : Bool) (n : ℕ) (e : Event) (r : Reader) : Outcome Action → Type 0 where

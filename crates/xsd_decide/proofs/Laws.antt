@@ -4,3 +4,4 @@ pub mod Chains
 pub mod Typed
 pub mod Attribute
 pub mod Names
+pub mod Facets

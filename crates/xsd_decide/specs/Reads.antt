@@ -1,5 +1,5 @@
--- The tag that a record stands for, and what the code reads of its attributes.
---     recordTag     the tag of a record of the tape
+-- What the code reads of what is seen of a tag.
+--     foundValue    the value whose place was found
 --     both          two values, where both are there; typedValues: what the code's answer says of them
 --     maxAnswer     what the code's answer says of maxOccurs
 use Prim.Native.Nat.{ℕ}
@@ -8,16 +8,15 @@ use mathlib.Core.Option.{Option, some, none}
 use Rattle.text.specs.Text.{Text}
 use Rattle.sheet.specs.Returned.{invalidAttributeValue}
 use Rattle.xsd_types.specs.Types.{MaxOccurs}
-use Rattle.xsd_parser.specs.Event.{Tag}
 use Rattle.xsd_parser.specs.Handlers.{Outcome, ok, refuse}
-use Rattle.tape.specs.declared.TagRecord.{TagRecord}
-use Rattle.tape.specs.Pairs.{tagAt}
 use Rattle.xsd_actions.specs.Answers.{textAtMark}
+use Rattle.xsd_decide.specs.declared.values.Found.{Found}
 use Rattle.xsd_decide.specs.declared.values.Typed.{Typed}
 use Rattle.xsd_decide.specs.declared.values.Max.{Max}
 
-abbrev pub recordTag : Text → List ℕ → TagRecord → Tag
-recordTag text marks t = tagAt text marks (t .pairs) (t .count)
+unfoldable pub foundValue : Text → List ℕ → Found → Option Text
+foundValue text marks (Found.At i) = some (textAtMark text marks i)
+foundValue text marks Found.Nothing = none
 
 unfoldable pub both : Option Text → Option Text → Option (Text × Text)
 both none typeName = none

@@ -5,7 +5,8 @@ use Prim.Native.Nat.{ℕ}
 use mathlib.Core.Bool.{Bool, true, false, _&&_}
 use lib.Dec.{eqb}
 use Rattle.text.specs.Text.{Text, if_then_else_}
-use Rattle.xsd_parser.specs.Event.{Tag, tagIs}
+use Rattle.xsd_parser.specs.declared.words.Word.{Word}
+use Rattle.xsd_parser.specs.Seen.{Seen, tagIs}
 use Rattle.xsd_actions.specs.Actions.{Action}
 use Rattle.xsd_actions.specs.Decided.{topElement}
 
@@ -13,5 +14,5 @@ unfoldable pub openedAs : ℕ → Bool → Text → Action
 openedAs n true name = Action.openSimple n name
 openedAs n false name = Action.openComplex n name
 
-unfoldable pub emptyInSchema : ℕ → Tag → ℕ → Action
-emptyInSchema n t nesting = if eqb nesting 0 && tagIs t "element" then topElement n t else Action.keep
+unfoldable pub emptyInSchema : ℕ → Seen → ℕ → Action
+emptyInSchema n t nesting = if eqb nesting 0 && tagIs t Word.Element then topElement n t else Action.keep

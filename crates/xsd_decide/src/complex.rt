@@ -1,51 +1,48 @@
 // What start and empty tags decide inside a complex type (000, `on_start` and `on_empty`, `Context::ComplexType`).
 ghost use mathlib.Core.Path.{_≡_};
-ghost use Prim.Native.Nat.{suc};
-ghost use Rattle.xsd_parser.specs.Event.{attrValue};
+ghost use mathlib.Core.List.{List};
+ghost use Prim.Native.Nat.{ℕ, suc};
+ghost use Rattle.text.specs.Text.{Text};
 ghost use Rattle.xsd_parser.specs.Handlers.{ok};
-ghost use Rattle.tape.specs.Pairs.{TagInside};
 ghost use Rattle.xsd_actions.specs.Answers.{decision};
 ghost use Rattle.xsd_actions.specs.Decided.{contentStart, extended, startAtTwo, startInComplexType, anyContent, emptyInComplexType};
-ghost use Rattle.xsd_decide.specs.Reads.{recordTag};
+ghost use Rattle.tape.specs.Lookup.{valueAt, seenAt};
 use crate::rows::attribute_inside;
 use crate::rows::base_set;
 use crate::rows::content_alone;
 use crate::rows::element_inside;
-use tape::TagRecord;
-use tape::attributes::Found;
-use tape::view::attribute;
-use text::local_is;
+use crate::values::Found;
+use crate::values::place_found;
+use tape::attributes::SeenTag;
 use xsd_actions::Decision;
 use xsd_actions::NewContent;
+use xsd_parser::words::Word;
 use xsd_types::tags;
 
 // A content begins; the base of a simple content is empty as yet, so its pair is past the end of the marks.
-fn content_start(text: &[u8], marks: &[u32], t: TagRecord, name: &[u8]) -> Decision
-    requires { ⌜ now name ≡ recordTag (now text) (now marks) t .name ⌝ }
-    ensures { λ r. ⌜ decision (now (text .entry)) (now (marks .entry)) r ≡ ok (contentStart (recordTag (now (text .entry)) (now (marks .entry)) t)) ⌝ }
+fn content_start(marks: &[u32], t: SeenTag) -> Decision
+    ensures { λ r. ⌜ ((text : Text) → decision text (now (marks .entry)) r ≡ ok (contentStart (seenAt text (now (marks .entry)) t))) ⌝ }
 {
-    if local_is(name, b"sequence") {
-        return content_alone(tags::SEQUENCE);
+    let word = t.word;
+    match word {
+        Word::Sequence => content_alone(tags::SEQUENCE),
+        Word::Choice => content_alone(tags::CHOICE),
+        Word::SimpleContent => {
+            let second = marks.len();
+            Decision::Content(NewContent {
+                tag: tags::SIMPLE_CONTENT,
+                follows: true,
+                second,
+                a: 0,
+            })
+        }
+        _ => Decision::Keep,
     }
-    if local_is(name, b"choice") {
-        return content_alone(tags::CHOICE);
-    }
-    if local_is(name, b"simpleContent") {
-        let second = marks.len();
-        return Decision::Content(NewContent {
-            tag: tags::SIMPLE_CONTENT,
-            follows: true,
-            second,
-            a: 0,
-        });
-    }
-    Decision::Keep
 }
 
 // An extension sets the base of a simple content.
-fn extension_start(text: &[u8], marks: &[u32], t: TagRecord, head: u32) -> Decision
-    requires { ⌜ TagInside (now text) (now marks) (t .pairs) (t .count) ⌝ }
-    ensures { λ r. ⌜ decision (now (text .entry)) (now (marks .entry)) r ≡ ok (extended (recordTag (now (text .entry)) (now (marks .entry)) t) head) ⌝ }
+fn extension_start(text: &[u8], marks: &[u32], t: SeenTag, head: u32) -> Decision
+    ensures { λ r. ⌜ decision (now (text .entry)) (now (marks .entry)) r ≡ ok (extended (seenAt (now (text .entry)) (now (marks .entry)) t) head) ⌝ }
 {
     if head == tags::SIMPLE_CONTENT {
         return base_set(text, marks, t);
@@ -54,48 +51,41 @@ fn extension_start(text: &[u8], marks: &[u32], t: TagRecord, head: u32) -> Decis
 }
 
 // A start at depth 2: an extension or an element.
-fn start_at_two(text: &[u8], marks: &[u32], t: TagRecord, name: &[u8], head: u32) -> Decision
-    requires { ⌜ now name ≡ recordTag (now text) (now marks) t .name ⌝ }
-    requires { ⌜ TagInside (now text) (now marks) (t .pairs) (t .count) ⌝ }
-    ensures { λ r. ⌜ decision (now (text .entry)) (now (marks .entry)) r ≡ startAtTwo (recordTag (now (text .entry)) (now (marks .entry)) t) head ⌝ }
+fn start_at_two(text: &[u8], marks: &[u32], t: SeenTag, head: u32) -> Decision
+    ensures { λ r. ⌜ decision (now (text .entry)) (now (marks .entry)) r ≡ startAtTwo (seenAt (now (text .entry)) (now (marks .entry)) t) head ⌝ }
 {
-    if local_is(name, b"extension") {
-        return extension_start(text, marks, t, head);
+    let word = t.word;
+    match word {
+        Word::Extension => extension_start(text, marks, t, head),
+        Word::Element => element_inside(text, marks, t, head),
+        _ => Decision::Keep,
     }
-    if local_is(name, b"element") {
-        return element_inside(text, marks, t, head);
-    }
-    Decision::Keep
 }
 
 // A start inside a complex type. The nesting is that before the start, which raises it.
 pub fn start_in_complex_type(
     text: &[u8],
     marks: &[u32],
-    t: TagRecord,
-    name: &[u8],
+    t: SeenTag,
     nesting: u32,
     head: u32,
 ) -> Decision
-    requires { ⌜ now name ≡ recordTag (now text) (now marks) t .name ⌝ }
-    requires { ⌜ TagInside (now text) (now marks) (t .pairs) (t .count) ⌝ }
-    ensures { λ r. ⌜ decision (now (text .entry)) (now (marks .entry)) r ≡ startInComplexType (recordTag (now (text .entry)) (now (marks .entry)) t) (suc nesting) head ⌝ }
+    ensures { λ r. ⌜ decision (now (text .entry)) (now (marks .entry)) r ≡ startInComplexType (seenAt (now (text .entry)) (now (marks .entry)) t) (suc nesting) head ⌝ }
 {
     if nesting == 0 {
-        return content_start(text, marks, t, name);
+        return content_start(marks, t);
     }
     if nesting == 1 {
-        return start_at_two(text, marks, t, name, head);
+        return start_at_two(text, marks, t, head);
     }
     Decision::Keep
 }
 
 // An `any` is the content, with its namespace if it has one.
-fn any_content(text: &[u8], marks: &[u32], t: TagRecord) -> Decision
-    requires { ⌜ TagInside (now text) (now marks) (t .pairs) (t .count) ⌝ }
-    ensures { λ r. ⌜ decision (now (text .entry)) (now (marks .entry)) r ≡ ok (anyContent (attrValue (recordTag (now (text .entry)) (now (marks .entry)) t) "namespace")) ⌝ }
+fn any_content(t: SeenTag) -> Decision
+    ensures { λ r. ⌜ ((text : Text) (marks : List ℕ) → decision text marks r ≡ ok (anyContent (valueAt text marks (t .namespace)))) ⌝ }
 {
-    match attribute(text, marks, t.pairs, t.count, b"namespace") {
+    match place_found(t.namespace) {
         Found::At(second) => Decision::Content(NewContent {
             tag: tags::ANY,
             follows: true,
@@ -110,23 +100,17 @@ fn any_content(text: &[u8], marks: &[u32], t: TagRecord) -> Decision
 pub fn empty_in_complex_type(
     text: &[u8],
     marks: &[u32],
-    t: TagRecord,
-    name: &[u8],
+    t: SeenTag,
     flag: bool,
     head: u32,
 ) -> Decision
-    requires { ⌜ now name ≡ recordTag (now text) (now marks) t .name ⌝ }
-    requires { ⌜ TagInside (now text) (now marks) (t .pairs) (t .count) ⌝ }
-    ensures { λ r. ⌜ decision (now (text .entry)) (now (marks .entry)) r ≡ emptyInComplexType (recordTag (now (text .entry)) (now (marks .entry)) t) flag head ⌝ }
+    ensures { λ r. ⌜ decision (now (text .entry)) (now (marks .entry)) r ≡ emptyInComplexType (seenAt (now (text .entry)) (now (marks .entry)) t) flag head ⌝ }
 {
-    if local_is(name, b"element") {
-        return element_inside(text, marks, t, head);
+    let word = t.word;
+    match word {
+        Word::Element => element_inside(text, marks, t, head),
+        Word::Any => any_content(t),
+        Word::Attribute => attribute_inside(text, marks, t, flag),
+        _ => Decision::Keep,
     }
-    if local_is(name, b"any") {
-        return any_content(text, marks, t);
-    }
-    if local_is(name, b"attribute") {
-        return attribute_inside(text, marks, t, flag);
-    }
-    Decision::Keep
 }

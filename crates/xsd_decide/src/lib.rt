@@ -10,10 +10,9 @@ ghost use mathlib.Core.List.{List};
 ghost use Prim.Native.Nat.{ℕ};
 ghost use Rattle.text.specs.Text.{Text};
 ghost use Rattle.xsd_parser.specs.Handlers.{ok, requireName};
-ghost use Rattle.tape.specs.Pairs.{TagInside, tagAt};
 ghost use Rattle.xsd_actions.specs.Answers.{decision};
 ghost use Rattle.xsd_actions.specs.Decided.{rootFound, directChild, startInSchema, decidedStart, decidedEmpty, decidedClose};
-ghost use Rattle.xsd_decide.specs.Reads.{recordTag};
+ghost use Rattle.tape.specs.Lookup.{seenAt};
 ghost use Rattle.xsd_decide.specs.Schema.{openedAs, emptyInSchema};
 use crate::complex::empty_in_complex_type;
 use crate::complex::start_in_complex_type;
@@ -21,37 +20,34 @@ use crate::rows::content_alone;
 use crate::rows::top_element;
 use crate::simple::empty_in_simple_type;
 use crate::simple::start_in_simple_type;
-use crate::values::raw_name;
+use crate::values::Found;
+use crate::values::place_found;
 use crate::values::value_place;
 use sheet::refusal::Refusal;
-use tape::TagRecord;
-use tape::attributes::Found;
-use tape::view::attribute;
-use text::local_is;
+use tape::attributes::SeenTag;
 use xsd_actions::Decision;
 use xsd_actions::Mode;
 use xsd_actions::NewType;
+use xsd_parser::words::Word;
 use xsd_types::contexts;
 use xsd_types::tags;
 
 // A schema tag sets the namespace anew.
-fn root_found(text: &[u8], marks: &[u32], t: TagRecord, name: &[u8]) -> Decision
-    requires { ⌜ now name ≡ recordTag (now text) (now marks) t .name ⌝ }
-    requires { ⌜ TagInside (now text) (now marks) (t .pairs) (t .count) ⌝ }
-    ensures { λ r. ⌜ decision (now (text .entry)) (now (marks .entry)) r ≡ ok (rootFound (recordTag (now (text .entry)) (now (marks .entry)) t)) ⌝ }
+fn root_found(marks: &[u32], t: SeenTag) -> Decision
+    ensures { λ r. ⌜ ((text : Text) → decision text (now (marks .entry)) r ≡ ok (rootFound (seenAt text (now (marks .entry)) t))) ⌝ }
 {
-    if local_is(name, b"schema") {
-        return Decision::Root(value_place(text, marks, t, b"targetNamespace"));
+    let word = t.word;
+    match word {
+        Word::Schema => Decision::Root(value_place(marks, t.target_namespace)),
+        _ => Decision::Keep,
     }
-    Decision::Keep
 }
 
 // A type needs a name, which the event of this number gives.
-fn open_type(text: &[u8], marks: &[u32], t: TagRecord, event: u32, simple: bool) -> Decision
-    requires { ⌜ TagInside (now text) (now marks) (t .pairs) (t .count) ⌝ }
-    ensures { λ r. ⌜ decision (now (text .entry)) (now (marks .entry)) r ≡ requireName (recordTag (now (text .entry)) (now (marks .entry)) t) (openedAs event simple) ⌝ }
+fn open_type(t: SeenTag, event: u32, simple: bool) -> Decision
+    ensures { λ r. ⌜ ((text : Text) (marks : List ℕ) → decision text marks r ≡ requireName (seenAt text marks t) (openedAs event simple)) ⌝ }
 {
-    let Found::At(name) = attribute(text, marks, t.pairs, t.count, b"name") else {
+    let Found::At(name) = place_found(t.name) else {
         return Decision::Refuse(Refusal::MissingAttribute);
     };
     if simple {
@@ -61,112 +57,86 @@ fn open_type(text: &[u8], marks: &[u32], t: TagRecord, event: u32, simple: bool)
 }
 
 // A started direct child of the schema opens a type or is an element.
-fn direct_child(text: &[u8], marks: &[u32], t: TagRecord, name: &[u8], event: u32) -> Decision
-    requires { ⌜ now name ≡ recordTag (now text) (now marks) t .name ⌝ }
-    requires { ⌜ TagInside (now text) (now marks) (t .pairs) (t .count) ⌝ }
-    ensures { λ r. ⌜ decision (now (text .entry)) (now (marks .entry)) r ≡ directChild event (recordTag (now (text .entry)) (now (marks .entry)) t) ⌝ }
+fn direct_child(text: &[u8], marks: &[u32], t: SeenTag, event: u32) -> Decision
+    ensures { λ r. ⌜ decision (now (text .entry)) (now (marks .entry)) r ≡ directChild event (seenAt (now (text .entry)) (now (marks .entry)) t) ⌝ }
 {
-    if local_is(name, b"simpleType") {
-        return open_type(text, marks, t, event, true);
+    let word = t.word;
+    match word {
+        Word::SimpleType => open_type(t, event, true),
+        Word::ComplexType => open_type(t, event, false),
+        Word::Element => top_element(text, marks, t, event),
+        _ => Decision::Keep,
     }
-    if local_is(name, b"complexType") {
-        return open_type(text, marks, t, event, false);
-    }
-    if local_is(name, b"element") {
-        return top_element(text, marks, t, event);
-    }
-    Decision::Keep
 }
 
 // A start below the schema: deeper ones are passed over.
-fn start_in_schema(
-    text: &[u8],
-    marks: &[u32],
-    t: TagRecord,
-    name: &[u8],
-    nesting: u32,
-    event: u32,
-) -> Decision
-    requires { ⌜ now name ≡ recordTag (now text) (now marks) t .name ⌝ }
-    requires { ⌜ TagInside (now text) (now marks) (t .pairs) (t .count) ⌝ }
-    ensures { λ r. ⌜ decision (now (text .entry)) (now (marks .entry)) r ≡ startInSchema event (recordTag (now (text .entry)) (now (marks .entry)) t) nesting ⌝ }
+fn start_in_schema(text: &[u8], marks: &[u32], t: SeenTag, nesting: u32, event: u32) -> Decision
+    ensures { λ r. ⌜ decision (now (text .entry)) (now (marks .entry)) r ≡ startInSchema event (seenAt (now (text .entry)) (now (marks .entry)) t) nesting ⌝ }
 {
     if nesting != 0 {
         return Decision::Keep;
     }
-    direct_child(text, marks, t, name, event)
+    direct_child(text, marks, t, event)
 }
 
 // An empty tag below the schema: only an element that is a direct child counts.
-fn empty_in_schema(
-    text: &[u8],
-    marks: &[u32],
-    t: TagRecord,
-    name: &[u8],
-    nesting: u32,
-    event: u32,
-) -> Decision
-    requires { ⌜ now name ≡ recordTag (now text) (now marks) t .name ⌝ }
-    requires { ⌜ TagInside (now text) (now marks) (t .pairs) (t .count) ⌝ }
-    ensures { λ r. ⌜ decision (now (text .entry)) (now (marks .entry)) r ≡ ok (emptyInSchema event (recordTag (now (text .entry)) (now (marks .entry)) t) nesting) ⌝ }
+fn empty_in_schema(text: &[u8], marks: &[u32], t: SeenTag, nesting: u32, event: u32) -> Decision
+    ensures { λ r. ⌜ decision (now (text .entry)) (now (marks .entry)) r ≡ ok (emptyInSchema event (seenAt (now (text .entry)) (now (marks .entry)) t) nesting) ⌝ }
 {
     if nesting != 0 {
         return Decision::Keep;
     }
-    if local_is(name, b"element") {
-        return top_element(text, marks, t, event);
+    let word = t.word;
+    match word {
+        Word::Element => top_element(text, marks, t, event),
+        _ => Decision::Keep,
     }
-    Decision::Keep
 }
 
-// What a start tag decides. The event is the run's event of this number, from 0.
+// What a start tag decides by what is seen of it. The event is the run's event of this number, from 0.
 pub fn on_start(
     text: &[u8],
     marks: &[u32],
-    t: TagRecord,
+    t: SeenTag,
     m: Mode,
     head: u32,
     event: u32,
 ) -> Decision
-    requires { ⌜ TagInside (now text) (now marks) (t .pairs) (t .count) ⌝ }
-    ensures { λ r. ⌜ decision (now (text .entry)) (now (marks .entry)) r ≡ decidedStart event (tagAt (now (text .entry)) (now (marks .entry)) (t .pairs) (t .count)) m head ⌝ }
+    ensures { λ r. ⌜ decision (now (text .entry)) (now (marks .entry)) r ≡ decidedStart event (seenAt (now (text .entry)) (now (marks .entry)) t) m head ⌝ }
 {
-    let name = raw_name(text, marks, t);
     if m.context == contexts::NONE {
-        return root_found(text, marks, t, name);
+        return root_found(marks, t);
     }
     if m.context == contexts::SCHEMA {
-        return start_in_schema(text, marks, t, name, m.nesting, event);
+        return start_in_schema(text, marks, t, m.nesting, event);
     }
     if m.context == contexts::SIMPLE_TYPE {
-        return start_in_simple_type(text, marks, t, name, m.nesting);
+        return start_in_simple_type(text, marks, t, m.nesting);
     }
-    start_in_complex_type(text, marks, t, name, m.nesting, head)
+    start_in_complex_type(text, marks, t, m.nesting, head)
 }
 
 // What an empty tag decides.
 pub fn on_empty(
     text: &[u8],
     marks: &[u32],
-    t: TagRecord,
+    t: SeenTag,
     m: Mode,
     head: u32,
     event: u32,
 ) -> Decision
-    requires { ⌜ TagInside (now text) (now marks) (t .pairs) (t .count) ⌝ }
-    ensures { λ r. ⌜ decision (now (text .entry)) (now (marks .entry)) r ≡ decidedEmpty event (tagAt (now (text .entry)) (now (marks .entry)) (t .pairs) (t .count)) m head ⌝ }
+    ensures { λ r. ⌜ decision (now (text .entry)) (now (marks .entry)) r ≡ decidedEmpty event (seenAt (now (text .entry)) (now (marks .entry)) t) m head ⌝ }
 {
-    let name = raw_name(text, marks, t);
     if m.context == contexts::NONE {
-        return root_found(text, marks, t, name);
+        return root_found(marks, t);
     }
     if m.context == contexts::SCHEMA {
-        return empty_in_schema(text, marks, t, name, m.nesting, event);
+        return empty_in_schema(text, marks, t, m.nesting, event);
     }
     if m.context == contexts::SIMPLE_TYPE {
-        return empty_in_simple_type(text, marks, t, name);
+        return empty_in_simple_type(text, marks, t);
     }
-    empty_in_complex_type(text, marks, t, name, m.extension, head)
+    empty_in_complex_type(text, marks, t, m.extension, head)
 }
 
 // What a close decides: a complex type that has no content yet gets one without namespace as it is finished.

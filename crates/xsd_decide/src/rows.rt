@@ -4,13 +4,11 @@ ghost use mathlib.Core.List.{List, []};
 ghost use mathlib.Core.Option.{some};
 ghost use Prim.Native.Nat.{ℕ};
 ghost use Rattle.text.specs.Text.{Text};
-ghost use Rattle.xsd_parser.specs.Event.{attrValue};
 ghost use Rattle.xsd_parser.specs.Handlers.{ok, parseMaxOccurs};
-ghost use Rattle.tape.specs.Pairs.{TagInside};
 ghost use Rattle.xsd_actions.specs.Actions.{Action};
 ghost use Rattle.xsd_actions.specs.Answers.{textAtMark, decision};
 ghost use Rattle.xsd_actions.specs.Decided.{topElement, named, baseSet, occursAdded, elementInside, attributeInside};
-ghost use Rattle.xsd_decide.specs.Reads.{recordTag};
+ghost use Rattle.tape.specs.Lookup.{seenAt};
 ghost use Rattle.xsd_decide.specs.Rows.{typedRow, maxAdded};
 use crate::values::Max;
 use crate::values::Places;
@@ -22,18 +20,17 @@ use crate::values::name_and_type;
 use crate::values::value_place;
 use number::U32;
 use sheet::refusal::Refusal;
-use tape::TagRecord;
+use tape::attributes::SeenTag;
 use xsd_actions::Decision;
 use xsd_actions::NewContent;
 use xsd_actions::NewRow;
 use xsd_types::tags;
 
 // The open type's base is the tag's.
-pub fn base_set(text: &[u8], marks: &[u32], t: TagRecord) -> Decision
-    requires { ⌜ TagInside (now text) (now marks) (t .pairs) (t .count) ⌝ }
-    ensures { λ r. ⌜ decision (now (text .entry)) (now (marks .entry)) r ≡ ok (baseSet (recordTag (now (text .entry)) (now (marks .entry)) t)) ⌝ }
+pub fn base_set(text: &[u8], marks: &[u32], t: SeenTag) -> Decision
+    ensures { λ r. ⌜ decision (now (text .entry)) (now (marks .entry)) r ≡ ok (baseSet (seenAt (now (text .entry)) (now (marks .entry)) t)) ⌝ }
 {
-    Decision::Base(value_place(text, marks, t, b"base"))
+    Decision::Base(value_place(marks, t.base))
 }
 
 // The open complex type gets a content with no text behind the name.
@@ -64,28 +61,25 @@ fn typed_row(p: Places, tag: u32, a: u32, b: u32, c: u32) -> Decision
 }
 
 // A row without numbers but c for a tag that has name and type.
-fn named_row(text: &[u8], marks: &[u32], t: TagRecord, tag: u32, c: u32) -> Decision
-    requires { ⌜ TagInside (now text) (now marks) (t .pairs) (t .count) ⌝ }
-    ensures { λ r. ⌜ decision (now (text .entry)) (now (marks .entry)) r ≡ ok (named (recordTag (now (text .entry)) (now (marks .entry)) t) (typedRow tag 0 0 c)) ⌝ }
+fn named_row(text: &[u8], marks: &[u32], t: SeenTag, tag: u32, c: u32) -> Decision
+    ensures { λ r. ⌜ decision (now (text .entry)) (now (marks .entry)) r ≡ ok (named (seenAt (now (text .entry)) (now (marks .entry)) t) (typedRow tag 0 0 c)) ⌝ }
 {
-    match name_and_type(text, marks, t) {
+    match name_and_type(t) {
         Typed::Both(p) => typed_row(p, tag, 0, 0, c),
         Typed::Missing => Decision::Keep,
     }
 }
 
 // An element at the top is kept if it has name and type, with the number of its event.
-pub fn top_element(text: &[u8], marks: &[u32], t: TagRecord, event: u32) -> Decision
-    requires { ⌜ TagInside (now text) (now marks) (t .pairs) (t .count) ⌝ }
-    ensures { λ r. ⌜ decision (now (text .entry)) (now (marks .entry)) r ≡ ok (topElement event (recordTag (now (text .entry)) (now (marks .entry)) t)) ⌝ }
+pub fn top_element(text: &[u8], marks: &[u32], t: SeenTag, event: u32) -> Decision
+    ensures { λ r. ⌜ decision (now (text .entry)) (now (marks .entry)) r ≡ ok (topElement event (seenAt (now (text .entry)) (now (marks .entry)) t)) ⌝ }
 {
     named_row(text, marks, t, tags::ELEMENT, event)
 }
 
 // The row of an element whose name, type and lower bound are known.
-fn max_added(text: &[u8], marks: &[u32], t: TagRecord, p: Places, min: u32) -> Decision
-    requires { ⌜ TagInside (now text) (now marks) (t .pairs) (t .count) ⌝ }
-    ensures { λ r. ⌜ decision (now (text .entry)) (now (marks .entry)) r ≡ maxAdded (textAtMark (now (text .entry)) (now (marks .entry)) (p .name)) (textAtMark (now (text .entry)) (now (marks .entry)) (p .typ)) min (parseMaxOccurs (attrValue (recordTag (now (text .entry)) (now (marks .entry)) t) "maxOccurs")) ⌝ }
+fn max_added(text: &[u8], marks: &[u32], t: SeenTag, p: Places, min: u32) -> Decision
+    ensures { λ r. ⌜ decision (now (text .entry)) (now (marks .entry)) r ≡ maxAdded (textAtMark (now (text .entry)) (now (marks .entry)) (p .name)) (textAtMark (now (text .entry)) (now (marks .entry)) (p .typ)) min (parseMaxOccurs (seenAt (now (text .entry)) (now (marks .entry)) t .maxOccurs)) ⌝ }
 {
     match max_occurs(text, marks, t) {
         Max::Bounded(max) => typed_row(p, tags::BOUND_ELEMENT, min, max, 0),
@@ -95,9 +89,8 @@ fn max_added(text: &[u8], marks: &[u32], t: TagRecord, p: Places, min: u32) -> D
 }
 
 // The row of an element whose name and type are known: the lower bound is read before the upper.
-fn min_added(text: &[u8], marks: &[u32], t: TagRecord, p: Places) -> Decision
-    requires { ⌜ TagInside (now text) (now marks) (t .pairs) (t .count) ⌝ }
-    ensures { λ r. ⌜ decision (now (text .entry)) (now (marks .entry)) r ≡ occursAdded (recordTag (now (text .entry)) (now (marks .entry)) t) (some (textAtMark (now (text .entry)) (now (marks .entry)) (p .name))) (some (textAtMark (now (text .entry)) (now (marks .entry)) (p .typ))) ⌝ }
+fn min_added(text: &[u8], marks: &[u32], t: SeenTag, p: Places) -> Decision
+    ensures { λ r. ⌜ decision (now (text .entry)) (now (marks .entry)) r ≡ occursAdded (seenAt (now (text .entry)) (now (marks .entry)) t) (some (textAtMark (now (text .entry)) (now (marks .entry)) (p .name))) (some (textAtMark (now (text .entry)) (now (marks .entry)) (p .typ))) ⌝ }
 {
     match min_occurs(text, marks, t) {
         U32::Value(min) => max_added(text, marks, t, p, min),
@@ -106,20 +99,18 @@ fn min_added(text: &[u8], marks: &[u32], t: TagRecord, p: Places) -> Decision
 }
 
 // An element of a sequence: its occurs are read only if it has name and type.
-fn occurs_added(text: &[u8], marks: &[u32], t: TagRecord) -> Decision
-    requires { ⌜ TagInside (now text) (now marks) (t .pairs) (t .count) ⌝ }
-    ensures { λ r. ⌜ decision (now (text .entry)) (now (marks .entry)) r ≡ occursAdded (recordTag (now (text .entry)) (now (marks .entry)) t) (attrValue (recordTag (now (text .entry)) (now (marks .entry)) t) "name") (attrValue (recordTag (now (text .entry)) (now (marks .entry)) t) "type") ⌝ }
+fn occurs_added(text: &[u8], marks: &[u32], t: SeenTag) -> Decision
+    ensures { λ r. ⌜ decision (now (text .entry)) (now (marks .entry)) r ≡ occursAdded (seenAt (now (text .entry)) (now (marks .entry)) t) (seenAt (now (text .entry)) (now (marks .entry)) t .name) (seenAt (now (text .entry)) (now (marks .entry)) t .typeName) ⌝ }
 {
-    match name_and_type(text, marks, t) {
+    match name_and_type(t) {
         Typed::Both(p) => min_added(text, marks, t, p),
         Typed::Missing => Decision::Keep,
     }
 }
 
 // An element inside a complex type whose head has the tag `head`.
-pub fn element_inside(text: &[u8], marks: &[u32], t: TagRecord, head: u32) -> Decision
-    requires { ⌜ TagInside (now text) (now marks) (t .pairs) (t .count) ⌝ }
-    ensures { λ r. ⌜ decision (now (text .entry)) (now (marks .entry)) r ≡ elementInside (recordTag (now (text .entry)) (now (marks .entry)) t) head ⌝ }
+pub fn element_inside(text: &[u8], marks: &[u32], t: SeenTag, head: u32) -> Decision
+    ensures { λ r. ⌜ decision (now (text .entry)) (now (marks .entry)) r ≡ elementInside (seenAt (now (text .entry)) (now (marks .entry)) t) head ⌝ }
 {
     if head == tags::SEQUENCE {
         return occurs_added(text, marks, t);
@@ -131,14 +122,13 @@ pub fn element_inside(text: &[u8], marks: &[u32], t: TagRecord, head: u32) -> De
 }
 
 // An attribute counts once the extension flag is set.
-pub fn attribute_inside(text: &[u8], marks: &[u32], t: TagRecord, flag: bool) -> Decision
-    requires { ⌜ TagInside (now text) (now marks) (t .pairs) (t .count) ⌝ }
-    ensures { λ r. ⌜ decision (now (text .entry)) (now (marks .entry)) r ≡ ok (attributeInside (recordTag (now (text .entry)) (now (marks .entry)) t) flag) ⌝ }
+pub fn attribute_inside(text: &[u8], marks: &[u32], t: SeenTag, flag: bool) -> Decision
+    ensures { λ r. ⌜ decision (now (text .entry)) (now (marks .entry)) r ≡ ok (attributeInside (seenAt (now (text .entry)) (now (marks .entry)) t) flag) ⌝ }
 {
     if !flag {
         return Decision::Keep;
     }
-    let Typed::Both(p) = name_and_type(text, marks, t) else {
+    let Typed::Both(p) = name_and_type(t) else {
         return Decision::Keep;
     };
     if is_required(text, marks, t) {

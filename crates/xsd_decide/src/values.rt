@@ -1,21 +1,19 @@
-// What a tag's name and attributes say, read from the tape: the name, places of values, occurs.
+// What is seen of a tag's attributes, read from the tape: places of values, occurs.
 ghost use mathlib.Core.Path.{_≡_};
-ghost use mathlib.Core.Bool.{false};
+ghost use mathlib.Core.List.{List};
 ghost use mathlib.Core.Option.{some};
-ghost use Rattle.text.specs.Text.{contains, colon};
+ghost use Prim.Native.Nat.{ℕ};
+ghost use Rattle.text.specs.Text.{Text};
 ghost use Rattle.number.specs.Answers.{ofU32};
-ghost use Rattle.xsd_parser.specs.Event.{attrValue, orEmpty};
+ghost use Rattle.xsd_parser.specs.Event.{orEmpty};
 ghost use Rattle.xsd_parser.specs.Handlers.{parseMinOccurs, parseMaxOccurs, isRequired};
-ghost use Rattle.tape.specs.Lookup.{lookupText};
-ghost use Rattle.tape.specs.Pairs.{TagInside};
+ghost use Rattle.tape.specs.Lookup.{valueAt, seenAt};
 ghost use Rattle.xsd_actions.specs.Answers.{textAtMark};
-ghost use Rattle.xsd_decide.specs.Reads.{recordTag, both, typedValues, maxAnswer};
+ghost use Rattle.xsd_decide.specs.Reads.{foundValue, both, typedValues, maxAnswer};
 use number::U32;
 use number::parse_u32;
-use tape::TagRecord;
-use tape::attributes::Found;
+use tape::attributes::SeenTag;
 use tape::pairs::pair_part;
-use tape::view::attribute;
 use text::same_text;
 
 // Where the pairs of a tag's name and type attributes stand in the marks.
@@ -36,56 +34,60 @@ pub enum Max {
     Invalid,
 }
 
-// The name of a tag, with its prefix.
-pub fn raw_name<'a>(text: &'a [u8], marks: &[u32], t: TagRecord) -> &'a [u8]
-    ensures { λ r. ⌜ now r ≡ recordTag (now (text .entry)) (now (marks .entry)) t .name ⌝ }
-{
-    pair_part(text, marks, t.pairs)
+// Where the pair of a value stands in the marks, if the tag has one.
+pub enum Found {
+    At(usize),
+    Nothing,
 }
 
-// Where the pair of an attribute's value stands: the end of the marks, where the empty text is, if there is none.
-pub fn value_place(text: &[u8], marks: &[u32], t: TagRecord, word: &[u8]) -> usize
-    requires { ⌜ contains colon (now word) ≡ false ⌝ }
-    requires { ⌜ TagInside (now text) (now marks) (t .pairs) (t .count) ⌝ }
-    ensures { λ r. ⌜ textAtMark (now (text .entry)) (now (marks .entry)) r ≡ orEmpty (lookupText (recordTag (now (text .entry)) (now (marks .entry)) t .attributes) (now (word .entry))) ⌝ }
+// The place of a value in what is seen of a tag, where 0 is none.
+pub fn place_found(at: usize) -> Found
+    ensures { λ r. ⌜ ((text : Text) (marks : List ℕ) → foundValue text marks r ≡ valueAt text marks at) ⌝ }
 {
-    match attribute(text, marks, t.pairs, t.count, word) {
-        Found::At(i) => i,
-        Found::Nothing => marks.len(),
+    if at == 0 {
+        return Found::Nothing;
     }
+    Found::At(at)
+}
+
+// The same where an absent value is the empty text, which is at the end of the marks.
+pub fn value_place(marks: &[u32], at: usize) -> usize
+    ensures { λ r. ⌜ ((text : Text) → textAtMark text (now (marks .entry)) r ≡ orEmpty (valueAt text (now (marks .entry)) at)) ⌝ }
+{
+    if at == 0 {
+        return marks.len();
+    }
+    at
 }
 
 // Where name and type stand, if the tag has both.
-pub fn name_and_type(text: &[u8], marks: &[u32], t: TagRecord) -> Typed
-    requires { ⌜ TagInside (now text) (now marks) (t .pairs) (t .count) ⌝ }
-    ensures { λ r. ⌜ typedValues (now (text .entry)) (now (marks .entry)) r ≡ both (attrValue (recordTag (now (text .entry)) (now (marks .entry)) t) "name") (attrValue (recordTag (now (text .entry)) (now (marks .entry)) t) "type") ⌝ }
+pub fn name_and_type(t: SeenTag) -> Typed
+    ensures { λ r. ⌜ ((text : Text) (marks : List ℕ) → typedValues text marks r ≡ both (valueAt text marks (t .name)) (valueAt text marks (t .typ))) ⌝ }
 {
-    let Found::At(name) = attribute(text, marks, t.pairs, t.count, b"name") else {
+    let Found::At(name) = place_found(t.name) else {
         return Typed::Missing;
     };
-    let Found::At(typ) = attribute(text, marks, t.pairs, t.count, b"type") else {
+    let Found::At(typ) = place_found(t.typ) else {
         return Typed::Missing;
     };
     Typed::Both(Places { name, typ })
 }
 
 // Whether the attribute `use` is exactly `required`.
-pub fn is_required(text: &[u8], marks: &[u32], t: TagRecord) -> bool
-    requires { ⌜ TagInside (now text) (now marks) (t .pairs) (t .count) ⌝ }
-    ensures { λ r. ⌜ r ≡ isRequired (attrValue (recordTag (now (text .entry)) (now (marks .entry)) t) "use") ⌝ }
+pub fn is_required(text: &[u8], marks: &[u32], t: SeenTag) -> bool
+    ensures { λ r. ⌜ r ≡ isRequired (seenAt (now (text .entry)) (now (marks .entry)) t .usage) ⌝ }
 {
-    match attribute(text, marks, t.pairs, t.count, b"use") {
+    match place_found(t.usage) {
         Found::At(i) => same_text(pair_part(text, marks, i), b"required"),
         Found::Nothing => false,
     }
 }
 
 // The lower bound of an element, 1 where it is absent.
-pub fn min_occurs(text: &[u8], marks: &[u32], t: TagRecord) -> U32
-    requires { ⌜ TagInside (now text) (now marks) (t .pairs) (t .count) ⌝ }
-    ensures { λ r. ⌜ ofU32 r ≡ parseMinOccurs (attrValue (recordTag (now (text .entry)) (now (marks .entry)) t) "minOccurs") ⌝ }
+pub fn min_occurs(text: &[u8], marks: &[u32], t: SeenTag) -> U32
+    ensures { λ r. ⌜ ofU32 r ≡ parseMinOccurs (seenAt (now (text .entry)) (now (marks .entry)) t .minOccurs) ⌝ }
 {
-    match attribute(text, marks, t.pairs, t.count, b"minOccurs") {
+    match place_found(t.min_occurs) {
         Found::At(i) => parse_u32(pair_part(text, marks, i)),
         Found::Nothing => U32::Value(1),
     }
@@ -105,11 +107,10 @@ fn max_of(s: &[u8]) -> Max
 }
 
 // The upper bound of an element, 1 where it is absent.
-pub fn max_occurs(text: &[u8], marks: &[u32], t: TagRecord) -> Max
-    requires { ⌜ TagInside (now text) (now marks) (t .pairs) (t .count) ⌝ }
-    ensures { λ r. ⌜ maxAnswer r ≡ parseMaxOccurs (attrValue (recordTag (now (text .entry)) (now (marks .entry)) t) "maxOccurs") ⌝ }
+pub fn max_occurs(text: &[u8], marks: &[u32], t: SeenTag) -> Max
+    ensures { λ r. ⌜ maxAnswer r ≡ parseMaxOccurs (seenAt (now (text .entry)) (now (marks .entry)) t .maxOccurs) ⌝ }
 {
-    match attribute(text, marks, t.pairs, t.count, b"maxOccurs") {
+    match place_found(t.max_occurs) {
         Found::At(i) => max_of(pair_part(text, marks, i)),
         Found::Nothing => Max::Bounded(1),
     }

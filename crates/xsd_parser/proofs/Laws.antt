@@ -1,5 +1,6 @@
 -- Laws of the definitions in specs/.
 pub mod EventTexts
+pub mod SeenTexts
 pub mod Outcomes
 pub mod Contents
 pub mod Readers
@@ -26,3 +27,4 @@ pub mod Occurs
 pub mod Children
 pub mod ChildrenRead
 pub mod Choices
+pub mod Alike

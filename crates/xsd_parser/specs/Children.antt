@@ -15,7 +15,9 @@ use lib.Dec.{eqb}
 use Rattle.text.specs.Text.{Text, if_then_else_}
 use Rattle.xsd_types.specs.Types.{Item}
 use Rattle.xsd_types.specs.State.{Context, Reader}
-use Rattle.xsd_parser.specs.Event.{Event, tagIs, attrValue}
+use Rattle.xsd_parser.specs.declared.words.Word.{Word}
+use Rattle.xsd_parser.specs.Event.{Event}
+use Rattle.xsd_parser.specs.Seen.{seen, tagIs}
 use Rattle.xsd_parser.specs.Tape.{Judged, event, refused}
 
 pub data Head : Type 0 where
@@ -23,7 +25,7 @@ pub data Head : Type 0 where
   simpleType complexType : Text → Head
 
 unfoldable pub depthAfter : Event → ℕ → ℕ
-depthAfter (Event.start t) zero = if tagIs t "schema" then 1 else 0
+depthAfter (Event.start t) zero = if tagIs (seen t) Word.Schema then 1 else 0
 depthAfter (Event.start t) (suc n) = suc (suc n)
 depthAfter (Event.empty t) n = n
 depthAfter Event.close zero = zero
@@ -41,10 +43,10 @@ elementHead (some name) (some typeName) = Head.element name typeName ∷ []
 -- "start `simpleType` or `complexType` needs a name and opens a type; `element`, start or empty, is kept if it has name and type"
 unfoldable pub childHead : Event → List Head
 childHead (Event.start t) =
-    if tagIs t "simpleType" then namedHead Head.simpleType (attrValue t "name") else
-    if tagIs t "complexType" then namedHead Head.complexType (attrValue t "name") else
-    if tagIs t "element" then elementHead (attrValue t "name") (attrValue t "type") else []
-childHead (Event.empty t) = if tagIs t "element" then elementHead (attrValue t "name") (attrValue t "type") else []
+    if tagIs (seen t) Word.SimpleType then namedHead Head.simpleType (seen t .name) else
+    if tagIs (seen t) Word.ComplexType then namedHead Head.complexType (seen t .name) else
+    if tagIs (seen t) Word.Element then elementHead (seen t .name) (seen t .typeName) else []
+childHead (Event.empty t) = if tagIs (seen t) Word.Element then elementHead (seen t .name) (seen t .typeName) else []
 childHead Event.close = []
 
 unfoldable pub headAt : ℕ → Event → List Head
@@ -74,7 +76,7 @@ unfoldable pub heads : Reader → List Head
 heads r = map itemHead (r .schema .items) ++ openHead (r .context)
 
 unfoldable pub startsNoOther : Event → Bool
-startsNoOther (Event.start t) = tagIs t "simpleType" || tagIs t "complexType"
+startsNoOther (Event.start t) = tagIs (seen t) Word.SimpleType || tagIs (seen t) Word.ComplexType
 startsNoOther (Event.empty t) = true
 startsNoOther Event.close = true
 

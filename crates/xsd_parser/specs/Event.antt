@@ -1,13 +1,11 @@
 -- Events as values, and the lookups that 000 makes of them.
 --     Tag           a tag's name with its attributes, keys and values in order
 --     Event         a start tag, an empty tag, or a close
---     tagIs         the tag's local name is the word
 --     attrValue     the value of the first attribute whose key's local name is the word (000, `attr_value`)
 --     eventName     the name that an event carries: the attribute `name` of its tag
 --     orEmpty       a value, the empty text where there is none (000, `unwrap_or_default`)
 use Prim.Native.String.{String}
 use mathlib.Core.List.{List, [], _∷_}
-use mathlib.Core.Bool.{Bool}
 use mathlib.Core.Option.{Option, some, none}
 use Rattle.text.specs.Text.{Text, if_then_else_, is, localName}
 
@@ -25,9 +23,6 @@ pub data Event : Type 0 where
   close : Event
 
 -- "Tag names and attribute keys are compared after their last colon."
-unfoldable pub tagIs : Tag → String → Bool
-tagIs t word = is (localName (t .name)) word
-
 unfoldable pub lookup : List Attr → String → Option Text
 lookup [] word = none
 lookup (x ∷ xs) word = if is (localName (x .key)) word then some (x .value) else lookup xs word

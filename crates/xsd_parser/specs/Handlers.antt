@@ -15,7 +15,11 @@ use Rattle.number.specs.Number.{Parsed, parsed, refused, number}
 use Rattle.sheet.specs.Returned.{missingAttribute}
 use Rattle.xsd_types.specs.Types.{Facet, MaxOccurs, SequenceElement, ChoiceVariant, Attribute, Item}
 use Rattle.xsd_types.specs.State.{SimpleTypeBuilder, ComplexContentBuilder, ComplexTypeBuilder, Context, Reader, finish}
-use Rattle.xsd_parser.specs.Event.{Tag, tagIs, attrValue, orEmpty}
+use Rattle.xsd_parser.specs.declared.words.Word.{Word}
+use Rattle.xsd_parser.specs.declared.words.FacetWord.{FacetWord}
+use Rattle.xsd_parser.specs.Words.{facetWord}
+use Rattle.xsd_parser.specs.Event.{orEmpty}
+use Rattle.xsd_parser.specs.Seen.{Seen, tagIs}
 
 pub data Outcome (A : Type 0) : Type 0 where
   ok : A → Outcome A
@@ -43,10 +47,10 @@ withItem i r =
     }
 
 -- "a start or empty `schema` sets root seen and the namespace anew (empty if absent)"
-unfoldable pub foundRoot : Tag → Reader → Reader
+unfoldable pub foundRoot : Seen → Reader → Reader
 foundRoot t r =
     record {
-      schema = record { targetNamespace = orEmpty (attrValue t "targetNamespace"); items = r .schema .items };
+      schema = record { targetNamespace = orEmpty (t .targetNamespace); items = r .schema .items };
       rootSeen = true;
       context = r .context;
     }
@@ -57,12 +61,12 @@ keptElement n none typeName r = r
 keptElement n (some name) none r = r
 keptElement n (some name) (some typeName) r = withItem (Item.element (record { name = name; typeName = typeName; event = n })) r
 
-unfoldable pub onTopLevelElement : ℕ → Tag → Reader → Reader
-onTopLevelElement n t r = keptElement n (attrValue t "name") (attrValue t "type") r
+unfoldable pub onTopLevelElement : ℕ → Seen → Reader → Reader
+onTopLevelElement n t r = keptElement n (t .name) (t .typeName) r
 
 -- 000, `require_attr`: 9 where it is absent
-unfoldable pub requireName : {A : Type 0} → Tag → (Text → A) → Outcome A
-requireName t f = elim (attrValue t "name") [ none ↦ refuse missingAttribute | some name ↦ ok (f name) ]
+unfoldable pub requireName : {A : Type 0} → Seen → (Text → A) → Outcome A
+requireName t f = elim (t .name) [ none ↦ refuse missingAttribute | some name ↦ ok (f name) ]
 
 -- 000, `parse_min_occurs` and `parse_max_occurs`. XML Schema Part 1, 3.9.2: minOccurs and maxOccurs default to 1
 unfoldable pub parseMinOccurs : Option Text → Parsed
@@ -88,12 +92,12 @@ unfoldable pub withContent : ComplexTypeBuilder → ComplexContentBuilder → Co
 withContent t content = record { name = t .name; content = content; nestingDepth = t .nestingDepth; event = t .event }
 
 -- 000, `on_element_inside_complex`: "Occurs are read only in a sequence and only then, min before max, default 1"
-unfoldable pub sequenceElement : Tag → Option Text → Option Text → List SequenceElement → Outcome ComplexContentBuilder
+unfoldable pub sequenceElement : Seen → Option Text → Option Text → List SequenceElement → Outcome ComplexContentBuilder
 sequenceElement t none typeName es = ok (ComplexContentBuilder.sequence es)
 sequenceElement t (some name) none es = ok (ComplexContentBuilder.sequence es)
 sequenceElement t (some name) (some typeName) es =
-    onParsed (parseMinOccurs (attrValue t "minOccurs")) (λ min. min) andThen λ min.
-    parseMaxOccurs (attrValue t "maxOccurs") andThen λ max.
+    onParsed (parseMinOccurs (t .minOccurs)) (λ min. min) andThen λ min.
+    parseMaxOccurs (t .maxOccurs) andThen λ max.
     ok (ComplexContentBuilder.sequence (es ++ record { name = name; typeName = typeName; minOccurs = min; maxOccurs = max } ∷ []))
 
 unfoldable pub choiceVariant : Option Text → Option Text → List ChoiceVariant → ComplexContentBuilder
@@ -101,10 +105,10 @@ choiceVariant none typeName vs = ComplexContentBuilder.choice vs
 choiceVariant (some name) none vs = ComplexContentBuilder.choice vs
 choiceVariant (some name) (some typeName) vs = ComplexContentBuilder.choice (vs ++ record { name = name; typeName = typeName } ∷ [])
 
-unfoldable pub onElementInsideComplex : Tag → ComplexContentBuilder → Outcome ComplexContentBuilder
+unfoldable pub onElementInsideComplex : Seen → ComplexContentBuilder → Outcome ComplexContentBuilder
 onElementInsideComplex t ComplexContentBuilder.empty = ok ComplexContentBuilder.empty
-onElementInsideComplex t (ComplexContentBuilder.sequence es) = sequenceElement t (attrValue t "name") (attrValue t "type") es
-onElementInsideComplex t (ComplexContentBuilder.choice vs) = ok (choiceVariant (attrValue t "name") (attrValue t "type") vs)
+onElementInsideComplex t (ComplexContentBuilder.sequence es) = sequenceElement t (t .name) (t .typeName) es
+onElementInsideComplex t (ComplexContentBuilder.choice vs) = ok (choiceVariant (t .name) (t .typeName) vs)
 onElementInsideComplex t (ComplexContentBuilder.simpleContent base xs flag) = ok (ComplexContentBuilder.simpleContent base xs flag)
 onElementInsideComplex t (ComplexContentBuilder.any n) = ok (ComplexContentBuilder.any n)
 
@@ -113,27 +117,27 @@ unfoldable pub isRequired : Option Text → Bool
 isRequired none = false
 isRequired (some v) = is v "required"
 
-unfoldable pub attributeAdded : Tag → Option Text → Option Text → List Attribute → List Attribute
+unfoldable pub attributeAdded : Seen → Option Text → Option Text → List Attribute → List Attribute
 attributeAdded t none typeName xs = xs
 attributeAdded t (some name) none xs = xs
 attributeAdded t (some name) (some typeName) xs =
-    xs ++ record { name = name; typeName = typeName; required = isRequired (attrValue t "use") } ∷ []
+    xs ++ record { name = name; typeName = typeName; required = isRequired (t .usage) } ∷ []
 
-unfoldable pub onAttributeInsideComplex : Tag → ComplexContentBuilder → ComplexContentBuilder
+unfoldable pub onAttributeInsideComplex : Seen → ComplexContentBuilder → ComplexContentBuilder
 onAttributeInsideComplex t ComplexContentBuilder.empty = ComplexContentBuilder.empty
 onAttributeInsideComplex t (ComplexContentBuilder.sequence es) = ComplexContentBuilder.sequence es
 onAttributeInsideComplex t (ComplexContentBuilder.choice vs) = ComplexContentBuilder.choice vs
 onAttributeInsideComplex t (ComplexContentBuilder.simpleContent base xs false) = ComplexContentBuilder.simpleContent base xs false
 onAttributeInsideComplex t (ComplexContentBuilder.simpleContent base xs true) =
-    ComplexContentBuilder.simpleContent base (attributeAdded t (attrValue t "name") (attrValue t "type") xs) true
+    ComplexContentBuilder.simpleContent base (attributeAdded t (t .name) (t .typeName) xs) true
 onAttributeInsideComplex t (ComplexContentBuilder.any n) = ComplexContentBuilder.any n
 
 -- "start `extension` at 2 inside simple content sets base and flag": the content as it stands decides
-unfoldable pub onExtension : Tag → ComplexContentBuilder → ComplexContentBuilder
+unfoldable pub onExtension : Seen → ComplexContentBuilder → ComplexContentBuilder
 onExtension t ComplexContentBuilder.empty = ComplexContentBuilder.empty
 onExtension t (ComplexContentBuilder.sequence es) = ComplexContentBuilder.sequence es
 onExtension t (ComplexContentBuilder.choice vs) = ComplexContentBuilder.choice vs
-onExtension t (ComplexContentBuilder.simpleContent base xs flag) = ComplexContentBuilder.simpleContent (orEmpty (attrValue t "base")) xs true
+onExtension t (ComplexContentBuilder.simpleContent base xs flag) = ComplexContentBuilder.simpleContent (orEmpty (t .base)) xs true
 onExtension t (ComplexContentBuilder.any n) = ComplexContentBuilder.any n
 
 -- ---- on_start
@@ -150,47 +154,47 @@ unfoldable pub belowSchema : Bool → ℕ → Reader → Reader
 belowSchema false depth r = r
 belowSchema true depth r = inContext (Context.inSchema (suc depth)) r
 
-unfoldable pub onDirectChild : Bool → ℕ → Tag → Reader → Outcome Reader
+unfoldable pub onDirectChild : Bool → ℕ → Seen → Reader → Outcome Reader
 onDirectChild byStandard n t r =
-    if tagIs t "simpleType" then requireName t (λ name. inContext (openSimpleType n name) r) else
-    if tagIs t "complexType" then requireName t (λ name. inContext (openComplexType n name) r) else
-    if tagIs t "element" then ok (belowSchema byStandard 0 (onTopLevelElement n t r)) else ok (belowSchema byStandard 0 r)
+    if tagIs t Word.SimpleType then requireName t (λ name. inContext (openSimpleType n name) r) else
+    if tagIs t Word.ComplexType then requireName t (λ name. inContext (openComplexType n name) r) else
+    if tagIs t Word.Element then ok (belowSchema byStandard 0 (onTopLevelElement n t r)) else ok (belowSchema byStandard 0 r)
 
 -- order 3: "only its direct children become elements or types, and a nameless type under an element is passed over without 9"
-unfoldable pub onStartInSchema : Bool → ℕ → Tag → ℕ → Reader → Outcome Reader
+unfoldable pub onStartInSchema : Bool → ℕ → Seen → ℕ → Reader → Outcome Reader
 onStartInSchema byStandard n t depth r = if eqb depth 0 then onDirectChild byStandard n t r else ok (belowSchema byStandard depth r)
 
 -- "Simple type: each start raises nesting; `restriction` at nesting 1 .. sets the base"
 unfoldable pub raisedSimple : SimpleTypeBuilder → SimpleTypeBuilder
 raisedSimple t = record { name = t .name; base = t .base; facets = t .facets; nestingDepth = suc (t .nestingDepth); event = t .event }
 
-unfoldable pub onStartInSimpleType : Tag → SimpleTypeBuilder → SimpleTypeBuilder
+unfoldable pub onStartInSimpleType : Seen → SimpleTypeBuilder → SimpleTypeBuilder
 onStartInSimpleType t b =
-    if eqb (b .nestingDepth) 1 && tagIs t "restriction" then withBase (orEmpty (attrValue t "base")) b else b
+    if eqb (b .nestingDepth) 1 && tagIs t Word.Restriction then withBase (orEmpty (t .base)) b else b
 
 -- "Complex type: each start raises nesting; start `sequence`, `choice`, `simpleContent` at 1 replaces the content, flag 0"
 unfoldable pub raisedComplex : ComplexTypeBuilder → ComplexTypeBuilder
 raisedComplex t = record { name = t .name; content = t .content; nestingDepth = suc (t .nestingDepth); event = t .event }
 
-unfoldable pub contentStarted : Tag → ComplexContentBuilder → ComplexContentBuilder
+unfoldable pub contentStarted : Seen → ComplexContentBuilder → ComplexContentBuilder
 contentStarted t content =
-    if tagIs t "sequence" then ComplexContentBuilder.sequence [] else
-    if tagIs t "choice" then ComplexContentBuilder.choice [] else
-    if tagIs t "simpleContent" then ComplexContentBuilder.simpleContent [] [] false else content
+    if tagIs t Word.Sequence then ComplexContentBuilder.sequence [] else
+    if tagIs t Word.Choice then ComplexContentBuilder.choice [] else
+    if tagIs t Word.SimpleContent then ComplexContentBuilder.simpleContent [] [] false else content
 
-unfoldable pub contentAtTwo : Tag → ComplexContentBuilder → Outcome ComplexContentBuilder
+unfoldable pub contentAtTwo : Seen → ComplexContentBuilder → Outcome ComplexContentBuilder
 contentAtTwo t content =
-    if tagIs t "extension" then ok (onExtension t content) else
-    if tagIs t "element" then onElementInsideComplex t content else ok content
+    if tagIs t Word.Extension then ok (onExtension t content) else
+    if tagIs t Word.Element then onElementInsideComplex t content else ok content
 
 -- 000: match (b.nesting_depth, local), after the raise
-unfoldable pub onStartInComplexType : Tag → ComplexTypeBuilder → Outcome ComplexContentBuilder
+unfoldable pub onStartInComplexType : Seen → ComplexTypeBuilder → Outcome ComplexContentBuilder
 onStartInComplexType t b =
     if eqb (b .nestingDepth) 1 then ok (contentStarted t (b .content)) else
     if eqb (b .nestingDepth) 2 then contentAtTwo t (b .content) else ok (b .content)
 
-unfoldable pub onStart : Bool → ℕ → Tag → Reader → Context → Outcome Reader
-onStart byStandard n t r Context.noContext = ok (if tagIs t "schema" then inContext (Context.inSchema 0) (foundRoot t r) else r)
+unfoldable pub onStart : Bool → ℕ → Seen → Reader → Context → Outcome Reader
+onStart byStandard n t r Context.noContext = ok (if tagIs t Word.Schema then inContext (Context.inSchema 0) (foundRoot t r) else r)
 onStart byStandard n t r (Context.inSchema depth) = onStartInSchema byStandard n t depth r
 onStart byStandard n t r (Context.inSimpleType b) = ok (inContext (Context.inSimpleType (onStartInSimpleType t (raisedSimple b))) r)
 onStart byStandard n t r (Context.inComplexType b) =
@@ -200,32 +204,37 @@ onStart byStandard n t r (Context.inComplexType b) =
 -- ---- on_empty
 
 -- 000: "Empty facets count at any depth"; "an absent base or facet value is empty text"
-unfoldable pub facetValue : Tag → Text
-facetValue t = orEmpty (attrValue t "value")
+unfoldable pub facetValue : Seen → Text
+facetValue t = orEmpty (t .value)
 
-unfoldable pub onEmptyInSimpleType : Tag → SimpleTypeBuilder → Outcome SimpleTypeBuilder
+unfoldable pub facetOf : FacetWord → Text → Outcome Facet
+facetOf FacetWord.Enumeration v = ok (Facet.enumeration v)
+facetOf FacetWord.Pattern v = ok (Facet.pattern v)
+facetOf FacetWord.MinLength v = onParsed (number 64 v) Facet.minLength
+facetOf FacetWord.MaxLength v = onParsed (number 64 v) Facet.maxLength
+facetOf FacetWord.MinInclusive v = ok (Facet.minInclusive v)
+facetOf FacetWord.MaxInclusive v = ok (Facet.maxInclusive v)
+facetOf FacetWord.TotalDigits v = onParsed (number 32 v) Facet.totalDigits
+facetOf FacetWord.FractionDigits v = onParsed (number 32 v) Facet.fractionDigits
+
+unfoldable pub onFacet : {A : Type 0} → Option FacetWord → Text → (Facet → A) → A → Outcome A
+onFacet none v f other = ok other
+onFacet (some w) v f other = facetOf w v andThen λ x. ok (f x)
+
+unfoldable pub onEmptyInSimpleType : Seen → SimpleTypeBuilder → Outcome SimpleTypeBuilder
 onEmptyInSimpleType t b =
-    let v = facetValue t in
-    if tagIs t "restriction" then ok (withBase (orEmpty (attrValue t "base")) b) else
-    if tagIs t "enumeration" then ok (withFacet b (Facet.enumeration v)) else
-    if tagIs t "pattern" then ok (withFacet b (Facet.pattern v)) else
-    if tagIs t "minLength" then onParsed (number 64 v) (λ n. withFacet b (Facet.minLength n)) else
-    if tagIs t "maxLength" then onParsed (number 64 v) (λ n. withFacet b (Facet.maxLength n)) else
-    if tagIs t "minInclusive" then ok (withFacet b (Facet.minInclusive v)) else
-    if tagIs t "maxInclusive" then ok (withFacet b (Facet.maxInclusive v)) else
-    if tagIs t "totalDigits" then onParsed (number 32 v) (λ n. withFacet b (Facet.totalDigits n)) else
-    if tagIs t "fractionDigits" then onParsed (number 32 v) (λ n. withFacet b (Facet.fractionDigits n)) else ok b
+    if tagIs t Word.Restriction then ok (withBase (orEmpty (t .base)) b) else onFacet (facetWord (t .word)) (facetValue t) (withFacet b) b
 
 -- "Empty `any` replaces the content, flag 0."
-unfoldable pub onEmptyInComplexType : Tag → ComplexContentBuilder → Outcome ComplexContentBuilder
+unfoldable pub onEmptyInComplexType : Seen → ComplexContentBuilder → Outcome ComplexContentBuilder
 onEmptyInComplexType t content =
-    if tagIs t "element" then onElementInsideComplex t content else
-    if tagIs t "any" then ok (ComplexContentBuilder.any (attrValue t "namespace")) else
-    if tagIs t "attribute" then ok (onAttributeInsideComplex t content) else ok content
+    if tagIs t Word.Element then onElementInsideComplex t content else
+    if tagIs t Word.Any then ok (ComplexContentBuilder.any (t .namespace)) else
+    if tagIs t Word.Attribute then ok (onAttributeInsideComplex t content) else ok content
 
-unfoldable pub onEmpty : ℕ → Tag → Reader → Context → Outcome Reader
-onEmpty n t r Context.noContext = ok (if tagIs t "schema" then foundRoot t r else r)
-onEmpty n t r (Context.inSchema depth) = ok (if eqb depth 0 && tagIs t "element" then onTopLevelElement n t r else r)
+unfoldable pub onEmpty : ℕ → Seen → Reader → Context → Outcome Reader
+onEmpty n t r Context.noContext = ok (if tagIs t Word.Schema then foundRoot t r else r)
+onEmpty n t r (Context.inSchema depth) = ok (if eqb depth 0 && tagIs t Word.Element then onTopLevelElement n t r else r)
 onEmpty n t r (Context.inSimpleType b) =
     onEmptyInSimpleType t b andThen λ next. ok (inContext (Context.inSimpleType next) r)
 onEmpty n t r (Context.inComplexType b) =

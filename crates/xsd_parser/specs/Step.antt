@@ -14,11 +14,12 @@ use Rattle.sheet.specs.Lengths.{Lengths}
 use Rattle.xsd_types.specs.State.{Reader, State}
 use Rattle.xsd_types.specs.Sheet.{stateFits}
 use Rattle.xsd_parser.specs.Event.{Event}
+use Rattle.xsd_parser.specs.Seen.{seen}
 use Rattle.xsd_parser.specs.Handlers.{Outcome, ok, refuse, _andThen_, onStart, onEmpty, onEnd}
 
 unfoldable pub handled : Bool → ℕ → Event → Reader → Outcome Reader
-handled byStandard n (Event.start t) r = onStart byStandard n t r (r .context)
-handled byStandard n (Event.empty t) r = onEmpty n t r (r .context)
+handled byStandard n (Event.start t) r = onStart byStandard n (seen t) r (r .context)
+handled byStandard n (Event.empty t) r = onEmpty n (seen t) r (r .context)
 handled byStandard n Event.close r = ok (onEnd r (r .context))
 
 unfoldable pub closed : ℕ → Outcome ℕ

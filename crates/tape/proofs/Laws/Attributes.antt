@@ -12,7 +12,7 @@ use native.Mathlib.Omega.{arith}
 use lib.ListN.{length, getD, drop}
 use lib.Seq.{getD-drop, drop-drop}
 use Rattle.text.specs.Text.{Text, if_then_else_, bytes, same, is, localName}
-use Rattle.xsd_parser.specs.Event.{Attr, Tag, tagIs, attrValue, lookup}
+use Rattle.xsd_parser.specs.Event.{Attr, Tag, attrValue, lookup}
 use Rattle.xsd_parser.specs.Tape.{pairsOf, pairText, pairCount, attrsOf, tagOf}
 use Rattle.tape.specs.Pairs.{pairAt, tagAt}
 use Rattle.tape.specs.Lookup.{lookupText}
@@ -80,7 +80,3 @@ lookup-bytes (x ∷ xs) word = ap (λ (r : Option Text). if same (localName (x .
 pub attrValue-bytes : (t : Tag) (word : String) → attrValue t word ≡ lookupText (t .attributes) (bytes word)
 unfolding attrValue
 attrValue-bytes t word = lookup-bytes (t .attributes) word
-
-pub tagIs-bytes : (t : Tag) (word : String) → tagIs t word ≡ same (localName (t .name)) (bytes word)
-unfolding tagIs is
-tagIs-bytes t word = refl

@@ -1,5 +1,5 @@
 -- An event's marks say of the event what all marks say. Laws of specs/Marks.antt. No contract cites them. Assumes nothing.
-use mathlib.Core.Path.{_≡_, refl, sym, ap, _∙_, subst}
+use mathlib.Core.Path.{_≡_, refl, ap, _∙_}
 use mathlib.Core.List.{List, [], _∷_}
 use Prim.Native.Nat.{ℕ, zero, suc, _+_, _-_, _*_, _≤_, _<_}
 use native.Mathlib.Nat.{zero-add}
@@ -9,8 +9,6 @@ use lib.Seq.{getD-take, getD-drop}
 use Rattle.text.specs.Text.{Text}
 use Rattle.xsd_parser.specs.Tape.{Pair, pairsOf, pairCount, tagOf}
 use Rattle.tape.specs.Pairs.{pairAt, pairsInside, TagInside, tagAt}
-use Rattle.tape.specs.Lookup.{lookupText, foundValue, foundInside, Answered}
-use Rattle.tape.specs.declared.attributes.Found.{Found}
 use Rattle.tape.specs.Marks.{eventMarks}
 
 -- so many pairs are in twice as many marks
@@ -51,21 +49,3 @@ module _ (text : Text) (marks : List ℕ) (pairs count : ℕ) (inside : TagInsid
     marksInside = omega (arith, event-length);
     textInside = λ i l. rw (zero-add (2 * i), pair-cut marks pairs count (2 * i) (omega (arith, event-length))) (inside .textInside i l);
   }
-
--- a lookup in the event's marks answers for the event
-module _ (text : Text) (marks own : List ℕ) (pairs count : ℕ) (word : Text) (r : Found) (cut : own ≡ eventMarks marks pairs count) (e : Answered text own 0 count word r) where
-  looked : foundValue text (eventMarks marks pairs count) r ≡ lookupText (tagAt text marks pairs count .attributes) word
-  looked = rw (← tag-cut text marks pairs count, ← cut) (e .value)
-
-  pub found-inside : (i : ℕ) → r ≡ Found.At i → i + 2 ≤ length own
-  unfolding foundInside
-  found-inside i known = subst (foundInside (length own)) known (e .inside)
-
-  pub found-cut : (i : ℕ) → r ≡ Found.At i → foundValue text marks (Found.At (pairs + i)) ≡ lookupText (tagAt text marks pairs count .attributes) word
-  unfolding foundValue
-  found-cut i known =
-      rw (← pair-cut marks pairs count i (rw cut at (found-inside i known))) (sym (ap (foundValue text (eventMarks marks pairs count)) known) ∙ looked)
-
-  pub nothing-cut : r ≡ Found.Nothing → foundValue text marks Found.Nothing ≡ lookupText (tagAt text marks pairs count .attributes) word
-  unfolding foundValue
-  nothing-cut known = sym (ap (foundValue text (eventMarks marks pairs count)) known) ∙ looked

@@ -52,3 +52,10 @@ key-inside text marks pairs count at left inside e few some =
       marksInside = omega (arith, inside .marksInside);
       textInside = rw place (inside .textInside (1 + 2 * (count - left)) (omega arith));
     }
+
+-- its name
+pub name-inside : (text : Text) (marks : List ℕ) (pairs count : ℕ) → TagInside text marks pairs count → PairInside text marks pairs
+unfolding pairsInside pairCount
+name-inside text marks pairs count inside =
+    let place : pairs + 2 * 0 ≡ pairs = omega arith in
+    record { marksInside = omega (arith, inside .marksInside); textInside = rw place at (inside .textInside 0 (omega arith)) }

@@ -5,10 +5,12 @@ use mathlib.Core.Bool.{Bool, true, false}
 use mathlib.Core.Option.{Option, some, none}
 use Prim.Native.Nat.{ℕ}
 use Rattle.text.specs.Text.{Text, if_then_else_}
-use Rattle.number.specs.Number.{Parsed, parsed, refused}
 use Rattle.xsd_types.specs.State.{Reader}
-use Rattle.xsd_parser.specs.Event.{Tag, Event, attrValue}
-use Rattle.xsd_parser.specs.Handlers.{Outcome, ok, refuse, _andThen_, onParsed, requireName}
+use Rattle.xsd_types.specs.Types.{Facet}
+use Rattle.xsd_parser.specs.declared.words.FacetWord.{FacetWord}
+use Rattle.xsd_parser.specs.Event.{Event}
+use Rattle.xsd_parser.specs.Seen.{Seen}
+use Rattle.xsd_parser.specs.Handlers.{Outcome, ok, refuse, _andThen_, requireName, facetOf, onFacet}
 use Rattle.xsd_parser.specs.Step.{handled}
 use Rattle.xsd_actions.specs.Actions.{Action, Acted}
 use Rattle.xsd_actions.specs.Decided.{Decides, acts, refuses}
@@ -26,11 +28,6 @@ pub agree-if : {A B : Type 0} {R : A → B → Type 0} (b : Bool) {x y : Outcome
     → Agree R (if b then x else y) (if b then p else q)
 agree-if {R = R} b h k = if-both (Agree R) b h k
 
-pub agree-parsed : {A B : Type 0} {R : A → B → Type 0} (o : Parsed) (f : ℕ → A) (g : ℕ → B) → ((n : ℕ) → R (f n) (g n)) → Agree R (onParsed o f) (onParsed o g)
-unfolding onParsed
-agree-parsed (parsed v) f g h = values (h v)
-agree-parsed (refused r) f g h = refusals
-
 -- the same first step
 pub agree-step : {A B C : Type 0} {R : A → B → Type 0} (o : Outcome C) (f : C → Outcome A) (g : C → Outcome B) → ((x : C) → Agree R (f x) (g x))
     → Agree R (o andThen f) (o andThen g)
@@ -45,13 +42,19 @@ unfolding _andThen_
 agree-then f h (values {x = x} {y = y} r) = values (h x y r)
 agree-then f h refusals = refusals
 
-pub agree-name : {A B : Type 0} {R : A → B → Type 0} (t : Tag) (f : Text → A) (g : Text → B) → ((v : Text) → R (f v) (g v)) → Agree R (requireName t f) (requireName t g)
+pub agree-name : {A B : Type 0} {R : A → B → Type 0} (t : Seen) (f : Text → A) (g : Text → B) → ((v : Text) → R (f v) (g v)) → Agree R (requireName t f) (requireName t g)
 unfolding requireName
-agree-name {A} {B} {R} t f g h = go (attrValue t "name")
+agree-name {A} {B} {R} t f g h = go (t .name)
   where
     go : (o : Option Text) → Agree R (elim o [ none ↦ refuse 9 | some name ↦ ok (f name) ]) (elim o [ none ↦ refuse 9 | some name ↦ ok (g name) ])
     go none = refusals
     go (some v) = values (h v)
+
+pub agree-facet : {A B : Type 0} {R : A → B → Type 0} (o : Option FacetWord) (v : Text) (f : Facet → A) (g : Facet → B) (x : A) (y : B)
+    → ((k : Facet) → R (f k) (g k)) → R x y → Agree R (onFacet o v f x) (onFacet o v g y)
+unfolding onFacet
+agree-facet none v f g x y h k = values k
+agree-facet (some w) v f g x y h k = agree-step (facetOf w v) _ _ λ z. values (h z)
 
 -- the handlers' outcome agrees with the decision
 pub agree-decides : (byStandard : Bool) (m : ℕ) (e : Event) (r : Reader) (o : Outcome Reader) {p : Outcome Action} → handled byStandard m e r ≡ o

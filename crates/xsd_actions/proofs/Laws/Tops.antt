@@ -10,7 +10,8 @@ use Rattle.sheet.specs.Rows.{Row, row}
 use Rattle.xsd_types.specs.Types.{Item}
 use Rattle.xsd_types.specs.State.{Context, Reader}
 use Rattle.xsd_types.specs.Rows.{simpleTypeRows, complexTypeRows, itemRows, itemsRows, contextRows, contextNumber, nesting, contentFlag, extensionFlag}
-use Rattle.xsd_parser.specs.Event.{Tag, Event, attrValue, orEmpty}
+use Rattle.xsd_parser.specs.Event.{Tag, Event, orEmpty}
+use Rattle.xsd_parser.specs.Seen.{Seen, seen}
 use Rattle.xsd_parser.specs.Handlers.{inContext, withItem, foundRoot, keptElement, onTopLevelElement, openSimpleType, openComplexType, belowSchema}
 use Rattle.xsd_parser.proofs.Laws.CloseRoom.{items-one-more}
 use Rattle.xsd_actions.specs.Actions.{Action, modeOf, behind, contextAfter, rootAfter, flagAfter, opensType, raises, tagMode, modeAfter, namespaceAfter, openSimpleRow, openComplexRow, rowsAfter, Fitting, Acted}
@@ -59,9 +60,9 @@ module _ (byStandard : Bool) (e : Event) (r : Reader) (m : ℕ) (next : Reader �
     kept-acted event (some n) none = k
     kept-acted event (some n) (some ty) = added-acted (Item.element (record { name = n; typeName = ty; event = event })) _ (h _) refl
 
-    pub top-acted : (event : ℕ) (t : Tag) → Acted byStandard e (top 0 r) (topElement event t) (next (onTopLevelElement event t (top 0 r)))
+    pub top-acted : (event : ℕ) (t : Seen) → Acted byStandard e (top 0 r) (topElement event t) (next (onTopLevelElement event t (top 0 r)))
     unfolding topElement named onTopLevelElement
-    top-acted event t = kept-acted event (attrValue t "name") (attrValue t "type")
+    top-acted event t = kept-acted event (t .name) (t .typeName)
 
 -- order 3: the nesting below the schema after a start that opens no type
 unfoldable pub depthBelow : Bool → ℕ → ℕ
@@ -91,13 +92,13 @@ mode-still b r new = refl
 
 -- the root
 module _ (byStandard : Bool) (t : Tag) (r : Reader) where
-  pub root-start : Acted byStandard (Event.start t) (inContext Context.noContext r) (Action.root (orEmpty (attrValue t "targetNamespace")))
-      (top 0 (foundRoot t (inContext Context.noContext r)))
+  pub root-start : Acted byStandard (Event.start t) (inContext Context.noContext r) (Action.root (orEmpty (seen t .targetNamespace)))
+      (top 0 (foundRoot (seen t) (inContext Context.noContext r)))
   unfolding inContext foundRoot modeOf modeAfter tagMode raises contextAfter rootAfter flagAfter behind contextRows contextNumber nesting extensionFlag namespaceAfter rowsAfter Fitting
   root-start = record { mode = refl; namespace = refl; rows = refl; items = λ h. refl; fitting = tt }
 
-  pub root-empty : Acted byStandard (Event.empty t) (inContext Context.noContext r) (Action.root (orEmpty (attrValue t "targetNamespace")))
-      (foundRoot t (inContext Context.noContext r))
+  pub root-empty : Acted byStandard (Event.empty t) (inContext Context.noContext r) (Action.root (orEmpty (seen t .targetNamespace)))
+      (foundRoot (seen t) (inContext Context.noContext r))
   unfolding foundRoot modeOf modeAfter tagMode contextAfter rootAfter flagAfter behind namespaceAfter rowsAfter Fitting
   root-empty = record { mode = refl; namespace = refl; rows = refl; items = λ h. refl; fitting = tt }
 

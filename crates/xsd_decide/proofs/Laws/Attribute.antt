@@ -4,16 +4,16 @@ use mathlib.Core.Bool.{Bool, true, false}
 use mathlib.Core.List.{[], _∷_}
 use Rattle.sheet.specs.Rows.{row, bit}
 use Rattle.xsd_types.specs.Rows.{attributeRow}
-use Rattle.xsd_parser.specs.Event.{Tag, attrValue}
+use Rattle.xsd_parser.specs.Seen.{Seen}
 use Rattle.xsd_parser.specs.Handlers.{isRequired}
 use Rattle.xsd_actions.specs.Actions.{Action}
 use Rattle.xsd_actions.specs.Decided.{named, attributeInside}
 use Rattle.xsd_decide.specs.Rows.{typedRow}
 
-pub attribute-off : (t : Tag) {flag : Bool} → flag ≡ false → attributeInside t flag ≡ Action.keep
+pub attribute-off : (t : Seen) {flag : Bool} → flag ≡ false → attributeInside t flag ≡ Action.keep
 unfolding attributeInside
 attribute-off t e = rw e
 
-pub attribute-on : (t : Tag) {flag required : Bool} → flag ≡ true → isRequired (attrValue t "use") ≡ required → attributeInside t flag ≡ named t (typedRow 20 (bit required) 0 0)
+pub attribute-on : (t : Seen) {flag required : Bool} → flag ≡ true → isRequired (t .usage) ≡ required → attributeInside t flag ≡ named t (typedRow 20 (bit required) 0 0)
 unfolding attributeInside attributeRow typedRow
 attribute-on t e h = rw e (ap (λ (b : Bool). named t (λ n v. row 20 (n ∷ v ∷ []) (bit b) 0 0)) h)

@@ -2,18 +2,18 @@
 use mathlib.Core.Path.{_≡_, ap}
 use mathlib.Core.Option.{Option, some, none}
 use Rattle.text.specs.Text.{Text}
-use Rattle.xsd_parser.specs.Event.{Tag, attrValue}
+use Rattle.xsd_parser.specs.Seen.{Seen}
 use Rattle.xsd_parser.specs.Handlers.{Outcome, ok, refuse, requireName}
 use Rattle.xsd_actions.specs.Actions.{Action}
 
-module _ (t : Tag) (f : Text → Action) where
+module _ (t : Seen) (f : Text → Action) where
   abbrev byName : Option Text → Outcome Action
   byName v = elim v [ none ↦ refuse 9 | some name ↦ ok (f name) ]
 
-  pub requireName-some : {v : Text} → attrValue t "name" ≡ some v → requireName t f ≡ ok (f v)
+  pub requireName-some : {v : Text} → t .name ≡ some v → requireName t f ≡ ok (f v)
   unfolding requireName
   requireName-some e = ap byName e
 
-  pub requireName-none : attrValue t "name" ≡ none → requireName t f ≡ refuse 9
+  pub requireName-none : t .name ≡ none → requireName t f ≡ refuse 9
   unfolding requireName
   requireName-none e = ap byName e

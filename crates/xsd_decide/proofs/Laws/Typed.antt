@@ -5,7 +5,7 @@ use mathlib.Core.Option.{Option, some, none}
 use Prim.Native.Nat.{ℕ}
 use Rattle.text.specs.Text.{Text}
 use Rattle.sheet.specs.Rows.{Row}
-use Rattle.xsd_parser.specs.Event.{Tag}
+use Rattle.xsd_parser.specs.Seen.{Seen}
 use Rattle.xsd_parser.specs.Handlers.{ok}
 use Rattle.xsd_actions.specs.Actions.{Action}
 use Rattle.xsd_actions.specs.Decided.{typed, occursAdded}
@@ -23,7 +23,7 @@ typed-both f none typeName = refl
 typed-both f (some n) none = refl
 typed-both f (some n) (some v) = refl
 
-pub occurs-both : (t : Tag) (name typeName : Option Text) → occursAdded t name typeName ≡ forBoth (ok Action.keep) (λ n v. occursAdded t (some n) (some v)) (both name typeName)
+pub occurs-both : (t : Seen) (name typeName : Option Text) → occursAdded t name typeName ≡ forBoth (ok Action.keep) (λ n v. occursAdded t (some n) (some v)) (both name typeName)
 unfolding occursAdded both forBoth
 occurs-both t none typeName = refl
 occurs-both t (some n) none = refl
@@ -34,5 +34,5 @@ module _ (text : Text) (marks : List ℕ) (name typeName : Option Text) {r v : T
   pub typed-told : (f : Text → Text → Row) → typed name typeName f ≡ forBoth Action.keep (λ n w. Action.add (f n w)) (typedValues text marks v)
   typed-told f = typed-both f name typeName ∙ ap (forBoth Action.keep (λ n w. Action.add (f n w))) (sym e ∙ ap (typedValues text marks) h)
 
-  pub occurs-told : (t : Tag) → occursAdded t name typeName ≡ forBoth (ok Action.keep) (λ n w. occursAdded t (some n) (some w)) (typedValues text marks v)
+  pub occurs-told : (t : Seen) → occursAdded t name typeName ≡ forBoth (ok Action.keep) (λ n w. occursAdded t (some n) (some w)) (typedValues text marks v)
   occurs-told t = occurs-both t name typeName ∙ ap (forBoth (ok Action.keep) (λ n w. occursAdded t (some n) (some w))) (sym e ∙ ap (typedValues text marks) h)

@@ -1,33 +1,79 @@
--- What the code's lookups and comparisons say of a tag. Laws of xsd_parser's Event and of specs/Reads.antt. No contract cites them.
--- Assumes nothing.
-use mathlib.Core.Path.{_≡_, sym, ap, _∙_}
-use mathlib.Core.Bool.{Bool}
+-- What is known of what is seen of a tag: its word, once the code has matched it, and a value by its place. Laws of xsd_parser's Seen and of specs/Reads.antt. No
+-- contract cites them. Assumes nothing.
+use mathlib.Core.Path.{_≡_, refl, sym, ap, _∙_, subst}
+use mathlib.Core.Bool.{false}
 use mathlib.Core.List.{List}
 use mathlib.Core.Option.{some, none}
-use Prim.Native.Nat.{ℕ}
-use Prim.Native.String.{String}
-use Rattle.text.specs.Text.{Text, bytes, same, is, localName}
-use Rattle.xsd_parser.specs.Event.{Tag, tagIs, attrValue, orEmpty}
-use Rattle.tape.specs.Lookup.{lookupText, foundValue}
-use Rattle.tape.specs.declared.attributes.Found.{Found}
-use Rattle.tape.proofs.Laws.Attributes.{attrValue-bytes}
+use Prim.Native.Nat.{ℕ, zero, suc}
+use types.Run.{OneOf}
+use denote.Enum.Declared.{tagOf}
+use borrow.Author.Tests.{ne-eqb}
+use Rattle.text.specs.Text.{Text}
+use Rattle.xsd_parser.specs.declared.words.Word.{Word}
+use Rattle.xsd_parser.proofs.words.Word.{the-type}
+use Rattle.xsd_parser.specs.Words.{wordNumber, sameWord, facetWord}
+use Rattle.xsd_parser.specs.Seen.{Seen, tagIs}
+use Rattle.tape.specs.Lookup.{valueAt}
 use Rattle.xsd_actions.specs.Answers.{textAtMark}
+use Rattle.xsd_decide.specs.declared.values.Found.{Found}
+use Rattle.xsd_decide.specs.Reads.{foundValue}
 
--- a name compared with a word tells whether the tag is that word
-pub tagIs-told : (t : Tag) (word : String) {name : Text} {r b : Bool} → name ≡ t .name → r ≡ same (localName name) (bytes word) → r ≡ b → tagIs t word ≡ b
-unfolding tagIs is
-tagIs-told t word n e h = ap (λ (l : Text). same (localName l) (bytes word)) (sym n) ∙ sym e ∙ h
+-- a word that is known answers each test
+pub word-told : (t : Seen) {x : Word} (y : Word) → t .word ≡ x → tagIs t y ≡ sameWord x y
+unfolding tagIs
+word-told t y e = ap (λ (w : Word). sameWord w y) e
 
--- a lookup tells the value, or that there is none
-module _ (text : Text) (marks : List ℕ) (t : Tag) (word : String) where
-  pub attrValue-at : {r : Found} {i : ℕ} → foundValue text marks r ≡ lookupText (t .attributes) (bytes word) → r ≡ Found.At i → attrValue t word ≡ some (textAtMark text marks i)
-  unfolding foundValue textAtMark
-  attrValue-at e f = attrValue-bytes t word ∙ sym e ∙ ap (foundValue text marks) f
+-- the key of a word in a match is its number
+word-key : (w : Word) → tagOf the-type w ≡ wordNumber w
+unfolding wordNumber
+word-key Word.Schema = refl
+word-key Word.SimpleType = refl
+word-key Word.ComplexType = refl
+word-key Word.Element = refl
+word-key Word.Restriction = refl
+word-key (Word.Facet f) = refl
+word-key Word.Sequence = refl
+word-key Word.Choice = refl
+word-key Word.SimpleContent = refl
+word-key Word.Extension = refl
+word-key Word.Any = refl
+word-key Word.Attribute = refl
+word-key Word.Other = refl
 
-  pub attrValue-none : {r : Found} → foundValue text marks r ≡ lookupText (t .attributes) (bytes word) → r ≡ Found.Nothing → attrValue t word ≡ none
+-- a word that the match has left to its last arm
+pub word-left : (t : Seen) {w : Word} (y : Word) (others : List ℕ) → t .word ≡ w → OneOf others (tagOf the-type w) → (OneOf others (wordNumber y) → ⊥) → tagIs t y ≡ false
+unfolding tagIs sameWord
+word-left t {w} y others e h k =
+    ne-eqb (wordNumber (t .word)) (wordNumber y) (λ q. k (subst (OneOf others) (word-key w ∙ ap wordNumber (sym e) ∙ q) h))
+
+pub facet-left : (w : Word) (others : List ℕ) → OneOf others (tagOf the-type w) → (OneOf others 5 → ⊥) → facetWord w ≡ none
+unfolding facetWord
+facet-left Word.Schema others h k = refl
+facet-left Word.SimpleType others h k = refl
+facet-left Word.ComplexType others h k = refl
+facet-left Word.Element others h k = refl
+facet-left Word.Restriction others h k = refl
+facet-left (Word.Facet f) others h k = absurd (k h)
+facet-left Word.Sequence others h k = refl
+facet-left Word.Choice others h k = refl
+facet-left Word.SimpleContent others h k = refl
+facet-left Word.Extension others h k = refl
+facet-left Word.Any others h k = refl
+facet-left Word.Attribute others h k = refl
+facet-left Word.Other others h k = refl
+
+-- a place that was found tells the value, or that there is none
+module _ (text : Text) (marks : List ℕ) (at : ℕ) {r : Found} (e : foundValue text marks r ≡ valueAt text marks at) where
+  pub value-at : {i : ℕ} → r ≡ Found.At i → valueAt text marks at ≡ some (textAtMark text marks i)
   unfolding foundValue
-  attrValue-none e f = attrValue-bytes t word ∙ sym e ∙ ap (foundValue text marks) f
+  value-at f = sym e ∙ ap (foundValue text marks) f
 
--- the text at an attribute's place, where an absent one is empty
-pub place-told : (t : Tag) (word : String) {v : Text} → v ≡ orEmpty (lookupText (t .attributes) (bytes word)) → v ≡ orEmpty (attrValue t word)
-place-told t word e = e ∙ ap orEmpty (sym (attrValue-bytes t word))
+  pub value-none : r ≡ Found.Nothing → valueAt text marks at ≡ none
+  unfolding foundValue
+  value-none f = sym e ∙ ap (foundValue text marks) f
+
+-- a place that is not 0 is a value's
+pub value-is : (text : Text) (marks : List ℕ) (n : ℕ) → (n ≡ 0 → ⊥) → valueAt text marks n ≡ some (textAtMark text marks n)
+unfolding valueAt textAtMark
+value-is text marks zero h = absurd (h refl)
+value-is text marks (suc n) h = refl

@@ -9,7 +9,7 @@ use Rattle.xsd_decide.proofs.on_empty.Tie as tie
 
 returns : tie.Need-returns
 unfolding decidedEmpty
-returns c = if-true whole _ _ (eq-eqb _ 0 (c .before .if1 .taken)) (c .root-found .ensures)
+returns c = if-true whole _ _ (eq-eqb _ 0 (c .before .if1 .taken)) (c .root-found .ensures (c .before .before .before .before .before .args .text .now))
 
 returns-2 : tie.Need-returns-2
 unfolding decidedEmpty emptyInSchema
@@ -31,7 +31,6 @@ pub on-empty-spec : {M : Type 1} → statement M
 on-empty-spec =
     tie.close
     (tie.spec
-    (λ c κs. search needs)
     (λ c κs. search needs)
     returns
     (λ c κs. search needs)

@@ -10,14 +10,16 @@ use Prim.Native.Nat.{ℕ, zero, suc}
 use lib.Dec.{eqb, eqb·suc-zero, eqb·suc-suc}
 use Rattle.text.specs.Text.{Text, if_then_else_}
 use Rattle.text.proofs.Laws.Tests.{if-cases, if-either}
-use Rattle.number.specs.Number.{number}
-use Rattle.xsd_types.specs.Types.{Item, Facet, Schema}
+use Rattle.xsd_types.specs.Types.{Item, Schema}
 use Rattle.xsd_types.specs.State.{SimpleTypeBuilder, ComplexTypeBuilder, Context, Reader}
-use Rattle.xsd_parser.specs.Event.{Tag, Event, tagIs, attrValue}
-use Rattle.xsd_parser.specs.Handlers.{onParsed, inContext, withItem, foundRoot, keptElement, onTopLevelElement, withBase, withFacet, withContent, openSimpleType, openComplexType, belowSchema, onDirectChild, onStartInSchema, raisedSimple, onStartInSimpleType, raisedComplex, onStartInComplexType, onStart, facetValue, onEmptyInSimpleType, onEmptyInComplexType, onEmpty, closeSimpleType, closeComplexType, closeInSchema, onEnd}
+use Rattle.xsd_parser.specs.declared.words.Word.{Word}
+use Rattle.xsd_parser.specs.Words.{facetWord}
+use Rattle.xsd_parser.specs.Event.{Tag, Event}
+use Rattle.xsd_parser.specs.Seen.{Seen, seen, tagIs}
+use Rattle.xsd_parser.specs.Handlers.{inContext, withItem, foundRoot, keptElement, onTopLevelElement, withBase, withFacet, withContent, openSimpleType, openComplexType, belowSchema, onDirectChild, onStartInSchema, raisedSimple, onStartInSimpleType, raisedComplex, onStartInComplexType, onStart, facetValue, facetOf, onEmptyInSimpleType, onEmptyInComplexType, onEmpty, closeSimpleType, closeComplexType, closeInSchema, onEnd}
 use Rattle.xsd_parser.specs.Step.{handled}
 use Rattle.xsd_parser.specs.Children.{Head, depthAfter, namedHead, elementHead, childHead, headAt, itemHead, openHead, heads}
-use Rattle.xsd_parser.proofs.Laws.Outcomes.{Gives, value, Any, gives-if, gives-andThen, gives-parsed, gives-name, gives-any}
+use Rattle.xsd_parser.proofs.Laws.Outcomes.{Gives, value, Any, gives-if, gives-andThen, gives-name, gives-facet, gives-any}
 
 abbrev pub depthIn : Context → ℕ
 depthIn Context.noContext = 0
@@ -60,54 +62,54 @@ kept-context m (some name) (some typeName) r = refl
 
 -- a reader by its parts
 abbrev pub at : Schema → Bool → Context → Reader
-at s seen x = record { schema = s; rootSeen = seen; context = x }
+at s root x = record { schema = s; rootSeen = root; context = x }
 
-module _ (m : ℕ) (s : Schema) (seen : Bool) where
+module _ (m : ℕ) (s : Schema) (root : Bool) where
   -- ---- a start
 
-  pub startOutside-walked : (t : Tag) → Walked (Event.start t) (at s seen Context.noContext) (if tagIs t "schema" then inContext (Context.inSchema 0) (foundRoot t (at s seen Context.noContext)) else at s seen Context.noContext)
+  pub startOutside-walked : (t : Tag) → Walked (Event.start t) (at s root Context.noContext) (if tagIs (seen t) Word.Schema then inContext (Context.inSchema 0) (foundRoot (seen t) (at s root Context.noContext)) else at s root Context.noContext)
   unfolding inContext foundRoot depthAfter headAt heads openHead
   startOutside-walked t =
-      if-cases (Walked (Event.start t) (at s seen Context.noContext)) (tagIs t "schema")
-      {x = inContext (Context.inSchema 0) (foundRoot t (at s seen Context.noContext))} {y = at s seen Context.noContext}
+      if-cases (Walked (Event.start t) (at s root Context.noContext)) (tagIs (seen t) Word.Schema)
+      {x = inContext (Context.inSchema 0) (foundRoot (seen t) (at s root Context.noContext))} {y = at s root Context.noContext}
       (λ e. record { depth = rw e; headsAre = same-heads _ [] refl })
       (λ e. record { depth = rw e; headsAre = same-heads _ [] refl })
 
-  pub child-walked : (t : Tag) → Gives (Walked (Event.start t) (at s seen (Context.inSchema 0))) Any (onDirectChild true m t (at s seen (Context.inSchema 0)))
+  pub child-walked : (t : Tag) → Gives (Walked (Event.start t) (at s root (Context.inSchema 0))) Any (onDirectChild true m (seen t) (at s root (Context.inSchema 0)))
   unfolding onDirectChild inContext openSimpleType openComplexType belowSchema onTopLevelElement depthAfter headAt childHead namedHead heads openHead
   child-walked t =
-      let r = at s seen (Context.inSchema 0) in
+      let r = at s root (Context.inSchema 0) in
       let P = Gives (Walked (Event.start t) r) Any in
-      if-cases P (tagIs t "simpleType")
-      (λ e. gives-name t _ (λ v q. record { depth = refl; headsAre = rw (e, q) (rw (append-nil (map itemHead (s .items)))) }) tt)
-      (λ e. if-cases P (tagIs t "complexType")
-      (λ f. gives-name t _ (λ v q. record { depth = refl; headsAre = rw (e, f, q) (rw (append-nil (map itemHead (s .items)))) }) tt)
-      (λ f. if-cases P (tagIs t "element")
-      (λ g. value (record { depth = refl; headsAre = rw (e, f, g) (rw (append-nil (map itemHead (s .items)), kept-head m (attrValue t "name") (attrValue t "type") r) (append-nil _)) }))
+      if-cases P (tagIs (seen t) Word.SimpleType)
+      (λ e. gives-name (seen t) _ (λ v q. record { depth = refl; headsAre = rw (e, q) (rw (append-nil (map itemHead (s .items)))) }) tt)
+      (λ e. if-cases P (tagIs (seen t) Word.ComplexType)
+      (λ f. gives-name (seen t) _ (λ v q. record { depth = refl; headsAre = rw (e, f, q) (rw (append-nil (map itemHead (s .items)))) }) tt)
+      (λ f. if-cases P (tagIs (seen t) Word.Element)
+      (λ g. value (record { depth = refl; headsAre = rw (e, f, g) (rw (append-nil (map itemHead (s .items)), kept-head m (seen t .name) (seen t .typeName) r) (append-nil _)) }))
       (λ g. value (record { depth = refl; headsAre = rw (e, f, g) (same-heads _ [] refl) }))))
 
-  pub startInSchema-walked : (t : Tag) (n : ℕ) → Gives (Walked (Event.start t) (at s seen (Context.inSchema n))) Any (onStartInSchema true m t n (at s seen (Context.inSchema n)))
+  pub startInSchema-walked : (t : Tag) (n : ℕ) → Gives (Walked (Event.start t) (at s root (Context.inSchema n))) Any (onStartInSchema true m (seen t) n (at s root (Context.inSchema n)))
   unfolding onStartInSchema belowSchema inContext depthAfter heads openHead
   startInSchema-walked t zero = child-walked t
   startInSchema-walked t (suc n) = rw (eqb·suc-zero n) (value (record { depth = refl; headsAre = same-heads _ _ (deeper-none n (Event.start t)) }))
 
-  pub started-simple : (t : Tag) (b : SimpleTypeBuilder) → (onStartInSimpleType t b .nestingDepth ≡ b .nestingDepth) × (onStartInSimpleType t b .name ≡ b .name)
+  pub started-simple : (t : Tag) (b : SimpleTypeBuilder) → (onStartInSimpleType (seen t) b .nestingDepth ≡ b .nestingDepth) × (onStartInSimpleType (seen t) b .name ≡ b .name)
   unfolding onStartInSimpleType withBase
-  started-simple t b = if-either (λ (x : SimpleTypeBuilder). (x .nestingDepth ≡ b .nestingDepth) × (x .name ≡ b .name)) (eqb (b .nestingDepth) 1 && tagIs t "restriction") (refl, refl) (refl, refl)
+  started-simple t b = if-either (λ (x : SimpleTypeBuilder). (x .nestingDepth ≡ b .nestingDepth) × (x .name ≡ b .name)) (eqb (b .nestingDepth) 1 && tagIs (seen t) Word.Restriction) (refl, refl) (refl, refl)
 
-  pub startInSimple-walked : (t : Tag) (b : SimpleTypeBuilder) → Walked (Event.start t) (at s seen (Context.inSimpleType b)) (at s seen (Context.inSimpleType (onStartInSimpleType t (raisedSimple b))))
+  pub startInSimple-walked : (t : Tag) (b : SimpleTypeBuilder) → Walked (Event.start t) (at s root (Context.inSimpleType b)) (at s root (Context.inSimpleType (onStartInSimpleType (seen t) (raisedSimple b))))
   unfolding raisedSimple depthAfter heads openHead
   startInSimple-walked t b =
       let k = started-simple t (raisedSimple b) in
       record { depth = ap (λ n. suc (suc n)) (k .0); headsAre = rw (k .1) (same-heads _ _ (deeper-none (b .nestingDepth) (Event.start t))) }
 
-  pub startInComplex-walked : (t : Tag) (b : ComplexTypeBuilder) → Gives (Walked (Event.start t) (at s seen (Context.inComplexType b))) Any (onStart true m t (at s seen (Context.inComplexType b)) (Context.inComplexType b))
+  pub startInComplex-walked : (t : Tag) (b : ComplexTypeBuilder) → Gives (Walked (Event.start t) (at s root (Context.inComplexType b))) Any (onStart true m (seen t) (at s root (Context.inComplexType b)) (Context.inComplexType b))
   unfolding onStart inContext raisedComplex withContent depthAfter heads openHead
   startInComplex-walked t b =
-      gives-andThen (gives-any (onStartInComplexType t (raisedComplex b))) λ content q.
+      gives-andThen (gives-any (onStartInComplexType (seen t) (raisedComplex b))) λ content q.
       value (record { depth = refl; headsAre = same-heads _ _ (deeper-none (b .nestingDepth) (Event.start t)) })
 
-  pub start-walked : (t : Tag) (x : Context) → Gives (Walked (Event.start t) (at s seen x)) Any (onStart true m t (at s seen x) x)
+  pub start-walked : (t : Tag) (x : Context) → Gives (Walked (Event.start t) (at s root x)) Any (onStart true m (seen t) (at s root x) x)
   unfolding onStart inContext
   start-walked t Context.noContext = value (startOutside-walked t)
   start-walked t (Context.inSchema n) = startInSchema-walked t n
@@ -116,12 +118,12 @@ module _ (m : ℕ) (s : Schema) (seen : Bool) where
 
   -- ---- an empty tag
 
-  pub emptyInSchema-walked : (t : Tag) (n : ℕ) → Walked (Event.empty t) (at s seen (Context.inSchema n)) (if eqb n 0 && tagIs t "element" then onTopLevelElement m t (at s seen (Context.inSchema n)) else at s seen (Context.inSchema n))
+  pub emptyInSchema-walked : (t : Tag) (n : ℕ) → Walked (Event.empty t) (at s root (Context.inSchema n)) (if eqb n 0 && tagIs (seen t) Word.Element then onTopLevelElement m (seen t) (at s root (Context.inSchema n)) else at s root (Context.inSchema n))
   unfolding onTopLevelElement depthAfter headAt childHead heads openHead
   emptyInSchema-walked t zero =
-      let r = at s seen (Context.inSchema 0) in
-      if-cases (Walked (Event.empty t) r) (tagIs t "element")
-      (λ e. record { depth = ap depthIn (kept-context m (attrValue t "name") (attrValue t "type") r); headsAre = rw (e, kept-context m (attrValue t "name") (attrValue t "type") r) (rw (append-nil (map itemHead (s .items)), kept-head m (attrValue t "name") (attrValue t "type") r) (append-nil _)) })
+      let r = at s root (Context.inSchema 0) in
+      if-cases (Walked (Event.empty t) r) (tagIs (seen t) Word.Element)
+      (λ e. record { depth = ap depthIn (kept-context m (seen t .name) (seen t .typeName) r); headsAre = rw (e, kept-context m (seen t .name) (seen t .typeName) r) (rw (append-nil (map itemHead (s .items)), kept-head m (seen t .name) (seen t .typeName) r) (append-nil _)) })
       (λ e. record { depth = refl; headsAre = rw e (same-heads _ [] refl) })
   emptyInSchema-walked t (suc n) = rw (eqb·suc-zero n) (record { depth = refl; headsAre = same-heads _ _ (deeper-none n (Event.empty t)) })
 
@@ -129,40 +131,28 @@ module _ (m : ℕ) (s : Schema) (seen : Bool) where
   abbrev pub Alike : SimpleTypeBuilder → SimpleTypeBuilder → Type 0
   Alike b x = (x .nestingDepth ≡ b .nestingDepth) × (x .name ≡ b .name)
 
-  pub numberFacet-alike : (b : SimpleTypeBuilder) (w : ℕ) (v : Text) (f : ℕ → Facet) → Gives (Alike b) Any (onParsed (number w v) (λ n. withFacet b (f n)))
-  unfolding withFacet
-  numberFacet-alike b w v f = gives-parsed (number w v) _ (λ n q. (refl, refl)) (λ r q. tt)
-
-  pub emptyInSimple-alike : (t : Tag) (b : SimpleTypeBuilder) → Gives (Alike b) Any (onEmptyInSimpleType t b)
+  pub emptyInSimple-alike : (t : Seen) (b : SimpleTypeBuilder) → Gives (Alike b) Any (onEmptyInSimpleType t b)
   unfolding onEmptyInSimpleType withBase withFacet
   emptyInSimple-alike t b =
-      let v = facetValue t in
-      gives-if (tagIs t "restriction") (value (refl, refl))
-      (gives-if (tagIs t "enumeration") (value (refl, refl))
-      (gives-if (tagIs t "pattern") (value (refl, refl))
-      (gives-if (tagIs t "minLength") (numberFacet-alike b 64 v Facet.minLength)
-      (gives-if (tagIs t "maxLength") (numberFacet-alike b 64 v Facet.maxLength)
-      (gives-if (tagIs t "minInclusive") (value (refl, refl))
-      (gives-if (tagIs t "maxInclusive") (value (refl, refl))
-      (gives-if (tagIs t "totalDigits") (numberFacet-alike b 32 v Facet.totalDigits)
-      (gives-if (tagIs t "fractionDigits") (numberFacet-alike b 32 v Facet.fractionDigits) (value (refl, refl))))))))))
+      gives-if (tagIs t Word.Restriction) (value (refl, refl))
+      (gives-facet (facetWord (t .word)) (facetValue t) (withFacet b) b (λ w. gives-any (facetOf w (facetValue t))) (λ f u. (refl, refl)) (refl, refl))
 
-  pub empty-walked : (t : Tag) (x : Context) → Gives (Walked (Event.empty t) (at s seen x)) Any (onEmpty m t (at s seen x) x)
+  pub empty-walked : (t : Tag) (x : Context) → Gives (Walked (Event.empty t) (at s root x)) Any (onEmpty m (seen t) (at s root x) x)
   unfolding onEmpty inContext foundRoot withContent depthAfter headAt heads openHead
   empty-walked t Context.noContext =
-      value (if-either (Walked (Event.empty t) (at s seen Context.noContext)) (tagIs t "schema")
+      value (if-either (Walked (Event.empty t) (at s root Context.noContext)) (tagIs (seen t) Word.Schema)
       (record { depth = refl; headsAre = same-heads _ [] refl }) (record { depth = refl; headsAre = same-heads _ [] refl }))
   empty-walked t (Context.inSchema n) = value (emptyInSchema-walked t n)
   empty-walked t (Context.inSimpleType b) =
-      gives-andThen (emptyInSimple-alike t b) λ c q.
+      gives-andThen (emptyInSimple-alike (seen t) b) λ c q.
       value (record { depth = ap (λ n. suc (suc n)) (q .0); headsAre = rw (q .1) (same-heads _ _ (deeper-none (b .nestingDepth) (Event.empty t))) })
   empty-walked t (Context.inComplexType b) =
-      gives-andThen (gives-any (onEmptyInComplexType t (b .content))) λ content q.
+      gives-andThen (gives-any (onEmptyInComplexType (seen t) (b .content))) λ content q.
       value (record { depth = refl; headsAre = same-heads _ _ (deeper-none (b .nestingDepth) (Event.empty t)) })
 
   -- ---- a close
 
-  pub closeSimple-walked : (b : SimpleTypeBuilder) (d : ℕ) → b .nestingDepth ≡ d → Walked Event.close (at s seen (Context.inSimpleType b)) (closeSimpleType b d (at s seen (Context.inSimpleType b)))
+  pub closeSimple-walked : (b : SimpleTypeBuilder) (d : ℕ) → b .nestingDepth ≡ d → Walked Event.close (at s root (Context.inSimpleType b)) (closeSimpleType b d (at s root (Context.inSimpleType b)))
   unfolding closeSimpleType inContext withItem depthAfter heads itemHead openHead
   closeSimple-walked b zero q =
       record {
@@ -171,7 +161,7 @@ module _ (m : ℕ) (s : Schema) (seen : Bool) where
       }
   closeSimple-walked b (suc d) q = record { depth = ap suc (sym q); headsAre = same-heads _ _ (close-none (suc (suc (b .nestingDepth)))) }
 
-  pub closeComplex-walked : (b : ComplexTypeBuilder) (d : ℕ) → b .nestingDepth ≡ d → Walked Event.close (at s seen (Context.inComplexType b)) (closeComplexType b d (at s seen (Context.inComplexType b)))
+  pub closeComplex-walked : (b : ComplexTypeBuilder) (d : ℕ) → b .nestingDepth ≡ d → Walked Event.close (at s root (Context.inComplexType b)) (closeComplexType b d (at s root (Context.inComplexType b)))
   unfolding closeComplexType inContext withItem depthAfter heads itemHead openHead
   closeComplex-walked b zero q =
       record {
@@ -180,12 +170,12 @@ module _ (m : ℕ) (s : Schema) (seen : Bool) where
       }
   closeComplex-walked b (suc d) q = record { depth = ap suc (sym q); headsAre = same-heads _ _ (close-none (suc (suc (b .nestingDepth)))) }
 
-  pub closeInSchema-walked : (n : ℕ) → Walked Event.close (at s seen (Context.inSchema n)) (closeInSchema n (at s seen (Context.inSchema n)))
+  pub closeInSchema-walked : (n : ℕ) → Walked Event.close (at s root (Context.inSchema n)) (closeInSchema n (at s root (Context.inSchema n)))
   unfolding closeInSchema inContext depthAfter heads openHead
   closeInSchema-walked zero = record { depth = refl; headsAre = same-heads _ _ (close-none 1) }
   closeInSchema-walked (suc n) = record { depth = refl; headsAre = same-heads _ _ (close-none (suc (suc n))) }
 
-  pub close-walked : (x : Context) → Walked Event.close (at s seen x) (onEnd (at s seen x) x)
+  pub close-walked : (x : Context) → Walked Event.close (at s root x) (onEnd (at s root x) x)
   unfolding onEnd depthAfter
   close-walked Context.noContext = record { depth = refl; headsAre = same-heads _ _ (close-none 0) }
   close-walked (Context.inSchema n) = closeInSchema-walked n

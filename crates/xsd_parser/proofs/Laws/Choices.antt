@@ -16,7 +16,9 @@ use Rattle.xsd_types.specs.State.{SimpleTypeBuilder, ComplexTypeBuilder, Contex
 use Rattle.xsd_types.specs.Sheet.{stateFits}
 use Rattle.xsd_types.specs.Choice.{chosen}
 use Rattle.xsd_types.proofs.Laws.Choice.{fits-chosen}
-use Rattle.xsd_parser.specs.Event.{Tag, Event, tagIs, attrValue}
+use Rattle.xsd_parser.specs.declared.words.Word.{Word}
+use Rattle.xsd_parser.specs.Event.{Event}
+use Rattle.xsd_parser.specs.Seen.{Seen, seen, tagIs}
 use Rattle.xsd_parser.specs.Tape.{Judged, event, refused, records}
 use Rattle.xsd_parser.specs.Handlers.{Outcome, ok, refuse, _andThen_, inContext, foundRoot, onTopLevelElement, openSimpleType, openComplexType, belowSchema, onDirectChild, onStartInSchema, raisedComplex, onStartInComplexType, onStart, onEmptyInSimpleType, onEmptyInComplexType, onEmpty, closeSimpleType, closeComplexType, closeInSchema, onEnd}
 use Rattle.xsd_parser.specs.Step.{handled, tagsAfter, counted, roomFor, step}
@@ -46,12 +48,12 @@ Flat (Context.inComplexType t) = Unit {0}
 abbrev pub NoOther : ℕ → Event → Type 0
 NoOther depth e = not (eqb depth 1) || startsNoOther e ≡ true
 
-pub child-same : (m : ℕ) (t : Tag) (r : Reader) → tagIs t "simpleType" || tagIs t "complexType" ≡ true → onDirectChild true m t r ≡ onDirectChild false m t r
+pub child-same : (m : ℕ) (t : Seen) (r : Reader) → tagIs t Word.SimpleType || tagIs t Word.ComplexType ≡ true → onDirectChild true m t r ≡ onDirectChild false m t r
 unfolding onDirectChild
 child-same m t r e =
-    bool-cases (tagIs t "simpleType") (λ h. rw h) (λ h. let c : tagIs t "complexType" ≡ true = rw h at e in rw (h, c))
+    bool-cases (tagIs t Word.SimpleType) (λ h. rw h) (λ h. let c : tagIs t Word.ComplexType ≡ true = rw h at e in rw (h, c))
 
-pub start-same : (m : ℕ) (t : Tag) (r : Reader) (x : Context) → Flat x → NoOther (depthIn x) (Event.start t) → onStart true m t r x ≡ onStart false m t r x
+pub start-same : (m : ℕ) (t : Seen) (r : Reader) (x : Context) → Flat x → (not (eqb (depthIn x) 1) || (tagIs t Word.SimpleType || tagIs t Word.ComplexType) ≡ true) → onStart true m t r x ≡ onStart false m t r x
 unfolding onStart onStartInSchema startsNoOther
 start-same m t r Context.noContext f c = refl
 start-same m t r (Context.inSchema zero) f c = child-same m t r c
@@ -60,8 +62,8 @@ start-same m t r (Context.inSimpleType b) f c = refl
 start-same m t r (Context.inComplexType b) f c = refl
 
 pub handled-same : (m : ℕ) (e : Event) (r : Reader) → Flat (r .context) → NoOther (depthIn (r .context)) e → handled true m e r ≡ handled false m e r
-unfolding handled
-handled-same m (Event.start t) r f c = start-same m t r (r .context) f c
+unfolding handled startsNoOther
+handled-same m (Event.start t) r f c = start-same m (seen t) r (r .context) f c
 handled-same m (Event.empty t) r f c = refl
 handled-same m Event.close r f c = refl
 
@@ -69,42 +71,42 @@ handled-same m Event.close r f c = refl
 abbrev pub FlatIn : Reader → Type 0
 FlatIn r = Flat (r .context)
 
-module _ (m : ℕ) (s : Schema) (seen : Bool) where
-  pub child-flat : (t : Tag) → Gives FlatIn Any (onDirectChild false m t (at s seen (Context.inSchema 0)))
+module _ (m : ℕ) (s : Schema) (root : Bool) where
+  pub child-flat : (t : Seen) → Gives FlatIn Any (onDirectChild false m t (at s root (Context.inSchema 0)))
   unfolding onDirectChild inContext openSimpleType openComplexType belowSchema onTopLevelElement
   child-flat t =
-      gives-if (tagIs t "simpleType") (gives-name t _ (λ v q. tt) tt)
-      (gives-if (tagIs t "complexType") (gives-name t _ (λ v q. tt) tt)
-      (gives-if (tagIs t "element") (value (rw (kept-context m (attrValue t "name") (attrValue t "type") (at s seen (Context.inSchema 0))) refl)) (value refl)))
+      gives-if (tagIs t Word.SimpleType) (gives-name t _ (λ v q. tt) tt)
+      (gives-if (tagIs t Word.ComplexType) (gives-name t _ (λ v q. tt) tt)
+      (gives-if (tagIs t Word.Element) (value (rw (kept-context m (t .name) (t .typeName) (at s root (Context.inSchema 0))) refl)) (value refl)))
 
-  pub start-flat : (t : Tag) (x : Context) → Flat x → Gives FlatIn Any (onStart false m t (at s seen x) x)
+  pub start-flat : (t : Seen) (x : Context) → Flat x → Gives FlatIn Any (onStart false m t (at s root x) x)
   unfolding onStart onStartInSchema inContext foundRoot
-  start-flat t Context.noContext f = value (if-either FlatIn (tagIs t "schema") refl tt)
+  start-flat t Context.noContext f = value (if-either FlatIn (tagIs t Word.Schema) refl tt)
   start-flat t (Context.inSchema zero) f = child-flat t
   start-flat t (Context.inSchema (suc n)) f = absurd (omega arith)
   start-flat t (Context.inSimpleType b) f = value tt
   start-flat t (Context.inComplexType b) f = gives-andThen (gives-any (onStartInComplexType t (raisedComplex b))) λ c q. value tt
 
-  pub empty-flat : (t : Tag) (x : Context) → Flat x → Gives FlatIn Any (onEmpty m t (at s seen x) x)
+  pub empty-flat : (t : Seen) (x : Context) → Flat x → Gives FlatIn Any (onEmpty m t (at s root x) x)
   unfolding onEmpty onTopLevelElement inContext foundRoot
-  empty-flat t Context.noContext f = value (if-either FlatIn (tagIs t "schema") tt tt)
+  empty-flat t Context.noContext f = value (if-either FlatIn (tagIs t Word.Schema) tt tt)
   empty-flat t (Context.inSchema n) f =
-      let r = at s seen (Context.inSchema n) in
-      value (if-either FlatIn (eqb n 0 && tagIs t "element") {x = onTopLevelElement m t r} {y = r} (rw (kept-context m (attrValue t "name") (attrValue t "type") r) f) f)
+      let r = at s root (Context.inSchema n) in
+      value (if-either FlatIn (eqb n 0 && tagIs t Word.Element) {x = onTopLevelElement m t r} {y = r} (rw (kept-context m (t .name) (t .typeName) r) f) f)
   empty-flat t (Context.inSimpleType b) f = gives-andThen (gives-any (onEmptyInSimpleType t b)) λ c q. value tt
   empty-flat t (Context.inComplexType b) f = gives-andThen (gives-any (onEmptyInComplexType t (b .content))) λ c q. value tt
 
-  pub closeSimple-flat : (b : SimpleTypeBuilder) (d : ℕ) → FlatIn (closeSimpleType b d (at s seen (Context.inSimpleType b)))
+  pub closeSimple-flat : (b : SimpleTypeBuilder) (d : ℕ) → FlatIn (closeSimpleType b d (at s root (Context.inSimpleType b)))
   unfolding closeSimpleType inContext
   closeSimple-flat b zero = refl
   closeSimple-flat b (suc d) = tt
 
-  pub closeComplex-flat : (b : ComplexTypeBuilder) (d : ℕ) → FlatIn (closeComplexType b d (at s seen (Context.inComplexType b)))
+  pub closeComplex-flat : (b : ComplexTypeBuilder) (d : ℕ) → FlatIn (closeComplexType b d (at s root (Context.inComplexType b)))
   unfolding closeComplexType inContext
   closeComplex-flat b zero = refl
   closeComplex-flat b (suc d) = tt
 
-  pub close-flat : (x : Context) → Flat x → FlatIn (onEnd (at s seen x) x)
+  pub close-flat : (x : Context) → Flat x → FlatIn (onEnd (at s root x) x)
   unfolding onEnd closeInSchema inContext
   close-flat Context.noContext f = tt
   close-flat (Context.inSchema zero) f = tt
@@ -114,8 +116,8 @@ module _ (m : ℕ) (s : Schema) (seen : Bool) where
 
 pub handled-flat : (m : ℕ) (e : Event) (r : Reader) → FlatIn r → Gives FlatIn Any (handled false m e r)
 unfolding handled
-handled-flat m (Event.start t) r f = start-flat m (r .schema) (r .rootSeen) t (r .context) f
-handled-flat m (Event.empty t) r f = empty-flat m (r .schema) (r .rootSeen) t (r .context) f
+handled-flat m (Event.start t) r f = start-flat m (r .schema) (r .rootSeen) (seen t) (r .context) f
+handled-flat m (Event.empty t) r f = empty-flat m (r .schema) (r .rootSeen) (seen t) (r .context) f
 handled-flat m Event.close r f = value (close-flat m (r .schema) (r .rootSeen) (r .context) f)
 
 -- ---- one step under both choices

@@ -8,18 +8,21 @@ use Prim.Native.Nat.{ℕ, zero, suc}
 use lib.Dec.{eqb, ltb}
 use Rattle.text.specs.Text.{Text}
 use Rattle.text.proofs.Laws.Tests.{if-in}
-use Rattle.number.specs.Number.{Parsed, parsed, refused as numberRefused, number}
 use Rattle.sheet.specs.Lengths.{Lengths}
 use Rattle.sheet.specs.Rows.{Row, row}
-use Rattle.xsd_types.specs.Types.{Item}
+use Rattle.xsd_types.specs.Types.{Item, Facet}
 use Rattle.xsd_types.specs.State.{SimpleTypeBuilder, ComplexTypeBuilder, Context, Reader, State}
 use Rattle.xsd_types.specs.Rows.{rowsOf}
 use Rattle.xsd_types.specs.Sheet.{stateFits}
 use Rattle.xsd_types.specs.Unnumbered.{clearedRow, unnumberedItem, unnumberedSimple, unnumberedComplex, unnumberedContext, unnumberedSchema, unnumberedReader, unnumbered}
 use Rattle.xsd_types.proofs.Laws.Unnumbered.{rows-cleared}
-use Rattle.xsd_parser.specs.Event.{Tag, Event, tagIs, attrValue}
+use Rattle.xsd_parser.specs.declared.words.Word.{Word}
+use Rattle.xsd_parser.specs.declared.words.FacetWord.{FacetWord}
+use Rattle.xsd_parser.specs.Words.{facetWord}
+use Rattle.xsd_parser.specs.Event.{Event}
+use Rattle.xsd_parser.specs.Seen.{Seen, seen, tagIs}
 use Rattle.xsd_parser.specs.Tape.{Judged, event, refused, records}
-use Rattle.xsd_parser.specs.Handlers.{Outcome, ok, refuse, _andThen_, onParsed, inContext, withItem, foundRoot, keptElement, onTopLevelElement, requireName, withBase, withFacet, withContent, openSimpleType, openComplexType, belowSchema, onDirectChild, onStartInSchema, raisedSimple, onStartInSimpleType, raisedComplex, onStartInComplexType, onStart, facetValue, onEmptyInSimpleType, onEmptyInComplexType, onEmpty, closeSimpleType, closeComplexType, closeInSchema, onEnd}
+use Rattle.xsd_parser.specs.Handlers.{Outcome, ok, refuse, _andThen_, inContext, withItem, foundRoot, keptElement, onTopLevelElement, requireName, withBase, withFacet, withContent, openSimpleType, openComplexType, belowSchema, onDirectChild, onStartInSchema, raisedSimple, onStartInSimpleType, raisedComplex, onStartInComplexType, onStart, facetValue, facetOf, onFacet, onEmptyInSimpleType, onEmptyInComplexType, onEmpty, closeSimpleType, closeComplexType, closeInSchema, onEnd}
 use Rattle.xsd_parser.specs.Step.{handled, tagsAfter, counted, roomFor, step}
 use Rattle.xsd_parser.specs.Read.{readRecords, readState}
 use Rattle.xsd_parser.specs.Numbered.{stepBy, readRecordsBy, readStateBy, unknownNumber, unnumberedReading}
@@ -32,14 +35,9 @@ unfoldable pub changed : {A B : Type 0} → (A → B) → Outcome A → Outcome 
 changed f (ok x) = ok (f x)
 changed f (refuse r) = refuse r
 
-changed-parsed : {A B : Type 0} (f : A → B) (o : Parsed) (g : ℕ → A) → changed f (onParsed o g) ≡ onParsed o (λ n. f (g n))
-unfolding changed onParsed
-changed-parsed f (parsed v) g = refl
-changed-parsed f (numberRefused r) g = refl
-
-changed-name : {A B : Type 0} (f : A → B) (t : Tag) (g : Text → A) → changed f (requireName t g) ≡ requireName t (λ v. f (g v))
+changed-name : {A B : Type 0} (f : A → B) (t : Seen) (g : Text → A) → changed f (requireName t g) ≡ requireName t (λ v. f (g v))
 unfolding requireName changed
-changed-name f t g = elim (attrValue t "name") as (λ o. changed f (elim o [ none ↦ refuse 9 | some v ↦ ok (g v) ]) ≡ elim o [ none ↦ refuse 9 | some v ↦ ok (f (g v)) ]) [ none ↦ refl | some v ↦ refl ]
+changed-name f t g = elim (t .name) as (λ o. changed f (elim o [ none ↦ refuse 9 | some v ↦ ok (g v) ]) ≡ elim o [ none ↦ refuse 9 | some v ↦ ok (f (g v)) ]) [ none ↦ refl | some v ↦ refl ]
 
 changed-then : {A B C : Type 0} (f : B → C) (o : Outcome A) (g : A → Outcome B) → changed f (o andThen g) ≡ (o andThen (λ x. changed f (g x)))
 unfolding _andThen_ changed
@@ -50,6 +48,11 @@ then-changed : {A B C : Type 0} (f : A → B) (o : Outcome A) (g : B → Outcome
 unfolding _andThen_ changed
 then-changed f (ok x) g = refl
 then-changed f (refuse r) g = refl
+
+changed-facet : {A B : Type 0} (f : A → B) (o : Option FacetWord) (v : Text) (g : Facet → A) (x : A) → changed f (onFacet o v g x) ≡ onFacet o v (λ y. f (g y)) (f x)
+unfolding onFacet changed
+changed-facet f none v g x = refl
+changed-facet f (some w) v g x = changed-then f (facetOf w v) (λ y. ok (g y))
 
 -- the reader's changes
 item-unnumbered : (i : Item) (r : Reader) → unnumberedReader (withItem i r) ≡ withItem (unnumberedItem i) (unnumberedReader r)
@@ -63,10 +66,10 @@ kept-unnumbered n none typeName r = refl
 kept-unnumbered n (some name) none r = refl
 kept-unnumbered n (some name) (some typeName) r = item-unnumbered _ r
 
-module _ (n : ℕ) (t : Tag) where
+module _ (n : ℕ) (t : Seen) where
   top-unnumbered : (r : Reader) → unnumberedReader (onTopLevelElement n t r) ≡ onTopLevelElement 0 t (unnumberedReader r)
   unfolding onTopLevelElement
-  top-unnumbered r = kept-unnumbered n (attrValue t "name") (attrValue t "type") r
+  top-unnumbered r = kept-unnumbered n (t .name) (t .typeName) r
 
   below-unnumbered : (byStandard : Bool) (depth : ℕ) (r : Reader) → unnumberedReader (belowSchema byStandard depth r) ≡ belowSchema byStandard depth (unnumberedReader r)
   unfolding belowSchema unnumberedReader unnumberedContext inContext
@@ -76,9 +79,9 @@ module _ (n : ℕ) (t : Tag) where
   directChild-unnumbered : (byStandard : Bool) (r : Reader) → changed unnumberedReader (onDirectChild byStandard n t r) ≡ onDirectChild byStandard 0 t (unnumberedReader r)
   unfolding onDirectChild openSimpleType openComplexType unnumberedReader unnumberedContext unnumberedSimple unnumberedComplex inContext changed
   directChild-unnumbered b r =
-      if-in (changed unnumberedReader) (tagIs t "simpleType") (changed-name unnumberedReader t _)
-      (if-in (changed unnumberedReader) (tagIs t "complexType") (changed-name unnumberedReader t _)
-      (if-in (changed unnumberedReader) (tagIs t "element") (ap ok (below-unnumbered b 0 (onTopLevelElement n t r) ∙ ap (belowSchema b 0) (top-unnumbered r))) (ap ok (below-unnumbered b 0 r))))
+      if-in (changed unnumberedReader) (tagIs t Word.SimpleType) (changed-name unnumberedReader t _)
+      (if-in (changed unnumberedReader) (tagIs t Word.ComplexType) (changed-name unnumberedReader t _)
+      (if-in (changed unnumberedReader) (tagIs t Word.Element) (ap ok (below-unnumbered b 0 (onTopLevelElement n t r) ∙ ap (belowSchema b 0) (top-unnumbered r))) (ap ok (below-unnumbered b 0 r))))
 
   startInSchema-unnumbered : (byStandard : Bool) (depth : ℕ) (r : Reader) → changed unnumberedReader (onStartInSchema byStandard n t depth r) ≡ onStartInSchema byStandard 0 t depth (unnumberedReader r)
   unfolding onStartInSchema changed
@@ -86,11 +89,11 @@ module _ (n : ℕ) (t : Tag) where
 
   startInSimple-unnumbered : (b : SimpleTypeBuilder) → unnumberedSimple (onStartInSimpleType t (raisedSimple b)) ≡ onStartInSimpleType t (raisedSimple (unnumberedSimple b))
   unfolding onStartInSimpleType raisedSimple unnumberedSimple withBase
-  startInSimple-unnumbered b = if-in unnumberedSimple (eqb (suc (b .nestingDepth)) 1 && tagIs t "restriction") refl refl
+  startInSimple-unnumbered b = if-in unnumberedSimple (eqb (suc (b .nestingDepth)) 1 && tagIs t Word.Restriction) refl refl
 
   start-unnumbered : (byStandard : Bool) (r : Reader) (x : Context) → changed unnumberedReader (onStart byStandard n t r x) ≡ onStart byStandard 0 t (unnumberedReader r) (unnumberedContext x)
   unfolding onStart changed unnumberedReader unnumberedSchema unnumberedContext unnumberedComplex inContext foundRoot withContent raisedComplex onStartInComplexType
-  start-unnumbered s r Context.noContext = ap ok (if-in unnumberedReader (tagIs t "schema") refl refl)
+  start-unnumbered s r Context.noContext = ap ok (if-in unnumberedReader (tagIs t Word.Schema) refl refl)
   start-unnumbered s r (Context.inSchema depth) = startInSchema-unnumbered s depth r
   start-unnumbered s r (Context.inSimpleType b) = ap (λ (c : SimpleTypeBuilder). ok (inContext (Context.inSimpleType c) (unnumberedReader r))) (startInSimple-unnumbered b)
   start-unnumbered s r (Context.inComplexType b) = changed-then unnumberedReader (onStartInComplexType t (raisedComplex b)) _
@@ -98,21 +101,12 @@ module _ (n : ℕ) (t : Tag) where
   emptyInSimple-unnumbered : (b : SimpleTypeBuilder) → changed unnumberedSimple (onEmptyInSimpleType t b) ≡ onEmptyInSimpleType t (unnumberedSimple b)
   unfolding onEmptyInSimpleType changed unnumberedSimple withBase withFacet
   emptyInSimple-unnumbered b =
-      let c = changed unnumberedSimple in
-      if-in c (tagIs t "restriction") refl
-      (if-in c (tagIs t "enumeration") refl
-      (if-in c (tagIs t "pattern") refl
-      (if-in c (tagIs t "minLength") (changed-parsed unnumberedSimple (number 64 (facetValue t)) _)
-      (if-in c (tagIs t "maxLength") (changed-parsed unnumberedSimple (number 64 (facetValue t)) _)
-      (if-in c (tagIs t "minInclusive") refl
-      (if-in c (tagIs t "maxInclusive") refl
-      (if-in c (tagIs t "totalDigits") (changed-parsed unnumberedSimple (number 32 (facetValue t)) _)
-      (if-in c (tagIs t "fractionDigits") (changed-parsed unnumberedSimple (number 32 (facetValue t)) _) refl))))))))
+      if-in (changed unnumberedSimple) (tagIs t Word.Restriction) refl (changed-facet unnumberedSimple (facetWord (t .word)) (facetValue t) (withFacet b) b)
 
   empty-unnumbered : (r : Reader) (x : Context) → changed unnumberedReader (onEmpty n t r x) ≡ onEmpty 0 t (unnumberedReader r) (unnumberedContext x)
   unfolding onEmpty changed unnumberedReader unnumberedSchema unnumberedContext unnumberedComplex inContext foundRoot withContent
-  empty-unnumbered r Context.noContext = ap ok (if-in unnumberedReader (tagIs t "schema") refl refl)
-  empty-unnumbered r (Context.inSchema depth) = ap ok (if-in unnumberedReader (eqb depth 0 && tagIs t "element") (top-unnumbered r) refl)
+  empty-unnumbered r Context.noContext = ap ok (if-in unnumberedReader (tagIs t Word.Schema) refl refl)
+  empty-unnumbered r (Context.inSchema depth) = ap ok (if-in unnumberedReader (eqb depth 0 && tagIs t Word.Element) (top-unnumbered r) refl)
   empty-unnumbered r (Context.inSimpleType b) =
       changed-then unnumberedReader (onEmptyInSimpleType t b) _
       ∙ sym (then-changed unnumberedSimple (onEmptyInSimpleType t b) (λ c. ok (inContext (Context.inSimpleType c) (unnumberedReader r))))
@@ -139,8 +133,8 @@ end-unnumbered r (Context.inComplexType b) = closeComplex-unnumbered b (b .nesti
 
 pub handled-unnumbered : (byStandard : Bool) (n : ℕ) (e : Event) (r : Reader) → changed unnumberedReader (handled byStandard n e r) ≡ handled byStandard 0 e (unnumberedReader r)
 unfolding handled changed unnumberedReader
-handled-unnumbered s n (Event.start t) r = start-unnumbered n t s r (r .context)
-handled-unnumbered s n (Event.empty t) r = empty-unnumbered n t r (r .context)
+handled-unnumbered s n (Event.start t) r = start-unnumbered n (seen t) s r (r .context)
+handled-unnumbered s n (Event.empty t) r = empty-unnumbered n (seen t) r (r .context)
 handled-unnumbered s n Event.close r = ap ok (end-unnumbered r (r .context))
 
 -- a state without numbers needs the same room

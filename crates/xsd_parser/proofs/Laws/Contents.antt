@@ -10,11 +10,11 @@ use Rattle.text.specs.Text.{Text, every, isText}
 use Rattle.number.specs.Number.{parsed, number}
 use Rattle.xsd_types.specs.Types.{MaxOccurs, SequenceElement, ChoiceVariant, Attribute}
 use Rattle.xsd_types.specs.State.{ComplexContentBuilder, ComplexTypeBuilder, maxOccursOk, sequenceElementOk, choiceVariantOk, attributeOk, namespaceOk, contentOk}
-use Rattle.xsd_parser.specs.Event.{Tag, tagIs, attrValue}
-use Rattle.xsd_parser.specs.EventText.{tagOk}
+use Rattle.xsd_parser.specs.declared.words.Word.{Word}
+use Rattle.xsd_parser.specs.Seen.{Seen, tagIs}
 use Rattle.xsd_parser.specs.Handlers.{onParsed, parseMinOccurs, parseMaxOccurs, isUnbounded, sequenceElement, choiceVariant, onElementInsideComplex, attributeAdded, onAttributeInsideComplex, onExtension, contentStarted, contentAtTwo, onStartInComplexType, onEmptyInComplexType}
 use Rattle.number.proofs.Laws.Numbers.{number-bound}
-use Rattle.xsd_parser.proofs.Laws.EventTexts.{value-text, value-or-empty-text}
+use Rattle.xsd_parser.proofs.Laws.SeenTexts.{SeenText, or-empty-text}
 use Rattle.xsd_parser.proofs.Laws.Outcomes.{Gives, value, Any, Kept, gives-if, gives-andThen, gives-parsed}
 use Rattle.text.proofs.Laws.Tests.{and-true, two, if-keeps}
 use Rattle.text.proofs.Laws.Every.{every-one-more}
@@ -33,14 +33,14 @@ unfolding parseMaxOccurs maxOccursOk
 max-fits none = value refl
 max-fits (some v) = gives-if (isUnbounded v) (value refl) (gives-parsed (number 32 v) MaxOccurs.bounded (λ n e. number-fits 32 v n e) (λ r e. tt))
 
-pub sequenceElement-kept : (t : Tag) (name typeName : Option Text) (es : List SequenceElement) → namespaceOk name ≡ true → namespaceOk typeName ≡ true
+pub sequenceElement-kept : (t : Seen) (name typeName : Option Text) (es : List SequenceElement) → namespaceOk name ≡ true → namespaceOk typeName ≡ true
     → every sequenceElementOk es ≡ true → Kept contentOk (sequenceElement t name typeName es)
 unfolding sequenceElement contentOk namespaceOk sequenceElementOk
 sequenceElement-kept t none typeName es n m h = value h
 sequenceElement-kept t (some name) none es n m h = value h
 sequenceElement-kept t (some name) (some typeName) es n m h =
-    gives-andThen (min-fits (attrValue t "minOccurs")) λ min p.
-    gives-andThen (max-fits (attrValue t "maxOccurs")) λ max q.
+    gives-andThen (min-fits (t .minOccurs)) λ min p.
+    gives-andThen (max-fits (t .maxOccurs)) λ max q.
     value (every-one-more sequenceElementOk es _ h (and-true (and-true (and-true n m) p) q))
 
 pub choiceVariant-kept : (name typeName : Option Text) (vs : List ChoiceVariant) → namespaceOk name ≡ true → namespaceOk typeName ≡ true
@@ -50,28 +50,28 @@ choiceVariant-kept none typeName vs n m h = h
 choiceVariant-kept (some name) none vs n m h = h
 choiceVariant-kept (some name) (some typeName) vs n m h = every-one-more choiceVariantOk vs _ h (and-true n m)
 
-pub elementInside-kept : (t : Tag) (c : ComplexContentBuilder) → tagOk t ≡ true → contentOk c ≡ true → Kept contentOk (onElementInsideComplex t c)
+pub elementInside-kept : (t : Seen) (c : ComplexContentBuilder) → SeenText t → contentOk c ≡ true → Kept contentOk (onElementInsideComplex t c)
 unfolding onElementInsideComplex contentOk
 elementInside-kept t ComplexContentBuilder.empty e h = value refl
 elementInside-kept t (ComplexContentBuilder.sequence es) e h =
-    sequenceElement-kept t (attrValue t "name") (attrValue t "type") es (value-text t "name" e) (value-text t "type" e) h
+    sequenceElement-kept t (t .name) (t .typeName) es (e .name) (e .typeName) h
 elementInside-kept t (ComplexContentBuilder.choice vs) e h =
-    value (choiceVariant-kept (attrValue t "name") (attrValue t "type") vs (value-text t "name" e) (value-text t "type" e) h)
+    value (choiceVariant-kept (t .name) (t .typeName) vs (e .name) (e .typeName) h)
 elementInside-kept t (ComplexContentBuilder.simpleContent base xs flag) e h = value h
 elementInside-kept t (ComplexContentBuilder.any n) e h = value h
 
-pub attributeAdded-kept : (t : Tag) (name typeName : Option Text) (xs : List Attribute) → namespaceOk name ≡ true → namespaceOk typeName ≡ true
+pub attributeAdded-kept : (t : Seen) (name typeName : Option Text) (xs : List Attribute) → namespaceOk name ≡ true → namespaceOk typeName ≡ true
     → every attributeOk xs ≡ true → every attributeOk (attributeAdded t name typeName xs) ≡ true
 unfolding attributeAdded namespaceOk attributeOk
 attributeAdded-kept t none typeName xs n m h = h
 attributeAdded-kept t (some name) none xs n m h = h
 attributeAdded-kept t (some name) (some typeName) xs n m h = every-one-more attributeOk xs _ h (and-true n m)
 
-pub attributes-kept : (t : Tag) (xs : List Attribute) → tagOk t ≡ true → every attributeOk xs ≡ true
-    → every attributeOk (attributeAdded t (attrValue t "name") (attrValue t "type") xs) ≡ true
-attributes-kept t xs e h = attributeAdded-kept t (attrValue t "name") (attrValue t "type") xs (value-text t "name" e) (value-text t "type" e) h
+pub attributes-kept : (t : Seen) (xs : List Attribute) → SeenText t → every attributeOk xs ≡ true
+    → every attributeOk (attributeAdded t (t .name) (t .typeName) xs) ≡ true
+attributes-kept t xs e h = attributeAdded-kept t (t .name) (t .typeName) xs (e .name) (e .typeName) h
 
-pub attributeInside-kept : (t : Tag) (c : ComplexContentBuilder) → tagOk t ≡ true → contentOk c ≡ true → contentOk (onAttributeInsideComplex t c) ≡ true
+pub attributeInside-kept : (t : Seen) (c : ComplexContentBuilder) → SeenText t → contentOk c ≡ true → contentOk (onAttributeInsideComplex t c) ≡ true
 unfolding onAttributeInsideComplex contentOk
 attributeInside-kept t ComplexContentBuilder.empty e h = refl
 attributeInside-kept t (ComplexContentBuilder.sequence es) e h = h
@@ -81,38 +81,38 @@ attributeInside-kept t (ComplexContentBuilder.simpleContent base xs true) e h =
     let p = two (isText base) (every attributeOk xs) h in and-true (p .0) (attributes-kept t xs e (p .1))
 attributeInside-kept t (ComplexContentBuilder.any n) e h = h
 
-pub extension-kept : (t : Tag) (c : ComplexContentBuilder) → tagOk t ≡ true → contentOk c ≡ true → contentOk (onExtension t c) ≡ true
+pub extension-kept : (t : Seen) (c : ComplexContentBuilder) → SeenText t → contentOk c ≡ true → contentOk (onExtension t c) ≡ true
 unfolding onExtension contentOk
 extension-kept t ComplexContentBuilder.empty e h = refl
 extension-kept t (ComplexContentBuilder.sequence es) e h = h
 extension-kept t (ComplexContentBuilder.choice vs) e h = h
 extension-kept t (ComplexContentBuilder.simpleContent base xs flag) e h =
-    and-true (value-or-empty-text t "base" e) (two (isText base) (every attributeOk xs) h .1)
+    and-true (or-empty-text (t .base) (e .base)) (two (isText base) (every attributeOk xs) h .1)
 extension-kept t (ComplexContentBuilder.any n) e h = h
 
-pub contentStarted-kept : (t : Tag) (c : ComplexContentBuilder) → contentOk c ≡ true → contentOk (contentStarted t c) ≡ true
+pub contentStarted-kept : (t : Seen) (c : ComplexContentBuilder) → contentOk c ≡ true → contentOk (contentStarted t c) ≡ true
 unfolding contentStarted contentOk every isText
 contentStarted-kept t c h =
-    if-keeps contentOk (tagIs t "sequence") (λ a. refl) λ a.
-    if-keeps contentOk (tagIs t "choice") (λ b. refl) λ b.
-    if-keeps contentOk (tagIs t "simpleContent") (λ d. refl) λ d. h
+    if-keeps contentOk (tagIs t Word.Sequence) (λ a. refl) λ a.
+    if-keeps contentOk (tagIs t Word.Choice) (λ b. refl) λ b.
+    if-keeps contentOk (tagIs t Word.SimpleContent) (λ d. refl) λ d. h
 
-pub contentAtTwo-kept : (t : Tag) (c : ComplexContentBuilder) → tagOk t ≡ true → contentOk c ≡ true → Kept contentOk (contentAtTwo t c)
+pub contentAtTwo-kept : (t : Seen) (c : ComplexContentBuilder) → SeenText t → contentOk c ≡ true → Kept contentOk (contentAtTwo t c)
 unfolding contentAtTwo
 contentAtTwo-kept t c e h =
-    gives-if (tagIs t "extension") (value (extension-kept t c e h))
-    (gives-if (tagIs t "element") (elementInside-kept t c e h) (value h))
+    gives-if (tagIs t Word.Extension) (value (extension-kept t c e h))
+    (gives-if (tagIs t Word.Element) (elementInside-kept t c e h) (value h))
 
 -- a start, and an empty tag, in a complex type
-pub startInComplex-kept : (t : Tag) (b : ComplexTypeBuilder) → tagOk t ≡ true → contentOk (b .content) ≡ true → Kept contentOk (onStartInComplexType t b)
+pub startInComplex-kept : (t : Seen) (b : ComplexTypeBuilder) → SeenText t → contentOk (b .content) ≡ true → Kept contentOk (onStartInComplexType t b)
 unfolding onStartInComplexType
 startInComplex-kept t b e h =
     gives-if (eqb (b .nestingDepth) 1) (value (contentStarted-kept t (b .content) h))
     (gives-if (eqb (b .nestingDepth) 2) (contentAtTwo-kept t (b .content) e h) (value h))
 
-pub emptyInComplex-kept : (t : Tag) (c : ComplexContentBuilder) → tagOk t ≡ true → contentOk c ≡ true → Kept contentOk (onEmptyInComplexType t c)
+pub emptyInComplex-kept : (t : Seen) (c : ComplexContentBuilder) → SeenText t → contentOk c ≡ true → Kept contentOk (onEmptyInComplexType t c)
 unfolding onEmptyInComplexType contentOk
 emptyInComplex-kept t c e h =
-    gives-if (tagIs t "element") (elementInside-kept t c e h)
-    (gives-if (tagIs t "any") (value (value-text t "namespace" e))
-    (gives-if (tagIs t "attribute") (value (attributeInside-kept t c e h)) (value h)))
+    gives-if (tagIs t Word.Element) (elementInside-kept t c e h)
+    (gives-if (tagIs t Word.Any) (value (e .namespace))
+    (gives-if (tagIs t Word.Attribute) (value (attributeInside-kept t c e h)) (value h)))

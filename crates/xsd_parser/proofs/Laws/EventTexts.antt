@@ -1,40 +1,16 @@
--- The texts of a tape's events: what a lookup finds, and what the tape's records hold. Assumes nothing.
+-- The texts of a tape's events: what the tape's records hold. Assumes nothing.
 use mathlib.Core.Path.{_≡_, refl}
 use mathlib.Core.Bool.{Bool, true}
 use mathlib.Core.List.{List, [], _∷_}
-use mathlib.Core.Option.{Option, some, none}
 use Prim.Native.Nat.{ℕ, zero, suc, _*_}
-use Prim.Native.String.{String}
 use lib.Dec.{eqb}
 use lib.ListN.{length, drop}
-use Rattle.text.specs.Text.{Text, every, isText, is, localName}
-use Rattle.xsd_types.specs.State.{namespaceOk}
-use Rattle.xsd_parser.specs.Event.{Attr, Tag, Event, lookup, attrValue, orEmpty}
+use Rattle.text.specs.Text.{Text, every, isText}
+use Rattle.xsd_parser.specs.Event.{Event}
 use Rattle.xsd_parser.specs.EventText.{attrOk, tagOk, eventOk, judgedOk}
 use Rattle.xsd_parser.specs.Tape.{Pair, pairText, allInside, allAscii, attrsOf, tagOf, Recorded, finished, bad, next, eventOf, formTest, pairCount, pairsOf, tagRecord, record1, recordsFrom, records}
 use Rattle.xsd_parser.proofs.Laws.Records.{record-cases, records-finished, records-bad, records-next}
 use Rattle.text.proofs.Laws.Tests.{and-true, two, if-keeps}
-
-pub lookup-text : (xs : List Attr) (word : String) → every attrOk xs ≡ true → namespaceOk (lookup xs word) ≡ true
-unfolding lookup every attrOk namespaceOk
-lookup-text [] word e = refl
-lookup-text (x ∷ xs) word e =
-    let p = two (attrOk x) (every attrOk xs) e in
-    let q = two (isText (x .key)) (isText (x .value)) (p .0) in
-    if-keeps namespaceOk (is (localName (x .key)) word) (λ b. q .1) (λ b. lookup-text xs word (p .1))
-
--- the value of an attribute is a text
-pub value-text : (t : Tag) (word : String) → tagOk t ≡ true → namespaceOk (attrValue t word) ≡ true
-unfolding attrValue tagOk
-value-text t word e = lookup-text (t .attributes) word (two (isText (t .name)) (every attrOk (t .attributes)) e .1)
-
-pub or-empty-text : (o : Option Text) → namespaceOk o ≡ true → isText (orEmpty o) ≡ true
-unfolding namespaceOk orEmpty isText every
-or-empty-text none e = refl
-or-empty-text (some v) e = e
-
-pub value-or-empty-text : (t : Tag) (word : String) → tagOk t ≡ true → isText (orEmpty (attrValue t word)) ≡ true
-value-or-empty-text t word e = or-empty-text (attrValue t word) (value-text t word e)
 
 -- the texts under pairs that are judged
 pub attrs-text : (text : Text) (ps : List Pair) → allAscii text ps ≡ true → every attrOk (attrsOf text ps) ≡ true

@@ -5,7 +5,9 @@ use Prim.Native.Nat.{ℕ}
 use borrow.Author.Tests.{eqb-true}
 use Rattle.sheet.specs.Lengths.{Lengths}
 use Rattle.xsd_types.specs.State.{Context, Reader, State, schemaNestingOk, proper}
-use Rattle.xsd_parser.specs.Event.{Tag, Event, tagIs}
+use Rattle.xsd_parser.specs.declared.words.Word.{Word}
+use Rattle.xsd_parser.specs.Event.{Tag, Event}
+use Rattle.xsd_parser.specs.Seen.{seen, tagIs}
 use Rattle.xsd_parser.specs.Handlers.{ok, inContext, closeInSchema, onStart, onEmpty, onEnd}
 use Rattle.xsd_parser.specs.Step.{handled, step}
 use Rattle.xsd_parser.proofs.Laws.Readers.{schema-parts}
@@ -32,19 +34,19 @@ close-in-schema lent s s′ c h =
     sym q ∙ ap (onEnd (s .reader)) c ∙ end-in-schema (s .reader)
 
 -- in context 0 an event of a tag other than `schema`, and a close, change only the counters
-pub start-unknown : (lent : Lengths) (s s′ : State) (t : Tag) → s .reader .context ≡ Context.noContext → tagIs t "schema" ≡ false
+pub start-unknown : (lent : Lengths) (s s′ : State) (t : Tag) → s .reader .context ≡ Context.noContext → tagIs (seen t) Word.Schema ≡ false
     → step lent s (Event.start t) ≡ ok s′ → s′ .reader ≡ s .reader
 unfolding handled onStart
 start-unknown lent s s′ t c u h =
-    let p : onStart (s .byStandard) (s .events) t (s .reader) Context.noContext ≡ ok (s′ .reader) = sym (ap (onStart (s .byStandard) (s .events) t (s .reader)) c) ∙ step-reader lent s (Event.start t) s′ h in
+    let p : onStart (s .byStandard) (s .events) (seen t) (s .reader) Context.noContext ≡ ok (s′ .reader) = sym (ap (onStart (s .byStandard) (s .events) (seen t) (s .reader)) c) ∙ step-reader lent s (Event.start t) s′ h in
     let q : ok (s .reader) ≡ ok (s′ .reader) = rw u at p in
     cc
 
-pub empty-unknown : (lent : Lengths) (s s′ : State) (t : Tag) → s .reader .context ≡ Context.noContext → tagIs t "schema" ≡ false
+pub empty-unknown : (lent : Lengths) (s s′ : State) (t : Tag) → s .reader .context ≡ Context.noContext → tagIs (seen t) Word.Schema ≡ false
     → step lent s (Event.empty t) ≡ ok s′ → s′ .reader ≡ s .reader
 unfolding handled onEmpty
 empty-unknown lent s s′ t c u h =
-    let p : onEmpty (s .events) t (s .reader) Context.noContext ≡ ok (s′ .reader) = sym (ap (onEmpty (s .events) t (s .reader)) c) ∙ step-reader lent s (Event.empty t) s′ h in
+    let p : onEmpty (s .events) (seen t) (s .reader) Context.noContext ≡ ok (s′ .reader) = sym (ap (onEmpty (s .events) (seen t) (s .reader)) c) ∙ step-reader lent s (Event.empty t) s′ h in
     let q : ok (s .reader) ≡ ok (s′ .reader) = rw u at p in
     cc
 

@@ -9,13 +9,15 @@ use lib.Dec.{eqb, ltb}
 use borrow.Author.Tests.{ltb-true, lt-ltb}
 use mathlib.Core.Logic.{⊎-elim}
 use Rattle.text.specs.Text.{Text}
-use Rattle.number.specs.Number.{number}
 use Rattle.xsd_types.specs.Types.{Item}
 use Rattle.xsd_types.specs.State.{SimpleTypeBuilder, ComplexTypeBuilder, Context, Reader, eventNumberOk, itemPasses, openPasses, headsPass, eventsOk}
-use Rattle.xsd_parser.specs.Event.{Tag, Event, tagIs, attrValue, eventName}
-use Rattle.xsd_parser.specs.Handlers.{ok, inContext, withItem, foundRoot, keptElement, onTopLevelElement, withBase, withFacet, withContent, openSimpleType, openComplexType, belowSchema, onDirectChild, onStartInSchema, raisedSimple, onStartInSimpleType, raisedComplex, onStartInComplexType, onStart, facetValue, onEmptyInSimpleType, onEmptyInComplexType, onEmpty, closeSimpleType, closeComplexType, closeInSchema, onEnd}
+use Rattle.xsd_parser.specs.declared.words.Word.{Word}
+use Rattle.xsd_parser.specs.Words.{facetWord}
+use Rattle.xsd_parser.specs.Event.{Event, eventName}
+use Rattle.xsd_parser.specs.Seen.{Seen, seen, tagIs}
+use Rattle.xsd_parser.specs.Handlers.{ok, inContext, withItem, foundRoot, keptElement, onTopLevelElement, withBase, withFacet, withContent, openSimpleType, openComplexType, belowSchema, onDirectChild, onStartInSchema, raisedSimple, onStartInSimpleType, raisedComplex, onStartInComplexType, onStart, facetValue, facetOf, onEmptyInSimpleType, onEmptyInComplexType, onEmpty, closeSimpleType, closeComplexType, closeInSchema, onEnd}
 use Rattle.xsd_parser.specs.Step.{handled}
-use Rattle.xsd_parser.proofs.Laws.Outcomes.{Gives, value, Any, gives-if, gives-andThen, gives-parsed, gives-name, gives-value, gives-any}
+use Rattle.xsd_parser.proofs.Laws.Outcomes.{Gives, value, Any, gives-if, gives-andThen, gives-name, gives-facet, gives-value, gives-any}
 use Rattle.xsd_types.proofs.Laws.Events.{passing-parts, heads-weaken}
 use Rattle.text.proofs.Laws.Tests.{and-true, or-left, or-right, or-cases, if-either}
 use Rattle.text.proofs.Laws.Every.{every-one-more}
@@ -33,7 +35,7 @@ module _ (p : Text → ℕ → Bool) where
   unfolding headsPass withItem
   item-passes r i h k = and-true (every-one-more (itemPasses p) (r .schema .items) i (passing-parts p r h .0) k) (passing-parts p r h .1)
 
-  pub root-passes : (t : Tag) (r : Reader) → Passing r → Passing (foundRoot t r)
+  pub root-passes : (t : Seen) (r : Reader) → Passing r → Passing (foundRoot t r)
   unfolding headsPass foundRoot
   root-passes t r h = h
 
@@ -48,57 +50,49 @@ module _ (p : Text → ℕ → Bool) where
     kept-passes (some name) none r k h = h
     kept-passes (some name) (some typeName) r k h = item-passes r _ h (k name refl)
 
-    pub top-passes : (t : Tag) (r : Reader) → Naming (attrValue t "name") → Passing r → Passing (onTopLevelElement n t r)
+    pub top-passes : (t : Seen) (r : Reader) → Naming (t .name) → Passing r → Passing (onTopLevelElement n t r)
     unfolding onTopLevelElement
-    top-passes t r k h = kept-passes (attrValue t "name") (attrValue t "type") r k h
+    top-passes t r k h = kept-passes (t .name) (t .typeName) r k h
 
     pub below-passes : (byStandard : Bool) (depth : ℕ) (r : Reader) → Passing r → Passing (belowSchema byStandard depth r)
     unfolding belowSchema openPasses
     below-passes false depth r h = h
     below-passes true depth r h = context-passes r _ h refl
 
-    pub directChild-passes : (byStandard : Bool) (t : Tag) (r : Reader) → Naming (attrValue t "name") → Passing r → Gives Passing Any (onDirectChild byStandard n t r)
+    pub directChild-passes : (byStandard : Bool) (t : Seen) (r : Reader) → Naming (t .name) → Passing r → Gives Passing Any (onDirectChild byStandard n t r)
     unfolding onDirectChild openPasses openSimpleType openComplexType
     directChild-passes b t r k h =
-        gives-if (tagIs t "simpleType") (gives-name t _ (λ v q. context-passes r _ h (k v q)) tt)
-        (gives-if (tagIs t "complexType") (gives-name t _ (λ v q. context-passes r _ h (k v q)) tt)
-        (gives-if (tagIs t "element") (value (below-passes b 0 _ (top-passes t r k h))) (value (below-passes b 0 r h))))
+        gives-if (tagIs t Word.SimpleType) (gives-name t _ (λ v q. context-passes r _ h (k v q)) tt)
+        (gives-if (tagIs t Word.ComplexType) (gives-name t _ (λ v q. context-passes r _ h (k v q)) tt)
+        (gives-if (tagIs t Word.Element) (value (below-passes b 0 _ (top-passes t r k h))) (value (below-passes b 0 r h))))
 
-    pub startInSchema-passes : (byStandard : Bool) (t : Tag) (depth : ℕ) (r : Reader) → Naming (attrValue t "name") → Passing r → Gives Passing Any (onStartInSchema byStandard n t depth r)
+    pub startInSchema-passes : (byStandard : Bool) (t : Seen) (depth : ℕ) (r : Reader) → Naming (t .name) → Passing r → Gives Passing Any (onStartInSchema byStandard n t depth r)
     unfolding onStartInSchema
     startInSchema-passes b t depth r k h = gives-if (eqb depth 0) (directChild-passes b t r k h) (value (below-passes b depth r h))
 
     -- inside a type the open type keeps name and number
-    pub startInSimple-passes : (t : Tag) (b : SimpleTypeBuilder) → p (b .name) (b .event) ≡ true → openPasses p (Context.inSimpleType (onStartInSimpleType t (raisedSimple b))) ≡ true
+    pub startInSimple-passes : (t : Seen) (b : SimpleTypeBuilder) → p (b .name) (b .event) ≡ true → openPasses p (Context.inSimpleType (onStartInSimpleType t (raisedSimple b))) ≡ true
     unfolding onStartInSimpleType raisedSimple withBase openPasses
-    startInSimple-passes t b h = if-either (λ (x : SimpleTypeBuilder). p (x .name) (x .event) ≡ true) (eqb (suc (b .nestingDepth)) 1 && tagIs t "restriction") h h
+    startInSimple-passes t b h = if-either (λ (x : SimpleTypeBuilder). p (x .name) (x .event) ≡ true) (eqb (suc (b .nestingDepth)) 1 && tagIs t Word.Restriction) h h
 
-    pub start-passes : (byStandard : Bool) (t : Tag) (r : Reader) (x : Context) → r .context ≡ x → Naming (attrValue t "name") → Passing r → Gives Passing Any (onStart byStandard n t r x)
+    pub start-passes : (byStandard : Bool) (t : Seen) (r : Reader) (x : Context) → r .context ≡ x → Naming (t .name) → Passing r → Gives Passing Any (onStart byStandard n t r x)
     unfolding onStart openPasses raisedComplex withContent
     start-passes s t r Context.noContext q k h =
-        value (if-either Passing (tagIs t "schema") (context-passes (foundRoot t r) (Context.inSchema 0) (root-passes t r h) refl) h)
+        value (if-either Passing (tagIs t Word.Schema) (context-passes (foundRoot t r) (Context.inSchema 0) (root-passes t r h) refl) h)
     start-passes s t r (Context.inSchema depth) q k h = startInSchema-passes s t depth r k h
     start-passes s t r (Context.inSimpleType b) q k h = value (context-passes r _ h (startInSimple-passes t b (rw q at (passing-parts p r h .1))))
     start-passes s t r (Context.inComplexType b) q k h =
         gives-andThen (gives-any (onStartInComplexType t (raisedComplex b))) λ c u. value (context-passes r _ h (rw q at (passing-parts p r h .1)))
 
-    pub emptyInSimple-passes : (t : Tag) (b : SimpleTypeBuilder) → p (b .name) (b .event) ≡ true → Gives (λ (x : SimpleTypeBuilder). p (x .name) (x .event) ≡ true) Any (onEmptyInSimpleType t b)
+    pub emptyInSimple-passes : (t : Seen) (b : SimpleTypeBuilder) → p (b .name) (b .event) ≡ true → Gives (λ (x : SimpleTypeBuilder). p (x .name) (x .event) ≡ true) Any (onEmptyInSimpleType t b)
     unfolding onEmptyInSimpleType withBase withFacet
     emptyInSimple-passes t b h =
-        gives-if (tagIs t "restriction") (value h)
-        (gives-if (tagIs t "enumeration") (value h)
-        (gives-if (tagIs t "pattern") (value h)
-        (gives-if (tagIs t "minLength") (gives-parsed (number 64 (facetValue t)) _ (λ k q. h) (λ r q. tt))
-        (gives-if (tagIs t "maxLength") (gives-parsed (number 64 (facetValue t)) _ (λ k q. h) (λ r q. tt))
-        (gives-if (tagIs t "minInclusive") (value h)
-        (gives-if (tagIs t "maxInclusive") (value h)
-        (gives-if (tagIs t "totalDigits") (gives-parsed (number 32 (facetValue t)) _ (λ k q. h) (λ r q. tt))
-        (gives-if (tagIs t "fractionDigits") (gives-parsed (number 32 (facetValue t)) _ (λ k q. h) (λ r q. tt)) (value h)))))))))
+        gives-if (tagIs t Word.Restriction) (value h) (gives-facet (facetWord (t .word)) (facetValue t) (withFacet b) b (λ w. gives-any (facetOf w (facetValue t))) (λ f u. h) h)
 
-    pub empty-passes : (t : Tag) (r : Reader) (x : Context) → r .context ≡ x → Naming (attrValue t "name") → Passing r → Gives Passing Any (onEmpty n t r x)
+    pub empty-passes : (t : Seen) (r : Reader) (x : Context) → r .context ≡ x → Naming (t .name) → Passing r → Gives Passing Any (onEmpty n t r x)
     unfolding onEmpty openPasses withContent
-    empty-passes t r Context.noContext q k h = value (if-either Passing (tagIs t "schema") (root-passes t r h) h)
-    empty-passes t r (Context.inSchema depth) q k h = value (if-either Passing (eqb depth 0 && tagIs t "element") (top-passes t r k h) h)
+    empty-passes t r Context.noContext q k h = value (if-either Passing (tagIs t Word.Schema) (root-passes t r h) h)
+    empty-passes t r (Context.inSchema depth) q k h = value (if-either Passing (eqb depth 0 && tagIs t Word.Element) (top-passes t r k h) h)
     empty-passes t r (Context.inSimpleType b) q k h =
         gives-andThen (emptyInSimple-passes t b (rw q at (passing-parts p r h .1))) λ c u. value (context-passes r _ h u)
     empty-passes t r (Context.inComplexType b) q k h =
@@ -124,9 +118,9 @@ module _ (p : Text → ℕ → Bool) where
     close-passes r (Context.inComplexType b) q h = closeComplex-passes b (b .nestingDepth) r (rw q at (passing-parts p r h .1)) h
 
     pub handled-passes : (byStandard : Bool) (e : Event) (r : Reader) → Naming (eventName e) → Passing r → Gives Passing Any (handled byStandard n e r)
-    unfolding handled eventName
-    handled-passes s (Event.start t) r k h = start-passes s t r (r .context) refl k h
-    handled-passes s (Event.empty t) r k h = empty-passes t r (r .context) refl k h
+    unfolding handled eventName seen
+    handled-passes s (Event.start t) r k h = start-passes s (seen t) r (r .context) refl k h
+    handled-passes s (Event.empty t) r k h = empty-passes (seen t) r (r .context) refl k h
     handled-passes s Event.close r k h = value (close-passes r (r .context) refl h)
 
 -- "any other c is below events done": one event more, and its own number

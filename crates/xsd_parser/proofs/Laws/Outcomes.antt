@@ -8,8 +8,10 @@ use Prim.Native.Nat.{ℕ}
 use native.Mathlib.Omega.{arith}
 use Rattle.text.specs.Text.{Text, if_then_else_}
 use Rattle.number.specs.Number.{Parsed, parsed, refused}
-use Rattle.xsd_parser.specs.Event.{Tag, attrValue}
-use Rattle.xsd_parser.specs.Handlers.{Outcome, ok, refuse, _andThen_, onParsed, requireName}
+use Rattle.xsd_types.specs.Types.{Facet}
+use Rattle.xsd_parser.specs.declared.words.FacetWord.{FacetWord}
+use Rattle.xsd_parser.specs.Seen.{Seen}
+use Rattle.xsd_parser.specs.Handlers.{Outcome, ok, refuse, _andThen_, onParsed, requireName, facetOf, onFacet}
 
 pub data Gives {A : Type 0} (P : A → Type 0) (Q : ℕ → Type 0) : Outcome A → Type 0 where
   value : {x : A} → P x → Gives P Q (ok x)
@@ -37,14 +39,20 @@ unfolding onParsed
 gives-parsed (parsed v) f p q = value (p v refl)
 gives-parsed (refused r) f p q = refusal (q r refl)
 
-pub gives-name : {A : Type 0} {P : A → Type 0} {Q : ℕ → Type 0} (t : Tag) (f : Text → A)
-    → ((v : Text) → attrValue t "name" ≡ some v → P (f v)) → Q 9 → Gives P Q (requireName t f)
+pub gives-name : {A : Type 0} {P : A → Type 0} {Q : ℕ → Type 0} (t : Seen) (f : Text → A)
+    → ((v : Text) → t .name ≡ some v → P (f v)) → Q 9 → Gives P Q (requireName t f)
 unfolding requireName
-gives-name {A} {P} {Q} t f p q = go (attrValue t "name") p
+gives-name {A} {P} {Q} t f p q = go (t .name) p
   where
     go : (o : Option Text) → ((v : Text) → o ≡ some v → P (f v)) → Gives P Q (elim o [ none ↦ refuse 9 | some name ↦ ok (f name) ])
     go none p = refusal q
     go (some v) p = value (p v refl)
+
+pub gives-facet : {A : Type 0} {P : A → Type 0} {Q : ℕ → Type 0} {R : Facet → Type 0} (o : Option FacetWord) (v : Text) (f : Facet → A) (x : A)
+    → ((w : FacetWord) → Gives R Q (facetOf w v)) → ((y : Facet) → R y → P (f y)) → P x → Gives P Q (onFacet o v f x)
+unfolding onFacet
+gives-facet none v f x h k p = value p
+gives-facet (some w) v f x h k p = gives-andThen (h w) λ y r. value (k y r)
 
 -- what is known of a value, and of a refusal
 pub gives-value : {A : Type 0} {P : A → Type 0} {Q : ℕ → Type 0} {o : Outcome A} {y : A} → Gives P Q o → o ≡ ok y → P y

@@ -15,11 +15,15 @@ use Rattle.number.specs.Number.{Parsed, parsed, refused, number, numberBelow, p
 use Rattle.xsd_types.specs.Types.{MaxOccurs, SequenceElement}
 use Rattle.xsd_types.specs.State.{SimpleTypeBuilder, ComplexContentBuilder, ComplexTypeBuilder, Context, Reader, State}
 use Rattle.xsd_types.specs.Sheet.{stateFits}
-use Rattle.xsd_parser.specs.Event.{Tag, Event, tagIs, attrValue}
+use Rattle.xsd_parser.specs.declared.words.Word.{Word}
+use Rattle.xsd_parser.specs.declared.words.FacetWord.{FacetWord}
+use Rattle.xsd_parser.specs.Words.{facetWord}
+use Rattle.xsd_parser.specs.Event.{Event}
+use Rattle.xsd_parser.specs.Seen.{Seen, seen, tagIs}
 use Rattle.xsd_parser.specs.Tape.{Pair, allInside, allAscii, Recorded, finished, bad, formTest, pairCount, pairsOf, tagRecord, record1}
-use Rattle.xsd_parser.specs.Handlers.{Outcome, refuse, onParsed, parseMinOccurs, parseMaxOccurs, isUnbounded, sequenceElement, onElementInsideComplex, contentAtTwo, onDirectChild, onStartInSchema, onStartInComplexType, raisedComplex, onStart, facetValue, onEmptyInSimpleType, onEmptyInComplexType, onEmpty}
+use Rattle.xsd_parser.specs.Handlers.{Outcome, refuse, onParsed, parseMinOccurs, parseMaxOccurs, isUnbounded, sequenceElement, onElementInsideComplex, contentAtTwo, onDirectChild, onStartInSchema, onStartInComplexType, raisedComplex, onStart, facetValue, withFacet, facetOf, onEmptyInSimpleType, onEmptyInComplexType, onEmpty}
 use Rattle.xsd_parser.specs.Step.{handled, closed, tagsAfter, counted, roomFor, step}
-use Rattle.xsd_parser.proofs.Laws.Outcomes.{Gives, value, refusal, Any, gives-if, gives-andThen, gives-parsed, gives-name, gives-refusal, gives-wider}
+use Rattle.xsd_parser.proofs.Laws.Outcomes.{Gives, value, refusal, Any, gives-if, gives-andThen, gives-parsed, gives-name, gives-facet, gives-refusal, gives-wider}
 use Rattle.text.proofs.Laws.Tests.{if-either}
 
 -- a number's refusal is 10, `InvalidAttributeValue`
@@ -63,67 +67,70 @@ unfolding parseMaxOccurs
 max-refusal none = value tt
 max-refusal (some v) = gives-if (isUnbounded v) (value tt) (parsed-refusal 32 v MaxOccurs.bounded)
 
-pub sequenceElement-refusal : (t : Tag) (name typeName : Option Text) (es : List SequenceElement) → HandlerRefusal (sequenceElement t name typeName es)
+pub sequenceElement-refusal : (t : Seen) (name typeName : Option Text) (es : List SequenceElement) → HandlerRefusal (sequenceElement t name typeName es)
 unfolding sequenceElement
 sequenceElement-refusal t none typeName es = value tt
 sequenceElement-refusal t (some name) none es = value tt
 sequenceElement-refusal t (some name) (some typeName) es =
-    gives-andThen (min-refusal (attrValue t "minOccurs")) λ min p. gives-andThen (max-refusal (attrValue t "maxOccurs")) λ max q. value tt
+    gives-andThen (min-refusal (t .minOccurs)) λ min p. gives-andThen (max-refusal (t .maxOccurs)) λ max q. value tt
 
-pub elementInside-refusal : (t : Tag) (c : ComplexContentBuilder) → HandlerRefusal (onElementInsideComplex t c)
+pub elementInside-refusal : (t : Seen) (c : ComplexContentBuilder) → HandlerRefusal (onElementInsideComplex t c)
 unfolding onElementInsideComplex
 elementInside-refusal t ComplexContentBuilder.empty = value tt
-elementInside-refusal t (ComplexContentBuilder.sequence es) = sequenceElement-refusal t (attrValue t "name") (attrValue t "type") es
+elementInside-refusal t (ComplexContentBuilder.sequence es) = sequenceElement-refusal t (t .name) (t .typeName) es
 elementInside-refusal t (ComplexContentBuilder.choice vs) = value tt
 elementInside-refusal t (ComplexContentBuilder.simpleContent base xs flag) = value tt
 elementInside-refusal t (ComplexContentBuilder.any n) = value tt
 
-pub directChild-refusal : (byStandard : Bool) (m : ℕ) (t : Tag) (r : Reader) → HandlerRefusal (onDirectChild byStandard m t r)
+pub directChild-refusal : (byStandard : Bool) (m : ℕ) (t : Seen) (r : Reader) → HandlerRefusal (onDirectChild byStandard m t r)
 unfolding onDirectChild
 directChild-refusal b m t r =
-    gives-if (tagIs t "simpleType") (gives-name t _ (λ v q. tt) (omega arith))
-    (gives-if (tagIs t "complexType") (gives-name t _ (λ v q. tt) (omega arith))
-    (gives-if (tagIs t "element") (value tt) (value tt)))
+    gives-if (tagIs t Word.SimpleType) (gives-name t _ (λ v q. tt) (omega arith))
+    (gives-if (tagIs t Word.ComplexType) (gives-name t _ (λ v q. tt) (omega arith))
+    (gives-if (tagIs t Word.Element) (value tt) (value tt)))
 
-pub startInSchema-refusal : (byStandard : Bool) (m : ℕ) (t : Tag) (n : ℕ) (r : Reader) → HandlerRefusal (onStartInSchema byStandard m t n r)
+pub startInSchema-refusal : (byStandard : Bool) (m : ℕ) (t : Seen) (n : ℕ) (r : Reader) → HandlerRefusal (onStartInSchema byStandard m t n r)
 unfolding onStartInSchema
 startInSchema-refusal b m t n r = gives-if (eqb n 0) (directChild-refusal b m t r) (value tt)
 
-pub startInComplex-refusal : (t : Tag) (b : ComplexTypeBuilder) → HandlerRefusal (onStartInComplexType t b)
+pub startInComplex-refusal : (t : Seen) (b : ComplexTypeBuilder) → HandlerRefusal (onStartInComplexType t b)
 unfolding onStartInComplexType contentAtTwo
 startInComplex-refusal t b =
     gives-if (eqb (b .nestingDepth) 1) (value tt)
     (gives-if (eqb (b .nestingDepth) 2)
-    (gives-if (tagIs t "extension") (value tt) (gives-if (tagIs t "element") (elementInside-refusal t (b .content)) (value tt)))
+    (gives-if (tagIs t Word.Extension) (value tt) (gives-if (tagIs t Word.Element) (elementInside-refusal t (b .content)) (value tt)))
     (value tt))
 
-pub start-refusal : (byStandard : Bool) (m : ℕ) (t : Tag) (r : Reader) (x : Context) → HandlerRefusal (onStart byStandard m t r x)
+pub start-refusal : (byStandard : Bool) (m : ℕ) (t : Seen) (r : Reader) (x : Context) → HandlerRefusal (onStart byStandard m t r x)
 unfolding onStart
 start-refusal s m t r Context.noContext = value tt
 start-refusal s m t r (Context.inSchema n) = startInSchema-refusal s m t n r
 start-refusal s m t r (Context.inSimpleType b) = value tt
 start-refusal s m t r (Context.inComplexType b) = gives-andThen (startInComplex-refusal t (raisedComplex b)) λ c p. value tt
 
-pub emptyInSimple-refusal : (t : Tag) (b : SimpleTypeBuilder) → HandlerRefusal (onEmptyInSimpleType t b)
+pub facetOf-refusal : (w : FacetWord) (v : Text) → HandlerRefusal (facetOf w v)
+unfolding facetOf
+facetOf-refusal FacetWord.Enumeration v = value tt
+facetOf-refusal FacetWord.Pattern v = value tt
+facetOf-refusal FacetWord.MinLength v = parsed-refusal 64 v _
+facetOf-refusal FacetWord.MaxLength v = parsed-refusal 64 v _
+facetOf-refusal FacetWord.MinInclusive v = value tt
+facetOf-refusal FacetWord.MaxInclusive v = value tt
+facetOf-refusal FacetWord.TotalDigits v = parsed-refusal 32 v _
+facetOf-refusal FacetWord.FractionDigits v = parsed-refusal 32 v _
+
+pub emptyInSimple-refusal : (t : Seen) (b : SimpleTypeBuilder) → HandlerRefusal (onEmptyInSimpleType t b)
 unfolding onEmptyInSimpleType
 emptyInSimple-refusal t b =
-    gives-if (tagIs t "restriction") (value tt)
-    (gives-if (tagIs t "enumeration") (value tt)
-    (gives-if (tagIs t "pattern") (value tt)
-    (gives-if (tagIs t "minLength") (parsed-refusal 64 (facetValue t) _)
-    (gives-if (tagIs t "maxLength") (parsed-refusal 64 (facetValue t) _)
-    (gives-if (tagIs t "minInclusive") (value tt)
-    (gives-if (tagIs t "maxInclusive") (value tt)
-    (gives-if (tagIs t "totalDigits") (parsed-refusal 32 (facetValue t) _)
-    (gives-if (tagIs t "fractionDigits") (parsed-refusal 32 (facetValue t) _) (value tt)))))))))
+    gives-if (tagIs t Word.Restriction) (value tt) (gives-facet (facetWord (t .word)) (facetValue t) (withFacet b) b (λ w. facetOf-refusal w (facetValue t)) (λ f u. tt) tt)
 
-pub emptyInComplex-refusal : (t : Tag) (c : ComplexContentBuilder) → HandlerRefusal (onEmptyInComplexType t c)
+pub emptyInComplex-refusal : (t : Seen) (c : ComplexContentBuilder) → HandlerRefusal (onEmptyInComplexType t c)
 unfolding onEmptyInComplexType
 emptyInComplex-refusal t c =
-    gives-if (tagIs t "element") (elementInside-refusal t c)
-    (gives-if (tagIs t "any") (value tt) (gives-if (tagIs t "attribute") (value tt) (value tt)))
+    gives-if (tagIs t Word.Element) (elementInside-refusal t c)
+    (gives-if (tagIs t Word.Any) (value tt) (gives-if (tagIs t Word.Attribute) (value tt) (value tt)))
 
-pub empty-refusal : (m : ℕ) (t : Tag) (r : Reader) (x : Context) → HandlerRefusal (onEmpty m t r x)
+pub empty-refusal : (m : ℕ) (t : Seen) (r : Reader) (x : Context) → HandlerRefusal (onEmpty m t r x)
 unfolding onEmpty
 empty-refusal m t r Context.noContext = value tt
 empty-refusal m t r (Context.inSchema n) = value tt
@@ -132,8 +139,8 @@ empty-refusal m t r (Context.inComplexType b) = gives-andThen (emptyInComplex-re
 
 pub handled-refusal : (byStandard : Bool) (m : ℕ) (e : Event) (r : Reader) → HandlerRefusal (handled byStandard m e r)
 unfolding handled
-handled-refusal b m (Event.start t) r = start-refusal b m t r (r .context)
-handled-refusal b m (Event.empty t) r = empty-refusal m t r (r .context)
+handled-refusal b m (Event.start t) r = start-refusal b m (seen t) r (r .context)
+handled-refusal b m (Event.empty t) r = empty-refusal m (seen t) r (r .context)
 handled-refusal b m Event.close r = value tt
 
 -- 6 and 7 are the open tags'

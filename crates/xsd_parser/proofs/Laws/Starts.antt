@@ -8,24 +8,24 @@ use lib.Dec.{eqb}
 use Rattle.text.specs.Text.{Text, every, isText}
 use Rattle.xsd_types.specs.Types.{Item}
 use Rattle.xsd_types.specs.State.{SimpleTypeBuilder, ComplexContentBuilder, ComplexTypeBuilder, Context, Reader, contentOk, namespaceOk, elementOk, itemOk, schemaOk, schemaNestingOk, contextOk, isNoContext}
-use Rattle.xsd_parser.specs.Event.{Tag, tagIs, attrValue}
-use Rattle.xsd_parser.specs.EventText.{tagOk}
+use Rattle.xsd_parser.specs.declared.words.Word.{Word}
+use Rattle.xsd_parser.specs.Seen.{Seen, tagIs}
 use Rattle.xsd_parser.specs.Handlers.{withItem, foundRoot, keptElement, onTopLevelElement, withBase, withContent, openSimpleType, openComplexType, belowSchema, onDirectChild, onStartInSchema, raisedSimple, onStartInSimpleType, raisedComplex, onStart}
-use Rattle.xsd_parser.proofs.Laws.EventTexts.{value-text, value-or-empty-text}
+use Rattle.xsd_parser.proofs.Laws.SeenTexts.{SeenText, or-empty-text}
 use Rattle.xsd_parser.proofs.Laws.Outcomes.{Gives, value, Any, gives-if, gives-andThen, gives-name}
 use Rattle.xsd_parser.proofs.Laws.Contents.{startInComplex-kept}
 use Rattle.xsd_parser.proofs.Laws.Readers.{ReaderOk, root-seen, seen-root, context-set, item-added, SimpleOk, simple-parts, simple-whole, ComplexOk, complex-parts, complex-whole, schema-parts, schema-whole, schema-first, one-tag-more}
 use Rattle.text.proofs.Laws.Tests.{and-true, two, if-either}
 
 -- the namespace set anew
-pub namespace-set : (t : Tag) (r : Reader) → tagOk t ≡ true → schemaOk (r .schema) ≡ true → schemaOk (foundRoot t r .schema) ≡ true
+pub namespace-set : (t : Seen) (r : Reader) → SeenText t → schemaOk (r .schema) ≡ true → schemaOk (foundRoot t r .schema) ≡ true
 unfolding foundRoot schemaOk
-namespace-set t r e h = and-true (value-or-empty-text t "targetNamespace" e) (two (isText (r .schema .targetNamespace)) (every itemOk (r .schema .items)) h .1)
+namespace-set t r e h = and-true (or-empty-text (t .targetNamespace) (e .targetNamespace)) (two (isText (r .schema .targetNamespace)) (every itemOk (r .schema .items)) h .1)
 
 -- a value that a lookup found
-pub found-text : (t : Tag) (v : Text) → tagOk t ≡ true → attrValue t "name" ≡ some v → isText v ≡ true
+pub found-text : (t : Seen) (v : Text) → SeenText t → t .name ≡ some v → isText v ≡ true
 unfolding namespaceOk
-found-text t v e q = let h : namespaceOk (some v) ≡ true = rw q at (value-text t "name" e) in h
+found-text t v e q = let h : namespaceOk (some v) ≡ true = rw q at (e .name) in h
 
 -- an element at the top
 pub keptElement-root : (m : ℕ) (name typeName : Option Text) (r : Reader) → keptElement m name typeName r .rootSeen ≡ r .rootSeen
@@ -44,9 +44,9 @@ module _ (byStandard : Bool) where
       let i = Item.element (record { name = name; typeName = typeName; event = m }) in
       record { root = seen-root (withItem i r) h; context = o .context; schema = item-added r i (and-true p q) (o .schema) }
 
-  pub topLevel-kept : (m : ℕ) (t : Tag) (r : Reader) (n : ℕ) → tagOk t ≡ true → r .rootSeen ≡ true → ReaderOk byStandard r n → ReaderOk byStandard (onTopLevelElement m t r) n
+  pub topLevel-kept : (m : ℕ) (t : Seen) (r : Reader) (n : ℕ) → SeenText t → r .rootSeen ≡ true → ReaderOk byStandard r n → ReaderOk byStandard (onTopLevelElement m t r) n
   unfolding onTopLevelElement
-  topLevel-kept m t r n e h o = keptElement-kept m (attrValue t "name") (attrValue t "type") r n (value-text t "name" e) (value-text t "type" e) h o
+  topLevel-kept m t r n e h o = keptElement-kept m (t .name) (t .typeName) r n (e .name) (e .typeName) h o
 
   -- a reader that stays as it is, with one open tag more
   pub unchanged-kept : (r : Reader) (n : ℕ) → ReaderOk byStandard r n → ReaderOk byStandard r (suc n)
@@ -70,11 +70,11 @@ belowSchema-kept true depth r n h k o =
     context-set true r (Context.inSchema (suc depth)) (suc n) h (schema-whole true (suc depth) (suc n) (record { tags = omega arith; nested = refl })) (o .schema)
 
 -- a start in a simple type
-pub startInSimple-kept : (t : Tag) (b : SimpleTypeBuilder) (n : ℕ) → tagOk t ≡ true → SimpleOk b n → SimpleOk (onStartInSimpleType t (raisedSimple b)) (suc n)
+pub startInSimple-kept : (t : Seen) (b : SimpleTypeBuilder) (n : ℕ) → SeenText t → SimpleOk b n → SimpleOk (onStartInSimpleType t (raisedSimple b)) (suc n)
 unfolding onStartInSimpleType raisedSimple withBase
 startInSimple-kept t b n e o =
-    if-either (λ x. SimpleOk x (suc n)) (eqb (suc (b .nestingDepth)) 1 && tagIs t "restriction")
-    (record { tags = omega arith; name = o .name; base = value-or-empty-text t "base" e; facets = o .facets })
+    if-either (λ x. SimpleOk x (suc n)) (eqb (suc (b .nestingDepth)) 1 && tagIs t Word.Restriction)
+    (record { tags = omega arith; name = o .name; base = or-empty-text (t .base) (e .base); facets = o .facets })
     (record { tags = omega arith; name = o .name; base = o .base; facets = o .facets })
 
 -- the complex type with another content
@@ -87,38 +87,38 @@ unfolding raisedComplex
 raised-kept b n o = record { tags = omega arith; name = o .name; content = o .content }
 
 module _ (byStandard : Bool) where
-  pub directChild-kept : (m : ℕ) (t : Tag) (r : Reader) (n : ℕ) → tagOk t ≡ true → r .rootSeen ≡ true → 1 ≤ n → ReaderOk byStandard r n
+  pub directChild-kept : (m : ℕ) (t : Seen) (r : Reader) (n : ℕ) → SeenText t → r .rootSeen ≡ true → 1 ≤ n → ReaderOk byStandard r n
       → Gives (λ x. ReaderOk byStandard x (suc n)) Any (onDirectChild byStandard m t r)
   unfolding onDirectChild onTopLevelElement
   directChild-kept m t r n e h k o =
-      gives-if (tagIs t "simpleType")
+      gives-if (tagIs t Word.SimpleType)
       (gives-name t _ (λ v q. context-set byStandard r _ (suc n) h (openSimple-kept byStandard m v n k (found-text t v e q)) (o .schema)) tt)
-      (gives-if (tagIs t "complexType")
+      (gives-if (tagIs t Word.ComplexType)
       (gives-name t _ (λ v q. context-set byStandard r _ (suc n) h (openComplex-kept byStandard m v n k (found-text t v e q)) (o .schema)) tt)
-      (gives-if (tagIs t "element")
-      (value (belowSchema-kept byStandard 0 (onTopLevelElement m t r) n (keptElement-root m (attrValue t "name") (attrValue t "type") r ∙ h) k (topLevel-kept byStandard m t r n e h o)))
+      (gives-if (tagIs t Word.Element)
+      (value (belowSchema-kept byStandard 0 (onTopLevelElement m t r) n (keptElement-root m (t .name) (t .typeName) r ∙ h) k (topLevel-kept byStandard m t r n e h o)))
       (value (belowSchema-kept byStandard 0 r n h k o))))
 
-  pub startInSchema-kept : (m : ℕ) (t : Tag) (depth : ℕ) (r : Reader) (n : ℕ) → tagOk t ≡ true → r .rootSeen ≡ true → depth + 1 ≤ n → ReaderOk byStandard r n
+  pub startInSchema-kept : (m : ℕ) (t : Seen) (depth : ℕ) (r : Reader) (n : ℕ) → SeenText t → r .rootSeen ≡ true → depth + 1 ≤ n → ReaderOk byStandard r n
       → Gives (λ x. ReaderOk byStandard x (suc n)) Any (onStartInSchema byStandard m t depth r)
   unfolding onStartInSchema
   startInSchema-kept m t depth r n e h k o =
       gives-if (eqb depth 0) (directChild-kept m t r n e h (omega arith) o) (value (belowSchema-kept byStandard depth r n h k o))
 
   -- a start outside the schema, in a simple type, in a complex type
-  pub startOutside-kept : (m : ℕ) (t : Tag) (r : Reader) (n : ℕ) → tagOk t ≡ true → ReaderOk byStandard r n → Gives (λ x. ReaderOk byStandard x (suc n)) Any (onStart byStandard m t r Context.noContext)
+  pub startOutside-kept : (m : ℕ) (t : Seen) (r : Reader) (n : ℕ) → SeenText t → ReaderOk byStandard r n → Gives (λ x. ReaderOk byStandard x (suc n)) Any (onStart byStandard m t r Context.noContext)
   unfolding onStart foundRoot
   startOutside-kept m t r n e o =
-      value (if-either (λ x. ReaderOk byStandard x (suc n)) (tagIs t "schema")
+      value (if-either (λ x. ReaderOk byStandard x (suc n)) (tagIs t Word.Schema)
       (context-set byStandard (foundRoot t r) (Context.inSchema 0) (suc n) refl (schema-first byStandard (suc n) (omega arith)) (namespace-set t r e (o .schema)))
       (unchanged-kept byStandard r n o))
 
-  pub startInSimpleType-kept : (m : ℕ) (t : Tag) (r : Reader) (n : ℕ) (b : SimpleTypeBuilder) → tagOk t ≡ true → r .rootSeen ≡ true → SimpleOk b n → schemaOk (r .schema) ≡ true
+  pub startInSimpleType-kept : (m : ℕ) (t : Seen) (r : Reader) (n : ℕ) (b : SimpleTypeBuilder) → SeenText t → r .rootSeen ≡ true → SimpleOk b n → schemaOk (r .schema) ≡ true
       → Gives (λ x. ReaderOk byStandard x (suc n)) Any (onStart byStandard m t r (Context.inSimpleType b))
   unfolding onStart
   startInSimpleType-kept m t r n b e h p k = value (context-set byStandard r _ (suc n) h (simple-whole byStandard _ (suc n) (startInSimple-kept t b n e p)) k)
 
-  pub startInComplexType-kept : (m : ℕ) (t : Tag) (r : Reader) (n : ℕ) (b : ComplexTypeBuilder) → tagOk t ≡ true → r .rootSeen ≡ true → ComplexOk b n → schemaOk (r .schema) ≡ true
+  pub startInComplexType-kept : (m : ℕ) (t : Seen) (r : Reader) (n : ℕ) (b : ComplexTypeBuilder) → SeenText t → r .rootSeen ≡ true → ComplexOk b n → schemaOk (r .schema) ≡ true
       → Gives (λ x. ReaderOk byStandard x (suc n)) Any (onStart byStandard m t r (Context.inComplexType b))
   unfolding onStart
   startInComplexType-kept m t r n b e h p k =
@@ -126,7 +126,7 @@ module _ (byStandard : Bool) where
       gives-andThen (startInComplex-kept t (raisedComplex b) e (o .content)) λ c q.
       value (context-set byStandard r _ (suc n) h (complex-whole byStandard _ (suc n) (content-set _ c (suc n) o q)) k)
 
-  pub start-kept : (m : ℕ) (t : Tag) (r : Reader) (n : ℕ) (x : Context) → r .context ≡ x → tagOk t ≡ true → ReaderOk byStandard r n → Gives (λ x. ReaderOk byStandard x (suc n)) Any (onStart byStandard m t r x)
+  pub start-kept : (m : ℕ) (t : Seen) (r : Reader) (n : ℕ) (x : Context) → r .context ≡ x → SeenText t → ReaderOk byStandard r n → Gives (λ x. ReaderOk byStandard x (suc n)) Any (onStart byStandard m t r x)
   unfolding onStart isNoContext
   start-kept m t r n Context.noContext q e o = startOutside-kept m t r n e o
   start-kept m t r n (Context.inSchema depth) q e o =

@@ -11,9 +11,11 @@ use Rattle.xsd_types.specs.Sheet.{stateFits}
 use Rattle.xsd_parser.specs.Event.{Event}
 use Rattle.xsd_parser.specs.EventText.{eventOk}
 use Rattle.xsd_parser.specs.Handlers.{ok, onEnd}
+use Rattle.xsd_parser.specs.Seen.{seen}
 use Rattle.xsd_parser.specs.Step.{handled, closed, tagsAfter, counted, roomFor, step}
 use Rattle.xsd_parser.proofs.Laws.Outcomes.{gives-value, if-value, ok-or-refuse, then-value}
 use Rattle.xsd_parser.proofs.Laws.Readers.{ReaderOk}
+use Rattle.xsd_parser.proofs.Laws.SeenTexts.{seen-text}
 use Rattle.xsd_parser.proofs.Laws.Starts.{start-kept}
 use Rattle.xsd_parser.proofs.Laws.Empties.{empty-kept}
 use Rattle.xsd_parser.proofs.Laws.Closes.{close-kept}
@@ -92,9 +94,9 @@ pub reader-kept : (byStandard : Bool) (k : ℕ) (e : Event) (r r′ : Reader) (n
     → ReaderOk byStandard r n → ReaderOk byStandard r′ m
 unfolding tagsAfter handled eventOk
 reader-kept b k (Event.start t) r r′ n m p q e o =
-    subst (ReaderOk b r′) (ok-or-refuse (ltb n 255) 7 p .1) (gives-value (start-kept b k t r n (r .context) refl e o) q)
+    subst (ReaderOk b r′) (ok-or-refuse (ltb n 255) 7 p .1) (gives-value (start-kept b k (seen t) r n (r .context) refl (seen-text t e) o) q)
 reader-kept b k (Event.empty t) r r′ n m p q e o =
-    subst (ReaderOk b r′) (cc) (gives-value (empty-kept b k t r n (r .context) refl e o) q)
+    subst (ReaderOk b r′) (cc) (gives-value (empty-kept b k (seen t) r n (r .context) refl (seen-text t e) o) q)
 reader-kept b k Event.close r r′ n m p q e o =
     let same : onEnd r (r .context) ≡ r′ = cc in
     subst (λ x. ReaderOk b x m) same (close-kept b r m (r .context) refl (subst (ReaderOk b r) (closed-parts n m p) o))

@@ -2,6 +2,9 @@
 --     Told          what was decided, before any state is named
 --     Handled       the reader after an action
 use Prim.Native.Nat.{ℕ}
+use lib.Dec.{eqb}
+use borrow.Author.Tests.{eqb-false}
+use Rattle.text.proofs.Laws.Tests.{bool-cases}
 use mathlib.Core.Bool.{Bool}
 use mathlib.Core.Path.{_≡_, refl, sym, ap, ap₂, subst, _∙_}
 use mathlib.Core.List.{List}
@@ -13,7 +16,10 @@ use Rattle.xsd_types.specs.Rows.{rowsOf}
 use Rattle.xsd_parser.specs.Event.{Tag, Event}
 use Rattle.xsd_parser.specs.Handlers.{Outcome, ok, refuse}
 use Rattle.xsd_parser.specs.Step.{handled, tagsAfter}
+use Rattle.xsd_parser.specs.Kinds.{closeKind}
 use Rattle.tape.specs.Pairs.{tagAt}
+use Rattle.tape.specs.Marks.{eventMarks}
+use Rattle.tape.proofs.Laws.Cut.{tag-cut}
 use Rattle.tape.specs.declared.TagRecord.{TagRecord}
 use Rattle.tape.specs.Answers.{recordEvent}
 use Rattle.xsd_actions.specs.declared.Decision.{Decision}
@@ -32,6 +38,14 @@ use Rattle.xsd_progress.specs.Progress.{At}
 pub record-as : (text : Text) (marks : List ℕ) (t : TagRecord) → recordEvent text marks t ≡ eventAs (t .kind) (tagAt text marks (t .pairs) (t .count))
 unfolding recordEvent eventAs
 record-as text marks t = refl
+
+-- its own marks say which event it is
+pub event-own : (text : Text) (marks own : List ℕ) (t : TagRecord) → ((t .kind ≡ closeKind → ⊥) → own ≡ eventMarks marks (t .pairs) (t .count))
+    → eventAs (t .kind) (tagAt text own 0 (t .count)) ≡ recordEvent text marks t
+unfolding recordEvent eventAs
+event-own text marks own t h =
+    bool-cases (eqb (t .kind) closeKind) (λ e. rw e)
+    (λ e. rw (e, h (eqb-false (t .kind) closeKind e), tag-cut text marks (t .pairs) (t .count)))
 
 -- the open tags after it are those of its kind
 pub counted-as : (text : Text) (marks : List ℕ) (t : TagRecord) (n : ℕ) {r : Tags} (o : Tags) → ((g : Tag) → tags r ≡ tagsAfter (eventAs (t .kind) g) n) → r ≡ o

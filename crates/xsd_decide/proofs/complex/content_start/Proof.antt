@@ -1,90 +1,73 @@
--- `xsd_decide::complex::content_start` meets its contract: no text is behind the end of the marks, so a simple content begins with an empty base. Assumes nothing.
+-- `xsd_decide::complex::content_start` meets its contract: each word begins its content. Assumes nothing.
 use mathlib.Core.Path.{refl, ap}
-use mathlib.Core.List.{[], _∷_}
 use native.Mathlib.Nat.{le-refl}
 use lib.ListN.{length}
-use Rattle.text.specs.Text.{bytes, contains}
-use Rattle.xsd_parser.specs.Handlers.{ok}
+use types.Run.{miss}
+use mathlib.Core.List.{List, [], _∷_}
+use Prim.Native.Nat.{ℕ}
+use Rattle.xsd_parser.specs.declared.words.Word.{Word}
+use Rattle.xsd_parser.specs.Words.{wordNumber, sameWord}
+use Rattle.tape.specs.Lookup.{seenAt}
 use Rattle.tape.proofs.Laws.Pairs.{pair-past}
+use Rattle.xsd_parser.specs.Handlers.{ok}
 use Rattle.xsd_actions.specs.Actions.{Action}
-use Rattle.xsd_actions.specs.Answers.{decision, following, textAtMark}
+use Rattle.xsd_actions.specs.Answers.{textAtMark, following, decision}
 use Rattle.xsd_actions.specs.Decided.{contentStart}
-use Rattle.xsd_decide.specs.Reads.{recordTag}
-use Rattle.xsd_decide.proofs.Laws.Values.{tagIs-told}
+use Rattle.xsd_decide.proofs.Laws.Values.{word-told, word-left}
 use Rattle.xsd_decide.proofs.Laws.Chains.{if-true, if-false}
 use borrow.Author.Needs.{needs}
 use Rattle.xsd_decide.proofs.complex.content_start.Statement.{statement}
 use Rattle.xsd_decide.proofs.complex.content_start.Tie as tie
 
-local-is-requires : tie.Need-local-is-requires
-unfolding contains
-local-is-requires c κs = search needs
+-- the keys of the last arm
+abbrev others : List ℕ
+others = 0 ∷ 1 ∷ 2 ∷ 3 ∷ 4 ∷ 5 ∷ 9 ∷ 10 ∷ 11 ∷ 12 ∷ []
+
 
 returns : tie.Need-returns
-unfolding bytes contentStart
+unfolding contentStart sameWord wordNumber seenAt
 returns c =
-    let first = c .before .before in
-    let start = first .before .before .before .before .before in
-    let t = recordTag (start .args .text .now) (start .args .marks .now) (start .args .t) in
-    if-true ok _ _ (tagIs-told t "sequence" (start .pre) (first .local-is .ensures) (c .before .if1 .taken)) (c .content-alone .ensures (start .args .text .now) (start .args .marks .now))
-
-local-is-requires-2 : tie.Need-local-is-requires-2
-unfolding contains
-local-is-requires-2 c κs = search needs
+    let a = c .before .before .before .before .args in
+    λ text. let t = seenAt text (a .marks .now) (a .t) in if-true ok _ _ (word-told t Word.Sequence (c .before .enum-told .given .1)) (c .content-alone .ensures text (a .marks .now))
 
 returns-2 : tie.Need-returns-2
-unfolding bytes contentStart
+unfolding contentStart sameWord wordNumber seenAt
 returns-2 c =
-    let second = c .before .before in
-    let first = second .before .before .before in
-    let start = first .before .before .before .before .before in
-    let t = recordTag (start .args .text .now) (start .args .marks .now) (start .args .t) in
-    if-false ok _ _ (tagIs-told t "sequence" (start .pre) (first .local-is .ensures) (second .before .before .if1 .left))
-    (if-true ok _ _ (tagIs-told t "choice" (start .pre) (second .local-is2 .ensures) (c .before .if2 .taken)) (c .content-alone2 .ensures (start .args .text .now) (start .args .marks .now)))
-
-local-is-requires-3 : tie.Need-local-is-requires-3
-unfolding contains
-local-is-requires-3 c κs = search needs
+    let a = c .before .before .before .before .args in
+    let e = c .before .enum-told2 .given .1 in
+    λ text. let t = seenAt text (a .marks .now) (a .t) in
+    if-false ok _ _ (word-told t Word.Sequence e) (if-true ok _ _ (word-told t Word.Choice e) (c .content-alone2 .ensures text (a .marks .now)))
 
 returns-3 : tie.Need-returns-3
-unfolding bytes decision following textAtMark contentStart
+unfolding decision following textAtMark contentStart sameWord wordNumber seenAt
 returns-3 c =
-    let third = c .before in
-    let second = third .before .before .before in
-    let first = second .before .before .before in
-    let start = first .before .before .before .before .before in
-    let t = recordTag (start .args .text .now) (start .args .marks .now) (start .args .t) in
-    let end = length (start .args .marks .now) in
-    if-false ok _ _ (tagIs-told t "sequence" (start .pre) (first .local-is .ensures) (second .before .before .if1 .left))
-    (if-false ok _ _ (tagIs-told t "choice" (start .pre) (second .local-is2 .ensures) (third .before .before .if2 .left))
-    (if-true ok _ _ (tagIs-told t "simpleContent" (start .pre) (third .local-is3 .ensures) (c .if3 .taken))
-    (ap (λ v. ok (Action.content 14 (v ∷ []) 0)) (pair-past (start .args .text .now) (start .args .marks .now) end (le-refl end)))))
+    let a = c .before .before .before .args in
+    let e = c .enum-told3 .given .1 in
+    let m = a .marks .now in
+    λ text. let t = seenAt text (a .marks .now) (a .t) in
+    if-false ok _ _ (word-told t Word.Sequence e)
+    (if-false ok _ _ (word-told t Word.Choice e)
+    (if-true ok _ _ (word-told t Word.SimpleContent e) (ap (λ v. ok (Action.content 14 (v ∷ []) 0)) (pair-past text m (length m) (le-refl (length m))))))
 
 returns-4 : tie.Need-returns-4
-unfolding bytes decision contentStart
+unfolding decision contentStart sameWord wordNumber seenAt
 returns-4 c =
-    let third = c .before in
-    let second = third .before .before .before in
-    let first = second .before .before .before in
-    let start = first .before .before .before .before .before in
-    let t = recordTag (start .args .text .now) (start .args .marks .now) (start .args .t) in
-    if-false ok _ _ (tagIs-told t "sequence" (start .pre) (first .local-is .ensures) (second .before .before .if1 .left))
-    (if-false ok _ _ (tagIs-told t "choice" (start .pre) (second .local-is2 .ensures) (third .before .before .if2 .left))
-    (if-false ok _ _ (tagIs-told t "simpleContent" (start .pre) (third .local-is3 .ensures) (c .if3 .left)) refl))
+    let a = c .before .before .args in
+    λ text. let t = seenAt text (a .marks .now) (a .t) in
+    if-false ok _ _ (word-left t Word.Sequence others refl (c .match .keys4) (miss others 6 tt))
+    (if-false ok _ _ (word-left t Word.Choice others refl (c .match .keys4) (miss others 7 tt))
+    (if-false ok _ _ (word-left t Word.SimpleContent others refl (c .match .keys4) (miss others 8 tt)) refl))
 
 pub content-start-spec : {M : Type 1} → statement M
 content-start-spec =
     tie.close
     (tie.spec
     (λ c. search needs)
-    local-is-requires
     (λ c κs. search needs)
+    (λ c. search needs)
+    (λ c κs. search needs)
+    (λ c. search needs)
     returns
-    (λ c. search needs)
-    local-is-requires-2
-    (λ c κs. search needs)
     returns-2
-    (λ c. search needs)
-    local-is-requires-3
     returns-3
     returns-4)

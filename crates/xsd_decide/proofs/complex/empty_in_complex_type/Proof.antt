@@ -1,83 +1,68 @@
--- `xsd_decide::complex::empty_in_complex_type` meets its contract: the words are compared in the order of the definition. Assumes nothing.
+-- `xsd_decide::complex::empty_in_complex_type` meets its contract: the word picks the handler. Assumes nothing.
 use mathlib.Core.Path.{refl}
-use Rattle.xsd_actions.specs.Decided.{emptyInComplexType}
-use Rattle.text.specs.Text.{bytes, contains}
+use types.Run.{miss}
+use mathlib.Core.List.{List, [], _∷_}
+use Prim.Native.Nat.{ℕ}
+use Rattle.xsd_parser.specs.declared.words.Word.{Word}
+use Rattle.xsd_parser.specs.Words.{wordNumber, sameWord}
+use Rattle.tape.specs.Lookup.{seenAt}
 use Rattle.xsd_actions.specs.Answers.{decision}
-use Rattle.xsd_decide.specs.Reads.{recordTag}
-use Rattle.xsd_decide.proofs.Laws.Values.{tagIs-told}
+use Rattle.xsd_actions.specs.Decided.{emptyInComplexType}
+use Rattle.xsd_decide.proofs.Laws.Values.{word-told, word-left}
 use Rattle.xsd_decide.proofs.Laws.Chains.{if-true, if-false, whole}
 use borrow.Author.Needs.{needs}
 use Rattle.xsd_decide.proofs.complex.empty_in_complex_type.Statement.{statement}
 use Rattle.xsd_decide.proofs.complex.empty_in_complex_type.Tie as tie
 
-local-is-requires : tie.Need-local-is-requires
-unfolding contains
-local-is-requires c κs = search needs
+-- the keys of the last arm
+abbrev others : List ℕ
+others = 0 ∷ 1 ∷ 2 ∷ 4 ∷ 5 ∷ 6 ∷ 7 ∷ 8 ∷ 9 ∷ 12 ∷ []
+
 
 returns : tie.Need-returns
-unfolding bytes emptyInComplexType
+unfolding emptyInComplexType sameWord wordNumber seenAt
 returns c =
-    let first = c .before .before in
-    let start = first .before .before .before .before .before in
-    let t = recordTag (start .args .text .now) (start .args .marks .now) (start .args .t) in
-    if-true whole _ _ (tagIs-told t "element" (start .pre .0) (first .local-is .ensures) (c .before .if1 .taken)) (c .element-inside .ensures)
-
-local-is-requires-2 : tie.Need-local-is-requires-2
-unfolding contains
-local-is-requires-2 c κs = search needs
+    let a = c .before .before .before .before .before .args in
+    let t = seenAt (a .text .now) (a .marks .now) (a .t) in
+    if-true whole _ _ (word-told t Word.Element (c .before .enum-told .given .1)) (c .element-inside .ensures)
 
 returns-2 : tie.Need-returns-2
-unfolding bytes emptyInComplexType
+unfolding emptyInComplexType sameWord wordNumber seenAt
 returns-2 c =
-    let second = c .before .before in
-    let first = second .before .before .before in
-    let start = first .before .before .before .before .before in
-    let t = recordTag (start .args .text .now) (start .args .marks .now) (start .args .t) in
-    if-false whole _ _ (tagIs-told t "element" (start .pre .0) (first .local-is .ensures) (second .before .before .if1 .left))
-    (if-true whole _ _ (tagIs-told t "any" (start .pre .0) (second .local-is2 .ensures) (c .before .if2 .taken)) (c .any-content .ensures))
-
-local-is-requires-3 : tie.Need-local-is-requires-3
-unfolding contains
-local-is-requires-3 c κs = search needs
+    let a = c .before .before .before .before .before .args in
+    let t = seenAt (a .text .now) (a .marks .now) (a .t) in
+    if-false whole _ _ (word-told t Word.Element (c .before .enum-told2 .given .1))
+    (if-true whole _ _ (word-told t Word.Any (c .before .enum-told2 .given .1)) (c .any-content .ensures (a .text .now) (a .marks .now)))
 
 returns-3 : tie.Need-returns-3
-unfolding bytes emptyInComplexType
+unfolding emptyInComplexType sameWord wordNumber seenAt
 returns-3 c =
-    let third = c .before .before in
-    let second = third .before .before .before in
-    let first = second .before .before .before in
-    let start = first .before .before .before .before .before in
-    let t = recordTag (start .args .text .now) (start .args .marks .now) (start .args .t) in
-    if-false whole _ _ (tagIs-told t "element" (start .pre .0) (first .local-is .ensures) (second .before .before .if1 .left))
-    (if-false whole _ _ (tagIs-told t "any" (start .pre .0) (second .local-is2 .ensures) (third .before .before .if2 .left))
-    (if-true whole _ _ (tagIs-told t "attribute" (start .pre .0) (third .local-is3 .ensures) (c .before .if3 .taken)) (c .attribute-inside .ensures)))
+    let a = c .before .before .before .before .before .args in
+    let t = seenAt (a .text .now) (a .marks .now) (a .t) in
+    if-false whole _ _ (word-told t Word.Element (c .before .enum-told3 .given .1))
+    (if-false whole _ _ (word-told t Word.Any (c .before .enum-told3 .given .1))
+    (if-true whole _ _ (word-told t Word.Attribute (c .before .enum-told3 .given .1)) (c .attribute-inside .ensures)))
 
 returns-4 : tie.Need-returns-4
-unfolding bytes decision emptyInComplexType
+unfolding decision emptyInComplexType sameWord wordNumber seenAt
 returns-4 c =
-    let third = c .before in
-    let second = third .before .before .before in
-    let first = second .before .before .before in
-    let start = first .before .before .before .before .before in
-    let t = recordTag (start .args .text .now) (start .args .marks .now) (start .args .t) in
-    if-false whole _ _ (tagIs-told t "element" (start .pre .0) (first .local-is .ensures) (second .before .before .if1 .left))
-    (if-false whole _ _ (tagIs-told t "any" (start .pre .0) (second .local-is2 .ensures) (third .before .before .if2 .left))
-    (if-false whole _ _ (tagIs-told t "attribute" (start .pre .0) (third .local-is3 .ensures) (c .if3 .left)) refl))
+    let a = c .before .before .before .args in
+    let t = seenAt (a .text .now) (a .marks .now) (a .t) in
+    if-false whole _ _ (word-left t Word.Element others refl (c .match .keys4) (miss others 3 tt))
+    (if-false whole _ _ (word-left t Word.Any others refl (c .match .keys4) (miss others 10 tt))
+    (if-false whole _ _ (word-left t Word.Attribute others refl (c .match .keys4) (miss others 11 tt)) refl))
 
 pub empty-in-complex-type-spec : {M : Type 1} → statement M
 empty-in-complex-type-spec =
     tie.close
     (tie.spec
     (λ c. search needs)
-    local-is-requires
+    (λ c κs. search needs)
+    (λ c. search needs)
+    (λ c κs. search needs)
+    (λ c. search needs)
     (λ c κs. search needs)
     returns
-    (λ c. search needs)
-    local-is-requires-2
-    (λ c κs. search needs)
     returns-2
-    (λ c. search needs)
-    local-is-requires-3
-    (λ c κs. search needs)
     returns-3
     returns-4)

@@ -2,11 +2,11 @@
 use mathlib.Core.Path.{refl, sym, ap, _∙_}
 use borrow.Author.Tests.{not-true, not-false}
 use Rattle.sheet.specs.Rows.{bit}
-use Rattle.xsd_parser.specs.Event.{attrValue}
 use Rattle.xsd_parser.specs.Handlers.{ok, isRequired}
 use Rattle.xsd_actions.specs.Answers.{decision}
 use Rattle.xsd_actions.specs.Decided.{named}
-use Rattle.xsd_decide.specs.Reads.{recordTag, typedValues}
+use Rattle.tape.specs.Lookup.{seenAt}
+use Rattle.xsd_decide.specs.Reads.{typedValues}
 use Rattle.xsd_decide.specs.Rows.{typedRow}
 use Rattle.xsd_decide.proofs.Laws.Typed.{forBoth, typed-told}
 use Rattle.xsd_decide.proofs.Laws.Attribute.{attribute-off, attribute-on}
@@ -15,39 +15,39 @@ use Rattle.xsd_decide.proofs.rows.attribute_inside.Statement.{statement
 use Rattle.xsd_decide.proofs.rows.attribute_inside.Tie as tie
 
 returns : tie.Need-returns
-unfolding decision
+unfolding decision seenAt
 returns c =
     let a = c .before .before .before .args in
-    ap ok (sym (attribute-off (recordTag (a .text .now) (a .marks .now) (a .t)) (not-true (a .flag) (c .if1 .taken))))
+    ap ok (sym (attribute-off (seenAt (a .text .now) (a .marks .now) (a .t)) (not-true (a .flag) (c .if1 .taken))))
 
 returns-2 : tie.Need-returns-2
-unfolding decision named typedValues forBoth
+unfolding decision named typedValues forBoth seenAt
 returns-2 c =
     let called = c .before .before in
     let a = called .before .before .before .before .args in
-    let t = recordTag (a .text .now) (a .marks .now) (a .t) in
+    let t = seenAt (a .text .now) (a .marks .now) (a .t) in
     let on = attribute-on t (not-false (a .flag) (called .before .if1 .left)) refl in
-    ap ok (sym (on ∙ typed-told (a .text .now) (a .marks .now) (attrValue t "name") (attrValue t "type") (called .name-and-type .ensures) (c .enum-told .given .1) (typedRow 20 (bit (isRequired (attrValue t "use"))) 0 0)))
+    ap ok (sym (on ∙ typed-told (a .text .now) (a .marks .now) (t .name) (t .typeName) (called .name-and-type .ensures (a .text .now) (a .marks .now)) (c .enum-told .given .1) (typedRow 20 (bit (isRequired (t .usage))) 0 0)))
 
 returns-3 : tie.Need-returns-3
-unfolding named typedValues forBoth bit
+unfolding named typedValues forBoth bit seenAt
 returns-3 c =
     let called = c .before .before .before .before .before .before in
     let a = called .before .before .before .before .args in
-    let t = recordTag (a .text .now) (a .marks .now) (a .t) in
+    let t = seenAt (a .text .now) (a .marks .now) (a .t) in
     let on = attribute-on t (not-false (a .flag) (called .before .if1 .left)) (sym (c .before .before .is-required .ensures) ∙ c .before .if2 .taken) in
     c .typed-row .ensures (a .text .now) (a .marks .now)
-    ∙ ap ok (sym (on ∙ typed-told (a .text .now) (a .marks .now) (attrValue t "name") (attrValue t "type") (called .name-and-type .ensures) (c .before .before .before .before .p .given .1) (typedRow 20 1 0 0)))
+    ∙ ap ok (sym (on ∙ typed-told (a .text .now) (a .marks .now) (t .name) (t .typeName) (called .name-and-type .ensures (a .text .now) (a .marks .now)) (c .before .before .before .before .p .given .1) (typedRow 20 1 0 0)))
 
 returns-4 : tie.Need-returns-4
-unfolding named typedValues forBoth bit
+unfolding named typedValues forBoth bit seenAt
 returns-4 c =
     let called = c .before .before .before .before .before .before in
     let a = called .before .before .before .before .args in
-    let t = recordTag (a .text .now) (a .marks .now) (a .t) in
+    let t = seenAt (a .text .now) (a .marks .now) (a .t) in
     let on = attribute-on t (not-false (a .flag) (called .before .if1 .left)) (sym (c .before .before .is-required .ensures) ∙ c .before .if2 .left) in
     c .typed-row2 .ensures (a .text .now) (a .marks .now)
-    ∙ ap ok (sym (on ∙ typed-told (a .text .now) (a .marks .now) (attrValue t "name") (attrValue t "type") (called .name-and-type .ensures) (c .before .before .before .before .p .given .1) (typedRow 20 0 0 0)))
+    ∙ ap ok (sym (on ∙ typed-told (a .text .now) (a .marks .now) (t .name) (t .typeName) (called .name-and-type .ensures (a .text .now) (a .marks .now)) (c .before .before .before .before .p .given .1) (typedRow 20 0 0 0)))
 
 pub attribute-inside-spec : {M : Type 1} → statement M
 attribute-inside-spec =

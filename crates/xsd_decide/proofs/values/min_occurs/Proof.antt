@@ -1,41 +1,34 @@
 -- `xsd_decide::values::min_occurs` meets its contract: an absent minOccurs gives 1. Assumes nothing.
 use mathlib.Core.Path.{sym, ap, _∙_}
-use Rattle.text.specs.Text.{bytes, contains}
 use Rattle.number.specs.Number.{number}
 use Rattle.xsd_parser.specs.Handlers.{parseMinOccurs}
 use Rattle.xsd_actions.specs.Answers.{textAtMark}
-use Rattle.xsd_decide.specs.Reads.{recordTag}
-use Rattle.xsd_decide.proofs.Laws.Values.{attrValue-at, attrValue-none}
+use Rattle.tape.specs.Lookup.{seenAt}
+use Rattle.xsd_decide.proofs.Laws.Values.{value-at, value-none}
 use borrow.Author.Needs.{needs}
 use Rattle.xsd_decide.proofs.values.min_occurs.Statement.{statement}
 use Rattle.xsd_decide.proofs.values.min_occurs.Tie as tie
 
-attribute-requires : tie.Need-attribute-requires
-unfolding contains
-attribute-requires c κs = search needs
-
 returns : tie.Need-returns
-unfolding bytes parseMinOccurs textAtMark
+unfolding parseMinOccurs textAtMark seenAt
 returns c =
     let called = c .before .before .before .before .before in
-    let a = called .before .before .before .before .args in
-    let t = recordTag (a .text .now) (a .marks .now) (a .t) in
-    let value = attrValue-at (a .text .now) (a .marks .now) t "minOccurs" (called .attribute .ensures) (c .before .before .before .i .given .1) in
+    let a = called .before .before .before .args in
+    let value = value-at (a .text .now) (a .marks .now) (a .t .«min_occurs») (called .place-found .ensures (a .text .now) (a .marks .now)) (c .before .before .before .i .given .1) in
     c .parse-u32 .ensures ∙ ap (number 32) (c .before .pair-part .ensures) ∙ sym (ap parseMinOccurs value)
 
 returns-2 : tie.Need-returns-2
-unfolding bytes parseMinOccurs
+unfolding parseMinOccurs seenAt
 returns-2 c =
     let called = c .before .before in
-    let a = called .before .before .before .before .args in
-    sym (ap parseMinOccurs (attrValue-none (a .text .now) (a .marks .now) (recordTag (a .text .now) (a .marks .now) (a .t)) "minOccurs" (called .attribute .ensures) (c .enum-told .given .1)))
+    let a = called .before .before .before .args in
+    sym (ap parseMinOccurs (value-none (a .text .now) (a .marks .now) (a .t .«min_occurs») (called .place-found .ensures (a .text .now) (a .marks .now)) (c .enum-told .given .1)))
 
 pub min-occurs-spec : {M : Type 1} → statement M
 min-occurs-spec =
     tie.close
     (tie.spec
-    (λ c. search needs)
-    attribute-requires
+    (λ c κs. search needs)
     (λ c. search needs)
     (λ c κs. search needs)
     (λ c κs. search needs)
