@@ -27,6 +27,13 @@ pub(crate) fn tape(text: &[u8], marks: &mut [u32]) -> Answer {
     Answer { number, place }
 }
 
+pub(crate) fn pattern(pattern: &[u8]) -> Answer {
+    let mut place = 0;
+    // SAFETY: the address and the length are those of one slice; the place is lent for the call.
+    let number = unsafe { c::lubiksan_pattern(pattern.as_ptr(), pattern.len(), &mut place) };
+    Answer { number, place }
+}
+
 pub(crate) fn clear(rows: &mut [u32], names: &mut [u8], choice: u32) -> Answer {
     let mut place = 0;
     // SAFETY: each address and its length are those of one slice; all are lent for the call.

@@ -97,6 +97,10 @@ causes! {
     ShortMarks = LUBIKSAN_MARKS, "the tags of the text take more marks than lent";
     /// 20: two finished types have the same name in the graph.
     RepeatedName = LUBIKSAN_NAME_TWICE, "two types have the same name in the graph";
+    /// 24: no derivation of the pattern exists by the productions of XML Schema.
+    NoPattern = LUBIKSAN_NO_PATTERN, "not a regular expression of XML Schema";
+    /// 25: the pattern has a form that is not judged.
+    PatternAside = LUBIKSAN_PATTERN_ASIDE, "has a form that is not judged";
 }
 
 impl fmt::Display for Cause {

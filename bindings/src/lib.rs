@@ -10,6 +10,7 @@
 //! | [`Graph`] | the type graph of a schema, with typed views that borrow from it |
 //! | [`Refusal`], [`Cause`] | why a call was refused: the library's number, a sentence, the place |
 //! | [`check_version`] | is the archive that was linked the one that this crate was written for? |
+//! | [`Pattern`] | what a pattern is by the grammar of XML Schema's regular expressions |
 //! | [`names`] | the text functions of the library: local name, numbers, built-in types, Rust names |
 //!
 //! ```
@@ -76,6 +77,7 @@ mod cause;
 mod graph;
 pub mod limits;
 pub mod names;
+mod pattern;
 mod refusal;
 mod sheet;
 mod tape;
@@ -87,6 +89,7 @@ pub use graph::{
     Attribute, BadGraph, Builtin, Cardinality, CharacterCount, Choice, Code, CodeList, DigitCount,
     Facet, Field, Graph, Label, Newtype, Opaque, Root, Struct, TypeDef, TypeRef, Value, Variant,
 };
+pub use pattern::{Pattern, PatternFacet, Unjudged};
 pub use refusal::{At, Refusal, TypeAt};
 pub use sheet::{Context, Declared, Kind, ReadAs, SchemaSheet};
 pub use tape::{Event, Events, PieceFull, Tag, Tape, TapeBuilder};

@@ -381,12 +381,12 @@ impl<'a> SchemaSheet<'a> {
         }))
     }
 
-    fn number(&self, row: usize, column: usize) -> u32 {
+    pub(crate) fn number(&self, row: usize, column: usize) -> u32 {
         self.rows.get(ROW * row + column).copied().unwrap_or(0)
     }
 
     /// The text of the pair whose offset stands in the column; empty where it lies outside the names.
-    fn text(&self, row: usize, column: usize) -> &str {
+    pub(crate) fn text(&self, row: usize, column: usize) -> &str {
         let (offset, length) = (self.number(row, column), self.number(row, column + 1));
         let behind = self.names.get(offset as usize..).unwrap_or_default();
         let bytes = behind.get(..length as usize).unwrap_or_default();

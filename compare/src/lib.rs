@@ -18,6 +18,7 @@
 //! | `lowerings` | lowering compared with the model and with `lower` of the Rust |
 //! | `texts` | the tape of a text compared with the model of order 1 and with other parsers |
 //! | `parsers` | quick-xml's events as a tape, and the verdicts of expat and libxml2 |
+//! | `patterns` | the pattern call compared with an Earley parser and a descent over the productions |
 //! | `schemas` | where the real schemas stand |
 //! | `events` | the events of an XML text |
 //! | `prints` | the printing program: what it prints by the model, and inputs to try |
@@ -44,6 +45,7 @@ pub mod names;
 pub mod ours;
 pub mod paper;
 pub mod parsers;
+pub mod patterns;
 pub mod prints;
 pub mod random;
 #[cfg(feature = "ours")]

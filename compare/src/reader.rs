@@ -1,4 +1,4 @@
-//! Clearing, reading and the tape of a text, by the static library `lubiksan`. A slice is passed as its address and its length.
+//! Clearing, reading, the tape of a text and the judgement of a pattern, by the static library `lubiksan`. A slice is passed as its address and its length.
 
 #![allow(unsafe_code)]
 
@@ -63,5 +63,13 @@ pub fn tape(text: &[u8], marks: &mut [u32]) -> Answer {
             &mut place,
         )
     };
+    answer(number, place as u32)
+}
+
+/// Judges a pattern.
+pub fn pattern(pattern: &[u8]) -> Answer {
+    let mut place = UNSET;
+    // SAFETY: the address and the length are those of one slice; the place is lent for the call.
+    let number = unsafe { c::lubiksan_pattern(pattern.as_ptr(), pattern.len(), &mut place) };
     answer(number, place as u32)
 }

@@ -51,6 +51,11 @@ pub enum Action {
         /// A sheet that is not whole is taken.
         partial: bool,
     },
+    /// `patterns`
+    Patterns {
+        /// An XSD or a stored sheet.
+        file: PathBuf,
+    },
     /// `read`
     Read {
         /// The XSD.
@@ -156,6 +161,7 @@ pub fn parser() -> Parser {
         )
         .subcommand(graph())
         .subcommand(names())
+        .subcommand(patterns())
         .subcommand(read())
         .subcommand(shelf())
         .subcommand(Parser::new("check").about("Is a stored sheet good, and how far is it").arg(path("SHEET").help("A stored sheet")))
@@ -195,6 +201,15 @@ fn names() -> Parser {
         ))
         .arg(as_original())
         .arg(strict())
+}
+
+fn patterns() -> Parser {
+    Parser::new("patterns")
+        .about(
+            "Every pattern with its type and place, and whether it is a regular expression of XML Schema; one that is not ends with status 1",
+        )
+        .arg(path("FILE").help("An XSD file or a stored sheet, as far as it is read"))
+        .arg(as_original())
 }
 
 fn read() -> Parser {
@@ -328,6 +343,7 @@ fn action(name: &str, matches: &ArgMatches) -> Action {
             file: path("FILE"),
             partial: matches.get_flag("partial"),
         },
+        "patterns" => Action::Patterns { file: path("FILE") },
         "read" => Action::Read {
             file: path("FILE"),
             sheet: path("sheet"),

@@ -8,7 +8,7 @@ use lubiksan::{Context, Graph, Kind, ReadAs, SchemaSheet};
 use crate::args::{Action, Command, Format};
 use crate::document::Piece;
 use crate::failure::{named, say, though_unread, Failure};
-use crate::formats::{dot, json, rows, rust, text};
+use crate::formats::{dot, json, plural, rows, rust, text};
 use crate::interrupt;
 use crate::lock;
 use crate::losses;
@@ -17,6 +17,7 @@ use crate::namespace;
 use crate::notkept::{self, NotKept};
 use crate::origins::Origins;
 use crate::output::{remove_left_beside, write_output};
+use crate::patterns;
 use crate::places::Places;
 use crate::progress::Progress;
 use crate::reading::{lowered, read_on, read_whole};
@@ -40,6 +41,7 @@ pub fn run(command: &Command) -> Result<(), Failure> {
             partial,
         } => graph(command, file, *format, output.as_deref(), *partial),
         Action::Names { file, partial } => names(command, file, *partial),
+        Action::Patterns { file } => patterns_of(command, file),
         Action::Read {
             file,
             sheet,
@@ -175,10 +177,16 @@ fn graph(
         let graph = lowered(file, input.source.as_ref(), &input.sheet)?;
         input.with_source(|source| {
             let not_kept = source.map(|source| NotKept::of(source, &input.sheet));
-            let lines = match source.zip(not_kept.as_ref()) {
+            let mut lines = match source.zip(not_kept.as_ref()) {
                 Some((source, not_kept)) => not_kept.lines(source, most(command)),
                 None => input.unnamed(file),
             };
+            if command.strict {
+                lines.extend(patterns::refused_lines(
+                    &input.sheet,
+                    (&named(file), source),
+                ));
+            }
             warn(command, lines)?;
             shown(file, format, &input, &graph, (source, not_kept.as_ref()))
         })
@@ -260,6 +268,9 @@ fn names(command: &Command, file: &Path, partial: bool) -> Result<(), Failure> {
         None => input.unnamed(file),
     });
     warn(command, counted)?;
+    let refused =
+        |source: Option<&Source>| patterns::refused_lines(&input.sheet, (&named(file), source));
+    warn(command, input.with_source(refused))?;
     let names = Names::of(&input.sheet, &graph);
     let located = input.source.as_ref().map(|source| {
         let places = Places::of(source, &input.sheet);
@@ -273,6 +284,28 @@ fn names(command: &Command, file: &Path, partial: bool) -> Result<(), Failure> {
     let written = write_output(None, names.listing(line).as_bytes());
     though_unread(written)?;
     do_not_meet(file, &input, &names)
+}
+
+/// Lists the patterns; one that is refused ends with status 1.
+fn patterns_of(command: &Command, file: &Path) -> Result<(), Failure> {
+    let input = input(command, file, true)?;
+    let judged = patterns::of(&input.sheet);
+    let listed = |source: Option<&Source>| {
+        let lines = patterns::lines(&judged, &input.sheet, (&named(file), source));
+        lines
+            .iter()
+            .map(|line| format!("{line}\n"))
+            .collect::<String>()
+    };
+    though_unread(write_output(None, input.with_source(listed).as_bytes()))?;
+    match judged.iter().filter(|judged| judged.is_refused()).count() {
+        0 => Ok(()),
+        count => {
+            let told = plural(count as u64, "pattern");
+            let words = format!("{}: {count} {told} refused", named(file));
+            Err(Failure::Refused(words))
+        }
+    }
 }
 
 fn read(

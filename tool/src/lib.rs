@@ -7,6 +7,7 @@
 //! | [`source`], [`namespace`], [`reading`] | a schema file; of which namespace it is; its events read into a schema sheet |
 //! | [`explain`], [`losses`] | a refusal in words; what of the file was not kept |
 //! | [`follow`], [`notkept`] | what the library's reader does with each tag; where the graph is not the schema |
+//! | [`patterns`] | the patterns of a schema, each judged by the library |
 //! | [`origins`] | where a root or type comes from, by the number of its event |
 //! | [`stored`], [`output`] | stored sheets; files that are whole or as they were |
 //! | [`formats`], [`names`], [`identifier`], [`places`] | the graph as text, JSON, dot, Rust and rows; names that meet, and where |
@@ -31,6 +32,7 @@ pub mod namespace;
 pub mod notkept;
 pub mod origins;
 pub mod output;
+pub mod patterns;
 pub mod places;
 pub mod progress;
 pub mod reading;

@@ -109,6 +109,9 @@ extern "C" {
         length: *mut usize,
     ) -> u32;
 
+    /// Whether a pattern is a regular expression of XML Schema.
+    pub fn lubiksan_pattern(pattern: *const u8, length: usize, place: *mut usize) -> u32;
+
     /// The number alone of [`lubiksan_label`].
     pub fn lubiksan_label_number(
         graph_rows: *const u32,

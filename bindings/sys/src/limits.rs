@@ -21,6 +21,10 @@ pub const LUBIKSAN_ATTRIBUTES_MAX: usize = 32;
 pub const LUBIKSAN_OPEN_TAGS_MAX: u32 = 255;
 /// Events of a run, at most.
 pub const LUBIKSAN_EVENTS_MAX: u32 = 1000000;
+/// Bytes of a pattern, at most.
+pub const LUBIKSAN_PATTERN_MAX: usize = 1024;
+/// Bytes `(` of a pattern that is judged, at most.
+pub const LUBIKSAN_PATTERN_OPENS_MAX: usize = 32;
 
 /// Bytes of stack that `lubiksan_tape` takes, as measured and rounded up to 1,024.
 pub const LUBIKSAN_TAPE_STACK: usize = 45056;
@@ -30,5 +34,7 @@ pub const LUBIKSAN_CLEAR_STACK: usize = 1024;
 pub const LUBIKSAN_READ_STACK: usize = 1024;
 /// Bytes of stack that `lubiksan_lower` takes.
 pub const LUBIKSAN_LOWER_STACK: usize = 67584;
+/// Bytes of stack that `lubiksan_pattern` takes.
+pub const LUBIKSAN_PATTERN_STACK: usize = 4096;
 /// Bytes of stack that any other call takes.
 pub const LUBIKSAN_OTHER_STACK: usize = 2048;

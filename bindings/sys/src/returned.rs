@@ -42,3 +42,7 @@ pub const LUBIKSAN_DOCTYPE: u32 = 18;
 pub const LUBIKSAN_MARKS: u32 = 19;
 /// Two finished types normalise to the same name.
 pub const LUBIKSAN_NAME_TWICE: u32 = 20;
+/// The pattern is no regular expression of XML Schema.
+pub const LUBIKSAN_NO_PATTERN: u32 = 24;
+/// The pattern has a form that is not judged.
+pub const LUBIKSAN_PATTERN_ASIDE: u32 = 25;

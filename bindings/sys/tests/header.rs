@@ -39,6 +39,8 @@ const SOURCES: [(&str, &str, Renamed); 8] = [
             ("LEAST_ROWS", "ROWS_MIN"),
             ("ROWS", "ROWS_MAX"),
             ("NAMES", "NAMES_MAX"),
+            ("PATTERN", "PATTERN_MAX"),
+            ("PATTERN_OPENS", "PATTERN_OPENS_MAX"),
         ],
     ),
     (
@@ -82,11 +84,12 @@ const SOURCES: [(&str, &str, Renamed); 8] = [
 ];
 
 /// The macros that no constant of the library names; `answers.rs` tries them, and `c.rs` measures the stack.
-const TRIED_ON_CALLS: [&str; 33] = [
+const TRIED_ON_CALLS: [&str; 34] = [
     "TAPE_STACK",
     "CLEAR_STACK",
     "READ_STACK",
     "LOWER_STACK",
+    "PATTERN_STACK",
     "OTHER_STACK",
     "TAG_AT",
     "FIRST_AT",

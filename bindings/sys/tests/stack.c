@@ -43,6 +43,13 @@ static void lower(void) {
                             LUBIKSAN_NAMES_MAX, scratch, LUBIKSAN_ROWS_MAX / LUBIKSAN_ROW, &place);
 }
 
+/* Classes, escapes and quantifiers inside as many parentheses as are judged, and a pattern that is left open. */
+static void pattern(void) {
+    static const char deepest[] = "((((((((((((((((((((((((((((((((a|[b-d]*\\.+))))))))))))))))))))))))))))))){2})";
+    lubiksan_pattern((const uint8_t *)deepest, LUBIKSAN_PATTERN_OPENS_MAX + 7, &place);
+    number = lubiksan_pattern((const uint8_t *)deepest, sizeof deepest - 1, &place);
+}
+
 /* The label of every row, and the leaves on every part of the text that a mark may be the length of. */
 static void others(void) {
     uint32_t in_words, narrow;
@@ -105,9 +112,9 @@ static size_t taken(void (*call)(void)) {
 }
 
 int main(int argc, char **argv) {
-    static void (*const calls[])(void) = {tape, clear, read_piece, lower, others};
-    static const char *const told[] = {"TAPE", "CLEAR", "READ", "LOWER", "OTHER"};
-    size_t most[5] = {0};
+    static void (*const calls[])(void) = {tape, clear, read_piece, lower, pattern, others};
+    static const char *const told[] = {"TAPE", "CLEAR", "READ", "LOWER", "PATTERN", "OTHER"};
+    size_t most[6] = {0};
     if (posix_memalign((void **)&stack, 4096, STACK) != 0) {
         return EXIT_FAILURE;
     }
@@ -119,12 +126,12 @@ int main(int argc, char **argv) {
         }
         text_length = fread(text, 1, sizeof text, file);
         fclose(file);
-        for (size_t call = 0; call < 5; call++) {
+        for (size_t call = 0; call < 6; call++) {
             size_t bytes = taken(calls[call]);
             most[call] = bytes > most[call] ? bytes : most[call];
         }
     }
-    for (size_t call = 0; call < 5; call++) {
+    for (size_t call = 0; call < 6; call++) {
         printf("%s %zu\n", told[call], most[call]);
     }
     return EXIT_SUCCESS;

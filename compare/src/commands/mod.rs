@@ -7,6 +7,8 @@ pub mod definitions;
 pub mod leaves;
 #[cfg(feature = "ours")]
 pub mod lowerings;
+#[cfg(feature = "ours")]
+pub mod patterns;
 pub mod prints;
 #[cfg(feature = "ours")]
 pub mod texts;

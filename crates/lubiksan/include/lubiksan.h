@@ -1,5 +1,6 @@
 /* The calls of the static library lubiksan (rt staticlib lubiksan): the text leaves; the tape of a schema text; a schema sheet
-   cleared, and a piece of a tape read into it; a schema sheet lowered to a graph sheet; the label of a row of a graph sheet.
+   cleared, and a piece of a tape read into it; a schema sheet lowered to a graph sheet; the label of a row of a graph sheet; a
+   pattern judged.
 
    A buffer is a pointer and a length in elements. Every pointer is valid, also for a length of 0 (any pointer that is not null
    and is aligned for its type), and the buffers of a call and what it stores do not overlap. Any bytes and numbers are taken.
@@ -31,12 +32,16 @@ extern "C" {
 #define LUBIKSAN_ATTRIBUTES_MAX 32
 #define LUBIKSAN_OPEN_TAGS_MAX 255
 #define LUBIKSAN_EVENTS_MAX 1000000
+/* Of a pattern: its bytes, and bytes ( of one that is judged. */
+#define LUBIKSAN_PATTERN_MAX 1024
+#define LUBIKSAN_PATTERN_OPENS_MAX 32
 
 /* Bytes of stack that a call takes below the frame that calls it, as measured on x86-64 Linux and rounded up to 1,024. */
 #define LUBIKSAN_TAPE_STACK 45056
 #define LUBIKSAN_CLEAR_STACK 1024
 #define LUBIKSAN_READ_STACK 1024
 #define LUBIKSAN_LOWER_STACK 67584
+#define LUBIKSAN_PATTERN_STACK 4096
 #define LUBIKSAN_OTHER_STACK 2048 /* any other call */
 
 /* The numbers returned, with what is left and which place is stored; where no place is named it is 0. */
@@ -66,6 +71,9 @@ extern "C" {
 #define LUBIKSAN_MARKS 19        /* the tape needs more marks than lent */
 #define LUBIKSAN_NAME_TWICE 20   /* lowering: two finished types normalise to the same name; the place is the row of the first head, simple
                                     types before complex ones, whose name came before */
+/* 24 and 25: lubiksan_pattern, after 1 and 5 and tried in the order 25, 24. */
+#define LUBIKSAN_NO_PATTERN 24   /* no derivation of the pattern exists by the productions of XML Schema Part 2 (Second Edition), Appendix F */
+#define LUBIKSAN_PATTERN_ASIDE 25 /* not judged: the bytes \p, \P or -[ anywhere, or more than LUBIKSAN_PATTERN_OPENS_MAX bytes ( */
 
 /* Kinds of events on a tape: kind, count of attributes, then pairs of offset and length into the text: the tag's name, then key
    and value of each attribute. A close is just its kind and 0. */
@@ -199,6 +207,11 @@ size_t lubiksan_code_to_pascal_case(const uint8_t *value, size_t length, uint8_t
 
 /* 1 where the two names normalise to the same text, else 0. */
 uint32_t lubiksan_same_normalized(const uint8_t *a, size_t a_length, const uint8_t *b, size_t b_length);
+
+/* Whether a pattern is a regular expression of XML Schema, by the productions of Part 2 (Second Edition), Appendix F, alone: 0, 1, 5, 24
+   or 25, tried in the order 1, 5, 25, 24. Nothing is stored but 0 in *place. The stack is that of LUBIKSAN_PATTERN_OPENS_MAX
+   expressions inside one another. */
+uint32_t lubiksan_pattern(const uint8_t *pattern, size_t length, size_t *place);
 
 /* Writes the tape of a schema text into marks, whatever they held: 0, 1, 5 or 17 to 19, tried in the order 1, 5, 18, 17, 19, each
    over the whole text; the place in *place. The pairs point into the text, which is read with lubiksan_read together with the

@@ -82,6 +82,10 @@ use Rattle.ir_lower.proofs.Laws.Table.{lowering-table, unknown-first, lowering-
 use Rattle.ir_lower.proofs.Laws.Cardinality.{optional-exactly, vec-exactly, bounded-exactly, required-exactly}
 use Rattle.ir_lower.proofs.Laws.Names.{lowering-accepted, lowering-last, repeated-exactly, repeated-place}
 use Rattle.ir_lower.proofs.Laws.Form.{lowering-form}
+use Rattle.pattern.specs.Grammar.{Derives, regExp}
+use Rattle.pattern.specs.Scan.{start, go, scan}
+use Rattle.pattern.specs.Call.{Verdict}
+use Rattle.pattern.proofs.Laws.One.{verdict-one, scan-exactly}
 use Rattle.runs.specs.Runs.{Call, Answered, Ran, run}
 use Rattle.runs.specs.Trace.{Trace}
 use Rattle.runs.specs.Cuts.{Job, jobsDone, jobsJudged, CutInto, CutAlike}
@@ -307,3 +311,11 @@ claim-graph-back = graph-back
 -- what lowering writes has the graph's form
 pub claim-form : (x graph : Sheet) (scratch : List ℕ) → words (x .rows) ≡ true → lowering x graph scratch .answer .number ≡ 0 → graphForm (lowering x graph scratch .graph) ≡ true
 claim-form = lowering-form
+
+-- order 13, patterns: exactly one number fits every pattern, "order 1 for length, 5 for a byte above 127, 25, 24"
+pub claim-pattern-one : (s : Text) → (n : ℕ) × Verdict s n × ((m : ℕ) → Verdict s m → m ≡ n)
+claim-pattern-one = verdict-one
+
+-- the recogniser is the grammar: what it takes has a derivation by the productions, and what has one it takes
+pub claim-pattern-scan : (s : Text) → (scan (go 0 start) s ≡ true) ↔ Derives regExp s
+claim-pattern-scan = scan-exactly

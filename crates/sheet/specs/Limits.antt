@@ -34,3 +34,11 @@ rowsLimit = 40960
 -- "names above 65,536"
 abbrev pub namesLimit : ℕ
 namesLimit = 65536
+
+-- order 13: "an ASCII pattern of up to 1,024 bytes"
+abbrev pub patternLimit : ℕ
+patternLimit = 1024
+
+-- "more than 32 bytes `(`"
+abbrev pub patternOpensLimit : ℕ
+patternOpensLimit = 32

@@ -1,5 +1,5 @@
 -- Paper 01, "Returned numbers": the numbers that the calls return, in the order of the table, and those of an event's refusals.
---     accepted .. badLabel    the numbers 0 to 16; malformed, doctype, shortMarks: 17 to 19, of order 1; repeatedName: 20, of order 4
+--     accepted .. badLabel    the numbers 0 to 16; malformed, doctype, shortMarks: 17 to 19, of order 1; repeatedName: 20, of order 4; noPattern, patternAside: 24 and 25, of order 13
 --     refusalNumber           the number of a refusal that an event can meet
 use Prim.Native.Nat.{ℕ}
 use Rattle.sheet.specs.declared.refusal.Refusal.{Refusal}
@@ -87,6 +87,14 @@ shortMarks = 19
 -- order 4: "two finished types normalise to the same name; the place is the row of the first head, in lowering's order, whose name came before"
 abbrev pub repeatedName : ℕ
 repeatedName = 20
+
+-- order 13: "24 not in the grammar"
+abbrev pub noPattern : ℕ
+noPattern = 24
+
+-- order 13: "25 the bytes `\p`, `\P` or `-[` anywhere or more than 32 bytes `(`, escaped ones too"
+abbrev pub patternAside : ℕ
+patternAside = 25
 
 -- "event by event 3, 4, 5, 8, then 6 or 7, 9, 10, 11"
 abbrev pub refusalNumber : Refusal → ℕ

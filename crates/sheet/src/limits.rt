@@ -20,3 +20,9 @@ pub const LEAST_ROWS: usize = 20;
 pub const ROWS: usize = 40960;
 
 pub const NAMES: usize = 65536;
+
+// Order 13: "an ASCII pattern of up to 1,024 bytes"
+pub const PATTERN: usize = 1024;
+
+// "more than 32 bytes `(`"
+pub const PATTERN_OPENS: u16 = 32;

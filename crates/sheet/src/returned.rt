@@ -62,3 +62,9 @@ pub const SHORT_MARKS: u32 = 19;
 
 // Order 4: "two finished types normalise to the same name; the place is the row of the first head, in lowering's order, whose name came before"
 pub const REPEATED_NAME: u32 = 20;
+
+// Order 13: "24 not in the grammar"
+pub const NO_PATTERN: u32 = 24;
+
+// Order 13: "25 the bytes `\p`, `\P` or `-[` anywhere or more than 32 bytes `(`, escaped ones too"
+pub const PATTERN_ASIDE: u32 = 25;

@@ -14,6 +14,7 @@ use crate::failure::escaped;
 use crate::formats::rust::boxes::Boxes;
 use crate::identifier::{identifier, spelled};
 use crate::notkept::Notes;
+use crate::patterns;
 
 mod boxes;
 
@@ -74,6 +75,9 @@ impl Writer<'_> {
         );
         put_facets(out, found);
         for note in self.notes.of_type(found.name(), &xml_names(found)) {
+            let _ = writeln!(out, "// {note}");
+        }
+        for note in patterns::notes(found) {
             let _ = writeln!(out, "// {note}");
         }
         out.push_str("#[derive(Clone, Debug, PartialEq)]\n");
