@@ -3,7 +3,7 @@
 use std::process::ExitCode;
 use std::thread;
 
-use compare::lowerings::{limits, longer, repeated, runs, small, written};
+use compare::lowerings::{limits, longer, notes, repeated, runs, small, written};
 use compare::schemas;
 use compare::tally::Tally;
 
@@ -11,7 +11,7 @@ type Group = fn() -> Vec<Tally>;
 
 /// All of them.
 pub fn run() -> ExitCode {
-    let groups: [Group; 10] = [
+    let groups: [Group; 11] = [
         small::compare,
         repeated::examples,
         repeated::compare,
@@ -20,6 +20,7 @@ pub fn run() -> ExitCode {
         longer::sheets,
         limits::compare,
         runs::compare,
+        notes::compare,
         written::compare,
         written_schemas,
     ];

@@ -10,12 +10,14 @@
 //! | `repeated` | types of one name |
 //! | `limits` | lengths around the limits, the largest graphs |
 //! | `runs` | lists of readings and lowerings |
+//! | `notes` | the same lists with other notes in attributes, of order 14 |
 //! | `written` | the cases of the definitions, the schemas |
 
 pub mod check;
 pub mod generate;
 pub mod limits;
 pub mod longer;
+pub mod notes;
 pub mod repeated;
 pub mod runs;
 pub mod small;

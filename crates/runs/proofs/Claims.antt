@@ -90,6 +90,7 @@ use Rattle.runs.specs.Runs.{Call, Answered, Ran, run}
 use Rattle.runs.specs.Trace.{Trace}
 use Rattle.runs.specs.Cuts.{Job, jobsDone, jobsJudged, CutInto, CutAlike}
 use Rattle.runs.specs.Joined.{joined, acceptedEvents, afterRecords}
+use Rattle.runs.specs.Notes.{AlikeCalls, meetsNone, AlikeRuns, sheetsOf, sheetsMade}
 use Rattle.runs.proofs.NoTwo.{NoneTwo, no-two}
 use Rattle.runs.proofs.Runs.{runs}
 use Rattle.runs.proofs.Joined.{last-joined, made-joined}
@@ -97,6 +98,7 @@ use Rattle.runs.proofs.Carried.{carried-run}
 use Rattle.runs.proofs.Cuts.{cut-run, cut-made, cut-joined}
 use Rattle.runs.proofs.Choices.{run-choice, cleared-both}
 use Rattle.runs.proofs.Accepted.{run-children}
+use Rattle.runs.proofs.Notes.{notes-nothing, notes-made}
 
 -- "A sheet is good if it has this form, ..": exactly the sheets of proper states
 pub claim-good : (x : Sheet) → words (x .rows) ≡ true → (good x ≡ true) ↔ ((s : State) × (proper s ≡ true) × (stateFits (length (x .rows)) (length (x .names)) s ≡ true) × (sheetOf s (length (x .rows)) (length (x .names)) ≡ x))
@@ -319,3 +321,12 @@ claim-pattern-one = verdict-one
 -- the recogniser is the grammar: what it takes has a derivation by the productions, and what has one it takes
 pub claim-pattern-scan : (s : Text) → (scan (go 0 start) s ≡ true) ↔ Derives regExp s
 claim-pattern-scan = scan-exactly
+
+-- order 14, notes change nothing. "Compare two runs of the same number of events, cut alike, lowerings at the same places, from equal sheets, lent equal lengths
+-- .. If neither run meets 1, 3, 4 or 5, numbers, places and sheets are equal at every step, and graphs unless lowering gives 2 or 14": from every first sheet,
+-- by the definition, and for the calls made
+pub claim-notes : {cs cs′ : List Call} (x : Sheet) → AlikeCalls cs cs′ → meetsNone (run x cs .answers) ≡ true → meetsNone (run x cs′ .answers) ≡ true → AlikeRuns (run x cs) (run x cs′) (sheetsOf x cs) (sheetsOf x cs′)
+claim-notes = notes-nothing
+
+pub claim-notes-made : {x x₁ x₂ : Sheet} {cs cs′ : List Call} {xs ys : List Answered} → words (x .rows) ≡ true → AlikeCalls cs cs′ → (made₁ : Trace x cs xs x₁) (made₂ : Trace x cs′ ys x₂) → meetsNone xs ≡ true → meetsNone ys ≡ true → AlikeRuns (record { answers = xs; last = x₁ }) (record { answers = ys; last = x₂ }) (sheetsMade made₁) (sheetsMade made₂)
+claim-notes-made = notes-made
