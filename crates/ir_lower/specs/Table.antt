@@ -18,7 +18,8 @@ use Rattle.xsd_types.specs.Good.{good}
 use Rattle.xsd_types.specs.Back.{stateOf}
 use Rattle.ir_types.specs.Types.{TypeGraph}
 use Rattle.ir_types.specs.References.{GraphLabels}
-use Rattle.ir_lower.specs.Lower.{unknownBase, anyUnknown, lower}
+use Rattle.xsd_types.specs.Refused.{refusedBase}
+use Rattle.ir_lower.specs.Lower.{anyUnknown, lower}
 use Rattle.ir_lower.specs.Call.{Lowered, unchanged}
 use Rattle.ir_lower.specs.Outcome.{Outcome}
 
@@ -36,7 +37,7 @@ pub record FirstUnknown (row : ℕ) (items : List Item) (place : ℕ) : Type 0 w
   pub behind : List Item
   pub made : items ≡ before ++ (Item.simpleType type ∷ behind)
   pub known : anyUnknown (simpleTypes before) ≡ false
-  pub unknown : unknownBase type ≡ true
+  pub unknown : refusedBase type ≡ true
   pub stands : place ≡ row + length (itemsRows before)
 
 -- the label call on an accepted graph: a field's, variant's, value's, attribute's or newtype's row gives its reference, every other row 16

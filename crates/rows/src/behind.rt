@@ -32,12 +32,7 @@ fn names_zero(names: &[u8]) -> bool
 }
 
 // Whether all behind the used parts is zero.
-pub fn zeros_behind(
-    rows: &[u32],
-    names: &[u8],
-    rows_used: usize,
-    names_used: usize,
-) -> bool
+pub fn zeros_behind(rows: &[u32], names: &[u8], rows_used: usize, names_used: usize) -> bool
     requires { ⌜ (10 * «rows_used» ≤ length (now rows)) × («names_used» ≤ length (now names)) ⌝ }
     ensures { λ r. ⌜ r ≡ (allZero (drop (10 * «rows_used») (now (rows .entry))) && allZero (drop «names_used» (now (names .entry)))) ⌝ }
 {

@@ -1,19 +1,18 @@
--- Order 14: the handlers look at the tag's name and at the attributes of the nine words alone, since a lookup of one of them passes over the others; so
--- does a step. Assumes nothing.
+-- Order 14: a lookup of one of the nine words passes over the other attributes, so that of a tag without its notes the same is seen; and events of which the
+-- same is seen step alike. Assumes nothing.
 use mathlib.Core.Path.{_≡_, refl, sym, ap, _∙_}
-use mathlib.Core.Bool.{Bool, true, false, _||_, _&&_, false≢true}
+use mathlib.Core.Bool.{Bool, true, false, _||_, false≢true}
 use mathlib.Core.List.{List, [], _∷_}
-use mathlib.Core.Option.{Option, some, none}
-use Prim.Native.Nat.{ℕ}
+use mathlib.Core.Option.{Option, some}
 use Prim.Native.String.{String}
-use lib.Dec.{eqb}
 use Rattle.text.specs.Text.{Text, if_then_else_, is, localName}
-use Rattle.xsd_types.specs.Types.{SequenceElement, Attribute}
 use Rattle.sheet.specs.Lengths.{Lengths}
-use Rattle.xsd_types.specs.State.{State, SimpleTypeBuilder, ComplexContentBuilder, ComplexTypeBuilder, Context, Reader}
-use Rattle.xsd_parser.specs.Event.{Attr, Tag, Event, tagIs, lookup, attrValue, orEmpty}
-use Rattle.xsd_parser.specs.Handlers.{Outcome, ok, _andThen_, foundRoot, onTopLevelElement, requireName, sequenceElement, onElementInsideComplex, attributeAdded, onAttributeInsideComplex, onExtension, onDirectChild, onStartInSchema, onStartInSimpleType, contentStarted, contentAtTwo, onStartInComplexType, onStart, facetValue, onEmptyInSimpleType, onEmptyInComplexType, onEmpty}
-use Rattle.xsd_parser.specs.Step.{tagsAfter, handled, step}
+use Rattle.xsd_types.specs.State.{State}
+use Rattle.xsd_parser.specs.Event.{Attr, Tag, Event, lookup, attrValue}
+use Rattle.xsd_parser.specs.Words.{wordOf}
+use Rattle.xsd_parser.specs.Seen.{seen}
+use Rattle.xsd_parser.specs.Step.{step}
+use Rattle.xsd_parser.proofs.Laws.Alike.{SeenAlike, step-alike as seen-step}
 use Rattle.runs.specs.Notes.{readWords, isOne, readOf, readTag, readEvent}
 
 -- a lookup of one of the words passes over the others
@@ -85,112 +84,28 @@ module _ (t : Tag) where
   unfolding readWords
   at-target = at-word t "targetNamespace" (Word.there (Word.there (Word.there (Word.there (Word.there (Word.there (Word.there (Word.there Word.here))))))))
 
-  same-tag : (w : String) → tagIs u w ≡ tagIs t w
-  unfolding tagIs readTag
-  same-tag w = refl
+-- of a tag without its notes the same is seen
+seen-read : (t : Tag) → seen (readTag t) ≡ seen t
+unfolding seen readTag
+seen-read t =
+    λ i. record {
+      word = wordOf (localName (t .name));
+      name = at-name t i;
+      typeName = at-type t i;
+      base = at-base t i;
+      value = at-value t i;
+      minOccurs = at-min t i;
+      maxOccurs = at-max t i;
+      usage = at-use t i;
+      namespace = at-namespace t i;
+      targetNamespace = at-target t i;
+    }
 
-  -- ---- the handlers
-  found-root : (r : Reader) → foundRoot u r ≡ foundRoot t r
-  unfolding foundRoot
-  found-root r = rw at-target
-
-  top-element : (n : ℕ) (r : Reader) → onTopLevelElement n u r ≡ onTopLevelElement n t r
-  unfolding onTopLevelElement
-  top-element n r = rw (at-name, at-type)
-
-  require-name : {A : Type 0} (f : Text → A) → requireName u f ≡ requireName t f
-  unfolding requireName
-  require-name f = rw (at-name, requireName)
-
-  inside-complex : (b : ComplexContentBuilder) → onElementInsideComplex u b ≡ onElementInsideComplex t b
-  unfolding onElementInsideComplex sequenceElement
-  inside-complex ComplexContentBuilder.empty = refl
-  inside-complex (ComplexContentBuilder.sequence es) = rw (at-name, at-type) (sequence-alike es (attrValue t "name") (attrValue t "type"))
-    where
-      sequence-alike : (es′ : _) (a b : Option Text) → sequenceElement u a b es′ ≡ sequenceElement t a b es′
-      sequence-alike es′ none b = refl
-      sequence-alike es′ (some a) none = refl
-      sequence-alike es′ (some a) (some b) = rw (at-min, at-max)
-  inside-complex (ComplexContentBuilder.choice vs) = rw (at-name, at-type)
-  inside-complex (ComplexContentBuilder.simpleContent base xs flag) = refl
-  inside-complex (ComplexContentBuilder.any n) = refl
-
-  on-extension : (b : ComplexContentBuilder) → onExtension u b ≡ onExtension t b
-  unfolding onExtension
-  on-extension ComplexContentBuilder.empty = refl
-  on-extension (ComplexContentBuilder.sequence es) = refl
-  on-extension (ComplexContentBuilder.choice vs) = refl
-  on-extension (ComplexContentBuilder.simpleContent base xs flag) = rw at-base
-  on-extension (ComplexContentBuilder.any n) = refl
-
-  attribute-added : (a b : Option Text) (xs : List Attribute) → attributeAdded u a b xs ≡ attributeAdded t a b xs
-  unfolding attributeAdded
-  attribute-added none b xs = refl
-  attribute-added (some a) none xs = refl
-  attribute-added (some a) (some b) xs = rw at-use
-
-  attribute-inside : (b : ComplexContentBuilder) → onAttributeInsideComplex u b ≡ onAttributeInsideComplex t b
-  unfolding onAttributeInsideComplex
-  attribute-inside ComplexContentBuilder.empty = refl
-  attribute-inside (ComplexContentBuilder.sequence es) = refl
-  attribute-inside (ComplexContentBuilder.choice vs) = refl
-  attribute-inside (ComplexContentBuilder.simpleContent base xs false) = refl
-  attribute-inside (ComplexContentBuilder.simpleContent base xs true) = rw (at-name, at-type, attribute-added (attrValue t "name") (attrValue t "type") xs)
-  attribute-inside (ComplexContentBuilder.any n) = refl
-
-  direct-child : (s : Bool) (n : ℕ) (r : Reader) → onDirectChild s n u r ≡ onDirectChild s n t r
-  unfolding onDirectChild tagIs readTag
-  direct-child s n r = simp (require-name, top-element)
-
-  start-simple : (b : SimpleTypeBuilder) → onStartInSimpleType u b ≡ onStartInSimpleType t b
-  unfolding onStartInSimpleType tagIs readTag
-  start-simple b = rw at-base
-
-  at-two : (b : ComplexContentBuilder) → contentAtTwo u b ≡ contentAtTwo t b
-  unfolding contentAtTwo tagIs readTag
-  at-two b = rw (on-extension b, inside-complex b)
-
-  start-complex : (b : ComplexTypeBuilder) → onStartInComplexType u b ≡ onStartInComplexType t b
-  unfolding onStartInComplexType contentStarted tagIs readTag
-  start-complex b = rw (at-two (b .content))
-
-  on-start : (s : Bool) (n : ℕ) (r : Reader) (c : Context) → onStart s n u r c ≡ onStart s n t r c
-  unfolding onStart onStartInSchema tagIs readTag
-  on-start s n r Context.noContext = rw (found-root r)
-  on-start s n r (Context.inSchema depth) = rw (direct-child s n r)
-  on-start s n r (Context.inSimpleType b) = rw start-simple
-  on-start s n r (Context.inComplexType b) = rw start-complex
-
-  empty-simple : (b : SimpleTypeBuilder) → onEmptyInSimpleType u b ≡ onEmptyInSimpleType t b
-  unfolding onEmptyInSimpleType facetValue tagIs readTag
-  empty-simple b = rw (at-value, at-base)
-
-  empty-complex : (b : ComplexContentBuilder) → onEmptyInComplexType u b ≡ onEmptyInComplexType t b
-  unfolding onEmptyInComplexType tagIs readTag
-  empty-complex b = rw (inside-complex b, at-namespace, attribute-inside b)
-
-  on-empty : (n : ℕ) (r : Reader) (c : Context) → onEmpty n u r c ≡ onEmpty n t r c
-  unfolding onEmpty tagIs readTag
-  on-empty n r Context.noContext = rw (found-root r)
-  on-empty n r (Context.inSchema depth) = rw (top-element n r)
-  on-empty n r (Context.inSimpleType b) = rw (empty-simple b)
-  on-empty n r (Context.inComplexType b) = rw (empty-complex (b .content))
-
-pub handled-read : (s : Bool) (n : ℕ) (e : Event) (r : Reader) → handled s n (readEvent e) r ≡ handled s n e r
-unfolding handled readEvent
-handled-read s n (Event.start t) r = on-start t s n r (r .context)
-handled-read s n (Event.empty t) r = on-empty t n r (r .context)
-handled-read s n Event.close r = refl
-
-tags-read : (e : Event) (n : ℕ) → tagsAfter (readEvent e) n ≡ tagsAfter e n
-unfolding tagsAfter readEvent
-tags-read (Event.start t) n = refl
-tags-read (Event.empty t) n = refl
-tags-read Event.close n = refl
-
-step-read : (lent : Lengths) (s : State) (e : Event) → step lent s (readEvent e) ≡ step lent s e
-unfolding step
-step-read lent s e = simp (tags-read, handled-read)
+event-read : (e : Event) → SeenAlike (readEvent e) e
+unfolding readEvent
+event-read (Event.start t) = SeenAlike.start (seen-read t)
+event-read (Event.empty t) = SeenAlike.empty (seen-read t)
+event-read Event.close = SeenAlike.close
 
 pub step-alike : (lent : Lengths) (s : State) (e e′ : Event) → readEvent e ≡ readEvent e′ → step lent s e ≡ step lent s e′
-step-alike lent s e e′ h = sym (step-read lent s e) ∙ ap (step lent s) h ∙ step-read lent s e′
+step-alike lent s e e′ h = sym (seen-step lent s (event-read e)) ∙ ap (step lent s) h ∙ seen-step lent s (event-read e′)

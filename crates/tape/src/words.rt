@@ -77,7 +77,16 @@ fn nine_word(name: &[u8]) -> usize
     if same_text(name, b"minLength") {
         return 7;
     }
-    three(name, 19, b"maxLength", 8, b"extension", 16, b"attribute", 18)
+    three(
+        name,
+        19,
+        b"maxLength",
+        8,
+        b"extension",
+        16,
+        b"attribute",
+        18,
+    )
 }
 
 fn eleven_word(name: &[u8]) -> usize
@@ -87,7 +96,16 @@ fn eleven_word(name: &[u8]) -> usize
     if same_text(name, b"complexType") {
         return 2;
     }
-    three(name, 19, b"restriction", 4, b"enumeration", 5, b"totalDigits", 11)
+    three(
+        name,
+        19,
+        b"restriction",
+        4,
+        b"enumeration",
+        5,
+        b"totalDigits",
+        11,
+    )
 }
 
 fn long_word(name: &[u8]) -> usize

@@ -94,14 +94,7 @@ fn empty_in_schema(text: &[u8], marks: &[u32], t: SeenTag, nesting: u32, event: 
 }
 
 // What a start tag decides by what is seen of it. The event is the run's event of this number, from 0.
-pub fn on_start(
-    text: &[u8],
-    marks: &[u32],
-    t: SeenTag,
-    m: Mode,
-    head: u32,
-    event: u32,
-) -> Decision
+pub fn on_start(text: &[u8], marks: &[u32], t: SeenTag, m: Mode, head: u32, event: u32) -> Decision
     ensures { λ r. ⌜ decision (now (text .entry)) (now (marks .entry)) r ≡ decidedStart event (seenAt (now (text .entry)) (now (marks .entry)) t) m head ⌝ }
 {
     if m.context == contexts::NONE {
@@ -117,14 +110,7 @@ pub fn on_start(
 }
 
 // What an empty tag decides.
-pub fn on_empty(
-    text: &[u8],
-    marks: &[u32],
-    t: SeenTag,
-    m: Mode,
-    head: u32,
-    event: u32,
-) -> Decision
+pub fn on_empty(text: &[u8], marks: &[u32], t: SeenTag, m: Mode, head: u32, event: u32) -> Decision
     ensures { λ r. ⌜ decision (now (text .entry)) (now (marks .entry)) r ≡ decidedEmpty event (seenAt (now (text .entry)) (now (marks .entry)) t) m head ⌝ }
 {
     if m.context == contexts::NONE {

@@ -4,11 +4,11 @@ pub mod head;
 pub mod mode;
 pub mod open_tags;
 
+use rows::numbers::Used;
 use xsd_actions::Mode;
 use xsd_good::row0;
 use xsd_good::row0::Row0;
 use xsd_good::scan;
-use rows::numbers::Used;
 ghost use mathlib.Core.Bool.{true};
 ghost use mathlib.Core.Path.{_≡_};
 ghost use Prim.Native.Nat.{_*_, _≤_};

@@ -1,9 +1,9 @@
 // The offsets of the rows behind a replaced text, set anew from a running offset.
-use xsd_good::forms::row::used_pairs;
 use rows::numbers::numbers_at;
 use rows::numbers::pair_at;
 use rows::row::set_row;
 use rows::texts::texts_length;
+use xsd_good::forms::row::used_pairs;
 ghost use mathlib.Core.Path.{_≡_};
 ghost use mathlib.Core.List.{List};
 ghost use Prim.Native.Nat.{ℕ, _+_, _<_};

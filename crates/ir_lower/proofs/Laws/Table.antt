@@ -15,7 +15,8 @@ use Rattle.xsd_types.specs.Types.{SimpleType, Item, simpleTypes}
 use Rattle.xsd_types.specs.State.{State}
 use Rattle.xsd_types.specs.Good.{good}
 use Rattle.xsd_types.specs.Back.{stateOf}
-use Rattle.ir_lower.specs.Lower.{unknownBase, anyUnknown, unknownRow}
+use Rattle.xsd_types.specs.Refused.{refusedBase}
+use Rattle.ir_lower.specs.Lower.{anyUnknown, unknownRow}
 use Rattle.ir_lower.specs.Call.{Lowered, cleared, lowering}
 use Rattle.ir_lower.specs.Outcome.{Outcome}
 use Rattle.ir_lower.specs.Table.{LoweringTable, FirstUnknown, LoweredLabels}
@@ -37,7 +38,7 @@ record Split (items : List Item) : Type 0 where
   behind : List Item
   made : items ≡ before ++ (Item.simpleType type ∷ behind)
   known : anyUnknown (simpleTypes before) ≡ false
-  unknown : unknownBase type ≡ true
+  unknown : refusedBase type ≡ true
 
 passed : (i : Item) {items : List Item} → ((before : List Item) → anyUnknown (simpleTypes before) ≡ false → anyUnknown (simpleTypes (i ∷ before)) ≡ false) → Split items → Split (i ∷ items)
 passed i h s =
@@ -50,7 +51,7 @@ split (Item.element e ∷ is) h = passed (Item.element e) (λ b k. k) (split is 
 split (Item.simpleType t ∷ is) h =
     ⊎-elim (λ k. record { before = []; type = t; behind = is; made = refl; known = refl; unknown = k })
     (λ k. passed (Item.simpleType t) (λ b n. rw k n) (split is (rw k at h)))
-    (test-cases (unknownBase t))
+    (test-cases (refusedBase t))
 split (Item.complexType t ∷ is) h = passed (Item.complexType t) (λ b k. k) (split is h)
 
 pub first-unknown : (row : ℕ) (items : List Item) → anyUnknown (simpleTypes items) ≡ true → FirstUnknown row items (unknownRow row items)

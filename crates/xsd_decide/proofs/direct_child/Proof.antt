@@ -19,7 +19,6 @@ use Rattle.xsd_decide.proofs.direct_child.Tie as tie
 abbrev others : List ℕ
 others = 0 ∷ 4 ∷ 5 ∷ 6 ∷ 7 ∷ 8 ∷ 9 ∷ 10 ∷ 11 ∷ 12 ∷ []
 
-
 returns : tie.Need-returns
 unfolding directChild sameWord wordNumber seenAt openedAs
 returns c =

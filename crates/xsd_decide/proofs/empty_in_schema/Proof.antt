@@ -24,7 +24,6 @@ use Rattle.xsd_decide.proofs.empty_in_schema.Tie as tie
 abbrev others : List ℕ
 others = 0 ∷ 1 ∷ 2 ∷ 4 ∷ 5 ∷ 6 ∷ 7 ∷ 8 ∷ 9 ∷ 10 ∷ 11 ∷ 12 ∷ []
 
-
 returns : tie.Need-returns
 unfolding decision emptyInSchema
 returns c =

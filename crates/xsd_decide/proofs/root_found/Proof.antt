@@ -20,7 +20,6 @@ use Rattle.xsd_decide.proofs.root_found.Tie as tie
 abbrev others : List ℕ
 others = 1 ∷ 2 ∷ 3 ∷ 4 ∷ 5 ∷ 6 ∷ 7 ∷ 8 ∷ 9 ∷ 10 ∷ 11 ∷ 12 ∷ []
 
-
 returns : tie.Need-returns
 unfolding decision rootFound sameWord wordNumber seenAt
 returns c =

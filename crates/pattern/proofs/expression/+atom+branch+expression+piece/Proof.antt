@@ -100,60 +100,60 @@ unfolding step fresh leave final isTail
     (λ c. search needs)
     (λ c. search needs)
     (λ c.
-        let k = c .before .before .before .before .before .before in
-        let s = k .args .s .now in
-        let at = k .args .at in
-        λ d. byte-to (go d start) s at 40 (k .pre .1 .0) (c .before .before .before .if1 .taken) refl ∙ bad s start (at + 1) start (at + 1) isClose (c .before .before .expression .ensures) (c .enum-told .given .1) (suc d))
+    let k = c .before .before .before .before .before .before in
+    let s = k .args .s .now in
+    let at = k .args .at in
+    λ d. byte-to (go d start) s at 40 (k .pre .1 .0) (c .before .before .before .if1 .taken) refl ∙ bad s start (at + 1) start (at + 1) isClose (c .before .before .expression .ensures) (c .enum-told .given .1) (suc d))
     (λ c.
-        let k = c .before .before .before .before .before .before .before .before in
-        let s = k .args .s .now in
-        let at = k .args .at in
-        let g = goes (c .before .before .before .before .expression .ensures) (c .before .before .e .given .1) in
-        let e = c .before .before .e .given .0 .0 in
-        λ d. byte-to (go d start) s at 40 (k .pre .1 .0) (c .before .before .before .before .before .if1 .taken) refl ∙ g .reads (suc d) ∙ end-at (go (suc d) start) s e (c .if2 .taken) ∙ open-final d)
+    let k = c .before .before .before .before .before .before .before .before in
+    let s = k .args .s .now in
+    let at = k .args .at in
+    let g = goes (c .before .before .before .before .expression .ensures) (c .before .before .e .given .1) in
+    let e = c .before .before .e .given .0 .0 in
+    λ d. byte-to (go d start) s at 40 (k .pre .1 .0) (c .before .before .before .before .before .if1 .taken) refl ∙ g .reads (suc d) ∙ end-at (go (suc d) start) s e (c .if2 .taken) ∙ open-final d)
     (λ c. search needs)
     (λ c.
-        let k = c .before .before .before .before .before .before .before .before in
-        let s = k .args .s .now in
-        let at = k .args .at in
-        let g = goes (c .before .before .before .before .expression .ensures) (c .before .before .e .given .1) in
-        let e = c .before .before .e .given .0 .0 in
-        record { onward = omega (arith, g .onward); within = omega arith; stops = λ _. refl; reads = λ d. byte-to (go d start) s at 40 (k .pre .1 .0) (c .before .before .before .before .before .if1 .taken) refl ∙ g .reads (suc d) ∙ byte-to (go (suc d) start) s e 41 (omega arith) (closing _ (g .stops (omega arith))) refl })
-    (λ c. search needs)
-    (λ c κs. search needs)
-    (λ c.
-        let k = c .before .before .before .before .before in
-        let s = k .args .s .now in
-        let at = k .args .at in before s start scanning.opened at (at + 1) scanning.atom (at + 1) anyByte (λ d. byte-to (go d start) s at 91 (k .pre .1 .0) (c .before .if3 .taken) refl) (c .class-end .result) (c .class-end .ensures))
-    (λ c. search needs)
-    (λ c κs. search needs)
-    (λ c κs. search needs)
-    (λ c. search needs)
-    (λ c.
-        let k = c .before .before .before .before .before .before .before .before in
-        let s = k .args .s .now in
-        let at = k .args .at in
-        let x = sym (c .before .is-escaped .ensures ∙ ap isEscaped (c .before .before .byte-at .ensures)) ∙ c .if5 .taken in
-        let two : at + 1 + 1 ≡ at + 2 = omega arith in
-        record { onward = omega arith; within = omega (arith, escaped-inside s (at + 1) x); stops = λ _. refl; reads = λ d. byte-to (go d start) s at 92 (k .pre .1 .0) (c .before .before .before .if4 .taken) refl ∙ escaped-on scanning.escape scanning.atom (λ d b. refl) (λ d. refl) s (at + 1) x d ∙ ap (λ (k : ℕ). scan (go d scanning.atom) (drop k s)) two })
-    (λ c.
-        let k = c .before .before .before .before .before .before .before .before in
-        let s = k .args .s .now in
-        let at = k .args .at in
-        let x = sym (c .before .is-escaped .ensures ∙ ap isEscaped (c .before .before .byte-at .ensures)) ∙ c .if5 .left in
-        λ d. byte-to (go d start) s at 92 (k .pre .1 .0) (c .before .before .before .if4 .taken) refl ∙ escaped-off scanning.escape scanning.atom (λ d b. refl) (λ d. refl) s (at + 1) x d)
-    (λ c κs. search needs)
+    let k = c .before .before .before .before .before .before .before .before in
+    let s = k .args .s .now in
+    let at = k .args .at in
+    let g = goes (c .before .before .before .before .expression .ensures) (c .before .before .e .given .1) in
+    let e = c .before .before .e .given .0 .0 in
+    record { onward = omega (arith, g .onward); within = omega arith; stops = λ _. refl; reads = λ d. byte-to (go d start) s at 40 (k .pre .1 .0) (c .before .before .before .before .before .if1 .taken) refl ∙ g .reads (suc d) ∙ byte-to (go (suc d) start) s e 41 (omega arith) (closing _ (g .stops (omega arith))) refl })
     (λ c. search needs)
     (λ c κs. search needs)
     (λ c.
-        let k = c .before .before .before .before .before .before .before .before in
-        let g = c .plain-end .ensures in
-        record { onward = omega (arith, g .onward); within = g .within; stops = λ _. refl; reads = λ d. to-at (go d start) (k .args .s .now) (k .args .at) (k .pre .1 .0) (plain-fresh d _ (sym (c .before .before .is-plain .ensures) ∙ c .before .if6 .taken)) ∙ g .reads d })
+    let k = c .before .before .before .before .before in
+    let s = k .args .s .now in
+    let at = k .args .at in before s start scanning.opened at (at + 1) scanning.atom (at + 1) anyByte (λ d. byte-to (go d start) s at 91 (k .pre .1 .0) (c .before .if3 .taken) refl) (c .class-end .result) (c .class-end .ensures))
+    (λ c. search needs)
+    (λ c κs. search needs)
+    (λ c κs. search needs)
+    (λ c. search needs)
     (λ c.
-        let k = c .before .before .before .before .before .before .before in
-        let s = k .args .s .now in
-        let at = k .args .at in
-        λ d. off-at (go d start) s at (k .pre .1 .0) (fresh-off d _ (c .before .before .before .before .if1 .left) (k .pre .1 .1) (c .before .before .before .if3 .left) (c .before .before .if4 .left) (sym (c .before .is-plain .ensures) ∙ c .if6 .left))))
+    let k = c .before .before .before .before .before .before .before .before in
+    let s = k .args .s .now in
+    let at = k .args .at in
+    let x = sym (c .before .is-escaped .ensures ∙ ap isEscaped (c .before .before .byte-at .ensures)) ∙ c .if5 .taken in
+    let two : at + 1 + 1 ≡ at + 2 = omega arith in
+    record { onward = omega arith; within = omega (arith, escaped-inside s (at + 1) x); stops = λ _. refl; reads = λ d. byte-to (go d start) s at 92 (k .pre .1 .0) (c .before .before .before .if4 .taken) refl ∙ escaped-on scanning.escape scanning.atom (λ d b. refl) (λ d. refl) s (at + 1) x d ∙ ap (λ (k : ℕ). scan (go d scanning.atom) (drop k s)) two })
+    (λ c.
+    let k = c .before .before .before .before .before .before .before .before in
+    let s = k .args .s .now in
+    let at = k .args .at in
+    let x = sym (c .before .is-escaped .ensures ∙ ap isEscaped (c .before .before .byte-at .ensures)) ∙ c .if5 .left in
+    λ d. byte-to (go d start) s at 92 (k .pre .1 .0) (c .before .before .before .if4 .taken) refl ∙ escaped-off scanning.escape scanning.atom (λ d b. refl) (λ d. refl) s (at + 1) x d)
+    (λ c κs. search needs)
+    (λ c. search needs)
+    (λ c κs. search needs)
+    (λ c.
+    let k = c .before .before .before .before .before .before .before .before in
+    let g = c .plain-end .ensures in
+    record { onward = omega (arith, g .onward); within = g .within; stops = λ _. refl; reads = λ d. to-at (go d start) (k .args .s .now) (k .args .at) (k .pre .1 .0) (plain-fresh d _ (sym (c .before .before .is-plain .ensures) ∙ c .before .if6 .taken)) ∙ g .reads d })
+    (λ c.
+    let k = c .before .before .before .before .before .before .before in
+    let s = k .args .s .now in
+    let at = k .args .at in
+    λ d. off-at (go d start) s at (k .pre .1 .0) (fresh-off d _ (c .before .before .before .before .if1 .left) (k .pre .1 .1) (c .before .before .before .if3 .left) (c .before .before .if4 .left) (sym (c .before .is-plain .ensures) ∙ c .if6 .left))))
     (λ t. branch-lts.spec (piece-below t, piece.Post) (branch-at t) branch.Post branch-Inv branch-μ
     (λ c. (search needs, search needs, λ d. refl))
     (λ c. search needs)
@@ -163,12 +163,12 @@ unfolding step fresh leave final isTail
     (λ c. search needs)
     (λ c. search needs)
     (λ c.
-        let z = c .before .before .before .before .before .before .before .loop in
-        λ d. z .inv .2 d ∙ bad (c .before .before .before .before .before .before .before .before .before .args .s .now) start (z .i) start (z .i + 1) anyByte (c .before .before .piece .ensures) (c .enum-told .given .1) d)
+    let z = c .before .before .before .before .before .before .before .loop in
+    λ d. z .inv .2 d ∙ bad (c .before .before .before .before .before .before .before .before .before .args .s .now) start (z .i) start (z .i + 1) anyByte (c .before .before .piece .ensures) (c .enum-told .given .1) d)
     (λ c. let g = goes (c .before .before .before .piece .ensures) (c .before .e .given .1) in omega (arith, g .onward, g .within))
     (λ c.
-        let g = goes (c .before .before .before .piece .ensures) (c .before .e .given .1) in
-        (omega (arith, g .onward), g .within, λ d. c .before .before .before .before .before .before .before .before .loop .inv .2 d ∙ g .reads d))
+    let g = goes (c .before .before .before .piece .ensures) (c .before .e .given .1) in
+    (omega (arith, g .onward), g .within, λ d. c .before .before .before .before .before .before .before .before .loop .inv .2 d ∙ g .reads d))
     (λ c. record { onward = c .before .loop .inv .0; within = c .before .loop .inv .1; stops = λ h. absurd (omega (arith, h)); reads = c .before .loop .inv .2 }))
     (λ t. expression-lts.spec (branch-below t, branch.Post) (expression-at t) expression.Post expression-Inv expression-μ
     (λ c. (search needs, search needs, λ d. refl))
@@ -176,41 +176,41 @@ unfolding step fresh leave final isTail
     (λ c. search needs)
     (λ c. search needs)
     (λ c.
-        let z = c .before .before .before .loop in
-        λ d. z .inv .2 d ∙ bad (c .before .before .before .before .before .args .s .now) start (z .i) start (z .i) isTail (c .before .before .branch .ensures) (c .enum-told .given .1) d)
+    let z = c .before .before .before .loop in
+    λ d. z .inv .2 d ∙ bad (c .before .before .before .before .before .args .s .now) start (z .i) start (z .i) isTail (c .before .before .branch .ensures) (c .enum-told .given .1) d)
     (λ c.
-        let g = goes (c .before .before .before .before .branch .ensures) (c .before .before .e .given .1) in
-        record { onward = omega (arith, g .onward); within = g .within; stops = λ h. absurd (omega (arith, h)); reads = λ d. c .before .before .before .before .before .loop .inv .2 d ∙ g .reads d })
+    let g = goes (c .before .before .before .before .branch .ensures) (c .before .before .e .given .1) in
+    record { onward = omega (arith, g .onward); within = g .within; stops = λ h. absurd (omega (arith, h)); reads = λ d. c .before .before .before .before .before .loop .inv .2 d ∙ g .reads d })
     (λ c. search needs)
     (λ c.
-        let g = goes (c .before .before .before .before .before .before .branch .ensures) (c .before .before .before .before .e .given .1) in
-        record { onward = omega (arith, g .onward); within = g .within; stops = λ h. close-byte _ (g .stops h) (c .if2 .taken); reads = λ d. c .before .before .before .before .before .before .before .loop .inv .2 d ∙ g .reads d })
+    let g = goes (c .before .before .before .before .before .before .branch .ensures) (c .before .before .before .before .e .given .1) in
+    record { onward = omega (arith, g .onward); within = g .within; stops = λ h. close-byte _ (g .stops h) (c .if2 .taken); reads = λ d. c .before .before .before .before .before .before .before .loop .inv .2 d ∙ g .reads d })
     (λ c. let g = goes (c .before .before .before .before .before .before .branch .ensures) (c .before .before .before .before .e .given .1) in omega (arith, g .within))
     (λ c. let g = goes (c .before .before .before .before .before .before .branch .ensures) (c .before .before .before .before .e .given .1) in omega (arith, g .onward, g .within))
     (λ c.
-        let g = goes (c .before .before .before .before .before .before .branch .ensures) (c .before .before .before .before .e .given .1) in
-        (omega (arith, g .onward), omega arith, λ d. c .before .before .before .before .before .before .before .loop .inv .2 d ∙ g .reads d ∙ byte-to (go d start) (c .before .before .before .before .before .before .before .before .before .args .s .now) (c .before .before .before .before .e .given .0 .0) 124 (omega arith) (c .if2 .left) refl)))
+    let g = goes (c .before .before .before .before .before .before .branch .ensures) (c .before .before .before .before .e .given .1) in
+    (omega (arith, g .onward), omega arith, λ d. c .before .before .before .before .before .before .before .loop .inv .2 d ∙ g .reads d ∙ byte-to (go d start) (c .before .before .before .before .before .before .before .before .before .args .s .now) (c .before .before .before .before .e .given .0 .0) 124 (omega arith) (c .if2 .left) refl)))
     (λ t. piece-lts.spec (atom-below t, atom.Post, is-mark.Asked, is-mark.Learnt) (piece-at t) piece.Post
     (λ c κs. (omega arith, (c .before .pre .1 .0, c .before .pre .1 .1)))
     (λ c. search needs)
     (λ c. search needs)
     (λ c.
-        let k = c .before .before .before .before in bad (k .args .s .now) start (k .args .at) scanning.atom (k .args .at + 1) anyByte (c .before .before .atom .ensures) (c .enum-told .given .1))
+    let k = c .before .before .before .before in bad (k .args .s .now) start (k .args .at) scanning.atom (k .args .at + 1) anyByte (c .before .before .atom .ensures) (c .enum-told .given .1))
     (λ c.
-        let g = goes (c .before .before .before .before .atom .ensures) (c .before .before .e .given .1) in
-        let s = c .before .before .before .before .before .before .args .s .now in
-        let e = c .before .before .e .given .0 .0 in
-        record { onward = g .onward; within = g .within; stops = λ _. refl; reads = λ d. g .reads d ∙ unmarked-end d s e (c .if1 .taken) })
+    let g = goes (c .before .before .before .before .atom .ensures) (c .before .before .e .given .1) in
+    let s = c .before .before .before .before .before .before .args .s .now in
+    let e = c .before .before .e .given .0 .0 in
+    record { onward = g .onward; within = g .within; stops = λ _. refl; reads = λ d. g .reads d ∙ unmarked-end d s e (c .if1 .taken) })
     (λ c. search needs)
     (λ c κs. search needs)
     (λ c. search needs)
     (λ c.
-        let g = goes (c .before .before .before .before .before .before .before .atom .ensures) (c .before .before .before .before .before .e .given .1) in
-        let s = c .before .before .before .before .before .before .before .before .before .args .s .now in
-        let e = c .before .before .before .before .before .e .given .0 .0 in
-        record { onward = omega (arith, g .onward); within = omega arith; stops = λ _. refl; reads = λ d. g .reads d ∙ mark-at d s e (omega arith) (sym (c .before .is-mark .ensures) ∙ c .if2 .taken) })
+    let g = goes (c .before .before .before .before .before .before .before .atom .ensures) (c .before .before .before .before .before .e .given .1) in
+    let s = c .before .before .before .before .before .before .before .before .before .args .s .now in
+    let e = c .before .before .before .before .before .e .given .0 .0 in
+    record { onward = omega (arith, g .onward); within = omega arith; stops = λ _. refl; reads = λ d. g .reads d ∙ mark-at d s e (omega arith) (sym (c .before .is-mark .ensures) ∙ c .if2 .taken) })
     (λ c.
-        let g = goes (c .before .before .before .before .before .before .before .atom .ensures) (c .before .before .before .before .before .e .given .1) in
-        let s = c .before .before .before .before .before .before .before .before .before .args .s .now in
-        let e = c .before .before .before .before .before .e .given .0 .0 in
-        record { onward = g .onward; within = g .within; stops = λ _. refl; reads = λ d. g .reads d ∙ unmarked-at d s e (sym (c .before .is-mark .ensures) ∙ c .if2 .left) }))
+    let g = goes (c .before .before .before .before .before .before .before .atom .ensures) (c .before .before .before .before .before .e .given .1) in
+    let s = c .before .before .before .before .before .before .before .before .before .args .s .now in
+    let e = c .before .before .before .before .before .e .given .0 .0 in
+    record { onward = g .onward; within = g .within; stops = λ _. refl; reads = λ d. g .reads d ∙ unmarked-at d s e (sym (c .before .is-mark .ensures) ∙ c .if2 .left) }))

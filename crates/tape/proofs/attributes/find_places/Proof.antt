@@ -23,7 +23,7 @@ Inv-loop text marks pairs count places₀ at₀ left₀ places at left =
     × (left ≤ count)
     × (length places ≡ keyCount)
     × ((k : ℕ) → k < keyCount → orElse (valueAt text marks (getD places k 0)) (lookupText (attrsOf text (pairsOf (2 * left) (drop at marks))) (getD keyWords k []))
-      ≡ lookupText (tagAt text marks pairs count .attributes) (getD keyWords k []))
+    ≡ lookupText (tagAt text marks pairs count .attributes) (getD keyWords k []))
 
 abbrev μ-loop : tie.MeasureT-loop
 μ-loop text marks pairs count places₀ at₀ left₀ places at left = left
@@ -50,9 +50,12 @@ loop-again c =
     let keyed = c .before in
     let head = keyed .before .before .before in
     let a = head .before .before .before .args in
-    let l = head .loop in
-    (omega arith, omega arith, ap (λ (p : List ℕ). length p) (c .keep-first .ensures) ∙ kept-length _ _ _ (l .inv .2),
-    λ k h. rw (c .keep-first .ensures) (places-step (a .text .now) (a .marks .now) (l .places) (l .at) (l .left) k (keyed .key-at .result) (omega arith) (omega arith) h (l .inv .2) (keyed .key-at .ensures) ∙ l .inv .3 k h))
+    let l = head .loop in (
+      omega arith,
+      omega arith,
+      ap (λ (p : List ℕ). length p) (c .keep-first .ensures) ∙ kept-length _ _ _ (l .inv .2),
+      λ k h. rw (c .keep-first .ensures) (places-step (a .text .now) (a .marks .now) (l .places) (l .at) (l .left) k (keyed .key-at .result) (omega arith) (omega arith) h (l .inv .2) (keyed .key-at .ensures) ∙ l .inv .3 k h),
+    )
 
 returns : tie.Need-returns Inv-loop μ-loop
 returns c =

@@ -25,9 +25,18 @@ returns c =
     let t = tagAt (a .text .now) (a .marks .now) (a .pairs) (a .count) in
     let p = c .find-places .ensures in
     let word = c .before .word-under .ensures ∙ ap (λ (l : Text). wordOf (localName l)) (sym (tag-name (a .text .now) (a .marks .now) (a .pairs) (a .count))) in
-    rw (word, place-value t "name" p 0 (omega arith) refl, place-value t "type" p 1 (omega arith) refl, place-value t "base" p 2 (omega arith) refl,
-    place-value t "value" p 3 (omega arith) refl, place-value t "minOccurs" p 4 (omega arith) refl, place-value t "maxOccurs" p 5 (omega arith) refl,
-    place-value t "use" p 6 (omega arith) refl, place-value t "namespace" p 7 (omega arith) refl, place-value t "targetNamespace" p 8 (omega arith) refl)
+    rw (
+      word,
+      place-value t "name" p 0 (omega arith) refl,
+      place-value t "type" p 1 (omega arith) refl,
+      place-value t "base" p 2 (omega arith) refl,
+      place-value t "value" p 3 (omega arith) refl,
+      place-value t "minOccurs" p 4 (omega arith) refl,
+      place-value t "maxOccurs" p 5 (omega arith) refl,
+      place-value t "use" p 6 (omega arith) refl,
+      place-value t "namespace" p 7 (omega arith) refl,
+      place-value t "targetNamespace" p 8 (omega arith) refl,
+    )
 
 pub find-seen-spec : {M : Type 1} → statement M
 find-seen-spec = tie.close (tie.spec word-under-requires (λ c κs. search needs) (λ c. omega (arith, c .find-places .ensures .many)) (λ c. omega (arith, c .find-places .ensures .many)) (λ c. omega (arith, c .find-places .ensures .many)) (λ c. omega (arith, c .find-places .ensures .many)) (λ c. omega (arith, c .find-places .ensures .many)) (λ c. omega (arith, c .find-places .ensures .many)) (λ c. omega (arith, c .find-places .ensures .many)) (λ c. omega (arith, c .find-places .ensures .many)) (λ c. omega (arith, c .find-places .ensures .many)) returns)

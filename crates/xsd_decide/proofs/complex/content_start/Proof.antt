@@ -23,7 +23,6 @@ use Rattle.xsd_decide.proofs.complex.content_start.Tie as tie
 abbrev others : List ℕ
 others = 0 ∷ 1 ∷ 2 ∷ 3 ∷ 4 ∷ 5 ∷ 9 ∷ 10 ∷ 11 ∷ 12 ∷ []
 
-
 returns : tie.Need-returns
 unfolding contentStart sameWord wordNumber seenAt
 returns c =

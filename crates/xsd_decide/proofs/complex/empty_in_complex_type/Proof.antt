@@ -18,7 +18,6 @@ use Rattle.xsd_decide.proofs.complex.empty_in_complex_type.Tie as tie
 abbrev others : List ℕ
 others = 0 ∷ 1 ∷ 2 ∷ 4 ∷ 5 ∷ 6 ∷ 7 ∷ 8 ∷ 9 ∷ 12 ∷ []
 
-
 returns : tie.Need-returns
 unfolding emptyInComplexType sameWord wordNumber seenAt
 returns c =

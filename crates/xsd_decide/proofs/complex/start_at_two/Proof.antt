@@ -18,7 +18,6 @@ use Rattle.xsd_decide.proofs.complex.start_at_two.Tie as tie
 abbrev others : List ℕ
 others = 0 ∷ 1 ∷ 2 ∷ 4 ∷ 5 ∷ 6 ∷ 7 ∷ 8 ∷ 10 ∷ 11 ∷ 12 ∷ []
 
-
 returns : tie.Need-returns
 unfolding startAtTwo sameWord wordNumber seenAt
 returns c =

@@ -26,7 +26,6 @@ use Rattle.xsd_decide.proofs.simple.start_in_simple_type.Tie as tie
 abbrev others : List ℕ
 others = 0 ∷ 1 ∷ 2 ∷ 3 ∷ 5 ∷ 6 ∷ 7 ∷ 8 ∷ 9 ∷ 10 ∷ 11 ∷ 12 ∷ []
 
-
 returns : tie.Need-returns
 unfolding decision startInSimpleType
 returns c =
