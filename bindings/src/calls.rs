@@ -144,6 +144,36 @@ pub(crate) fn label_number(rows: &[u32], names: &[u8], words: &[u8], row: usize)
     }
 }
 
+pub(crate) fn columns(rows: &[u32], columns: &mut [u32]) -> Answer {
+    let mut place = 0;
+    // SAFETY: each address and its length are those of one slice; all are lent for the call.
+    let number = unsafe {
+        c::lubiksan_columns(
+            rows.as_ptr(),
+            rows.len(),
+            columns.as_mut_ptr(),
+            columns.len(),
+            &mut place,
+        )
+    };
+    Answer { number, place }
+}
+
+pub(crate) fn rows(columns: &[u32], rows: &mut [u32]) -> Answer {
+    let mut place = 0;
+    // SAFETY: each address and its length are those of one slice; all are lent for the call.
+    let number = unsafe {
+        c::lubiksan_rows(
+            columns.as_ptr(),
+            columns.len(),
+            rows.as_mut_ptr(),
+            rows.len(),
+            &mut place,
+        )
+    };
+    Answer { number, place }
+}
+
 pub(crate) fn local_name(name: &[u8]) -> usize {
     // SAFETY: the address and the length are those of one slice.
     unsafe { c::lubiksan_local_name(name.as_ptr(), name.len()) }

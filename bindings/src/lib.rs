@@ -11,6 +11,7 @@
 //! | [`Refusal`], [`Cause`] | why a call was refused: the library's number, a sentence, the place |
 //! | [`check_version`] | is the archive that was linked the one that this crate was written for? |
 //! | [`Pattern`] | what a pattern is by the grammar of XML Schema's regular expressions |
+//! | [`columns`] | the rows of a graph by column, for storing, and back |
 //! | [`names`] | the text functions of the library: local name, numbers, built-in types, Rust names |
 //!
 //! ```
@@ -74,6 +75,7 @@
 mod buffer;
 mod calls;
 mod cause;
+pub mod columns;
 mod graph;
 pub mod limits;
 pub mod names;

@@ -17,6 +17,7 @@
 //! | `calls` | clearing, reading and labels compared with the model and with the handlers of the Rust |
 //! | `lowerings` | lowering compared with the model and with `lower` of the Rust |
 //! | `texts` | the tape of a text compared with the model of order 1 and with other parsers |
+//! | `columns` | rows as columns and back compared with the model of order 10 |
 //! | `parsers` | quick-xml's events as a tape, and the verdicts of expat and libxml2 |
 //! | `patterns` | the pattern call compared with an Earley parser and a descent over the productions |
 //! | `schemas` | where the real schemas stand |
@@ -31,6 +32,8 @@ pub mod calls;
 pub mod cases;
 #[cfg(feature = "ours")]
 pub mod checks;
+#[cfg(feature = "ours")]
+pub mod columns;
 pub mod definitions;
 mod derived;
 pub mod events;

@@ -26,6 +26,8 @@ pub enum Format {
     Rust,
     /// What the printing program prints.
     Rows,
+    /// A stored graph, which every command that takes a graph takes again.
+    Stored,
 }
 
 /// A command with its arguments.
@@ -35,7 +37,7 @@ pub enum Action {
     Nothing,
     /// `graph`
     Graph {
-        /// An XSD or a stored sheet.
+        /// An XSD, a stored sheet or a stored graph.
         file: PathBuf,
         /// How it is shown.
         format: Format,
@@ -46,7 +48,7 @@ pub enum Action {
     },
     /// `names`
     Names {
-        /// An XSD or a stored sheet.
+        /// An XSD, a stored sheet or a stored graph.
         file: PathBuf,
         /// A sheet that is not whole is taken.
         partial: bool,
@@ -169,10 +171,12 @@ pub fn parser() -> Parser {
 }
 
 fn graph() -> Parser {
-    let formats = PossibleValuesParser::new(["text", "json", "dot", "rust", "rows"]);
+    let formats = PossibleValuesParser::new(["text", "json", "dot", "rust", "rows", "stored"]);
     Parser::new("graph")
-        .about("The type graph of an XSD file or a stored sheet")
-        .arg(path("FILE").help("An XSD file or a stored sheet; - is standard input"))
+        .about("The type graph of an XSD file, a stored sheet or a stored graph")
+        .arg(
+            path("FILE").help("An XSD file, a stored sheet or a stored graph; - is standard input"),
+        )
         .arg(
             Arg::new("format")
                 .long("format")
@@ -194,7 +198,9 @@ fn names() -> Parser {
         .about(
             "Every XML name with its Rust name; names that meet are marked and end with status 1",
         )
-        .arg(path("FILE").help("An XSD file or a stored sheet; - is standard input"))
+        .arg(
+            path("FILE").help("An XSD file, a stored sheet or a stored graph; - is standard input"),
+        )
         .arg(flag(
             "partial",
             "Take a stored sheet that is not read to its end",
@@ -208,7 +214,7 @@ fn patterns() -> Parser {
         .about(
             "Every pattern with its type and place, and whether it is a regular expression of XML Schema; one that is not ends with status 1",
         )
-        .arg(path("FILE").help("An XSD file or a stored sheet, as far as it is read"))
+        .arg(path("FILE").help("An XSD file, a stored sheet as far as it is read, or a stored graph"))
         .arg(as_original())
 }
 
@@ -391,6 +397,7 @@ fn format(matches: &ArgMatches) -> Format {
         Some("dot") => Format::Dot,
         Some("rust") => Format::Rust,
         Some("rows") => Format::Rows,
+        Some("stored") => Format::Stored,
         _ => Format::Text,
     }
 }

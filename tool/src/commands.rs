@@ -11,19 +11,20 @@ use crate::failure::{named, say, though_unread, Failure};
 use crate::formats::{dot, json, plural, rows, rust, text};
 use crate::interrupt;
 use crate::lock;
-use crate::losses;
+use crate::losses::{self, Counts};
 use crate::names::Names;
 use crate::namespace;
 use crate::notkept::{self, NotKept};
 use crate::origins::Origins;
 use crate::output::{remove_left_beside, write_output};
-use crate::patterns;
+use crate::patterns::{self, Judged};
 use crate::places::Places;
 use crate::progress::Progress;
 use crate::reading::{lowered, read_on, read_whole};
 use crate::shelf;
 use crate::source::{bytes_of, Source};
 use crate::stored::{self, About, Begin, Stored};
+use crate::stored_graph::{self, StoredGraph};
 use crate::xml::Lines;
 
 /// Runs a command.
@@ -61,16 +62,97 @@ pub fn run(command: &Command) -> Result<(), Failure> {
     }
 }
 
-/// A sheet to lower, and the source where it was just read.
+/// What a command works on: a sheet to lower, or a stored graph.
+enum Held {
+    Sheet(SchemaSheet<'static>),
+    Graph(Box<StoredGraph>),
+}
+
+/// What a file holds, and the source where it was just read.
 struct Input {
-    sheet: SchemaSheet<'static>,
+    held: Held,
     source: Option<Source>,
-    /// What a stored sheet was read from.
+    /// What a stored sheet or a stored graph was read from.
     about: Option<About>,
 }
 
 impl Input {
-    /// The source that was just read, or that of a stored sheet where it is still there as it was.
+    /// The sheet; none of a stored graph.
+    fn sheet(&self) -> Option<&SchemaSheet<'static>> {
+        match &self.held {
+            Held::Sheet(sheet) => Some(sheet),
+            Held::Graph(_) => None,
+        }
+    }
+
+    /// What is made of the graph: of the sheet's, or of the stored one.
+    fn with_graph<A>(
+        &self,
+        file: &Path,
+        made: impl FnOnce(&Graph<'_>) -> Result<A, Failure>,
+    ) -> Result<A, Failure> {
+        match &self.held {
+            Held::Sheet(sheet) => made(&lowered(file, self.source.as_ref(), sheet)?),
+            Held::Graph(stored) => made(&stored.graph),
+        }
+    }
+
+    /// The names of the sheet and its graph, or of the stored graph alone.
+    fn names(&self, graph: &Graph<'_>) -> Names {
+        match self.sheet() {
+            Some(sheet) => Names::of(sheet, graph),
+            None => Names::of_graph(graph),
+        }
+    }
+
+    /// The patterns of the sheet, or those of the stored graph.
+    fn patterns(&self) -> Vec<Judged<'_>> {
+        match &self.held {
+            Held::Sheet(sheet) => patterns::of(sheet),
+            Held::Graph(stored) => patterns::of_graph(&stored.graph),
+        }
+    }
+
+    /// A line for each pattern that is refused.
+    fn refused_patterns(&self, file: &Path, source: Option<&Source>) -> Vec<String> {
+        let mut refused = self.patterns();
+        refused.retain(Judged::is_refused);
+        patterns::lines(&refused, self.sheet(), (&named(file), source))
+    }
+
+    /// How the schema was read.
+    fn read_as(&self) -> ReadAs {
+        match &self.held {
+            Held::Sheet(sheet) => sheet.read_as(),
+            Held::Graph(stored) => stored.read_as,
+        }
+    }
+
+    /// The events that were read.
+    fn events_done(&self) -> u64 {
+        match &self.held {
+            Held::Sheet(sheet) => sheet.events_done() as u64,
+            Held::Graph(stored) => stored.done,
+        }
+    }
+
+    /// The bytes of the graph as a stored one.
+    fn stored_graph(&self, graph: &Graph<'_>) -> Result<Vec<u8>, Failure> {
+        let read_as = self.read_as();
+        let about = match (&self.about, &self.source) {
+            (Some(about), _) => about.clone(),
+            (None, Some(source)) => About::of(source, read_as),
+            (None, None) => return Err(Failure::Machine("the source is not known".to_owned())),
+        };
+        stored_graph::encoded(graph, &about, self.events_done(), read_as)
+    }
+
+    /// What of the source the graph does not keep, of the events that were read.
+    fn not_kept<'s>(&self, source: &'s Source) -> NotKept<'s> {
+        NotKept::of_events(source, self.read_as(), self.events_done() as usize)
+    }
+
+    /// The source that was just read, or that of a stored sheet or graph where it is still there as it was.
     fn with_source<A>(&self, shown: impl Fn(Option<&Source>) -> A) -> A {
         let stored = || self.about.as_ref().and_then(About::source);
         match &self.source {
@@ -79,7 +161,7 @@ impl Input {
         }
     }
 
-    /// What is said of the places that the graph does not keep where the source of a stored sheet is not at hand.
+    /// What is said of the places that the graph does not keep where the source of a stored sheet or graph is not at hand.
     fn unnamed(&self, file: &Path) -> Vec<String> {
         let why = "its source is not there as it was";
         let words = match self.about.as_ref().and_then(|about| about.not_kept) {
@@ -91,7 +173,7 @@ impl Input {
     }
 }
 
-/// The sheet of a file, which is an XSD or a stored sheet.
+/// What a file holds, which is an XSD, a stored sheet or a stored graph.
 fn input(command: &Command, file: &Path, partial: bool) -> Result<Input, Failure> {
     let bytes = bytes_of(file).map_err(|error| Failure::input(file, &error))?;
     if stored::is_stored(&bytes) {
@@ -99,12 +181,16 @@ fn input(command: &Command, file: &Path, partial: bool) -> Result<Input, Failure
         stored::keeps_choice(file, &stored, command.read_as)?;
         return of_stored(command, file, stored, partial);
     }
+    if stored_graph::is_stored(&bytes) {
+        let stored = stored_graph::of_bytes(file, &bytes)?;
+        return of_stored_graph(command, file, stored);
+    }
     let source = Source::of(file, bytes)?;
     say_way(command, &source);
     let sheet = read_whole(&source, command.read_as)?;
     warn(command, losses::lines(&source, &sheet))?;
     Ok(Input {
-        sheet,
+        held: Held::Sheet(sheet),
         source: Some(source),
         about: None,
     })
@@ -129,9 +215,29 @@ fn of_stored(
         warn(command, vec![format!("{}: {counts}", named(file))])?;
     }
     Ok(Input {
-        sheet: stored.sheet,
+        held: Held::Sheet(stored.sheet),
         source: None,
         about: Some(stored.about),
+    })
+}
+
+fn of_stored_graph(command: &Command, file: &Path, stored: StoredGraph) -> Result<Input, Failure> {
+    if command.read_as == ReadAs::Original && stored.read_as == ReadAs::Standard {
+        let words = "its schema was read by the standard; --as-original is for a new one";
+        return Err(Failure::Refused(format!("{}: {words}", named(file))));
+    }
+    let kept = Counts {
+        elements: stored.graph.roots().count(),
+        types: stored.graph.types().count(),
+    };
+    let counts = losses::compared(stored.about.counts, kept, "source");
+    if stored.done == stored.about.events && !counts.is_empty() {
+        warn(command, vec![format!("{}: {counts}", named(file))])?;
+    }
+    Ok(Input {
+        about: Some(stored.about.clone()),
+        held: Held::Graph(Box::new(stored)),
+        source: None,
     })
 }
 
@@ -174,21 +280,19 @@ fn graph(
         remove_left_beside(output);
     }
     let made = input(command, file, partial).and_then(|input| {
-        let graph = lowered(file, input.source.as_ref(), &input.sheet)?;
-        input.with_source(|source| {
-            let not_kept = source.map(|source| NotKept::of(source, &input.sheet));
-            let mut lines = match source.zip(not_kept.as_ref()) {
-                Some((source, not_kept)) => not_kept.lines(source, most(command)),
-                None => input.unnamed(file),
-            };
-            if command.strict {
-                lines.extend(patterns::refused_lines(
-                    &input.sheet,
-                    (&named(file), source),
-                ));
-            }
-            warn(command, lines)?;
-            shown(file, format, &input, &graph, (source, not_kept.as_ref()))
+        input.with_graph(file, |graph| {
+            input.with_source(|source| {
+                let not_kept = source.map(|source| input.not_kept(source));
+                let mut lines = match source.zip(not_kept.as_ref()) {
+                    Some((source, not_kept)) => not_kept.lines(source, most(command)),
+                    None => input.unnamed(file),
+                };
+                if command.strict {
+                    lines.extend(input.refused_patterns(file, source));
+                }
+                warn(command, lines)?;
+                shown(file, format, &input, graph, (source, not_kept.as_ref()))
+            })
         })
     });
     match made {
@@ -220,20 +324,20 @@ fn shown(
     graph: &Graph<'_>,
     (source, not_kept): Known<'_>,
 ) -> Result<Vec<u8>, Failure> {
-    let sheet = &input.sheet;
     let notes = not_kept.map(NotKept::notes).unwrap_or_default();
     match format {
         Format::Text => Ok(text::print(graph, &Origins::of(source), &notes).into_bytes()),
         Format::Dot => Ok(dot::print(graph).into_bytes()),
-        Format::Rows => Ok(rows::print(sheet.events_done(), graph)),
+        Format::Rows => Ok(rows::print(input.events_done() as usize, graph)),
+        Format::Stored => input.stored_graph(graph),
         Format::Json => {
             let text = json::print(graph, &Origins::of(source), not_kept);
             let text = text.map_err(|error| Failure::Machine(error.to_string()))?;
             Ok(text.into_bytes())
         }
         Format::Rust => {
-            do_not_meet(file, input, &Names::of(sheet, graph))?;
-            Ok(rust::print(sheet, graph, &notes).into_bytes())
+            do_not_meet(file, input, &input.names(graph))?;
+            Ok(rust::print(input.sheet(), graph, &notes).into_bytes())
         }
     }
 }
@@ -243,10 +347,8 @@ fn do_not_meet(file: &Path, input: &Input, names: &Names) -> Result<(), Failure>
     if names.meetings.is_empty() {
         return Ok(());
     }
-    let located = input
-        .source
-        .as_ref()
-        .map(|source| (source, Places::of(source, &input.sheet)));
+    let read = input.source.as_ref().zip(input.sheet());
+    let located = read.map(|(source, sheet)| (source, Places::of(source, sheet)));
     let place = |row: usize| {
         let found = located
             .as_ref()
@@ -258,22 +360,21 @@ fn do_not_meet(file: &Path, input: &Input, names: &Names) -> Result<(), Failure>
 
 fn names(command: &Command, file: &Path, partial: bool) -> Result<(), Failure> {
     let input = input(command, file, partial)?;
-    let graph = lowered(file, input.source.as_ref(), &input.sheet)?;
+    let names = input.with_graph(file, |graph| Ok(input.names(graph)))?;
     let counted = input.with_source(|source| match source {
         Some(source) => {
-            let not_kept = NotKept::of(source, &input.sheet);
+            let not_kept = input.not_kept(source);
             let some = !not_kept.places.is_empty();
             some.then(|| not_kept.counted(source)).into_iter().collect()
         }
         None => input.unnamed(file),
     });
     warn(command, counted)?;
-    let refused =
-        |source: Option<&Source>| patterns::refused_lines(&input.sheet, (&named(file), source));
+    let refused = |source: Option<&Source>| input.refused_patterns(file, source);
     warn(command, input.with_source(refused))?;
-    let names = Names::of(&input.sheet, &graph);
-    let located = input.source.as_ref().map(|source| {
-        let places = Places::of(source, &input.sheet);
+    let read = input.source.as_ref().zip(input.sheet());
+    let located = read.map(|(source, sheet)| {
+        let places = Places::of(source, sheet);
         (Lines::of(source.document().text()), places)
     });
     let line = |row: usize| {
@@ -289,9 +390,9 @@ fn names(command: &Command, file: &Path, partial: bool) -> Result<(), Failure> {
 /// Lists the patterns; one that is refused ends with status 1.
 fn patterns_of(command: &Command, file: &Path) -> Result<(), Failure> {
     let input = input(command, file, true)?;
-    let judged = patterns::of(&input.sheet);
+    let judged = input.patterns();
     let listed = |source: Option<&Source>| {
-        let lines = patterns::lines(&judged, &input.sheet, (&named(file), source));
+        let lines = patterns::lines(&judged, input.sheet(), (&named(file), source));
         lines
             .iter()
             .map(|line| format!("{line}\n"))

@@ -9,7 +9,7 @@
 //! | [`follow`], [`notkept`] | what the library's reader does with each tag; where the graph is not the schema |
 //! | [`patterns`] | the patterns of a schema, each judged by the library |
 //! | [`origins`] | where a root or type comes from, by the number of its event |
-//! | [`stored`], [`output`] | stored sheets; files that are whole or as they were |
+//! | [`stored`], [`stored_graph`], [`output`] | stored sheets, stored graphs; files that are whole or as they were |
 //! | [`formats`], [`names`], [`identifier`], [`places`] | the graph as text, JSON, dot, Rust and rows; names that meet, and where |
 //! | [`shelf`], [`lock`], [`interrupt`], [`progress`] | many schemas side by side |
 //! | [`args`], [`commands`], [`failure`] | the command line |
@@ -39,6 +39,7 @@ pub mod reading;
 pub mod shelf;
 pub mod source;
 pub mod stored;
+pub mod stored_graph;
 
 use std::ffi::OsString;
 

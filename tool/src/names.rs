@@ -9,6 +9,9 @@ use crate::failure::{escaped, quoted};
 use crate::formats::word_of;
 use crate::identifier::{identifier, spelled};
 
+const SIMPLE_TYPE: &str = "simple type";
+const COMPLEX_TYPE: &str = "complex type";
+
 /// A name.
 #[derive(Clone, Debug, PartialEq, Eq)]
 pub struct Entry {
@@ -52,13 +55,39 @@ impl Names {
             .iter()
             .filter(|declared| declared.kind == Kind::Element)
         {
-            names.put_root(declared, &known);
+            let (xml, type_name) = (declared.name, declared.second);
+            names.put_root(xml, type_name, declared.row, &known);
         }
         names.put_types(&finished);
         let heads = heads(&finished);
         for found in graph.types() {
             let head = heads.get(found.name()).copied().unwrap_or(0);
             names.put_children(&found, head, &known);
+        }
+        names
+    }
+
+    /// The names of a graph alone: types under the names that they have there, and no rows.
+    pub fn of_graph(graph: &Graph<'_>) -> Names {
+        let mut names = Names::default();
+        let known: HashSet<&str> = graph.types().map(|found| found.name()).collect();
+        for root in graph.roots() {
+            names.put_root(root.xml_name, root.type_name, 0, &known);
+        }
+        let types: Vec<TypeDef<'_>> = graph.types().collect();
+        let named = types.iter().map(|found| Named {
+            xml: found.name(),
+            rust: found.name().to_owned(),
+            place: match found {
+                TypeDef::Newtype(_) | TypeDef::CodeList(_) => SIMPLE_TYPE,
+                _ => COMPLEX_TYPE,
+            }
+            .to_owned(),
+            row: 0,
+        });
+        names.put_scope("types", "", &named.collect::<Vec<Named<'_>>>());
+        for found in &types {
+            names.put_children(found, 0, &known);
         }
         names
     }
@@ -86,8 +115,7 @@ impl Names {
         lines.join("\n")
     }
 
-    fn put_root(&mut self, declared: &Declared<'_>, known: &HashSet<&str>) {
-        let (xml, type_name, row) = (declared.name, declared.second, declared.row);
+    fn put_root(&mut self, xml: &str, type_name: &str, row: usize, known: &HashSet<&str>) {
         let normal = normalize_type_name(type_name);
         let missing = map_builtin(type_name).is_none() && !known.contains(normal.as_str());
         let place = format!("root element of type {}", quoted(type_name));
@@ -113,9 +141,9 @@ impl Names {
             xml: declared.name,
             rust: normalize_type_name(declared.name),
             place: if declared.kind == Kind::SimpleType {
-                "simple type"
+                SIMPLE_TYPE
             } else {
-                "complex type"
+                COMPLEX_TYPE
             }
             .to_owned(),
             row: declared.row,

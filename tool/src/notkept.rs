@@ -46,7 +46,12 @@ pub struct NotKept<'d> {
 impl<'d> NotKept<'d> {
     /// The places of the events that a sheet has read of its source.
     pub fn of(source: &'d Source, sheet: &SchemaSheet<'_>) -> NotKept<'d> {
-        let places = find::places(source.document(), sheet.read_as(), sheet.events_done());
+        NotKept::of_events(source, sheet.read_as(), sheet.events_done())
+    }
+
+    /// The places of the first `done` events of a source that is read in this way.
+    pub fn of_events(source: &'d Source, read_as: ReadAs, done: usize) -> NotKept<'d> {
+        let places = find::places(source.document(), read_as, done);
         NotKept { places }
     }
 

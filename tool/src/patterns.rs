@@ -1,6 +1,6 @@
 //! The patterns of a schema, each judged by the library.
 
-use lubiksan::{Facet, Pattern, PatternFacet, SchemaSheet, TypeDef, Unjudged};
+use lubiksan::{Facet, Graph, Pattern, PatternFacet, SchemaSheet, TypeDef, Unjudged};
 
 use crate::failure::quoted;
 use crate::places::Places;
@@ -17,14 +17,38 @@ pub struct Judged<'s> {
 
 /// The patterns of a sheet.
 pub fn of<'s>(sheet: &'s SchemaSheet<'_>) -> Vec<Judged<'s>> {
-    let judged = |facet: PatternFacet<'s>| Judged {
-        facet,
-        verdict: Pattern::judged(facet.value),
-    };
-    sheet.patterns().map(judged).collect()
+    sheet.patterns().map(Judged::of).collect()
 }
 
-impl Judged<'_> {
+/// The patterns of a graph alone: types under the names that they have there, and no rows.
+pub fn of_graph<'g>(graph: &'g Graph<'_>) -> Vec<Judged<'g>> {
+    let of_type = |found| match found {
+        TypeDef::Newtype(newtype) => Some(newtype),
+        _ => None,
+    };
+    let mut judged = Vec::new();
+    for newtype in graph.types().filter_map(of_type) {
+        for facet in newtype.facets() {
+            if let Facet::Pattern(value) = facet {
+                judged.push(Judged::of(PatternFacet {
+                    type_name: newtype.name(),
+                    value,
+                    row: 0,
+                }));
+            }
+        }
+    }
+    judged
+}
+
+impl<'s> Judged<'s> {
+    fn of(facet: PatternFacet<'s>) -> Judged<'s> {
+        Judged {
+            facet,
+            verdict: Pattern::judged(facet.value),
+        }
+    }
+
     /// No derivation exists.
     pub fn is_refused(&self) -> bool {
         self.verdict == Ok(Pattern::NotDerived)
@@ -41,13 +65,14 @@ impl Judged<'_> {
     }
 }
 
-/// A line for each pattern, behind the place of its tag where the source is at hand, else behind `file`.
+/// A line for each pattern, behind the place of its tag where source and sheet are at hand, else behind `file`.
 pub fn lines(
     judged: &[Judged<'_>],
-    sheet: &SchemaSheet<'_>,
+    sheet: Option<&SchemaSheet<'_>>,
     (file, source): (&str, Option<&Source>),
 ) -> Vec<String> {
-    let located = source.map(|source| (source, Places::of(source, sheet)));
+    let read = source.zip(sheet);
+    let located = read.map(|(source, sheet)| (source, Places::of(source, sheet)));
     let line = |judged: &Judged<'_>| {
         let words = judged.words();
         let at = located
@@ -56,13 +81,6 @@ pub fn lines(
         at.unwrap_or_else(|| format!("{file}: {words}"))
     };
     judged.iter().map(line).collect()
-}
-
-/// The lines of those that are refused.
-pub fn refused_lines(sheet: &SchemaSheet<'_>, known: (&str, Option<&Source>)) -> Vec<String> {
-    let mut refused = of(sheet);
-    refused.retain(Judged::is_refused);
-    lines(&refused, sheet, known)
 }
 
 /// What a comment at a type of the graph says of its patterns that are refused.

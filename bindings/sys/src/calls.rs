@@ -122,4 +122,22 @@ extern "C" {
         words_length: usize,
         row: usize,
     ) -> u32;
+
+    /// Turns the rows of a sheet into ten columns of differences.
+    pub fn lubiksan_columns(
+        rows: *const u32,
+        rows_length: usize,
+        columns: *mut u32,
+        columns_length: usize,
+        place: *mut usize,
+    ) -> u32;
+
+    /// Restores the rows from such columns.
+    pub fn lubiksan_rows(
+        columns: *const u32,
+        columns_length: usize,
+        rows: *mut u32,
+        rows_length: usize,
+        place: *mut usize,
+    ) -> u32;
 }

@@ -73,6 +73,8 @@ static void others(void) {
         lubiksan_code_to_pascal_case(part, size, out, sizeof out);
         lubiksan_same_normalized(part, size, text, size);
     }
+    lubiksan_columns(graph_rows, LUBIKSAN_ROWS_MAX, rows, LUBIKSAN_ROWS_MAX, &place);
+    lubiksan_rows(graph_rows, LUBIKSAN_ROWS_MAX, rows, LUBIKSAN_ROWS_MAX, &place);
     lubiksan_parse_u32((const uint8_t *)" +0042 ", 7, &narrow);
     lubiksan_parse_u64((const uint8_t *)" +0042 ", 7, &wide);
     lubiksan_map_builtin((const uint8_t *)"xs:dateTime", 11);

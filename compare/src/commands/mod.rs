@@ -2,6 +2,8 @@
 
 #[cfg(feature = "ours")]
 pub mod calls;
+#[cfg(feature = "ours")]
+pub mod columns;
 pub mod definitions;
 #[cfg(feature = "ours")]
 pub mod leaves;

@@ -1,6 +1,6 @@
 /* The calls of the static library lubiksan (rt staticlib lubiksan): the text leaves; the tape of a schema text; a schema sheet
    cleared, and a piece of a tape read into it; a schema sheet lowered to a graph sheet; the label of a row of a graph sheet; a
-   pattern judged.
+   pattern judged; the rows of a graph sheet turned into columns for storing, and back.
 
    A buffer is a pointer and a length in elements. Every pointer is valid, also for a length of 0 (any pointer that is not null
    and is aligned for its type), and the buffers of a call and what it stores do not overlap. Any bytes and numbers are taken.
@@ -46,7 +46,8 @@ extern "C" {
 
 /* The numbers returned, with what is left and which place is stored; where no place is named it is 0. */
 #define LUBIKSAN_ACCEPTED 0      /* the result; a reading's place is the events read, a lowering's the graph's rows used, a tape's the marks used */
-#define LUBIKSAN_LENGTHS 1       /* a buffer has a length outside the limits, or a clearing's choice is above 1: nothing is changed */
+#define LUBIKSAN_LENGTHS 1       /* a buffer has a length outside the limits, a clearing's choice is above 1, or the two lengths of a
+                                    turning differ: nothing is changed */
 #define LUBIKSAN_NOT_GOOD 2      /* the schema sheet is not good, as a cleared one is and one that a reading leaves: nothing is changed */
 /* 3 to 11: an event was refused. The place is its number in the piece, from 0, and the sheet holds the state after the events before it. */
 #define LUBIKSAN_RECORD 3        /* kind not 1 to 3, record cut short, too many attributes, a close with any */
@@ -245,6 +246,14 @@ uint32_t lubiksan_label(const uint32_t *graph_rows, size_t graph_rows_length, co
 /* The number alone that lubiksan_label gives for the same arguments. */
 uint32_t lubiksan_label_number(const uint32_t *graph_rows, size_t graph_rows_length, const uint8_t *graph_names,
                                size_t graph_names_length, const uint8_t *words, size_t words_length, size_t row);
+
+/* Turns rows into ten columns, one after the other, each number below the first of its column stored as its difference from the
+   number above, modulo 4294967296: LUBIKSAN_ACCEPTED or LUBIKSAN_LENGTHS. *place is set to 0. The two lengths are one and the same,
+   within the limits of rows. Every number is turned, row 0 and what is not used too, and no number is judged. */
+uint32_t lubiksan_columns(const uint32_t *rows, size_t rows_length, uint32_t *columns, size_t columns_length, size_t *place);
+
+/* Restores the rows: the inverse of lubiksan_columns, which undoes it, and is undone by it, for all numbers. */
+uint32_t lubiksan_rows(const uint32_t *columns, size_t columns_length, uint32_t *rows, size_t rows_length, size_t *place);
 
 #ifdef __cplusplus
 }

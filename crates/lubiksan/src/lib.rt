@@ -1,4 +1,5 @@
 // The calls exported to C and Rust, as a static library. A slice passes as a pointer and a length. include/lubiksan.h declares them.
+mod by_column;
 mod judging;
 mod label;
 mod leaves;

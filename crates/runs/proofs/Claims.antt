@@ -86,6 +86,8 @@ use Rattle.pattern.specs.Grammar.{Derives, regExp}
 use Rattle.pattern.specs.Scan.{start, go, scan}
 use Rattle.pattern.specs.Call.{Verdict}
 use Rattle.pattern.proofs.Laws.One.{verdict-one, scan-exactly}
+use Rattle.columns.specs.Columns.{columnsOf, rowsOf as rowsOfColumns}
+use Rattle.columns.proofs.Laws.Calls.{rows-back, columns-back}
 use Rattle.runs.specs.Runs.{Call, Answered, Ran, run}
 use Rattle.runs.specs.Trace.{Trace}
 use Rattle.runs.specs.Cuts.{Job, jobsDone, jobsJudged, CutInto, CutAlike}
@@ -330,3 +332,11 @@ claim-notes = notes-nothing
 
 pub claim-notes-made : {x x₁ x₂ : Sheet} {cs cs′ : List Call} {xs ys : List Answered} → words (x .rows) ≡ true → AlikeCalls cs cs′ → (made₁ : Trace x cs xs x₁) (made₂ : Trace x cs′ ys x₂) → meetsNone xs ≡ true → meetsNone ys ≡ true → AlikeRuns (record { answers = xs; last = x₁ }) (record { answers = ys; last = x₂ }) (sheetsMade made₁) (sheetsMade made₂)
 claim-notes-made = notes-made
+
+-- order 10, columns: "Both work for every rectangle of u32 within the length limits, each undoes the other". The calls say of themselves `ColumnsIs` and
+-- `RowsIs` (specs/ of columns): what is accepted writes `columnsOf` or `rowsOf` of its source
+pub claim-rows-back : (rows : List ℕ) → words rows ≡ true → sheetLengths (length rows) 0 ≡ true → rowsOfColumns (columnsOf rows) ≡ rows
+claim-rows-back = rows-back
+
+pub claim-columns-back : (columns : List ℕ) → words columns ≡ true → sheetLengths (length columns) 0 ≡ true → columnsOf (rowsOfColumns columns) ≡ columns
+claim-columns-back = columns-back

@@ -20,13 +20,14 @@ mod boxes;
 
 const STRING: &str = "::std::string::String";
 
-/// The source of a graph, with comments on what is not kept; the sheet has the types' names as in XML. The names do not meet (see
-/// [`crate::names`]).
-pub fn print(sheet: &SchemaSheet<'_>, graph: &Graph<'_>, notes: &Notes<'_>) -> String {
+/// The source of a graph, with comments on what is not kept; the sheet, where it is at hand, has the types' names as in XML. The names
+/// do not meet (see [`crate::names`]).
+pub fn print(sheet: Option<&SchemaSheet<'_>>, graph: &Graph<'_>, notes: &Notes<'_>) -> String {
     let mut out = head(graph);
     let boxes = Boxes::of(graph);
     let names: HashMap<String, &str> = sheet
-        .declared()
+        .into_iter()
+        .flat_map(SchemaSheet::declared)
         .filter(|declared| declared.kind != Kind::Element)
         .map(|declared| (normalize_type_name(declared.name), declared.name))
         .collect();

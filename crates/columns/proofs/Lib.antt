@@ -1,0 +1,2 @@
+-- What the proofs of the crate `columns` share.
+pub mod Laws
