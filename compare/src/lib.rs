@@ -10,6 +10,7 @@
 //! | `samples` | the fixed sample behind crates/replay |
 //! | `cases` | the texts of the comparison with the static library |
 //! | `ours` | the functions of the static library (feature `ours`) |
+//! | `builtins` | names beside the built-in ones, compared (feature `ours`) |
 //! | `checks`, `tally` | one text compared, and the count of cases and differences |
 //! | `tape`, `tapes` | schema events as tape and as XML, and lists of events to try |
 //! | `paper` | a model of paper 01, with the Rust as the judge of its handlers and of lowering |
@@ -27,6 +28,8 @@
 
 #![deny(unsafe_code)]
 
+#[cfg(feature = "ours")]
+pub mod builtins;
 #[cfg(feature = "ours")]
 pub mod calls;
 pub mod cases;

@@ -37,4 +37,4 @@ pub const LUBIKSAN_LOWER_STACK: usize = 67584;
 /// Bytes of stack that `lubiksan_pattern` takes.
 pub const LUBIKSAN_PATTERN_STACK: usize = 4096;
 /// Bytes of stack that any other call takes.
-pub const LUBIKSAN_OTHER_STACK: usize = 2048;
+pub const LUBIKSAN_OTHER_STACK: usize = 1024;

@@ -2,6 +2,7 @@
 
 use std::process::ExitCode;
 
+use compare::builtins;
 use compare::cases;
 use compare::checks;
 use compare::schemas;
@@ -13,6 +14,7 @@ pub fn run() -> ExitCode {
     groups.take("short texts", cases::short_texts());
     groups.take("number texts", cases::numbers());
     groups.take("built-in names", cases::builtin_names());
+    groups.sources.push(builtins::compared());
     groups.take("random texts", cases::random_texts());
     take_schemas(&mut groups);
     groups.take_pairs(&cases::short_names());

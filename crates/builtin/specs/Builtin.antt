@@ -1,32 +1,41 @@
 -- The built-in names: 001 (lower.rs), `map_builtin`, and 003 (ir/types.rs), `RustType`. XML Schema Part 2, section 3, has all 38.
 --     RustType      the type that a built-in name becomes
---     builtins      the 38 names, each with its type
+--     primitives, derived    the 17 and the 21 names of the standard's own two lists, each with its type
+--     builtins      the 38 names
 --     firstMatch    the type beside the first name of the list that is the word
 --     mapBuiltin    the type of a name, after its last colon; none where it is no built-in name
 --     reference     paper 01's number of a type reference: 0 named, 1 String, 2 Bool, 3 Decimal, 4 Date, 5 DateTime
 use Prim.Native.Nat.{ℕ}
 use Prim.Native.String.{String}
-use mathlib.Core.List.{List, [], _∷_}
+use mathlib.Core.List.{List, [], _∷_, _++_}
 use mathlib.Core.Option.{Option, some, none}
 use Rattle.text.specs.Text.{Text, if_then_else_, is, localName}
 
 pub data RustType : Type 0 where
   string bool decimal date dateTime : RustType
 
-unfoldable pub builtins : List (String × RustType)
-builtins =
-    ("string", string) ∷ ("normalizedString", string) ∷ ("token", string) ∷ ("ID", string) ∷ ("IDREF", string)
-    ∷ ("NMTOKEN", string) ∷ ("anyURI", string) ∷ ("language", string) ∷ ("Name", string) ∷ ("NCName", string)
-    ∷ ("base64Binary", string) ∷ ("hexBinary", string) ∷ ("time", string) ∷ ("gYear", string) ∷ ("gYearMonth", string)
-    ∷ ("gMonth", string) ∷ ("gMonthDay", string) ∷ ("gDay", string) ∷ ("duration", string)
-    ∷ ("boolean", bool)
-    ∷ ("decimal", decimal) ∷ ("integer", decimal) ∷ ("int", decimal) ∷ ("long", decimal) ∷ ("short", decimal)
-    ∷ ("byte", decimal) ∷ ("nonNegativeInteger", decimal) ∷ ("positiveInteger", decimal) ∷ ("unsignedInt", decimal)
-    ∷ ("unsignedLong", decimal) ∷ ("unsignedShort", decimal) ∷ ("unsignedByte", decimal)
-    ∷ ("nonPositiveInteger", decimal) ∷ ("negativeInteger", decimal) ∷ ("float", decimal) ∷ ("double", decimal)
-    ∷ ("date", date)
-    ∷ ("dateTime", dateTime)
+-- order 9: "List them once each in the sequence of that text, primitive types first and derived ones after, names it lacks last": it lacks none.
+-- Its section 3.2 has the primitive types
+abbrev pub primitives : List (String × RustType)
+primitives =
+    ("string", string) ∷ ("boolean", bool) ∷ ("decimal", decimal) ∷ ("float", decimal) ∷ ("double", decimal)
+    ∷ ("duration", string) ∷ ("dateTime", dateTime) ∷ ("time", string) ∷ ("date", date) ∷ ("gYearMonth", string)
+    ∷ ("gYear", string) ∷ ("gMonthDay", string) ∷ ("gDay", string) ∷ ("gMonth", string) ∷ ("hexBinary", string)
+    ∷ ("base64Binary", string) ∷ ("anyURI", string)
     ∷ []
+
+-- and section 3.3 the derived ones
+abbrev pub derived : List (String × RustType)
+derived =
+    ("normalizedString", string) ∷ ("token", string) ∷ ("language", string) ∷ ("NMTOKEN", string) ∷ ("Name", string)
+    ∷ ("NCName", string) ∷ ("ID", string) ∷ ("IDREF", string) ∷ ("integer", decimal) ∷ ("nonPositiveInteger", decimal)
+    ∷ ("negativeInteger", decimal) ∷ ("long", decimal) ∷ ("int", decimal) ∷ ("short", decimal) ∷ ("byte", decimal)
+    ∷ ("nonNegativeInteger", decimal) ∷ ("unsignedLong", decimal) ∷ ("unsignedInt", decimal) ∷ ("unsignedShort", decimal)
+    ∷ ("unsignedByte", decimal) ∷ ("positiveInteger", decimal)
+    ∷ []
+
+unfoldable pub builtins : List (String × RustType)
+builtins = primitives ++ derived
 
 unfoldable pub firstMatch : Text → List (String × RustType) → Option RustType
 firstMatch word [] = none

@@ -1,13 +1,13 @@
-// The built-in names: 001, `map_builtin`. The names stand one behind the other in one text, with a
-// table of where each begins; the kinds are in a table beside it.
+// The built-in names: 001, `map_builtin`. The 38 names stand once, one behind the other in one text, in the sequence of XML Schema Part 2 (order 9). The tables
+// beside it, where each name begins, the kinds, and the slots, are those that the list of specs/Builtin.antt gives.
 ghost use mathlib.Core.Path.{_≡_};
 ghost use mathlib.Core.Option.{some};
 ghost use Prim.Native.Nat.{_≤_, _<_};
 ghost use lib.ListN.{length};
 ghost use lib.Seq.{slice};
-ghost use Rattle.text.specs.Text.{bytes, contains, is, localName, same};
+ghost use Rattle.text.specs.Text.{contains, is, localName, same};
 ghost use Rattle.builtin.specs.Builtin.{builtins, mapBuiltin, reference};
-ghost use Rattle.builtin.specs.Answers.{entryAt, ofBuiltin, keyOf, keysOf};
+ghost use Rattle.builtin.specs.Answers.{entryAt, ofBuiltin, keyOf, keysOf, slotOf, placeOf};
 use text::byte_at;
 use text::has_byte;
 use text::local_name;
@@ -22,131 +22,158 @@ pub enum Builtin {
     Unknown,
 }
 
-// Where each name begins in NAMES, and where the last one ends.
-const STARTS: [usize; 39] = [
+// Where each name begins in the text of the names, and where the last one ends.
+const STARTS: [u16; 39] = [
     0,
     6,
-    22,
-    27,
-    29,
-    34,
-    41,
+    13,
+    20,
+    25,
+    31,
+    39,
     47,
+    51,
     55,
-    59,
     65,
-    77,
-    86,
-    90,
-    95,
-    105,
-    111,
-    120,
-    124,
+    70,
+    79,
+    83,
+    89,
+    98,
+    110,
+    116,
     132,
-    139,
-    146,
-    153,
+    137,
+    145,
+    152,
     156,
-    160,
-    165,
+    162,
+    164,
     169,
-    187,
-    202,
+    176,
+    194,
+    209,
     213,
+    216,
+    221,
     225,
-    238,
-    250,
-    268,
-    283,
-    288,
-    294,
-    298,
+    243,
+    255,
+    266,
+    279,
+    291,
     306,
-];
-
-// The kind of each name: 1 String, 2 Bool, 3 Decimal, 4 Date, 5 DateTime.
-const KINDS: [u8; 38] = [
-    1,
-    1,
-    1,
-    1,
-    1,
-    1,
-    1,
-    1,
-    1,
-    1,
-    1,
-    1,
-    1,
-    1,
-    1,
-    1,
-    1,
-    1,
-    1,
-    2,
-    3,
-    3,
-    3,
-    3,
-    3,
-    3,
-    3,
-    3,
-    3,
-    3,
-    3,
-    3,
-    3,
-    3,
-    3,
-    3,
-    4,
-    5,
 ];
 
 // The key of each name: its length and its first byte.
 const KEYS: [u32; 38] = [
     1651,
-    4206,
-    1396,
-    585,
-    1353,
-    1870,
-    1633,
-    2156,
-    1102,
-    1614,
-    3170,
-    2408,
-    1140,
-    1383,
-    2663,
-    1639,
-    2407,
-    1127,
-    2148,
     1890,
     1892,
+    1382,
+    1636,
+    2148,
+    2148,
+    1140,
+    1124,
+    2663,
+    1383,
+    2407,
+    1127,
+    1639,
+    2408,
+    3170,
+    1633,
+    4206,
+    1396,
+    2156,
+    1870,
+    1102,
+    1614,
+    585,
+    1353,
     1897,
-    873,
+    4718,
+    3950,
     1132,
+    873,
     1395,
     1122,
     4718,
-    3952,
-    2933,
     3189,
+    2933,
     3445,
     3189,
-    4718,
-    3950,
-    1382,
-    1636,
-    1124,
-    2148,
+    3952,
+];
+
+// For each slot the place in the list of the name that has it, 38 where none has.
+const SLOTS: [u8; 65] = [
+    38,
+    23,
+    38,
+    19,
+    38,
+    27,
+    35,
+    28,
+    4,
+    38,
+    38,
+    38,
+    18,
+    38,
+    30,
+    38,
+    29,
+    38,
+    38,
+    24,
+    38,
+    22,
+    38,
+    31,
+    9,
+    38,
+    16,
+    11,
+    17,
+    7,
+    34,
+    32,
+    38,
+    26,
+    12,
+    37,
+    38,
+    5,
+    36,
+    38,
+    38,
+    6,
+    38,
+    1,
+    38,
+    8,
+    3,
+    38,
+    33,
+    25,
+    20,
+    38,
+    0,
+    13,
+    38,
+    38,
+    38,
+    10,
+    14,
+    21,
+    38,
+    15,
+    2,
+    38,
+    38,
 ];
 
 // The key of a word. A word that is longer than any name has the key of an empty one, which no name has.
@@ -159,6 +186,26 @@ fn key_of(word: &[u8]) -> u32
     }
     let b = byte_at(word, 0);
     256 * n as u32 + b as u32
+}
+
+// The slot of a word: all 38 names have different ones. The last is that of a word which is longer than any name.
+fn slot_of(word: &[u8]) -> usize
+    ensures { λ r. ⌜ r ≡ slotOf (now (word .entry)) ⌝ }
+{
+    let n = word.len();
+    if 18 < n {
+        return 64;
+    }
+    let first = byte_at(word, 0) as usize;
+    let fourth = byte_at(word, 3) as usize;
+    let ninth = byte_at(word, 8) as usize;
+    (47 * n + 11 * first + fourth + 33 * ninth) % 64
+}
+
+fn start_of(x: u16) -> usize
+    ensures { λ r. ⌜ r ≡ x ⌝ }
+{
+    x as usize
 }
 
 fn part_is(word: &[u8], names: &[u8], start: usize, end: usize) -> bool
@@ -174,9 +221,9 @@ fn is_name(word: &[u8], k: usize) -> bool
 {
     part_is(
         word,
-        b"stringnormalizedStringtokenIDIDREFNMTOKENanyURIlanguageNameNCNamebase64BinaryhexBinarytimegYeargYearMonthgMonthgMonthDaygDaydurationbooleandecimalintegerintlongshortbytenonNegativeIntegerpositiveIntegerunsignedIntunsignedLongunsignedShortunsignedBytenonPositiveIntegernegativeIntegerfloatdoubledatedateTime",
-        STARTS[k],
-        STARTS[k + 1],
+        b"stringbooleandecimalfloatdoubledurationdateTimetimedategYearMonthgYeargMonthDaygDaygMonthhexBinarybase64BinaryanyURInormalizedStringtokenlanguageNMTOKENNameNCNameIDIDREFintegernonPositiveIntegernegativeIntegerlongintshortbytenonNegativeIntegerunsignedLongunsignedIntunsignedShortunsignedBytepositiveInteger",
+        start_of(STARTS[k]),
+        start_of(STARTS[k + 1]),
     )
 }
 
@@ -202,48 +249,50 @@ fn word_of(name: &[u8]) -> &[u8]
     &name[0..]
 }
 
-// Whether word, which has the key, is the built-in name at k of the list, whose key is `entry`.
-fn has_name(word: &[u8], key: u32, entry: u32, k: usize) -> bool
-    requires { ⌜ (k < 38) × (key ≡ keyOf (now word)) × (entry ≡ keyOf (bytes (entryAt k .0))) ⌝ }
-    ensures { λ r. ⌜ r ≡ is (now (word .entry)) (entryAt k .0) ⌝ }
-{
-    if entry != key {
-        return false;
-    }
-    is_name(word, k)
-}
-
+// The kind of the name at k, from a text of the kinds' numbers.
 fn kind_at(k: usize) -> Builtin
     requires { ⌜ k < 38 ⌝ }
     ensures { λ r. ⌜ ofBuiltin r ≡ some (entryAt k .1) ⌝ }
 {
-    let kind = KINDS[k];
+    let kind = byte_at(b"12333151411111111111111113333333333333", k);
     match kind {
-        1 => Builtin::String,
-        2 => Builtin::Bool,
-        3 => Builtin::Decimal,
-        4 => Builtin::Date,
+        b'1' => Builtin::String,
+        b'2' => Builtin::Bool,
+        b'3' => Builtin::Decimal,
+        b'4' => Builtin::Date,
         _ => Builtin::DateTime,
     }
+}
+
+fn index_of(x: u8) -> usize
+    ensures { λ r. ⌜ r ≡ x ⌝ }
+{
+    x as usize
+}
+
+// Where in the list the one name stands that the word can be, 38 where there is none.
+fn place_of(word: &[u8]) -> usize
+    ensures { λ r. ⌜ r ≡ placeOf (now (word .entry)) ⌝ }
+{
+    let slot = slot_of(word);
+    index_of(SLOTS[slot])
 }
 
 pub fn map_builtin(name: &[u8]) -> Builtin
     ensures { λ r. ⌜ ofBuiltin r ≡ mapBuiltin (now (name .entry)) ⌝ }
 {
     let word = word_of(name);
-    let key = key_of(word);
-    if !is_key(key) {
+    if !is_key(key_of(word)) {
         return Builtin::Unknown;
     }
-    let keys = KEYS;
-    let mut k = 0;
-    while k < 38 {
-        if has_name(word, key, keys[k], k) {
-            return kind_at(k);
-        }
-        k += 1;
+    let k = place_of(word);
+    if 38 <= k {
+        return Builtin::Unknown;
     }
-    Builtin::Unknown
+    if !is_name(word, k) {
+        return Builtin::Unknown;
+    }
+    kind_at(k)
 }
 
 // The number of a type reference: 0 named, 1 String, 2 Bool, 3 Decimal, 4 Date, 5 DateTime.

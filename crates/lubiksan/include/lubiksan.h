@@ -42,7 +42,7 @@ extern "C" {
 #define LUBIKSAN_READ_STACK 1024
 #define LUBIKSAN_LOWER_STACK 67584
 #define LUBIKSAN_PATTERN_STACK 4096
-#define LUBIKSAN_OTHER_STACK 2048 /* any other call */
+#define LUBIKSAN_OTHER_STACK 1024 /* any other call */
 
 /* The numbers returned, with what is left and which place is stored; where no place is named it is 0. */
 #define LUBIKSAN_ACCEPTED 0      /* the result; a reading's place is the events read, a lowering's the graph's rows used, a tape's the marks used */

@@ -7,10 +7,13 @@ use mathlib.Core.Bool.{Bool, true, false, _&&_}
 use lib.Dec.{leb}
 use mathlib.Core.List.{List, [], _++_, map}
 use lib.ListN.{length, take, drop}
-use Rattle.text.specs.Text.{Text, bytes, every, isText}
+use Rattle.text.specs.Text.{Text, bytes, every, isText, localName}
 use Rattle.text.specs.Trim.{Around}
 use Rattle.number.specs.Number.{parsed, plainNumber, number, Spells}
 use Rattle.number.proofs.Laws.Spellings.{number-kept, number-exactly}
+use Rattle.builtin.specs.Builtin.{firstMatch, mapBuiltin}
+use Rattle.builtin.specs.Source.{sourceBuiltins}
+use Rattle.builtin.proofs.Laws.Source.{builtin-kept}
 use Rattle.sheet.specs.Rows.{Sheet}
 use Rattle.sheet.specs.Form.{words, tensOf}
 use Rattle.sheet.specs.Returned.{accepted, malformed, doctype}
@@ -332,6 +335,10 @@ claim-notes = notes-nothing
 
 pub claim-notes-made : {x x₁ x₂ : Sheet} {cs cs′ : List Call} {xs ys : List Answered} → words (x .rows) ≡ true → AlikeCalls cs cs′ → (made₁ : Trace x cs xs x₁) (made₂ : Trace x cs′ ys x₂) → meetsNone xs ≡ true → meetsNone ys ≡ true → AlikeRuns (record { answers = xs; last = x₁ }) (record { answers = ys; last = x₂ }) (sheetsMade made₁) (sheetsMade made₂)
 claim-notes-made = notes-made
+
+-- order 9: "The answer .. stays the same for every name": as by the list of 001
+pub claim-builtin-kept : (name : Text) → mapBuiltin name ≡ firstMatch (localName name) sourceBuiltins
+claim-builtin-kept = builtin-kept
 
 -- order 10, columns: "Both work for every rectangle of u32 within the length limits, each undoes the other". The calls say of themselves `ColumnsIs` and
 -- `RowsIs` (specs/ of columns): what is accepted writes `columnsOf` or `rowsOf` of its source
