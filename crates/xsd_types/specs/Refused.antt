@@ -1,4 +1,4 @@
--- The simple types that lowering refuses: 13, "`UnknownBase`". One definition over a schema's items and over the rows of a sheet.
+-- The simple types that lowering refuses: paper 01, "Returned numbers", 13, "`UnknownBase`". One definition over a schema's items and over the rows of a sheet.
 --     isEnumeration, allEnums    "Facets all enumerations and not none: code enum"
 --     isNone        there is no value
 --     refusedBase   a simple type that lowering refuses: no code enum, and its base is no built-in type; refusedItem: the same of an item
