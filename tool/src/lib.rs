@@ -9,7 +9,7 @@
 //! | [`follow`], [`notkept`] | what the library's reader does with each tag; where the graph is not the schema |
 //! | [`patterns`] | the patterns of a schema, each judged by the library |
 //! | [`origins`] | where a root or type comes from, by the number of its event |
-//! | [`stored`], [`stored_graph`], [`output`] | stored sheets, stored graphs; files that are whole or as they were |
+//! | [`stored`], [`stored_graph`], [`packed`], [`output`] | stored sheets, stored graphs, the packed part of both; files that are whole or as they were |
 //! | [`formats`], [`names`], [`identifier`], [`places`] | the graph as text, JSON, dot, Rust and rows; names that meet, and where |
 //! | [`shelf`], [`lock`], [`interrupt`], [`progress`] | many schemas side by side |
 //! | [`args`], [`commands`], [`failure`] | the command line |
@@ -32,6 +32,7 @@ pub mod namespace;
 pub mod notkept;
 pub mod origins;
 pub mod output;
+pub mod packed;
 pub mod patterns;
 pub mod places;
 pub mod progress;

@@ -3,17 +3,21 @@
 //! | Bytes | |
 //! |---|---|
 //! | 8 | `lubiksan` |
-//! | 4 | version, 2 |
+//! | 4 | version, 3 |
 //! | 4, 4, 4 | numbers of the sheet's rows, bytes of its names, bytes of the source's path |
 //! | 8, 8 | the source's length in bytes, its events |
 //! | 4, 4 | its global elements, its named types |
 //! | 4 | its places that the graph does not keep |
-//! | 4, 4 | numbers and bytes that are stored: those behind are all zero |
+//! | 4, 4 | numbers and bytes that are stored: those behind are all zero. The numbers are those of whole rows, two at least |
+//! | 4 | bytes of the packed part |
 //! | 32 | the source's SHA-256 |
 //! | 32 | the SHA-256 of all other bytes of this file |
-//! | | the path, the stored numbers (4 bytes each), the stored bytes of names |
+//! | | the path |
+//! | | the stored rows and names, packed as [`crate::packed`] says |
 //!
-//! In version 1, which is still read, the three numbers from the places on are not there, and all numbers and bytes are stored.
+//! Two versions of before are still read. In version 2 the length of the packed part is not there, and behind the path stand the
+//! stored numbers (4 bytes each), not only of whole rows, and the stored bytes of names. In version 1 the three numbers from
+//! the places on are not there either, and all numbers and bytes are stored.
 
 use std::ffi::OsStr;
 use std::os::unix::ffi::OsStrExt;
@@ -26,15 +30,20 @@ use crate::failure::{named, Failure};
 use crate::losses::{self, Counts};
 use crate::notkept::NotKept;
 use crate::output::replace_file;
+use crate::packed::{packed, unpacked, Effort};
 use crate::source::{bytes_of, bytes_of_file, bytes_of_length, Source};
 
 const MAGIC: &[u8; 8] = b"lubiksan";
-const VERSION: u32 = 2;
-/// The version of before: everything is stored, and what the graph does not keep is not known.
+const VERSION: u32 = 3;
+/// A version of before: what is used is stored as it is.
+const NOT_PACKED: u32 = 2;
+/// The first version: everything is stored, and what the graph does not keep is not known.
 const ALL_STORED: u32 = 1;
-/// The length of a header: the SHA-256 of the file is its last part.
-const HEADER: usize = 124;
+/// The length of the header: the SHA-256 of the file is its last part.
+const HEADER: usize = 128;
+const HEADER_NOT_PACKED: usize = 124;
 const HEADER_OF_ALL_STORED: usize = 112;
+/// The length of a SHA-256.
 const SUM: usize = 32;
 
 /// What a stored sheet says of its source.
@@ -138,25 +147,29 @@ pub fn of_bytes(path: &Path, bytes: &[u8]) -> Result<Stored, Failure> {
 }
 
 /// Reads the bytes of a file in order.
-struct Cursor<'b>(&'b [u8]);
+pub(crate) struct Cursor<'b>(pub(crate) &'b [u8]);
 
 impl<'b> Cursor<'b> {
-    fn take(&mut self, count: usize) -> Option<&'b [u8]> {
+    pub(crate) fn take(&mut self, count: usize) -> Option<&'b [u8]> {
         let (taken, rest) = self.0.split_at_checked(count)?;
         self.0 = rest;
         Some(taken)
     }
 
-    fn u32(&mut self) -> Option<u32> {
+    pub(crate) fn u32(&mut self) -> Option<u32> {
         Some(u32::from_le_bytes(self.take(4)?.try_into().ok()?))
     }
 
-    fn u64(&mut self) -> Option<u64> {
+    pub(crate) fn length(&mut self) -> Option<usize> {
+        Some(self.u32()? as usize)
+    }
+
+    pub(crate) fn u64(&mut self) -> Option<u64> {
         Some(u64::from_le_bytes(self.take(8)?.try_into().ok()?))
     }
 
-    fn sum(&mut self) -> Option<[u8; 32]> {
-        self.take(32)?.try_into().ok()
+    pub(crate) fn sum(&mut self) -> Option<[u8; SUM]> {
+        self.take(SUM)?.try_into().ok()
     }
 }
 
@@ -169,27 +182,31 @@ struct Header {
     path: usize,
     stored_rows: usize,
     stored_names: usize,
+    /// The length of the packed part, in the version that has one.
+    packed: Option<usize>,
     about: About,
-    sum: [u8; 32],
+    sum: [u8; SUM],
 }
 
 impl Header {
     /// The header behind magic and version.
     fn of(version: u32, bytes: &mut Cursor<'_>) -> Option<Header> {
-        let number = |bytes: &mut Cursor<'_>| Some(bytes.u32()? as usize);
-        let (rows, names, path) = (number(bytes)?, number(bytes)?, number(bytes)?);
+        let (rows, names, path) = (bytes.length()?, bytes.length()?, bytes.length()?);
         let (length, events) = (bytes.u64()?, bytes.u64()?);
         let counts = Counts {
-            elements: number(bytes)?,
-            types: number(bytes)?,
+            elements: bytes.length()?,
+            types: bytes.length()?,
         };
-        let all = version == ALL_STORED;
-        let (not_kept, stored_rows, stored_names) = match all {
-            true => (None, rows, names),
-            false => {
+        let (not_kept, stored_rows, stored_names) = match version {
+            ALL_STORED => (None, rows, names),
+            _ => {
                 let not_kept = Some(bytes.u32()?).filter(|&count| count != u32::MAX);
-                (not_kept, number(bytes)?, number(bytes)?)
+                (not_kept, bytes.length()?, bytes.length()?)
             }
+        };
+        let packed = match version {
+            VERSION => Some(bytes.length()?),
+            _ => None,
         };
         let about = About {
             path: PathBuf::new(),
@@ -200,12 +217,13 @@ impl Header {
             not_kept,
         };
         Some(Header {
-            length: if all { HEADER_OF_ALL_STORED } else { HEADER },
+            length: header_length(version),
             rows,
             names,
             path,
             stored_rows,
             stored_names,
+            packed,
             about,
             sum: bytes.sum()?,
         })
@@ -213,7 +231,10 @@ impl Header {
 
     /// The length of the file in bytes.
     fn file_length(&self) -> usize {
-        self.length + self.path + 4 * self.stored_rows + self.stored_names
+        let contents = self
+            .packed
+            .unwrap_or(4 * self.stored_rows + self.stored_names);
+        self.length + self.path + contents
     }
 
     /// No more is stored than the sheet has, and it is not larger than sheets are.
@@ -222,6 +243,14 @@ impl Header {
             && self.stored_names <= self.names
             && self.rows <= limits::ROW_NUMBERS
             && self.names <= limits::NAMES
+    }
+}
+
+fn header_length(version: u32) -> usize {
+    match version {
+        ALL_STORED => HEADER_OF_ALL_STORED,
+        NOT_PACKED => HEADER_NOT_PACKED,
+        _ => HEADER,
     }
 }
 
@@ -237,9 +266,9 @@ fn decoded(bytes: &[u8]) -> Result<Stored, String> {
         )
     };
     let version = cursor.u32().ok_or_else(short)?;
-    if !matches!(version, ALL_STORED | VERSION) {
+    if !matches!(version, ALL_STORED..=VERSION) {
         return Err(format!(
-            "the stored sheet has version {version}, only versions {ALL_STORED} and {VERSION} are read"
+            "the stored sheet has version {version}, only versions {ALL_STORED} to {VERSION} are read"
         ));
     }
     let header = Header::of(version, &mut cursor).ok_or_else(short)?;
@@ -252,18 +281,18 @@ fn decoded(bytes: &[u8]) -> Result<Stored, String> {
             "the stored sheet was altered: its SHA-256 is not the one in its header".to_owned(),
         );
     }
-    behind_header(header, cursor).ok_or_else(short)
+    behind_header(header, cursor)
+        .ok_or_else(|| "the stored sheet does not hold what its header says".to_owned())
 }
 
 /// The path and the two buffers, with zeros behind what is stored.
 fn behind_header(header: Header, mut bytes: Cursor<'_>) -> Option<Stored> {
     let path = PathBuf::from(OsStr::from_bytes(bytes.take(header.path)?));
-    let numbers = bytes.take(4 * header.stored_rows)?.chunks_exact(4);
-    let mut rows: Vec<u32> = numbers
-        .filter_map(|four| Some(u32::from_le_bytes(four.try_into().ok()?)))
-        .collect();
+    let (mut rows, mut names) = match header.packed {
+        Some(_) => unpacked(bytes.0, header.stored_rows, header.stored_names)?,
+        None => as_they_are(bytes, header.stored_rows, header.stored_names)?,
+    };
     rows.resize(header.rows, 0);
-    let mut names = bytes.take(header.stored_names)?.to_vec();
     names.resize(header.names, 0);
     let about = About {
         path,
@@ -275,12 +304,27 @@ fn behind_header(header: Header, mut bytes: Cursor<'_>) -> Option<Stored> {
     })
 }
 
-/// The SHA-256 of a stored sheet without that of the header.
-fn sum_of(bytes: &[u8], header: usize) -> [u8; 32] {
+/// So many numbers and bytes that are not packed.
+fn as_they_are(mut bytes: Cursor<'_>, rows: usize, names: usize) -> Option<(Vec<u32>, Vec<u8>)> {
+    let numbers = bytes.take(4 * rows)?.chunks_exact(4);
+    let rows = numbers.filter_map(|four| Some(u32::from_le_bytes(four.try_into().ok()?)));
+    Some((rows.collect(), bytes.take(names)?.to_vec()))
+}
+
+/// The SHA-256 of a stored file without that at the end of its header of this length.
+pub(crate) fn sum_of(bytes: &[u8], header: usize) -> [u8; SUM] {
     let mut hash = Sha256::new();
     hash.update(bytes.get(..header - SUM).unwrap_or_default());
     hash.update(bytes.get(header..).unwrap_or_default());
     hash.finalize().into()
+}
+
+/// Puts the SHA-256 of a stored file at the end of its header of this length.
+pub(crate) fn put_sum(bytes: &mut [u8], header: usize) {
+    let sum = sum_of(bytes, header);
+    if let Some(place) = bytes.get_mut(header - SUM..header) {
+        place.copy_from_slice(&sum);
+    }
 }
 
 /// What stands before the zeros at the end.
@@ -290,10 +334,23 @@ fn used<T: Default + PartialEq>(all: &[T]) -> &[T] {
         .unwrap_or_default()
 }
 
+/// The rows up to the last that is not all zero, two at least.
+fn used_rows(all: &[u32]) -> Vec<u32> {
+    let mut rows = used(all).to_vec();
+    let whole = rows.len().next_multiple_of(limits::ROW);
+    rows.resize(whole.max(2 * limits::ROW), 0);
+    rows
+}
+
 /// The bytes of a stored sheet.
-pub fn encoded(sheet: &SchemaSheet<'_>, about: &About) -> Vec<u8> {
+///
+/// # Errors
+///
+/// [`Failure::Machine`] where it can't be packed.
+pub fn encoded(sheet: &SchemaSheet<'_>, about: &About) -> Result<Vec<u8>, Failure> {
     let path = about.path.as_os_str().as_bytes();
-    let (rows, names) = (used(sheet.rows()), used(sheet.names()));
+    let (rows, names) = (used_rows(sheet.rows()), used(sheet.names()));
+    let packed = packed(&rows, names, Effort::Quick).map_err(Failure::Machine)?;
     let mut bytes = MAGIC.to_vec();
     let put = |numbers: &[usize], bytes: &mut Vec<u8>| {
         let four = |&number: &usize| (number as u32).to_le_bytes();
@@ -306,17 +363,13 @@ pub fn encoded(sheet: &SchemaSheet<'_>, about: &About) -> Vec<u8> {
     bytes.extend(about.events.to_le_bytes());
     put(&[about.counts.elements, about.counts.types], &mut bytes);
     bytes.extend(about.not_kept.unwrap_or(u32::MAX).to_le_bytes());
-    put(&[rows.len(), names.len()], &mut bytes);
+    put(&[rows.len(), names.len(), packed.len()], &mut bytes);
     bytes.extend(about.sha256);
     bytes.extend([0; SUM]);
     bytes.extend(path);
-    bytes.extend(rows.iter().flat_map(|number| number.to_le_bytes()));
-    bytes.extend(names);
-    let sum = sum_of(&bytes, HEADER);
-    if let Some(place) = bytes.get_mut(HEADER - SUM..HEADER) {
-        place.copy_from_slice(&sum);
-    }
-    bytes
+    bytes.extend(packed);
+    put_sum(&mut bytes, HEADER);
+    Ok(bytes)
 }
 
 /// Stores a sheet: the file is whole or as it was. A link is followed.
@@ -327,7 +380,7 @@ pub fn encoded(sheet: &SchemaSheet<'_>, about: &About) -> Vec<u8> {
 pub fn store(path: &Path, sheet: &SchemaSheet<'_>, about: &About) -> Result<(), Failure> {
     let linked = std::fs::symlink_metadata(path).is_ok_and(|there| there.is_symlink());
     let target = linked.then(|| std::fs::canonicalize(path).ok()).flatten();
-    replace_file(target.as_deref().unwrap_or(path), &encoded(sheet, about))
+    replace_file(target.as_deref().unwrap_or(path), &encoded(sheet, about)?)
 }
 
 /// How a sheet is begun: in the place of the one that is there, and how it is read.

@@ -12,29 +12,23 @@
 //! | 32 | the source's SHA-256 |
 //! | 32 | the SHA-256 of all other bytes of this file |
 //! | | the path |
-//! | | packed by DEFLATE: the used rows by column, the lowest bytes of all numbers first, then the next ones; the used names |
+//! | | the used rows and names, packed as [`crate::packed`] says |
 
 use std::ffi::OsStr;
-use std::io::{Read, Write};
 use std::os::unix::ffi::OsStrExt;
 use std::path::{Path, PathBuf};
 
-use flate2::read::DeflateDecoder;
-use flate2::write::DeflateEncoder;
-use flate2::Compression;
-use lubiksan::columns::{to_columns, to_rows};
 use lubiksan::{limits, Graph, ReadAs};
-use sha2::{Digest, Sha256};
 
 use crate::failure::{named, Failure};
 use crate::losses::Counts;
-use crate::stored::About;
+use crate::packed::{packed, unpacked, Effort};
+use crate::stored::{put_sum, sum_of, About, Cursor};
 
 const MAGIC: &[u8; 8] = b"lubgraph";
 const VERSION: u32 = 1;
-/// Where the SHA-256 of the file stands.
-const SUM: usize = 100;
-const HEADER: usize = SUM + 32;
+/// The length of the header: the SHA-256 of the file is its last part.
+const HEADER: usize = 132;
 
 /// A stored graph.
 #[derive(Debug)]
@@ -75,7 +69,7 @@ pub fn encoded(
     done: u64,
     read_as: ReadAs,
 ) -> Result<Vec<u8>, Failure> {
-    let packed = packed(graph).map_err(Failure::Machine)?;
+    let packed = packed(graph.rows(), graph.names(), Effort::Best).map_err(Failure::Machine)?;
     let path = about.path.as_os_str().as_bytes();
     let choice = u32::from(read_as == ReadAs::Standard);
     let mut bytes = MAGIC.to_vec();
@@ -101,58 +95,8 @@ pub fn encoded(
     bytes.extend([0; 32]);
     bytes.extend(path);
     bytes.extend(packed);
-    let sum = sum_of(&bytes);
-    if let Some(place) = bytes.get_mut(SUM..HEADER) {
-        place.copy_from_slice(&sum);
-    }
+    put_sum(&mut bytes, HEADER);
     Ok(bytes)
-}
-
-/// The rows by column and the names, packed.
-fn packed(graph: &Graph<'_>) -> Result<Vec<u8>, String> {
-    let mut columns = vec![0; graph.rows().len()];
-    to_columns(graph.rows(), &mut columns).map_err(|refusal| refusal.to_string())?;
-    let plane = |byte: usize| columns.iter().map(move |number| number.to_le_bytes()[byte]);
-    let mut bytes: Vec<u8> = (0..4).flat_map(plane).collect();
-    bytes.extend(graph.names());
-    let mut encoder = DeflateEncoder::new(Vec::new(), Compression::best());
-    let packed = encoder.write_all(&bytes).and_then(|()| encoder.finish());
-    packed.map_err(|error| error.to_string())
-}
-
-/// The SHA-256 of a stored graph without that of the header.
-fn sum_of(bytes: &[u8]) -> [u8; 32] {
-    let mut hash = Sha256::new();
-    hash.update(bytes.get(..SUM).unwrap_or_default());
-    hash.update(bytes.get(HEADER..).unwrap_or_default());
-    hash.finalize().into()
-}
-
-/// Reads the bytes of a file in order.
-struct Cursor<'b>(&'b [u8]);
-
-impl<'b> Cursor<'b> {
-    fn take(&mut self, count: usize) -> Option<&'b [u8]> {
-        let (taken, rest) = self.0.split_at_checked(count)?;
-        self.0 = rest;
-        Some(taken)
-    }
-
-    fn u32(&mut self) -> Option<u32> {
-        Some(u32::from_le_bytes(self.take(4)?.try_into().ok()?))
-    }
-
-    fn length(&mut self) -> Option<usize> {
-        Some(self.u32()? as usize)
-    }
-
-    fn u64(&mut self) -> Option<u64> {
-        Some(u64::from_le_bytes(self.take(8)?.try_into().ok()?))
-    }
-
-    fn sum(&mut self) -> Option<[u8; 32]> {
-        self.take(32)?.try_into().ok()
-    }
 }
 
 /// The header behind magic and version; the path is not there yet.
@@ -233,13 +177,13 @@ fn decoded(bytes: &[u8]) -> Result<StoredGraph, String> {
             "is cut short or altered: it has {there} bytes where its header says {said}"
         ));
     }
-    if sum_of(bytes) != header.sum || !header.is_sound() {
+    if sum_of(bytes, HEADER) != header.sum || !header.is_sound() {
         return Err("was altered: its SHA-256 is not the one in its header".to_owned());
     }
     let path = cursor.take(header.path).ok_or_else(short)?;
     let path = PathBuf::from(OsStr::from_bytes(path));
     Ok(StoredGraph {
-        graph: unpacked(cursor.0, header.rows, header.names)?,
+        graph: graph_of(cursor.0, header.rows, header.names)?,
         about: About {
             path,
             ..header.about
@@ -253,22 +197,8 @@ fn decoded(bytes: &[u8]) -> Result<StoredGraph, String> {
 }
 
 /// The graph of the packed part.
-fn unpacked(packed: &[u8], rows: usize, names: usize) -> Result<Graph<'static>, String> {
+fn graph_of(bytes: &[u8], rows: usize, names: usize) -> Result<Graph<'static>, String> {
     let wrong = || "does not hold what its header says".to_owned();
-    let length = 4 * rows + names;
-    let mut bytes = Vec::with_capacity(length + 1);
-    let mut decoder = DeflateDecoder::new(packed).take(length as u64 + 1);
-    decoder.read_to_end(&mut bytes).map_err(|_| wrong())?;
-    if bytes.len() != length {
-        return Err(wrong());
-    }
-    let names = bytes.split_off(4 * rows);
-    let number = |at: usize| {
-        let byte = |plane: usize| bytes.get(plane * rows + at).copied().unwrap_or_default();
-        u32::from_le_bytes([byte(0), byte(1), byte(2), byte(3)])
-    };
-    let columns: Vec<u32> = (0..rows).map(number).collect();
-    let mut restored = vec![0; rows];
-    to_rows(&columns, &mut restored).map_err(|_| wrong())?;
-    Graph::from_buffers(restored, names).map_err(|bad| format!("is no graph: {bad}"))
+    let (rows, names) = unpacked(bytes, rows, names).ok_or_else(wrong)?;
+    Graph::from_buffers(rows, names).map_err(|bad| format!("is no graph: {bad}"))
 }

@@ -33,7 +33,7 @@ fn stored(folder: &Folder) -> Vec<u8> {
     fs::read(sheet).unwrap()
 }
 
-/// Bytes changed, cut off or added. A quarter of the changes lie in the header, a quarter in what is used of the rows.
+/// Bytes changed, cut off or added. A quarter of the changes lie in the header, the path and the first bytes behind them.
 fn damaged(good: &[u8], random: &mut Random) -> Vec<u8> {
     let mut bytes = good.to_vec();
     match random.below(8) {
@@ -41,13 +41,7 @@ fn damaged(good: &[u8], random: &mut Random) -> Vec<u8> {
         1 => bytes.extend(vec![random.next() as u8; 1 + random.below(20)]),
         kind => {
             for _ in 0..=random.below(3) {
-                let limit = if kind < 4 {
-                    200
-                } else if kind < 6 {
-                    4_000
-                } else {
-                    good.len()
-                };
+                let limit = if kind < 4 { 200 } else { good.len() };
                 bytes[random.below(limit.min(good.len()))] ^= 1 << random.below(8);
             }
         }

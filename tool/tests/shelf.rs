@@ -428,12 +428,12 @@ fn another_version_is_refused_in_words() {
         Some(0)
     );
     let mut bytes = fs::read(&sheet).unwrap();
-    bytes[8] = 3;
+    bytes[8] = 4;
     fs::write(&sheet, &bytes).unwrap();
     let ran = lubiksan(["check", sheet_name]);
     assert_eq!(ran.status, Some(1));
     assert!(ran
         .err
-        .ends_with("a.sheet: the stored sheet has version 3, only versions 1 and 2 are read\n"));
+        .ends_with("a.sheet: the stored sheet has version 4, only versions 1 to 3 are read\n"));
     assert!(fs::read(&sheet).unwrap() == bytes);
 }

@@ -260,24 +260,32 @@ fn a_sum_made_anew_does_not_make_a_graph() {
     let path = folder.path("good.graph");
     assert_eq!(store(Path::new(PAYMENT), &path).status, Some(0));
     let good = fs::read(&path).unwrap();
+    assert_eq!(sha2_of(&good), good[100..132], "the sum is made as it is");
     let mut random = Random(11);
-    let mut refused = 0;
+    let (mut refused, mut taken) = (0, 0);
     for _ in 0..cases(500) {
         let mut bytes = good.clone();
-        let at = 128 + random.below(bytes.len() - 128);
+        let at = 132 + random.below(bytes.len() - 132);
         bytes[at] ^= 1 << random.below(8);
         let sum = sha2_of(&bytes);
-        bytes[96..128].copy_from_slice(&sum);
-        refused += usize::from(stored_graph::of_bytes(&path, &bytes).is_err());
+        bytes[100..132].copy_from_slice(&sum);
+        match stored_graph::of_bytes(&path, &bytes) {
+            Ok(_) => taken += 1,
+            Err(failure) => {
+                assert!(!failure.words().contains("SHA-256"), "{failure:?}");
+                refused += 1;
+            }
+        }
     }
-    assert!(refused > 0);
+    // A change in the path makes no other graph.
+    assert!(refused > taken && taken > 0, "{refused} and {taken}");
 }
 
 fn sha2_of(bytes: &[u8]) -> [u8; 32] {
     use sha2::{Digest, Sha256};
     let mut hash = Sha256::new();
-    hash.update(&bytes[..96]);
-    hash.update(&bytes[128..]);
+    hash.update(&bytes[..100]);
+    hash.update(&bytes[132..]);
     hash.finalize().into()
 }
 
