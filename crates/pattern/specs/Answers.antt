@@ -2,7 +2,8 @@
 --     Goes          the scan from a place goes on at another; Ends: where a part of a pattern ends, in the terms of the scan
 --     isClose, isTail, isBracket    a byte that ends an expression, a branch, a class; anyByte: no test
 --     Judged        whether the whole is an expression
-use Prim.Native.Nat.{ℕ, _≤_, _<_}
+--     hasByte       a byte is in a set of bytes
+use Prim.Native.Nat.{ℕ, _/_, _%_, _^_, _≤_, _<_}
 use Prim.Native.Char.{code}
 use mathlib.Core.Path.{_≡_}
 use mathlib.Core.Bool.{Bool, true, false, _||_}
@@ -41,3 +42,7 @@ anyByte b = true
 abbrev pub Judged : Text → Bool → Type 0
 Judged s true = Derives regExp s
 Judged s false = Derives regExp s → ⊥
+
+-- a set of bytes below 64, a bit for each
+abbrev pub hasByte : ℕ → ℕ → Bool
+hasByte set k = eqb (set / 2 ^ k % 2) 1
