@@ -13,7 +13,7 @@ use Rattle.xsd_parser.specs.Words.{wordOf}
 use Rattle.xsd_parser.specs.Seen.{seen}
 use Rattle.xsd_parser.specs.Step.{step}
 use Rattle.xsd_parser.proofs.Laws.Alike.{SeenAlike, step-alike as seen-step}
-use Rattle.runs.specs.Notes.{readWords, isOne, readOf, readTag, readEvent}
+use Rattle.runs.specs.Notes.{readWords, isOne, readOf, AlikeTags, AlikeEvents}
 
 -- a lookup of one of the words passes over the others
 look-step : (x : Attr) (xs : List Attr) (word : String) (r b : Bool) → isOne readWords (localName (x .key)) ≡ r → is (localName (x .key)) word ≡ b → (b ≡ true → r ≡ true) → lookup (readOf xs) word ≡ lookup xs word → lookup (if r then x ∷ readOf xs else readOf xs) word ≡ (if b then some (x .value) else lookup xs word)
@@ -39,6 +39,10 @@ word-read : {w : String} {ws : List String} → Word w ws → (t : Text) → is 
 unfolding isOne
 word-read Word.here t e = rw e
 word-read (Word.there {v} {ws} k) t e = or-right (is t v) (isOne ws t) (word-read k t e)
+
+-- a tag without its notes
+unfoldable pub readTag : Tag → Tag
+readTag t = record { name = t .name; attributes = readOf (t .attributes) }
 
 pub at-word : (t : Tag) (w : String) → Word w readWords → attrValue (readTag t) w ≡ attrValue t w
 unfolding attrValue readTag
@@ -101,11 +105,17 @@ seen-read t =
       targetNamespace = at-target t i;
     }
 
-event-read : (e : Event) → SeenAlike (readEvent e) e
-unfolding readEvent
-event-read (Event.start t) = SeenAlike.start (seen-read t)
-event-read (Event.empty t) = SeenAlike.empty (seen-read t)
-event-read Event.close = SeenAlike.close
+tags-alike : {t t′ : Tag} → AlikeTags t t′ → seen t ≡ seen t′
+unfolding readTag
+tags-alike {t} {t′} w =
+    let sequence : readOf (t .attributes) ≡ readOf (t′ .attributes) = w .attributes in
+    let same : readTag t ≡ readTag t′ = λ i. record { name = w .name i; attributes = sequence i } in
+    sym (seen-read t) ∙ ap seen same ∙ seen-read t′
 
-pub step-alike : (lent : Lengths) (s : State) (e e′ : Event) → readEvent e ≡ readEvent e′ → step lent s e ≡ step lent s e′
-step-alike lent s e e′ h = sym (seen-step lent s (event-read e)) ∙ ap (step lent s) h ∙ seen-step lent s (event-read e′)
+seen-alike : {e e′ : Event} → AlikeEvents e e′ → SeenAlike e e′
+seen-alike (AlikeEvents.start w) = SeenAlike.start (tags-alike w)
+seen-alike (AlikeEvents.empty w) = SeenAlike.empty (tags-alike w)
+seen-alike AlikeEvents.close = SeenAlike.close
+
+pub step-alike : (lent : Lengths) (s : State) {e e′ : Event} → AlikeEvents e e′ → step lent s e ≡ step lent s e′
+step-alike lent s w = seen-step lent s (seen-alike w)

@@ -43,8 +43,8 @@ unfolding readRecords
 records-alike lent n s [] [] AlikeRecords.end m = refl
 records-alike lent n s (event e ∷ js) (event e′ ∷ js′) (AlikeRecords.alike h w) m =
     outcome-cases (step lent s e)
-    (λ x q. read-ok lent n s x e js q ∙ records-alike lent (suc n) x js js′ w (rw (read-ok lent n s x e js q) at m) ∙ sym (read-ok lent n s x e′ js′ (sym (step-alike lent s e e′ h) ∙ q)))
-    (λ r q. read-refuse lent n s e js r q ∙ sym (read-refuse lent n s e′ js′ r (sym (step-alike lent s e e′ h) ∙ q)))
+    (λ x q. read-ok lent n s x e js q ∙ records-alike lent (suc n) x js js′ w (rw (read-ok lent n s x e js q) at m) ∙ sym (read-ok lent n s x e′ js′ (sym (step-alike lent s h) ∙ q)))
+    (λ r q. read-refuse lent n s e js r q ∙ sym (read-refuse lent n s e′ js′ r (sym (step-alike lent s h) ∙ q)))
 records-alike lent n s (refused r ∷ js) (refused r′ ∷ js′) (AlikeRecords.bad b b′) m = absurd (not-met r b m)
 
 -- ---- a reading on what is held

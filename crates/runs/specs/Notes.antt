@@ -1,7 +1,8 @@
 -- Order 14, notes in attributes: "equal kinds, tag names and key and value sequences among attributes whose local word is name, type, base, value, minOccurs,
 -- maxOccurs, use, namespace or targetNamespace. Add, drop or alter the others and move the text about."
 --     readWords     the nine words; isOne: a text is one of some words
---     readOf        the attributes whose local word is one of the nine, in order; readTag, readEvent: a tag, an event without the others
+--     readOf        the attributes whose local word is one of the nine, in order
+--     AlikeTags, AlikeEvents    two tags, two events but for the other attributes
 --     AlikeRecords  the records of two readings, event by event; a record that is refused with 3, 4 or 5 stands beside any such, and what is behind it is free
 --     AlikeCalls    "two runs of the same number of events, cut alike, lowerings at the same places, .. lent equal lengths for sheet, graph and scratch"
 --     meetsNone     no call of a run gives 1, 3, 4 or 5
@@ -35,18 +36,19 @@ unfoldable pub readOf : List Attr → List Attr
 readOf [] = []
 readOf (x ∷ xs) = if isOne readWords (localName (x .key)) then x ∷ readOf xs else readOf xs
 
-unfoldable pub readTag : Tag → Tag
-readTag t = record { name = t .name; attributes = readOf (t .attributes) }
-
-unfoldable pub readEvent : Event → Event
-readEvent (Event.start t) = Event.start (readTag t)
-readEvent (Event.empty t) = Event.empty (readTag t)
-readEvent Event.close = Event.close
-
 -- "event by event, equal kinds, tag names and key and value sequences among attributes whose local word is .."
+pub record AlikeTags (t t′ : Tag) : Type 0 where
+  pub name : t .name ≡ t′ .name
+  pub attributes : readOf (t .attributes) ≡ readOf (t′ .attributes)
+
+pub data AlikeEvents : Event → Event → Type 0 where
+  start : {t t′ : Tag} → AlikeTags t t′ → AlikeEvents (Event.start t) (Event.start t′)
+  empty : {t t′ : Tag} → AlikeTags t t′ → AlikeEvents (Event.empty t) (Event.empty t′)
+  close : AlikeEvents Event.close Event.close
+
 pub data AlikeRecords : List Judged → List Judged → Type 0 where
   end : AlikeRecords [] []
-  alike : {e e′ : Event} {js js′ : List Judged} → readEvent e ≡ readEvent e′ → AlikeRecords js js′ → AlikeRecords (event e ∷ js) (event e′ ∷ js′)
+  alike : {e e′ : Event} {js js′ : List Judged} → AlikeEvents e e′ → AlikeRecords js js′ → AlikeRecords (event e ∷ js) (event e′ ∷ js′)
   bad : {r r′ : ℕ} {js js′ : List Judged} → between 3 5 r ≡ true → between 3 5 r′ ≡ true → AlikeRecords (refused r ∷ js) (refused r′ ∷ js′)
 
 pub data AlikeCalls : List Call → List Call → Type 0 where
