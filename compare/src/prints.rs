@@ -5,6 +5,7 @@ use std::{fs, io};
 
 use crate::cases::schemas_under;
 use crate::events::{events_of_xml, pieces};
+use crate::paper::label::label;
 use crate::paper::lowering::lowering;
 use crate::paper::reading::{clear, read};
 use crate::paper::sheet::Sheet;
@@ -320,6 +321,9 @@ const BYTES: [(&str, &[u8]); 11] = [
 /// A type of each kind, with every cardinality but the plain one.
 const EACH_KIND: &str = "<schema targetNamespace=u><element name=R type=a_b/><simpleType name=K><enumeration value=TEST-VALUE/></><simpleType name=N><restriction base=my:date/><maxLength value=4294967296/></><complexType name=a_b><sequence><element name=FooBar type=K minOccurs=0/><element name=B type=xs:int minOccurs=5 maxOccurs=unbounded/><element name=C type=N maxOccurs=7/></></><complexType name=H><choice><element name=V type=_x/></></><complexType name=W><simpleContent><extension base=decimal><attribute name=Ccy type=K use=required/></></></><complexType name=O></></>";
 
+/// The cardinalities of paper 01's specimens: min 0, max 0; min 0, max 1; min 5, unbounded; min 0, max 2.
+const CARDINALITIES: &str = "<schema><complexType name=A><sequence><element name=R type=T minOccurs=0 maxOccurs=0/><element name=O type=T minOccurs=0 maxOccurs=1/><element name=V type=T minOccurs=5 maxOccurs=unbounded/><element name=B type=T minOccurs=0 maxOccurs=2/></></></>";
+
 /// The tapes of crates/replay, and what they show.
 fn table_tapes() -> Vec<(&'static str, Tape)> {
     let of = |lines: &str| Tape::of(&events(lines));
@@ -344,6 +348,7 @@ fn table_tapes() -> Vec<(&'static str, Tape)> {
         ("read 11", enumerations(1_598, "B")),
         ("all rows", enumerations(1_597, "B")),
         ("a type of each kind", of(EACH_KIND)),
+        ("the paper's cardinalities", of(CARDINALITIES)),
     ]
 }
 
@@ -360,7 +365,7 @@ pub fn table() -> String {
         let numbers = list(tape.marks.iter().map(u32::to_string).collect());
         lines.push_str(&format!("t;{shows};{text};{numbers}\n"));
     }
-    lines
+    lines + &labels().0
 }
 
 /// The part `print` of the file stdout of crates/replay: each label and what the model prints.
@@ -373,7 +378,57 @@ pub fn table_answers() -> Vec<u8> {
         lines.extend(format!("{shows}:\n").into_bytes());
         lines.extend(printed(&input));
     }
+    lines.extend(labels().1);
     lines
+}
+
+/// The tapes whose graphs' labels crates/replay prints: references by name and by each word, fields, variants, attributes, values and newtypes; a refused lowering.
+fn label_tapes() -> Vec<(&'static str, Tape)> {
+    let of = |lines: &str| Tape::of(&events(lines));
+    vec![
+        ("labels of the paper's specimen", of(SPECIMEN)),
+        ("labels of a type of each kind", of(EACH_KIND)),
+        ("labels of references to each word", of(EACH_WORD)),
+        ("labels where lowering gives 12", of("<x></>")),
+    ]
+}
+
+/// References to a type of each word, and to one of the schema's own, in every kind of row that has one.
+const EACH_WORD: &str = "<schema><complexType name=A><sequence><element name=S type=string/><element name=O type=boolean/><element name=D type=decimal/><element name=E type=date/><element name=T type=dateTime/><element name=X type=x_y/></></><complexType name=B><choice><element name=V type=xs:boolean/><element name=W type=A/></></><complexType name=C><simpleContent><extension base=dateTime><attribute name=K type=string/><attribute name=L type=N/></></></><complexType name=F><simpleContent><extension base=N></></></><simpleType name=N><restriction base=date/></></>";
+
+/// The word list of the paper's built-in types.
+const WORDS: &[u8] = b"String\nBool\nDecimal\nDate\nDateTime\n";
+
+/// The labels of the used rows of a tape's graph, of the row behind them and of the one behind the sheet.
+fn label_lines(tape: &Tape) -> Vec<u8> {
+    let lent = Sheet {
+        rows: vec![0; 16_000],
+        names: vec![0; 65_536],
+    };
+    let (_, sheet) = read(&clear(&lent, 0).1, tape);
+    let graph = lowering(&sheet, &lent, &[0; 4_096]).graph;
+    let mut lines = Vec::new();
+    for row in (0..=graph.rows[1] as usize).chain([1_600]) {
+        let label = label(&graph.rows, &graph.names, WORDS, row);
+        lines.extend(format!("{row} {} `", label.number).into_bytes());
+        lines.extend(label.text);
+        lines.extend(b"`\n");
+    }
+    lines
+}
+
+/// The lines about labels of the part `print` of the files stdin and stdout of crates/replay.
+fn labels() -> (String, Vec<u8>) {
+    let mut lines = String::new();
+    let mut answers = Vec::new();
+    for (shows, tape) in label_tapes() {
+        let numbers: Vec<String> = tape.marks.iter().map(u32::to_string).collect();
+        let text = String::from_utf8(tape.text.clone()).expect("the texts are ASCII");
+        lines.push_str(&format!("g;{shows};{text};{}\n", numbers.join(" ")));
+        answers.extend(format!("{shows}:\n").into_bytes());
+        answers.extend(label_lines(&tape));
+    }
+    (lines, answers)
 }
 
 /// The schemas of a folder, each piece of a schema as an input.

@@ -1,5 +1,5 @@
 // Replays cases beside the expected lines, which the file stdout holds: the limits of paper 01, by hand from the paper; what the printing program
-// prints, by a model of the paper; the answers of the text leaves, by the Rust. One program, since each links all that it calls.
+// prints, and the labels of graphs, by a model of the paper; the answers of the text leaves, by the Rust. One program, since each links all that it calls.
 // The file stdin holds a case on each line, and a line `= NAME` before each part. Of the limits: what is done, numbers, a text and a label, with `;`
 // between them. What is done, by the first letter of a line:
 //     a number     the record at that place of the marks is printed (records.rt)
@@ -11,8 +11,10 @@
 //     read         the text is read into it, with the numbers as its marks
 //     print        its used rows and its used names are printed
 //     t, i         the printing program's lines on a tape or on bytes (printed.rt)
+//     g            the labels of the rows of a tape's graph (labels.rt)
 //     n            the leaves' answers on the text, which begins behind the first `;` (leaves.rt)
 // The number and the place of a call stand behind its label.
+mod labels;
 mod leaves;
 mod lengths;
 mod output;
@@ -115,6 +117,10 @@ fn put_line(
         }
         b't' | b'i' => {
             printed::put_printed(line);
+            before
+        }
+        b'g' => {
+            labels::put_tape(line);
             before
         }
         _ => put_limit(line, rows, names, before),
