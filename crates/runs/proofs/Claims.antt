@@ -104,6 +104,10 @@ use Rattle.runs.proofs.Cuts.{cut-run, cut-made, cut-joined}
 use Rattle.runs.proofs.Choices.{run-choice, cleared-both}
 use Rattle.runs.proofs.Accepted.{run-children}
 use Rattle.runs.proofs.Notes.{notes-nothing, notes-made}
+use Rattle.ir_types.specs.Rows.{rowsOf as graphRowsOf}
+use Rattle.ir_types.specs.Unnumbered.{unnumberedGraph}
+use Rattle.runs.specs.Cleared.{clearedGraphRow, runBefore, RunCleared}
+use Rattle.runs.proofs.Cleared.{graph-cleared, sheet-cleared}
 
 -- "A sheet is good if it has this form, ..": exactly the sheets of proper states
 pub claim-good : (x : Sheet) → words (x .rows) ≡ true → (good x ≡ true) ↔ ((s : State) × (proper s ≡ true) × (stateFits (length (x .rows)) (length (x .names)) s ≡ true) × (sheetOf s (length (x .rows)) (length (x .names)) ≡ x))
@@ -275,6 +279,14 @@ claim-numbered-read = readRecords-numbered
 
 pub claim-cleared-lower : (s : Schema) → unnumberedLowered (lower s) ≡ lower (unnumberedSchema s)
 claim-cleared-lower = lower-unnumbered
+
+-- the rows of a graph without numbers are the graph's with c of roots and types cleared; and calls and runs on a state without numbers, numbered as before the
+-- order, answer as those on the state: numbers, places, 13's and 20's among them, the number in the run; graphs and last sheet are cleared
+pub claim-cleared-graph : (g : TypeGraph) → map clearedGraphRow (graphRowsOf g) ≡ graphRowsOf (unnumberedGraph g)
+claim-cleared-graph = graph-cleared
+
+pub claim-cleared-run : (x : Sheet) (calls : List Call) → goodLengths (lengthsOf x) ≡ true → good x ≡ true → RunCleared (lengthsOf x) (run x calls) (runBefore calls (lengthsOf x) (unnumbered (stateOf x)))
+claim-cleared-run = sheet-cleared
 
 -- "the number in the run of the event that gave it its name": in the last sheet of a run from a cleared one, event c of those accepted carries the head's name
 pub claim-carried : (byStandard : Bool) (x : Sheet) (calls : List Call) → goodLengths (lengthsOf x) ≡ true → good x ≡ true → stateOf x ≡ firstState byStandard → (s : State) × (run x calls .last ≡ sheetOf s (length (x .rows)) (length (x .names))) × (headsPass (λ name c. carries (acceptedEvents (lengthsOf x) (firstState byStandard) (joined x calls)) c name) (s .reader) ≡ true)

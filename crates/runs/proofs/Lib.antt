@@ -11,4 +11,5 @@ pub mod Choices
 pub mod Accepted
 pub mod Handled
 pub mod Notes
+pub mod Cleared
 pub mod Claims
