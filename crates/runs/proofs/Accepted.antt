@@ -2,7 +2,7 @@
 -- cleared with choice 1 the heads of that state are the direct children of the outermost `schema` tags. Assumes nothing.
 use Prim.Native.Nat.{ℕ}
 use mathlib.Core.Path.{_≡_, ap, _∙_}
-use mathlib.Core.Bool.{true}
+use mathlib.Core.Bool.{Bool, true}
 use mathlib.Core.List.{List, [], _∷_, map}
 use lib.Dec.{leb}
 use lib.ListN.{length}
@@ -43,7 +43,7 @@ after-accepted lent s (event e ∷ js) =
 
 -- what every reading keeps, a run keeps
 module _ (P : State → Type 0) (lent : Lengths) (keeps : (s : State) (text : Text) (marks : List ℕ) → P s → P (readState lent s text marks .state)) where
-  abbrev AfterKeeps : List Call → Type 0
+  abbrev pub AfterKeeps : List Call → Type 0
   AfterKeeps calls = (s : State) → P s → P (afterRecords lent s (joinedFrom calls (Held.holding lent s)))
 
   read-keeps : (text : Text) (marks : List ℕ) (calls : List Call) → AfterKeeps calls → AfterKeeps (Call.reading text marks ∷ calls)
@@ -53,21 +53,25 @@ module _ (P : State → Type 0) (lent : Lengths) (keeps : (s : State) (text : Te
       (λ t. rw (t, afterRecords-append lent s (judgedIn lent s text marks), readState-judged lent s text marks) (ih (readState lent s text marks .state) (keeps s text marks p)))
       (λ t. rw t (ih s p))
 
-  joined-keeps : (calls : List Call) → AfterKeeps calls
+  pub joined-keeps : (calls : List Call) → AfterKeeps calls
   unfolding afterRecords joinedFrom
   joined-keeps [] = λ s p. p
   joined-keeps (Call.reading text marks ∷ calls) = read-keeps text marks calls (joined-keeps calls)
   joined-keeps (Call.lowering graph scratch ∷ calls) = λ s p. joined-keeps calls s p
 
 -- what a run from a cleared sheet begins with
-hold-cleared : (x : Sheet) → sheetLengths (length (x .rows)) (length (x .names)) ≡ true → clear 1 x .sheet ≡ sheetOf (firstState true) (length (x .rows)) (length (x .names))
-    → hold (clear 1 x .sheet) ≡ Held.holding (record { rows = length (x .rows); names = length (x .names) }) (firstState true)
+pub hold-first : (b : Bool) (x : Sheet) → sheetLengths (length (x .rows)) (length (x .names)) ≡ true
+    → hold (sheetOf (firstState b) (length (x .rows)) (length (x .names))) ≡ Held.holding (record { rows = length (x .rows); names = length (x .names) }) (firstState b)
 unfolding hold goodLengths
-hold-cleared x l e =
+hold-first b x l =
     let r = length (x .rows) in
     let n = length (x .names) in
-    let f = first-fits true r n l in
-    rw e (rw (lengthsOf-sheetOf (firstState true) (record { rows = r; names = n }) f, l, good-sheetOf (firstState true) r n (first-proper true) f, stateOf-sheetOf (firstState true) r n (first-proper true) f))
+    let f = first-fits b r n l in
+    rw (lengthsOf-sheetOf (firstState b) (record { rows = r; names = n }) f, l, good-sheetOf (firstState b) r n (first-proper b) f, stateOf-sheetOf (firstState b) r n (first-proper b) f)
+
+hold-cleared : (x : Sheet) → sheetLengths (length (x .rows)) (length (x .names)) ≡ true → clear 1 x .sheet ≡ sheetOf (firstState true) (length (x .rows)) (length (x .names))
+    → hold (clear 1 x .sheet) ≡ Held.holding (record { rows = length (x .rows); names = length (x .names) }) (firstState true)
+hold-cleared x l e = rw e (hold-first true x l)
 
 children-of : (x : Sheet) (calls : List Call) → sheetLengths (length (x .rows)) (length (x .names)) ≡ true
     → let js = joinedFrom calls (Held.holding (lengthsOf x) (firstState true)) in

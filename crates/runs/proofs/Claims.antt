@@ -101,13 +101,15 @@ use Rattle.runs.proofs.Runs.{runs}
 use Rattle.runs.proofs.Joined.{last-joined, made-joined}
 use Rattle.runs.proofs.Carried.{carried-run}
 use Rattle.runs.proofs.Cuts.{cut-run, cut-made, cut-joined}
-use Rattle.runs.proofs.Choices.{run-choice, cleared-both}
+use Rattle.runs.proofs.Choices.{run-choice}
+use Rattle.runs.proofs.Both.{cleared-runs}
 use Rattle.runs.proofs.Accepted.{run-children}
 use Rattle.runs.proofs.Notes.{notes-nothing, notes-made}
 use Rattle.ir_types.specs.Rows.{rowsOf as graphRowsOf}
 use Rattle.ir_types.specs.Unnumbered.{unnumberedGraph}
-use Rattle.runs.specs.Cleared.{clearedGraphRow, runBefore, RunCleared}
+use Rattle.runs.specs.Cleared.{clearedGraphRow, isZero, Stored, runBefore, RunCleared}
 use Rattle.runs.proofs.Cleared.{graph-cleared, sheet-cleared}
+use Rattle.runs.proofs.Stored.{stored-run}
 
 -- "A sheet is good if it has this form, ..": exactly the sheets of proper states
 pub claim-good : (x : Sheet) → words (x .rows) ≡ true → (good x ≡ true) ↔ ((s : State) × (proper s ≡ true) × (stateFits (length (x .rows)) (length (x .names)) s ≡ true) × (sheetOf s (length (x .rows)) (length (x .names)) ≡ x))
@@ -261,9 +263,12 @@ pub claim-children : (x : Sheet) (calls : List Call) → clear 1 x .answer .numb
     → heads (stateOf (run (clear 1 x .sheet) calls .last) .reader) ≡ directChildren (map event (acceptedEvents (lengthsOf x) (firstState true) (joined (clear 1 x .sheet) calls)))
 claim-children = run-children
 
--- where the schema's own close is the only one in context 1, both choices answer the same and leave the same sheet but for the last number of row 0
-pub claim-both-choices : (x : Sheet) (text : Text) (marks : List ℕ) → clear 0 x .answer .number ≡ 0 → onlyTypes (records text marks) ≡ true → let r = read (clear 0 x .sheet) text marks in read (clear 1 x .sheet) text marks ≡ record { answer = r .answer; sheet = sheetChosen true (r .sheet) }
-claim-both-choices = cleared-both
+-- where of the accepted events of a run only types are started directly below the schema, so that its own close is the only one in context 1, both choices answer
+-- the same, call by call, refused events and refused calls among them, and leave the same sheet but for the last number of row 0
+pub claim-both-choices : (x : Sheet) (calls : List Call) → clear 0 x .answer .number ≡ 0
+    → onlyTypes (map event (acceptedEvents (lengthsOf x) (firstState false) (joined (clear 0 x .sheet) calls))) ≡ true
+    → let r = run (clear 0 x .sheet) calls in run (clear 1 x .sheet) calls ≡ record { answers = r .answers; last = sheetChosen true (r .last) }
+claim-both-choices = cleared-runs
 
 -- order 5, the numbers of events: with c cleared everywhere, reading and lowering are those of before. A state without numbers has the state's rows with c
 -- of every head cleared. Sheets, and the claims on cutting, are with c: a cut changes none
@@ -287,6 +292,10 @@ claim-cleared-graph = graph-cleared
 
 pub claim-cleared-run : (x : Sheet) (calls : List Call) → goodLengths (lengthsOf x) ≡ true → good x ≡ true → RunCleared (lengthsOf x) (run x calls) (runBefore calls (lengthsOf x) (unnumbered (stateOf x)))
 claim-cleared-run = sheet-cleared
+
+-- "Zero means unknown, as in sheets stored earlier, which stay good": from a good sheet without numbers the last sheet of every run is good, and every c is 0 or that of an event of the run
+pub claim-stored : (x : Sheet) (calls : List Call) → words (x .rows) ≡ true → goodLengths (lengthsOf x) ≡ true → good x ≡ true → headsPass isZero (stateOf x .reader) ≡ true → Stored x (run x calls .last)
+claim-stored = stored-run
 
 -- "the number in the run of the event that gave it its name": in the last sheet of a run from a cleared one, event c of those accepted carries the head's name
 pub claim-carried : (byStandard : Bool) (x : Sheet) (calls : List Call) → goodLengths (lengthsOf x) ≡ true → good x ≡ true → stateOf x ≡ firstState byStandard → (s : State) × (run x calls .last ≡ sheetOf s (length (x .rows)) (length (x .names))) × (headsPass (λ name c. carries (acceptedEvents (lengthsOf x) (firstState byStandard) (joined x calls)) c name) (s .reader) ≡ true)

@@ -142,7 +142,8 @@ module _ (graph : Sheet) (scratch : List ℕ) where
       (if-cleared (leb (finishedTypes (s .reader .schema)) (length scratch)) (finished-cleared s) (alike (unchanged 14 graph scratch)))
 
 -- ---- the run
-held-cleared : (lent : Lengths) (s : State) (graph : Sheet) (scratch : List ℕ) → LoweringCleared (lowerHeld (Held.holding lent s) graph scratch) (lowerHeld (Held.holding lent (unnumbered s)) graph scratch)
+held-cleared : (lent : Lengths) (s : State) (graph : Sheet) (scratch : List ℕ)
+    → LoweringCleared (lowerHeld (Held.holding lent s) graph scratch) (lowerHeld (Held.holding lent (unnumbered s)) graph scratch)
 unfolding lowerHeld
 held-cleared lent s graph scratch = if-cleared graph scratch (goodLengths (lengthsOf graph)) (lowering-cleared graph scratch s) (alike graph scratch (unchanged 1 graph scratch))
 

@@ -9,7 +9,9 @@ pub mod Carried
 pub mod Cuts
 pub mod Choices
 pub mod Accepted
+pub mod Both
 pub mod Handled
 pub mod Notes
 pub mod Cleared
+pub mod Stored
 pub mod Claims

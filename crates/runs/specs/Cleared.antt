@@ -3,17 +3,23 @@
 --     GraphCleared      a graph sheet beside another: the same, or a graph's and that of the graph without numbers
 --     LoweringCleared   number, place and scratch are the same, of 13, 20 and every other answer; the graph is cleared
 --     readBefore, runBefore    a reading and a run as before the order, where events have no number
+--     isZero, zeroOrLater   a head's number is 0; is 0 or that of an event from some number on
+--     Stored        a sheet stored earlier and the last one of a run from it: that is good, and keeps the zeros
 --     AnswersCleared, RunCleared    a run beside one before the order: the same answers, graphs and last sheet but for the numbers
 use Prim.Native.Nat.{ℕ}
 use mathlib.Core.Path.{_≡_}
+use mathlib.Core.Bool.{Bool, true, _||_}
 use mathlib.Core.List.{List, [], _∷_}
 use mathlib.Core.Option.{Option}
+use lib.Dec.{eqb, leb}
 use lib.ListN.{length}
 use Rattle.text.specs.Text.{Text, if_then_else_, between}
 use Rattle.sheet.specs.Rows.{Row, Sheet, row}
 use Rattle.sheet.specs.Lengths.{Answer, Lengths, tapeLengths}
-use Rattle.xsd_types.specs.State.{State}
+use Rattle.xsd_types.specs.State.{State, headsPass}
 use Rattle.xsd_types.specs.Sheet.{sheetOf}
+use Rattle.xsd_types.specs.Good.{good}
+use Rattle.xsd_types.specs.Back.{stateOf}
 use Rattle.xsd_types.specs.Unnumbered.{unnumbered}
 use Rattle.xsd_parser.specs.Read.{Reading}
 use Rattle.xsd_parser.specs.Numbered.{unknownNumber, readStateBy}
@@ -48,6 +54,17 @@ runBefore (Call.reading text marks ∷ calls) lent s =
     let r = readBefore lent s text marks in
     answeredFirst (Answered.readAs (r .answer) (numberInRun (s .events) (r .answer))) (runBefore calls lent (r .state))
 runBefore (Call.lowering graph scratch ∷ calls) lent s = answeredFirst (Answered.loweredAs (lowerHeld (Held.holding lent s) graph scratch)) (runBefore calls lent s)
+
+unfoldable pub isZero : Text → ℕ → Bool
+isZero name c = eqb c 0
+
+unfoldable pub zeroOrLater : ℕ → Text → ℕ → Bool
+zeroOrLater from name c = eqb c 0 || leb from c
+
+-- "sheets stored earlier, which stay good", beside the last sheet of a run from one
+pub record Stored (x y : Sheet) : Type 0 where
+  pub stays : good y ≡ true
+  pub zeros : headsPass (zeroOrLater (stateOf x .events)) (stateOf y .reader) ≡ true
 
 pub data AnswersCleared : List Answered → List Answered → Type 0 where
   end : AnswersCleared [] []

@@ -1,10 +1,10 @@
--- The two choices beside each other. No reading changes the choice. Where directly below the schema only types are started, both choices read alike: nesting
--- in context 1 stays 0, and the handlers give the same. Assumes nothing.
+-- The two choices beside each other. No reading changes the choice. Where directly below the schema only types are started, a step under both choices gives the
+-- same: nesting in context 1 stays 0, and the handlers give the same. Assumes nothing.
 --     Flat x        nesting is 0 where the context x is the schema's
 --     readingChosen the reading with its state under choice 1
-use mathlib.Core.Path.{_≡_, refl, sym, ap, _∙_}
+use mathlib.Core.Path.{_≡_, refl, sym, _∙_}
 use mathlib.Core.Bool.{Bool, true, false, not, _&&_, _||_}
-use mathlib.Core.List.{List, [], _∷_}
+use mathlib.Core.List.{List}
 use Prim.Native.Nat.{ℕ, zero, suc}
 use native.Mathlib.Omega.{arith}
 use lib.Dec.{eqb, ltb}
@@ -19,16 +19,16 @@ use Rattle.xsd_types.proofs.Laws.Choice.{fits-chosen}
 use Rattle.xsd_parser.specs.declared.words.Word.{Word}
 use Rattle.xsd_parser.specs.Event.{Event}
 use Rattle.xsd_parser.specs.Seen.{Seen, seen, tagIs}
-use Rattle.xsd_parser.specs.Tape.{Judged, event, refused, records}
+use Rattle.xsd_parser.specs.Tape.{records}
 use Rattle.xsd_parser.specs.Handlers.{Outcome, ok, refuse, _andThen_, inContext, foundRoot, onTopLevelElement, openSimpleType, openComplexType, belowSchema, onDirectChild, onStartInSchema, raisedComplex, onStartInComplexType, onStart, onEmptyInSimpleType, onEmptyInComplexType, onEmpty, closeSimpleType, closeComplexType, closeInSchema, onEnd}
 use Rattle.xsd_parser.specs.Step.{handled, tagsAfter, counted, roomFor, step}
-use Rattle.xsd_parser.specs.Read.{Reading, readRecords, readState}
-use Rattle.xsd_parser.specs.Children.{depthAfter, startsNoOther, onlyTypesFrom}
-use Rattle.xsd_parser.proofs.Laws.Outcomes.{Gives, value, Any, gives-if, gives-andThen, gives-name, gives-value, gives-any, outcome-cases}
+use Rattle.xsd_parser.specs.Read.{Reading, readState}
+use Rattle.xsd_parser.specs.Children.{startsNoOther}
+use Rattle.xsd_parser.proofs.Laws.Outcomes.{Gives, value, Any, gives-if, gives-andThen, gives-name, gives-any}
 use Rattle.xsd_parser.proofs.Laws.EventTexts.{events-are-text}
-use Rattle.xsd_parser.proofs.Laws.Steps.{step-reader, step-choice}
-use Rattle.xsd_parser.proofs.Laws.Reads.{read-ok, read-refuse, reads-keep}
-use Rattle.xsd_parser.proofs.Laws.Children.{depthIn, at, kept-context, handled-walked}
+use Rattle.xsd_parser.proofs.Laws.Steps.{step-choice}
+use Rattle.xsd_parser.proofs.Laws.Reads.{reads-keep}
+use Rattle.xsd_parser.proofs.Laws.Children.{depthIn, at, kept-context}
 
 -- "kept as the last number of row 0"
 pub readState-choice : (lent : Lengths) (s : State) (text : Text) (marks : List ℕ) → readState lent s text marks .state .byStandard ≡ s .byStandard
@@ -157,27 +157,3 @@ readingChosen r = record { answer = r .answer; state = chosen true (r .state) }
 pub chosen-same : (s : State) → s .byStandard ≡ false → chosen false s ≡ s
 unfolding chosen
 chosen-same s e = λ i. record { reader = s .reader; events = s .events; openTags = s .openTags; byStandard = sym e i }
-
-pub reads-chosen : (lent : Lengths) (n : ℕ) (s : State) (js : List Judged) → FlatIn (s .reader) → onlyTypesFrom (depthIn (s .reader .context)) js ≡ true
-    → readRecords lent n (chosen true s) js ≡ readingChosen (readRecords lent n (chosen false s) js)
-unfolding readRecords onlyTypesFrom chosen _andThen_
-reads-chosen lent n s [] f k = refl
-reads-chosen lent n s (refused r ∷ js) f k = refl
-reads-chosen lent n s (event e ∷ js) f k =
-    let w = two (not (eqb (depthIn (s .reader .context)) 1) || startsNoOther e) (onlyTypesFrom (depthAfter e (depthIn (s .reader .context))) js) k in
-    let both = step-chosen lent s e f (w .0) in
-    outcome-cases (step lent (chosen false s) e)
-    (λ x q.
-    let h = step-reader lent (chosen false s) e x q in
-    let d = gives-value (handled-walked (s .events) e (s .reader)) (handled-same (s .events) e (s .reader) f (w .0) ∙ h) .depth in
-    let i = reads-chosen lent (suc n) x js (gives-value (handled-flat (s .events) e (s .reader) f) h) (rw d (w .1)) in
-    read-ok lent n (chosen true s) (chosen true x) e js (both ∙ ap (λ o. o andThen standardly) q)
-    ∙ i ∙ ap readingChosen (ap (λ y. readRecords lent (suc n) y js) (chosen-same x (step-choice lent (chosen false s) e x q)) ∙ sym (read-ok lent n (chosen false s) x e js q)))
-    (λ r q. read-refuse lent n (chosen true s) e js r (both ∙ ap (λ o. o andThen standardly) q) ∙ ap readingChosen (sym (read-refuse lent n (chosen false s) e js r q)))
-
--- where the schema's own close is the only one in context 1, the choices give the same but for the choice
-pub readState-chosen : (lent : Lengths) (s : State) (text : Text) (marks : List ℕ) → FlatIn (s .reader)
-    → onlyTypesFrom (depthIn (s .reader .context)) (records text marks) ≡ true
-    → readState lent (chosen true s) text marks ≡ readingChosen (readState lent (chosen false s) text marks)
-unfolding readState
-readState-chosen lent s text marks f k = reads-chosen lent 0 s (records text marks) f k
