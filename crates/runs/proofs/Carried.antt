@@ -1,4 +1,4 @@
--- From a cleared sheet c of every head is the number in the run of an event that carries its name. What gives a name is the event at hand, whose number is the
+-- From a cleared sheet c of every head is the number in the run of an event that gave it its name. What gives a name is the event at hand, whose number is the
 -- events done before it, and nothing else changes a name or a number. Assumes nothing.
 use Prim.Native.Nat.{ℕ, zero, suc, _+_}
 use mathlib.Core.Path.{_≡_, refl, sym, ap, subst, _∙_}
@@ -8,6 +8,7 @@ use mathlib.Core.Option.{some}
 use native.Mathlib.Omega.{arith}
 use lib.ListN.{length, length-append}
 use Rattle.text.specs.Text.{Text, every, same}
+use Rattle.text.proofs.Laws.Tests.{and-true}
 use Rattle.text.proofs.Laws.Texts.{same-refl}
 use Rattle.sheet.specs.Rows.{Sheet}
 use Rattle.sheet.specs.Lengths.{Lengths, lengthsOf, goodLengths}
@@ -20,7 +21,7 @@ use Rattle.xsd_parser.specs.Event.{Event, eventName}
 use Rattle.xsd_parser.specs.Tape.{Judged, event, refused}
 use Rattle.xsd_parser.specs.Handlers.{ok, refuse}
 use Rattle.xsd_parser.specs.Step.{step}
-use Rattle.xsd_parser.specs.Numbered.{isName, carriesName, carries}
+use Rattle.xsd_parser.specs.Numbered.{isName, makesHead, givesName, gave}
 use Rattle.xsd_parser.proofs.Laws.Outcomes.{outcome-cases, gives-value}
 use Rattle.xsd_parser.proofs.Laws.Numbers.{handled-passes}
 use Rattle.xsd_parser.proofs.Laws.Steps.{step-events, step-reader}
@@ -28,27 +29,27 @@ use Rattle.runs.specs.Runs.{Call, run}
 use Rattle.runs.specs.Joined.{joined, acceptedEvents, afterRecord, afterRecords}
 use Rattle.runs.proofs.Joined.{afterRecord-ok, afterRecord-refuse, last-joined}
 
--- an event carried before others is carried before more, and the last one is carried at its place
-carries-more : (es fs : List Event) (n : ℕ) (v : Text) → carries es n v ≡ true → carries (es ++ fs) n v ≡ true
-unfolding carries
-carries-more [] fs n v h = absurd (false≢true h)
-carries-more (e ∷ es) fs zero v h = h
-carries-more (e ∷ es) fs (suc n) v h = carries-more es fs n v h
+-- an event that gave a name before others gave it before more, and the last one gave it at its place
+gave-more : (es fs : List Event) (n : ℕ) (v : Text) → gave es n v ≡ true → gave (es ++ fs) n v ≡ true
+unfolding gave
+gave-more [] fs n v h = absurd (false≢true h)
+gave-more (e ∷ es) fs zero v h = h
+gave-more (e ∷ es) fs (suc n) v h = gave-more es fs n v h
 
-carries-last : (es : List Event) (e : Event) (v : Text) → eventName e ≡ some v → carries (es ++ e ∷ []) (length es) v ≡ true
-unfolding carries carriesName isName
-carries-last [] e v q = rw q (same-refl v)
-carries-last (d ∷ es) e v q = carries-last es e v q
+gave-last : (es : List Event) (e : Event) (v : Text) → makesHead e ≡ true → eventName e ≡ some v → gave (es ++ e ∷ []) (length es) v ≡ true
+unfolding gave givesName isName
+gave-last [] e v m q = and-true m (rw q (same-refl v))
+gave-last (d ∷ es) e v m q = gave-last es e v m q
 
--- every head has the number of an event that carries its name
+-- every head has the number of an event that gave it its name
 abbrev pub Carrying : List Event → State → Type 0
-Carrying es s = (length es ≡ s .events) × (headsPass (λ v n. carries es n v) (s .reader) ≡ true)
+Carrying es s = (length es ≡ s .events) × (headsPass (λ v n. gave es n v) (s .reader) ≡ true)
 
 carrying-step : (lent : Lengths) (es : List Event) (s s′ : State) (e : Event) → step lent s e ≡ ok s′ → Carrying es s → Carrying (es ++ e ∷ []) s′
 carrying-step lent es s s′ e q h =
-    let more = heads-weaken (λ v n. carries es n v) (λ v n. carries (es ++ e ∷ []) n v) (λ v n. carries-more es (e ∷ []) n v) (s .reader) (h .1) in
-    let own : (v : Text) → eventName e ≡ some v → carries (es ++ e ∷ []) (s .events) v ≡ true = λ v k. subst (λ (n : ℕ). carries (es ++ e ∷ []) n v ≡ true) (h .0) (carries-last es e v k) in
-    (length-append es (e ∷ []) ∙ omega (arith, h .0, step-events lent s e s′ q), gives-value (handled-passes (λ v n. carries (es ++ e ∷ []) n v) (s .events) (s .byStandard) e (s .reader) own more) (step-reader lent s e s′ q))
+    let more = heads-weaken (λ v n. gave es n v) (λ v n. gave (es ++ e ∷ []) n v) (λ v n. gave-more es (e ∷ []) n v) (s .reader) (h .1) in
+    let own : makesHead e ≡ true → (v : Text) → eventName e ≡ some v → gave (es ++ e ∷ []) (s .events) v ≡ true = λ m v k. subst (λ (n : ℕ). gave (es ++ e ∷ []) n v ≡ true) (h .0) (gave-last es e v m k) in
+    (length-append es (e ∷ []) ∙ omega (arith, h .0, step-events lent s e s′ q), gives-value (handled-passes (λ v n. gave (es ++ e ∷ []) n v) (s .events) (s .byStandard) e (s .reader) own more) (step-reader lent s e s′ q))
 
 pub accepted-ok : (lent : Lengths) (s x : State) (e : Event) (js : List Judged) → step lent s e ≡ ok x → acceptedEvents lent s (event e ∷ js) ≡ e ∷ acceptedEvents lent x js
 unfolding acceptedEvents
@@ -73,13 +74,13 @@ carrying-after lent es s (event e ∷ js) h =
     subst (λ (l : List Event). Carrying (es ++ l) (afterRecords lent s (event e ∷ js))) (sym (accepted-refuse lent s e js k q))
     (subst (λ (y : State). Carrying (es ++ acceptedEvents lent s js) (afterRecords lent y js)) (sym (afterRecord-refuse lent s e k q)) (carrying-after lent es s js h)))
 
-pub carried : (byStandard : Bool) (lent : Lengths) (js : List Judged) → headsPass (λ v n. carries (acceptedEvents lent (firstState byStandard) js) n v) (afterRecords lent (firstState byStandard) js .reader) ≡ true
+pub carried : (byStandard : Bool) (lent : Lengths) (js : List Judged) → headsPass (λ v n. gave (acceptedEvents lent (firstState byStandard) js) n v) (afterRecords lent (firstState byStandard) js .reader) ≡ true
 unfolding firstState headsPass openPasses every
 carried b lent js = carrying-after lent [] (firstState b) js (refl, refl) .1
 
 -- the last sheet of a run from a cleared one
 pub carried-run : (byStandard : Bool) (x : Sheet) (calls : List Call) → goodLengths (lengthsOf x) ≡ true → good x ≡ true → stateOf x ≡ firstState byStandard
-    → (s : State) × (run x calls .last ≡ sheetOf s (length (x .rows)) (length (x .names))) × (headsPass (λ v n. carries (acceptedEvents (lengthsOf x) (firstState byStandard) (joined x calls)) n v) (s .reader) ≡ true)
+    → (s : State) × (run x calls .last ≡ sheetOf s (length (x .rows)) (length (x .names))) × (headsPass (λ v n. gave (acceptedEvents (lengthsOf x) (firstState byStandard) (joined x calls)) n v) (s .reader) ≡ true)
 carried-run b x calls l g z =
     let js = joined x calls in (
       afterRecords (lengthsOf x) (firstState b) js,

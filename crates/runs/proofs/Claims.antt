@@ -19,7 +19,7 @@ use Rattle.sheet.specs.Form.{words, tensOf}
 use Rattle.sheet.specs.Returned.{accepted, malformed, doctype}
 use Rattle.sheet.specs.Lengths.{sheetLengths, Lengths, lengthsOf, goodLengths}
 use Rattle.xsd_types.specs.Types.{Schema, MaxOccurs}
-use Rattle.xsd_types.specs.State.{State, firstState, headsPass, proper}
+use Rattle.xsd_types.specs.State.{Reader, State, firstState, headsPass, proper}
 use Rattle.xsd_types.specs.Rows.{rowsOf}
 use Rattle.xsd_types.specs.Unnumbered.{clearedRow, unnumberedSchema, unnumbered}
 use Rattle.xsd_types.proofs.Laws.Unnumbered.{rows-cleared}
@@ -44,7 +44,7 @@ use Rattle.xsd_parser.specs.Step.{step}
 use Rattle.xsd_parser.specs.Read.{readRecords, read, readState}
 use Rattle.xsd_parser.specs.Table.{ReadTable}
 use Rattle.xsd_parser.proofs.Laws.Table.{read-table}
-use Rattle.xsd_parser.specs.Numbered.{readRecordsBy, readStateBy, unknownNumber, unnumberedReading, carries}
+use Rattle.xsd_parser.specs.Numbered.{readRecordsBy, readStateBy, unknownNumber, unnumberedReading, gave}
 use Rattle.xsd_parser.specs.Children.{directChildren, heads, onlyTypes}
 use Rattle.xsd_parser.proofs.Laws.Cleared.{readState-unnumbered, readRecords-numbered}
 use Rattle.xsd_parser.proofs.Laws.Occurs.{unbounded-exactly}
@@ -110,6 +110,9 @@ use Rattle.ir_types.specs.Unnumbered.{unnumberedGraph}
 use Rattle.runs.specs.Cleared.{clearedGraphRow, isZero, Stored, runBefore, RunCleared}
 use Rattle.runs.proofs.Cleared.{graph-cleared, sheet-cleared}
 use Rattle.runs.proofs.Stored.{stored-run}
+use mathlib.Core.Option.{some}
+use Rattle.runs.specs.Given.{GraphPasses}
+use Rattle.runs.proofs.Given.{graph-passes}
 
 -- "A sheet is good if it has this form, ..": exactly the sheets of proper states
 pub claim-good : (x : Sheet) → words (x .rows) ≡ true → (good x ≡ true) ↔ ((s : State) × (proper s ≡ true) × (stateFits (length (x .rows)) (length (x .names)) s ≡ true) × (sheetOf s (length (x .rows)) (length (x .names)) ≡ x))
@@ -297,9 +300,14 @@ claim-cleared-run = sheet-cleared
 pub claim-stored : (x : Sheet) (calls : List Call) → words (x .rows) ≡ true → goodLengths (lengthsOf x) ≡ true → good x ≡ true → headsPass isZero (stateOf x .reader) ≡ true → Stored x (run x calls .last)
 claim-stored = stored-run
 
--- "the number in the run of the event that gave it its name": in the last sheet of a run from a cleared one, event c of those accepted carries the head's name
-pub claim-carried : (byStandard : Bool) (x : Sheet) (calls : List Call) → goodLengths (lengthsOf x) ≡ true → good x ≡ true → stateOf x ≡ firstState byStandard → (s : State) × (run x calls .last ≡ sheetOf s (length (x .rows)) (length (x .names))) × (headsPass (λ name c. carries (acceptedEvents (lengthsOf x) (firstState byStandard) (joined x calls)) c name) (s .reader) ≡ true)
+-- "the number in the run of the event that gave it its name": in the last sheet of a run from a cleared one, event c of those accepted is a tag that a head is made of,
+-- start or empty, and its name is the head's
+pub claim-carried : (byStandard : Bool) (x : Sheet) (calls : List Call) → goodLengths (lengthsOf x) ≡ true → good x ≡ true → stateOf x ≡ firstState byStandard → (s : State) × (run x calls .last ≡ sheetOf s (length (x .rows)) (length (x .names))) × (headsPass (λ name c. gave (acceptedEvents (lengthsOf x) (firstState byStandard) (joined x calls)) c name) (s .reader) ≡ true)
 claim-carried = carried-run
+
+-- "of both sheets": what the names and numbers of a state's heads pass, those of its graph pass, a type's by its name in the schema
+pub claim-graph-names : (p : Text → ℕ → Bool) (r : Reader) (g : TypeGraph) → headsPass p r ≡ true → lower (r .schema) ≡ some g → GraphPasses p g
+claim-graph-names = graph-passes
 
 -- "min 0 and max 1 optional", and nothing else is
 pub claim-optional : (min : ℕ) (max : MaxOccurs) → (lowerCardinality min max ≡ Cardinality.optional) ↔ ((min ≡ 0) × (max ≡ MaxOccurs.bounded 1))

@@ -14,4 +14,5 @@ pub mod Handled
 pub mod Notes
 pub mod Cleared
 pub mod Stored
+pub mod Given
 pub mod Claims

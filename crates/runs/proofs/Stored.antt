@@ -44,7 +44,7 @@ record Later (from : ℕ) (s : State) : Type 0 where
 later-step : (from : ℕ) (lent : Lengths) (s : State) (e : Event) (s′ : State) → step lent s e ≡ ok s′ → Later from s → Later from s′
 unfolding zeroOrLater
 later-step from lent s e s′ q h =
-    let own : (v : Text) → _ → zeroOrLater from v (s .events) ≡ true = λ v k. or-right (eqb (s .events) 0) (le-leb from (s .events) (h .done)) in
+    let own : _ → (v : Text) → _ → zeroOrLater from v (s .events) ≡ true = λ m v k. or-right (eqb (s .events) 0) (le-leb from (s .events) (h .done)) in
     record {
       done = omega (arith, h .done, step-events lent s e s′ q);
       heads = gives-value (handled-passes (zeroOrLater from) (s .events) (s .byStandard) e (s .reader) own (h .heads)) (step-reader lent s e s′ q);

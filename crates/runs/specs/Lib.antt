@@ -7,5 +7,6 @@ pub mod Joined
 pub mod Cuts
 pub mod Notes
 pub mod Cleared
+pub mod Given
 pub mod Unfold
 pub mod Examples

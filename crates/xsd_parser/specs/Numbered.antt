@@ -1,13 +1,14 @@
 -- Reading by a numbering of events, from the events done before an event to the number that what gives a name keeps. Order 5's is the events done; with 0
--- for all it is reading as it was before the order. And which event carries a name.
+-- for all it is reading as it was before the order. And which event gave a name.
 --     stepBy, readRecordsBy, readStateBy    Step's and Read's, by a numbering
 --     unknownNumber the numbering before order 5
 --     unnumberedReading    a reading with the numbers of its state cleared
---     carriesName   the event carries the name (isName: of the name that it carries, if any)
---     carries       event n of the list carries the name
+--     makesHead     a tag that a head is made of: a start of a type or an element, an empty element
+--     givesName     the event is such a tag and carries the name (isName: of the name that it carries, if any)
+--     gave          event n of the list is one that gives the name
 use Prim.Native.Nat.{ℕ, zero, suc}
 use mathlib.Core.List.{List, [], _∷_}
-use mathlib.Core.Bool.{Bool, false}
+use mathlib.Core.Bool.{Bool, false, _&&_, _||_}
 use mathlib.Core.Option.{Option, some, none}
 use lib.Dec.{ltb}
 use Rattle.text.specs.Text.{Text, if_then_else_, same}
@@ -16,7 +17,9 @@ use Rattle.sheet.specs.Returned.{tooManyEvents}
 use Rattle.sheet.specs.Lengths.{Lengths}
 use Rattle.xsd_types.specs.State.{State}
 use Rattle.xsd_types.specs.Unnumbered.{unnumbered}
+use Rattle.xsd_parser.specs.declared.words.Word.{Word}
 use Rattle.xsd_parser.specs.Event.{Event, eventName}
+use Rattle.xsd_parser.specs.Seen.{seen, tagIs}
 use Rattle.xsd_parser.specs.Tape.{Judged, event, refused, records}
 use Rattle.xsd_parser.specs.Handlers.{Outcome, ok, refuse, _andThen_}
 use Rattle.xsd_parser.specs.Step.{handled, tagsAfter, counted, roomFor}
@@ -53,10 +56,16 @@ unfoldable pub isName : Option Text → Text → Bool
 isName none name = false
 isName (some v) name = same v name
 
-unfoldable pub carriesName : Event → Text → Bool
-carriesName e name = isName (eventName e) name
+-- "start `simpleType` or `complexType` needs a name and opens a type; `element`, start or empty, is kept if it has name and type"
+unfoldable pub makesHead : Event → Bool
+makesHead (Event.start t) = tagIs (seen t) Word.SimpleType || tagIs (seen t) Word.ComplexType || tagIs (seen t) Word.Element
+makesHead (Event.empty t) = tagIs (seen t) Word.Element
+makesHead Event.close = false
 
-unfoldable pub carries : List Event → ℕ → Text → Bool
-carries [] n name = false
-carries (e ∷ es) zero name = carriesName e name
-carries (e ∷ es) (suc n) name = carries es n name
+unfoldable pub givesName : Event → Text → Bool
+givesName e name = makesHead e && isName (eventName e) name
+
+unfoldable pub gave : List Event → ℕ → Text → Bool
+gave [] n name = false
+gave (e ∷ es) zero name = givesName e name
+gave (e ∷ es) (suc n) name = gave es n name

@@ -1,7 +1,7 @@
 -- What gives a name keeps the event's number with it, and nothing else changes a name or a number: heads that pass a test of name and number still do
--- after an event, where the name that the event carries passes with the event's number. Assumes nothing.
+-- after an event, where of a tag that a head is made of the name passes with the event's number. Assumes nothing.
 use mathlib.Core.Path.{_≡_, refl}
-use mathlib.Core.Bool.{Bool, true, false, _&&_}
+use mathlib.Core.Bool.{Bool, true, false, _&&_, _||_}
 use mathlib.Core.Option.{Option, some, none}
 use Prim.Native.Nat.{ℕ, zero, suc}
 use native.Mathlib.Omega.{arith}
@@ -17,9 +17,10 @@ use Rattle.xsd_parser.specs.Event.{Event, eventName}
 use Rattle.xsd_parser.specs.Seen.{Seen, seen, tagIs}
 use Rattle.xsd_parser.specs.Handlers.{ok, inContext, withItem, foundRoot, keptElement, onTopLevelElement, withBase, withFacet, withContent, openSimpleType, openComplexType, belowSchema, onDirectChild, onStartInSchema, raisedSimple, onStartInSimpleType, raisedComplex, onStartInComplexType, onStart, facetValue, facetOf, onEmptyInSimpleType, onEmptyInComplexType, onEmpty, closeSimpleType, closeComplexType, closeInSchema, onEnd}
 use Rattle.xsd_parser.specs.Step.{handled}
+use Rattle.xsd_parser.specs.Numbered.{makesHead}
 use Rattle.xsd_parser.proofs.Laws.Outcomes.{Gives, value, Any, gives-if, gives-andThen, gives-name, gives-facet, gives-value, gives-any}
 use Rattle.xsd_types.proofs.Laws.Events.{passing-parts, heads-weaken}
-use Rattle.text.proofs.Laws.Tests.{and-true, or-left, or-right, or-cases, if-either}
+use Rattle.text.proofs.Laws.Tests.{and-true, and-true-right, or-left, or-right, or-cases, if-either, if-cases, bool-cases}
 use Rattle.text.proofs.Laws.Every.{every-one-more}
 
 module _ (p : Text → ℕ → Bool) where
@@ -41,16 +42,23 @@ module _ (p : Text → ℕ → Bool) where
 
   module _ (n : ℕ) where
     -- the name at hand passes with the number
-    abbrev pub Naming : Option Text → Type 0
-    Naming name = (v : Text) → name ≡ some v → p v n ≡ true
+    abbrev pub Named : Option Text → Type 0
+    Named name = (v : Text) → name ≡ some v → p v n ≡ true
 
-    pub kept-passes : (name typeName : Option Text) (r : Reader) → Naming name → Passing r → Passing (keptElement n name typeName r)
+    -- where the tag at hand is one that a head is made of
+    abbrev pub Naming : Bool → Option Text → Type 0
+    Naming made name = made ≡ true → Named name
+
+    abbrev pub starts : Seen → Bool
+    starts t = tagIs t Word.SimpleType || tagIs t Word.ComplexType || tagIs t Word.Element
+
+    pub kept-passes : (name typeName : Option Text) (r : Reader) → Named name → Passing r → Passing (keptElement n name typeName r)
     unfolding keptElement itemPasses
     kept-passes none typeName r k h = h
     kept-passes (some name) none r k h = h
     kept-passes (some name) (some typeName) r k h = item-passes r _ h (k name refl)
 
-    pub top-passes : (t : Seen) (r : Reader) → Naming (t .name) → Passing r → Passing (onTopLevelElement n t r)
+    pub top-passes : (t : Seen) (r : Reader) → Named (t .name) → Passing r → Passing (onTopLevelElement n t r)
     unfolding onTopLevelElement
     top-passes t r k h = kept-passes (t .name) (t .typeName) r k h
 
@@ -59,14 +67,14 @@ module _ (p : Text → ℕ → Bool) where
     below-passes false depth r h = h
     below-passes true depth r h = context-passes r _ h refl
 
-    pub directChild-passes : (byStandard : Bool) (t : Seen) (r : Reader) → Naming (t .name) → Passing r → Gives Passing Any (onDirectChild byStandard n t r)
+    pub directChild-passes : (byStandard : Bool) (t : Seen) (r : Reader) → Naming (starts t) (t .name) → Passing r → Gives Passing Any (onDirectChild byStandard n t r)
     unfolding onDirectChild openPasses openSimpleType openComplexType
     directChild-passes b t r k h =
-        gives-if (tagIs t Word.SimpleType) (gives-name t _ (λ v q. context-passes r _ h (k v q)) tt)
-        (gives-if (tagIs t Word.ComplexType) (gives-name t _ (λ v q. context-passes r _ h (k v q)) tt)
-        (gives-if (tagIs t Word.Element) (value (below-passes b 0 _ (top-passes t r k h))) (value (below-passes b 0 r h))))
+        bool-cases (tagIs t Word.SimpleType) (λ a. rw a (gives-name t _ (λ v q. context-passes r _ h (k (rw a) v q)) tt))
+        (λ a. bool-cases (tagIs t Word.ComplexType) (λ c. rw (a, c) (gives-name t _ (λ v q. context-passes r _ h (k (rw (a, c)) v q)) tt))
+        (λ c. bool-cases (tagIs t Word.Element) (λ d. rw (a, c, d) (value (below-passes b 0 _ (top-passes t r (k (rw (a, c, d))) h)))) (λ d. rw (a, c, d) (value (below-passes b 0 r h)))))
 
-    pub startInSchema-passes : (byStandard : Bool) (t : Seen) (depth : ℕ) (r : Reader) → Naming (t .name) → Passing r → Gives Passing Any (onStartInSchema byStandard n t depth r)
+    pub startInSchema-passes : (byStandard : Bool) (t : Seen) (depth : ℕ) (r : Reader) → Naming (starts t) (t .name) → Passing r → Gives Passing Any (onStartInSchema byStandard n t depth r)
     unfolding onStartInSchema
     startInSchema-passes b t depth r k h = gives-if (eqb depth 0) (directChild-passes b t r k h) (value (below-passes b depth r h))
 
@@ -75,7 +83,7 @@ module _ (p : Text → ℕ → Bool) where
     unfolding onStartInSimpleType raisedSimple withBase openPasses
     startInSimple-passes t b h = if-either (λ (x : SimpleTypeBuilder). p (x .name) (x .event) ≡ true) (eqb (suc (b .nestingDepth)) 1 && tagIs t Word.Restriction) h h
 
-    pub start-passes : (byStandard : Bool) (t : Seen) (r : Reader) (x : Context) → r .context ≡ x → Naming (t .name) → Passing r → Gives Passing Any (onStart byStandard n t r x)
+    pub start-passes : (byStandard : Bool) (t : Seen) (r : Reader) (x : Context) → r .context ≡ x → Naming (starts t) (t .name) → Passing r → Gives Passing Any (onStart byStandard n t r x)
     unfolding onStart openPasses raisedComplex withContent
     start-passes s t r Context.noContext q k h =
         value (if-either Passing (tagIs t Word.Schema) (context-passes (foundRoot t r) (Context.inSchema 0) (root-passes t r h) refl) h)
@@ -89,10 +97,10 @@ module _ (p : Text → ℕ → Bool) where
     emptyInSimple-passes t b h =
         gives-if (tagIs t Word.Restriction) (value h) (gives-facet (facetWord (t .word)) (facetValue t) (withFacet b) b (λ w. gives-any (facetOf w (facetValue t))) (λ f u. h) h)
 
-    pub empty-passes : (t : Seen) (r : Reader) (x : Context) → r .context ≡ x → Naming (t .name) → Passing r → Gives Passing Any (onEmpty n t r x)
+    pub empty-passes : (t : Seen) (r : Reader) (x : Context) → r .context ≡ x → Naming (tagIs t Word.Element) (t .name) → Passing r → Gives Passing Any (onEmpty n t r x)
     unfolding onEmpty openPasses withContent
     empty-passes t r Context.noContext q k h = value (if-either Passing (tagIs t Word.Schema) (root-passes t r h) h)
-    empty-passes t r (Context.inSchema depth) q k h = value (if-either Passing (eqb depth 0 && tagIs t Word.Element) (top-passes t r k h) h)
+    empty-passes t r (Context.inSchema depth) q k h = value (if-cases Passing (eqb depth 0 && tagIs t Word.Element) (λ e. top-passes t r (k (and-true-right (eqb depth 0) _ e)) h) (λ e. h))
     empty-passes t r (Context.inSimpleType b) q k h =
         gives-andThen (emptyInSimple-passes t b (rw q at (passing-parts p r h .1))) λ c u. value (context-passes r _ h u)
     empty-passes t r (Context.inComplexType b) q k h =
@@ -117,8 +125,8 @@ module _ (p : Text → ℕ → Bool) where
     close-passes r (Context.inSimpleType b) q h = closeSimple-passes b (b .nestingDepth) r (rw q at (passing-parts p r h .1)) h
     close-passes r (Context.inComplexType b) q h = closeComplex-passes b (b .nestingDepth) r (rw q at (passing-parts p r h .1)) h
 
-    pub handled-passes : (byStandard : Bool) (e : Event) (r : Reader) → Naming (eventName e) → Passing r → Gives Passing Any (handled byStandard n e r)
-    unfolding handled eventName seen
+    pub handled-passes : (byStandard : Bool) (e : Event) (r : Reader) → Naming (makesHead e) (eventName e) → Passing r → Gives Passing Any (handled byStandard n e r)
+    unfolding handled eventName seen makesHead
     handled-passes s (Event.start t) r k h = start-passes s (seen t) r (r .context) refl k h
     handled-passes s (Event.empty t) r k h = empty-passes (seen t) r (r .context) refl k h
     handled-passes s Event.close r k h = value (close-passes r (r .context) refl h)
@@ -137,4 +145,4 @@ pub numbers-kept : (byStandard : Bool) (n : ℕ) (e : Event) (r r′ : Reader) �
 unfolding eventsOk
 numbers-kept s n e r r′ h q =
     let more = heads-weaken (λ v k. eventNumberOk n k) (λ v k. eventNumberOk (suc n) k) (λ v k. number-more n k) r h in
-    gives-value (handled-passes (λ v k. eventNumberOk (suc n) k) n s e r (λ v u. number-own n) more) q
+    gives-value (handled-passes (λ v k. eventNumberOk (suc n) k) n s e r (λ m v u. number-own n) more) q
