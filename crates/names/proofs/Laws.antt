@@ -4,4 +4,5 @@ pub mod Scans
 pub mod Names
 pub mod Examples
 pub mod Words
+pub mod Spelled
 pub mod Next

@@ -1,25 +1,39 @@
-// Two names compared as they normalise, byte by byte, with no space lent.
+// Names read and compared byte by byte, as they normalise or as they stand, with no space lent.
 ghost use mathlib.Core.Path.{_≡_};
 ghost use Rattle.text.specs.Text.{same};
 ghost use Rattle.names.specs.Names.{normalizeTypeName};
-ghost use Rattle.names.specs.Same.{NextIs, isEnd};
+ghost use Rattle.names.specs.Same.{spelled, startsUp, NextIs, isEnd};
 use crate::cased;
 use text::has_byte;
 
-// A byte of a normalised name with the place where the name goes on, or the name's end.
-enum Next {
+// A byte of a spelled name with the place where the name goes on, or the name's end.
+pub enum Next {
     Byte(u8, usize),
     End,
 }
 
-// The next byte of the normalised name, read from `from`.
-fn next_normalized(name: &[u8], from: usize, first: bool) -> Next
-    ensures { λ r. ⌜ NextIs (now (name .entry)) from first r ⌝ }
+// Whether the first letter of a spelled name is in the upper form.
+pub fn starts_up(name: &[u8], normalised: bool) -> bool
+    ensures { λ r. ⌜ r ≡ startsUp normalised (now (name .entry)) ⌝ }
+{
+    if normalised {
+        has_byte(name, b'_')
+    } else {
+        false
+    }
+}
+
+// The next byte of the spelled name, read from `from`.
+pub fn next_spelled(name: &[u8], normalised: bool, from: usize, first: bool) -> Next
+    ensures { λ r. ⌜ NextIs normalised (now (name .entry)) from first r ⌝ }
 {
     let mut up = first;
     let mut at = from;
     while at < name.len() {
         let b = name[at];
+        if !normalised {
+            return Next::Byte(b, at + 1);
+        }
         if b != b'_' {
             return Next::Byte(cased(b, up, false), at + 1);
         }
@@ -38,16 +52,16 @@ fn ends(next: Next) -> bool
     }
 }
 
-pub fn same_normalized(a: &[u8], b: &[u8]) -> bool
-    ensures { λ r. ⌜ r ≡ same (normalizeTypeName (now (a .entry))) (normalizeTypeName (now (b .entry))) ⌝ }
+pub fn same_spelled(a: &[u8], a_normalised: bool, b: &[u8], b_normalised: bool) -> bool
+    ensures { λ r. ⌜ r ≡ same (spelled «a_normalised» (now (a .entry))) (spelled «b_normalised» (now (b .entry))) ⌝ }
 {
-    let mut a_up = has_byte(a, b'_');
-    let mut b_up = has_byte(b, b'_');
+    let mut a_up = starts_up(a, a_normalised);
+    let mut b_up = starts_up(b, b_normalised);
     let mut i = 0;
     let mut j = 0;
     loop {
-        let x = next_normalized(a, i, a_up);
-        let y = next_normalized(b, j, b_up);
+        let x = next_spelled(a, a_normalised, i, a_up);
+        let y = next_spelled(b, b_normalised, j, b_up);
         let Next::Byte(p, a_next) = x else {
             return ends(y);
         };
@@ -62,4 +76,10 @@ pub fn same_normalized(a: &[u8], b: &[u8]) -> bool
         a_up = false;
         b_up = false;
     }
+}
+
+pub fn same_normalized(a: &[u8], b: &[u8]) -> bool
+    ensures { λ r. ⌜ r ≡ same (normalizeTypeName (now (a .entry))) (normalizeTypeName (now (b .entry))) ⌝ }
+{
+    same_spelled(a, true, b, true)
 }
