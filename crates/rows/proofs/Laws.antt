@@ -1,6 +1,7 @@
 -- Laws of the definitions in specs/ and of those that they cite, those below before those above. The head of each file says what it holds.
 pub mod Zeros
 pub mod Tens
+pub mod Ends
 pub mod Words
 pub mod Room
 pub mod Texts

@@ -9,7 +9,7 @@ use native.Mathlib.Omega.{arith}
 use lib.Dec.{eqb, leb, ltb}
 use lib.ListN.{length, take, drop}
 use borrow.Author.Needs.{zero≤}
-use borrow.Author.Tests.{leb-true, le-leb, eqb-true}
+use borrow.Author.Tests.{leb-true, eqb-true}
 use Rattle.text.specs.Text.{if_then_else_, every, between}
 use Rattle.text.proofs.Laws.Tests.{and-true-left, and-true-right, if-in}
 use Rattle.sheet.specs.Rows.{Ten, ten, tens}
@@ -20,6 +20,7 @@ use Rattle.xsd_good.specs.declared.scan.Scan.{Scan}
 use Rattle.xsd_good.specs.Scan.{failed, firstPasses, firstRow, nextPasses, nextRow, scanned, scannedSheet}
 use Rattle.text.proofs.Laws.Table.{part-from}
 use Rattle.rows.proofs.Laws.Tens.{tens-none, tens-more, tens-two}
+use Rattle.rows.proofs.Laws.Ends.{end-within, tests-apart}
 
 abbrev pub tags : List Ten → List ℕ
 tags ts = map (λ (t : Ten). t .tag) ts
@@ -59,30 +60,12 @@ unfolding scanned nextRow nextPasses failed
 scanned-failed limit [] = refl
 scanned-failed limit (t ∷ ts) = scanned-failed limit ts
 
-pub covered-grows : (k : ℕ) (ts : List Ten) → k ≤ covered k ts
-unfolding covered endOf
-covered-grows k [] = omega arith
-covered-grows k (t ∷ ts) = omega (arith, covered-grows (k + t .len0 + t .len1 + t .len2) ts)
-
--- the tests of a row and of all behind it, taken apart
-pub tests-apart : (f m v l e i c q r : Bool) → (q ≡ true → l ≡ true) → (if f && m && v && l then e && (i && (c && (q && r))) else false) ≡ (f && e) && ((m && i) && ((v && c) && (q && r)))
-tests-apart false m v l e i c q r h = refl
-tests-apart true false v l e i c q r h = sym (and-false e)
-tests-apart true true false l e i c q r h = rw (and-false i, and-false e)
-tests-apart true true true false e i c false r h = rw (and-false c, and-false i, and-false e)
-tests-apart true true true false e i c true r h = absurd (false≢true (h refl))
-tests-apart true true true true e i c q r h = refl
-
 pub first-tests-apart : (w v l e i c q r s : Bool) → (q ≡ true → l ≡ true) → (w ≡ true → r ≡ s) → (if w && v && l then e && (i && (c && (q && r))) else false) ≡ (w && e && i) && (((v && c) && q) && s)
 first-tests-apart false v l e i c q r s h k = refl
 first-tests-apart true false l e i c q r s h k = sym (and-false (e && i))
 first-tests-apart true true false e i c false r s h k = rw (and-false c, and-false (e && i))
 first-tests-apart true true false e i c true r s h k = absurd (false≢true (h refl))
 first-tests-apart true true true e i c q r s h k = rw (k refl) (simp and-assoc)
-
--- a row's end is at most the limit where the last one is the limit
-pub end-within : (limit k : ℕ) (ts : List Ten) → eqb (covered k ts) limit ≡ true → leb k limit ≡ true
-end-within limit k ts e = le-leb k limit (omega (arith, covered-grows k ts, eqb-true (covered k ts) limit e))
 
 pub scanned-ends : (limit : ℕ) (p : ℕ → Bool) (k head : ℕ) (ts : List Ten) → ends limit p (scanned limit (record { ok = true; end = k; head = head }) ts) ≡ every tenForm ts && (inOrder head (tags ts) && (covers usedPairs k ts && (eqb (covered k ts) limit && p (lastHead head (tags ts)))))
 unfolding scanned nextRow nextPasses every inOrder covers covered lastHead failed
