@@ -1,5 +1,6 @@
 -- Paper 01, "Returned numbers": the numbers that the calls return, in the order of the table, and those of an event's refusals.
---     accepted .. badLabel    the numbers 0 to 16; malformed, doctype, shortMarks: 17 to 19, of order 1; repeatedName: 20, of order 4; noPattern, patternAside: 24 and 25, of order 13
+--     accepted .. badLabel    the numbers 0 to 16; malformed, doctype, shortMarks: 17 to 19, of order 1; repeatedName: 20, of order 4; notInForm: 21, of order 6; unheldValue,
+--                             shortText: 22 and 23, of order 8; noPattern, patternAside: 24 and 25, of order 13
 --     refusalNumber           the number of a refusal that an event can meet
 use Prim.Native.Nat.{ℕ}
 use Rattle.sheet.specs.declared.refusal.Refusal.{Refusal}
@@ -87,6 +88,18 @@ shortMarks = 19
 -- order 4: "two finished types normalise to the same name; the place is the row of the first head, in lowering's order, whose name came before"
 abbrev pub repeatedName : ℕ
 repeatedName = 20
+
+-- order 6: "21 not in paper 01's graph form (..), or two types of one name"
+abbrev pub notInForm : ℕ
+notInForm = 21
+
+-- order 8: "22 a value XML 1.0 cannot hold in an attribute .., place the first such row"
+abbrev pub unheldValue : ℕ
+unheldValue = 22
+
+-- order 8: "23 text longer than lent"
+abbrev pub shortText : ℕ
+shortText = 23
 
 -- order 13: "24 not in the grammar"
 abbrev pub noPattern : ℕ

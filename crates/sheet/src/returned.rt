@@ -63,6 +63,15 @@ pub const SHORT_MARKS: u32 = 19;
 // Order 4: "two finished types normalise to the same name; the place is the row of the first head, in lowering's order, whose name came before"
 pub const REPEATED_NAME: u32 = 20;
 
+// Order 6: "21 not in paper 01's graph form (..), or two types of one name"
+pub const GRAPH_FORM: u32 = 21;
+
+// Order 8: "22 a value XML 1.0 cannot hold in an attribute .., place the first such row"
+pub const NO_VALUE: u32 = 22;
+
+// Order 8: "23 text longer than lent"
+pub const TEXT_ROOM: u32 = 23;
+
 // Order 13: "24 not in the grammar"
 pub const NO_PATTERN: u32 = 24;
 
