@@ -2,3 +2,4 @@
 -- file says what it holds.
 pub mod Kinds
 pub mod Scan
+pub mod Call

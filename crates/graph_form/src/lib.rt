@@ -4,11 +4,14 @@ pub mod row0;
 pub mod scan;
 
 use rows::behind;
+use rows::lengths::sheet_lengths;
 use rows::ten::ten_of;
 use sheet::limits;
+use sheet::returned;
 ghost use mathlib.Core.Path.{_≡_};
-ghost use Rattle.sheet.specs.Calls.{sheet};
+ghost use Rattle.sheet.specs.Calls.{sheet, answered};
 ghost use Rattle.ir_types.specs.Form.{graphForm};
+ghost use Rattle.graph_form.specs.Call.{FormIs};
 
 // Whether the sheet is in the form.
 pub fn is_form(rows: &[u32], names: &[u8]) -> bool
@@ -33,4 +36,18 @@ pub fn is_form(rows: &[u32], names: &[u8]) -> bool
         & (types == s.types)
         & behind::zeros_behind(rows, names, n, used)
         & behind::names_test(names, used)
+}
+
+// The number of the call that judges the form alone: 1, 21 or 0. The place is 0.
+pub fn form_number(rows: &[u32], names: &[u8]) -> u32
+    ensures { λ r. ⌜ FormIs (sheet (now (rows .entry)) (now (names .entry))) (answered r 0) ⌝ }
+{
+    if !sheet_lengths(rows.len(), names.len()) {
+        return returned::BAD_LENGTH;
+    }
+    if is_form(rows, names) {
+        returned::ACCEPTED
+    } else {
+        returned::GRAPH_FORM
+    }
 }

@@ -35,27 +35,45 @@ too-short rows names h =
     not-inside rows names (not-true-false _ (λ e. omega (arith, parts-in (ten rows) (length rows) (length names) e)))
 
 -- what is asked behind the pass over the rows
+abbrev pub zeros : List ℕ → List ℕ → Ten → Bool
+zeros rows names z = allZero (drop (10 * z .at0) rows) && allZero (drop (z .len0) names)
+
 abbrev pub behind : List ℕ → List ℕ → Ten → Bool
-behind rows names z = (allZero (drop (10 * z .at0) rows) && allZero (drop (z .len0) names)) && isText (take (z .len0) names)
+behind rows names z = zeros rows names z && isText (take (z .len0) names)
 
 -- the counts are those that row 0 gives
 abbrev pub counts : Ten → ℕ → ℕ → Bool
 counts z r y = eqb (z .at1) r && eqb (z .len1) y
 
-pub form-inside : (rows names : List ℕ) → partsFit (ten rows) (length rows) (length names) ≡ true → graphForm (sheet rows names) ≡ row0Form (graphRow0From (ten rows)) && ((rowsForm (graphRow0From (ten rows)) (tensOf (sheet rows names)) && namesForm (ten rows .len0) (tensOf (sheet rows names))) && behind rows names (ten rows))
+pub form-inside : (rows names : List ℕ) → partsFit (ten rows) (length rows) (length names) ≡ true
+    → graphForm (sheet rows names)
+    ≡ row0Form (graphRow0From (ten rows))
+    && ((rowsForm (graphRow0From (ten rows)) (tensOf (sheet rows names)) && namesForm (ten rows .len0) (tensOf (sheet rows names)))
+    && behind rows names (ten rows))
 unfolding graphForm usedParts row0Of partsFit zerosBehind tensOf
 form-inside rows names e = rw e (simp and-assoc)
 
-pub form-scanned : (rows names : List ℕ) → partsFit (ten rows) (length rows) (length names) ≡ true → row0Form (graphRow0From (ten rows)) && (ends (ten rows .len0) (counts (ten rows)) (scannedSheet (ten rows .len0) (tens (ten rows .at0 - 1) (drop 10 rows))) && behind rows names (ten rows)) ≡ graphForm (sheet rows names)
+-- the tests in the code's order, of the pass and of what the other calls give
+abbrev pub tests : Ten → Scan → Bool → Bool → Bool → Bool
+tests z s f b n = f && s .ok && eqb (s .end) (z .len0) && eqb (z .at1) (s .roots) && eqb (z .len1) (s .types) && b && n
+
+pub form-scanned : (rows names : List ℕ) → partsFit (ten rows) (length rows) (length names) ≡ true
+    → row0Form (graphRow0From (ten rows))
+    && (ends (ten rows .len0) (counts (ten rows)) (scannedSheet (ten rows .len0) (tens (ten rows .at0 - 1) (drop 10 rows)))
+    && behind rows names (ten rows))
+    ≡ graphForm (sheet rows names)
 unfolding tensOf row0Of
 form-scanned rows names h =
-    ap (λ (b : Bool). row0Form (graphRow0From (ten rows)) && (b && behind rows names (ten rows))) (sheet-ends (graphRow0From (ten rows)) (tensOf (sheet rows names)))
+    ap (λ (b : Bool). row0Form (graphRow0From (ten rows)) && (b && behind rows names (ten rows)))
+    (sheet-ends (graphRow0From (ten rows)) (tensOf (sheet rows names)))
     ∙ sym (form-inside rows names h)
 
--- the tests in the code's order
-pub form-is : (rows names : List ℕ) (z : Ten) (s : Scan) → z ≡ ten rows → partsFit z (length rows) (length names) ≡ true → s ≡ scannedSheet (z .len0) (tens (z .at0 - 1) (drop 10 rows)) → row0Form (graphRow0From z) && s .ok && eqb (s .end) (z .len0) && eqb (z .at1) (s .roots) && eqb (z .len1) (s .types) && (allZero (drop (10 * z .at0) rows) && allZero (drop (z .len0) names)) && isText (take (z .len0) names) ≡ graphForm (sheet rows names)
+pub form-is : (rows names : List ℕ) (z : Ten) (s : Scan) → z ≡ ten rows → partsFit z (length rows) (length names) ≡ true
+    → s ≡ scannedSheet (z .len0) (tens (z .at0 - 1) (drop 10 rows))
+    → tests z s (row0Form (graphRow0From z)) (zeros rows names z) (isText (take (z .len0) names)) ≡ graphForm (sheet rows names)
 form-is rows names z s e h d = simp and-assoc (rw (d, e) (simp and-assoc at (form-scanned rows names (rw e at h))))
 
--- of the results that the code's calls give
-pub form-tests : (rows names : List ℕ) (z : Ten) (s : Scan) {f b n : Bool} → f ≡ row0Form (graphRow0From z) → b ≡ (allZero (drop (10 * z .at0) rows) && allZero (drop (z .len0) names)) → n ≡ isText (take (z .len0) names) → z ≡ ten rows → partsFit z (length rows) (length names) ≡ true → s ≡ scannedSheet (z .len0) (tens (z .at0 - 1) (drop 10 rows)) → f && s .ok && eqb (s .end) (z .len0) && eqb (z .at1) (s .roots) && eqb (z .len1) (s .types) && b && n ≡ graphForm (sheet rows names)
+pub form-tests : (rows names : List ℕ) (z : Ten) (s : Scan) {f b n : Bool} → f ≡ row0Form (graphRow0From z) → b ≡ zeros rows names z
+    → n ≡ isText (take (z .len0) names) → z ≡ ten rows → partsFit z (length rows) (length names) ≡ true
+    → s ≡ scannedSheet (z .len0) (tens (z .at0 - 1) (drop 10 rows)) → tests z s f b n ≡ graphForm (sheet rows names)
 form-tests rows names z s f b n e h d = rw (f, b, n) (form-is rows names z s e h d)

@@ -60,7 +60,9 @@ returns-3 : tie.Need-returns-3
 returns-3 c =
     let q = c .before .before .before .before .before .before in
     let p = q .before .before .before .before .before .before in
-    form-tests (rowsOf p) (namesOf p) (row0Of p) (q .before .scan-sheet .result) (q .row0-form .ensures) (c .before .zeros-behind .ensures) (c .names-test .ensures) (p .before .before .ten-of .ensures) (fits p) (q .before .scan-sheet .ensures)
+    form-tests (rowsOf p) (namesOf p) (row0Of p) (q .before .scan-sheet .result)
+    (q .row0-form .ensures) (c .before .zeros-behind .ensures) (c .names-test .ensures)
+    (p .before .before .ten-of .ensures) (fits p) (q .before .scan-sheet .ensures)
 
 pub is-form-spec : {M : Type 1} → statement M
 is-form-spec =

@@ -1,11 +1,10 @@
 -- `graph_form::row::used_pairs` meets its contract: each branch is the one that the definition takes. Assumes nothing.
 use mathlib.Core.Path.{_≡_, sym, _∙_}
-use mathlib.Core.Bool.{false, _||_}
+use mathlib.Core.Bool.{false}
 use Prim.Native.Nat.{ℕ}
 use lib.Dec.{eqb}
 use borrow.Author.Tests.{eq-eqb, ne-eqb}
 use borrow.Author.Needs.{needs}
-use Rattle.text.specs.Text.{between}
 use Rattle.ir_types.specs.Form.{usedPairs}
 use Rattle.graph_form.specs.Kinds.{isCount, refers}
 use Rattle.graph_form.proofs.row.used_pairs.Statement.{statement}
@@ -15,8 +14,11 @@ returns : tie.Need-returns
 unfolding usedPairs isCount
 returns c = rw (sym (c .before .is-count .ensures) ∙ c .if1 .taken)
 
+abbrev tagOf : tie.Else1 → ℕ
+tagOf p = p .before .before .args .tag
+
 -- behind the first test the row has a pair
-has-pairs : (p : tie.Else1) → isCount (p .before .before .args .tag) ≡ false
+has-pairs : (p : tie.Else1) → isCount (tagOf p) ≡ false
 has-pairs p = sym (p .before .is-count .ensures) ∙ p .if1 .left
 
 returns-2 : tie.Need-returns-2
@@ -30,7 +32,8 @@ returns-3 c =
     rw (has-pairs (p .before), ne-eqb _ _ (p .if2 .left), eq-eqb _ _ (c .before .if3 .taken), c .with-reference .ensures)
 
 -- behind the third test the row is none of the two types with a pair of their own
-no-value : (p : tie.Else3) → (isCount (p .before .before .before .before .args .tag) ≡ false) × (eqb (p .before .before .before .before .args .tag) 8 ≡ false) × (eqb (p .before .before .before .before .args .tag) 7 ≡ false)
+no-value : (p : tie.Else3)
+    → (isCount (tagOf (p .before .before)) ≡ false) × (eqb (tagOf (p .before .before)) 8 ≡ false) × (eqb (tagOf (p .before .before)) 7 ≡ false)
 no-value p = (has-pairs (p .before .before), ne-eqb _ _ (p .before .if2 .left), ne-eqb _ _ (p .if3 .left))
 
 returns-4 : tie.Need-returns-4

@@ -11,16 +11,20 @@ returns : tie.Need-returns
 unfolding firstRow
 returns c =
     let p = c .before in
-    let a = p .before .before .before .before .before .before .before .before .args in
-    let e = first-passes (a .limit) (asTen (a .t)) (p .before .row-covers .ensures usedPairs (p .before .before .used-pairs .ensures)) (p .before .before .before .before .before .before .before .end-of .ensures) (p .wide .ensures) (c .if1 .taken) in
-    rw (e, p .before .before .before .before .before .before .before .end-of .ensures)
+    let q = p .before .before .before .before .before .before .before in
+    let a = q .before .args in
+    let e = first-passes (a .limit) (asTen (a .t))
+    (p .before .row-covers .ensures usedPairs (p .before .before .used-pairs .ensures)) (q .end-of .ensures) (p .wide .ensures) (c .if1 .taken) in
+    rw (e, q .end-of .ensures)
 
 returns-2 : tie.Need-returns-2
 unfolding firstRow
 returns-2 c =
     let p = c .before .before in
-    let a = p .before .before .before .before .before .before .before .before .args in
-    let e = first-passes (a .limit) (asTen (a .t)) (p .before .row-covers .ensures usedPairs (p .before .before .used-pairs .ensures)) (p .before .before .before .before .before .before .before .end-of .ensures) (p .wide .ensures) (c .before .if1 .left) in
+    let q = p .before .before .before .before .before .before .before in
+    let a = q .before .args in
+    let e = first-passes (a .limit) (asTen (a .t))
+    (p .before .row-covers .ensures usedPairs (p .before .before .used-pairs .ensures)) (q .end-of .ensures) (p .wide .ensures) (c .before .if1 .left) in
     rw e (c .failed .ensures)
 
 pub first-row-spec : {M : Type 1} → statement M

@@ -15,7 +15,8 @@ returns c =
     let q = p .before .before .before in
     let r = q .before .before in
     let a = r .before .before .args in
-    let e = next-passes (a .limit) (a .s) (asTen (a .t)) (r .row-form .ensures) (q .may-follow .ensures) (p .before .row-covers .ensures usedPairs (p .before .before .used-pairs .ensures)) (r .before .end-of .ensures) (p .wide .ensures) (d .before .if1 .taken) in
+    let e = next-passes (a .limit) (a .s) (asTen (a .t)) (r .row-form .ensures) (q .may-follow .ensures)
+    (p .before .row-covers .ensures usedPairs (p .before .before .used-pairs .ensures)) (r .before .end-of .ensures) (p .wide .ensures) (d .before .if1 .taken) in
     rw (e, r .before .end-of .ensures, d .head-after .ensures, c .before .before .counted .ensures, c .counted2 .ensures, c .before .is-type .ensures)
 
 returns-2 : tie.Need-returns-2
@@ -25,7 +26,8 @@ returns-2 c =
     let q = p .before .before .before in
     let r = q .before .before in
     let a = r .before .before .args in
-    let e = next-passes (a .limit) (a .s) (asTen (a .t)) (r .row-form .ensures) (q .may-follow .ensures) (p .before .row-covers .ensures usedPairs (p .before .before .used-pairs .ensures)) (r .before .end-of .ensures) (p .wide .ensures) (c .before .if1 .left) in
+    let e = next-passes (a .limit) (a .s) (asTen (a .t)) (r .row-form .ensures) (q .may-follow .ensures)
+    (p .before .row-covers .ensures usedPairs (p .before .before .used-pairs .ensures)) (r .before .end-of .ensures) (p .wide .ensures) (c .before .if1 .left) in
     rw e (c .failed .ensures)
 
 pub next-row-spec : {M : Type 1} → statement M
