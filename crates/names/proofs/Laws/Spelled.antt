@@ -21,7 +21,8 @@ module _ (normalised up : Bool) (name : Text) (i : ℕ) where
   unfolding spelledFrom
   spelled-passed h e b = rw e (segments-passed (code "_") false up name i h b)
 
-  pub spelled-kept : i < length name → normalised ≡ true → (getD name i 0 ≡ code "_" → ⊥) → spelledFrom normalised up (drop i name) ≡ casedByte up false (getD name i 0) ∷ spelledFrom normalised false (drop (suc i) name)
+  pub spelled-kept : i < length name → normalised ≡ true → (getD name i 0 ≡ code "_" → ⊥)
+      → spelledFrom normalised up (drop i name) ≡ casedByte up false (getD name i 0) ∷ spelledFrom normalised false (drop (suc i) name)
   unfolding spelledFrom
   spelled-kept h e b = rw e (segments-kept (code "_") false up name i h b)
 
