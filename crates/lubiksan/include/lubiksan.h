@@ -72,6 +72,7 @@ extern "C" {
 #define LUBIKSAN_MARKS 19        /* the tape needs more marks than lent */
 #define LUBIKSAN_NAME_TWICE 20   /* lowering: two finished types normalise to the same name; the place is the row of the first head, simple
                                     types before complex ones, whose name came before */
+#define LUBIKSAN_GRAPH_FORM 21   /* a graph is not in the form of a graph sheet: nothing is changed */
 /* 24 and 25: lubiksan_pattern, after 1 and 5 and tried in the order 25, 24. */
 #define LUBIKSAN_NO_PATTERN 24   /* no derivation of the pattern exists by the productions of XML Schema Part 2 (Second Edition), Appendix F */
 #define LUBIKSAN_PATTERN_ASIDE 25 /* not judged: the bytes \p, \P or -[ anywhere, or more than LUBIKSAN_PATTERN_OPENS_MAX bytes ( */
@@ -246,6 +247,12 @@ uint32_t lubiksan_label(const uint32_t *graph_rows, size_t graph_rows_length, co
 /* The number alone that lubiksan_label gives for the same arguments. */
 uint32_t lubiksan_label_number(const uint32_t *graph_rows, size_t graph_rows_length, const uint8_t *graph_names,
                                size_t graph_names_length, const uint8_t *words, size_t words_length, size_t row);
+
+/* Whether a graph sheet has the form that a lowering gives it: LUBIKSAN_ACCEPTED, LUBIKSAN_LENGTHS or LUBIKSAN_GRAPH_FORM. *place is set
+   to 0. Judged are the order and the numbers of the rows, the counts in row 0, that the pairs cover the names, bytes below 128, and
+   zeros behind the used parts; not judged are what the names say, c of roots and types, and how many children a type has. */
+uint32_t lubiksan_graph_form(const uint32_t *graph_rows, size_t graph_rows_length, const uint8_t *graph_names,
+                             size_t graph_names_length, size_t *place);
 
 /* Turns rows into ten columns, one after the other, each number below the first of its column stored as its difference from the
    number above, modulo 4294967296: LUBIKSAN_ACCEPTED or LUBIKSAN_LENGTHS. *place is set to 0. The two lengths are one and the same,
