@@ -144,6 +144,21 @@ pub(crate) fn label_number(rows: &[u32], names: &[u8], words: &[u8], row: usize)
     }
 }
 
+pub(crate) fn graph_form(rows: &[u32], names: &[u8]) -> Answer {
+    let mut place = 0;
+    // SAFETY: each address and its length are those of one slice; the place is lent for the call.
+    let number = unsafe {
+        c::lubiksan_graph_form(
+            rows.as_ptr(),
+            rows.len(),
+            names.as_ptr(),
+            names.len(),
+            &mut place,
+        )
+    };
+    Answer { number, place }
+}
+
 pub(crate) fn columns(rows: &[u32], columns: &mut [u32]) -> Answer {
     let mut place = 0;
     // SAFETY: each address and its length are those of one slice; all are lent for the call.

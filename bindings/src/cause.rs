@@ -97,6 +97,8 @@ causes! {
     ShortMarks = LUBIKSAN_MARKS, "the tags of the text take more marks than lent";
     /// 20: two finished types have the same name in the graph.
     RepeatedName = LUBIKSAN_NAME_TWICE, "two types have the same name in the graph";
+    /// 21: the graph has not the form of a graph sheet, or two of its types have one name.
+    GraphForm = LUBIKSAN_GRAPH_FORM, "the graph has not the form of a type graph, or two types of one name";
     /// 24: no derivation of the pattern exists by the productions of XML Schema.
     NoPattern = LUBIKSAN_NO_PATTERN, "not a regular expression of XML Schema";
     /// 25: the pattern has a form that is not judged.

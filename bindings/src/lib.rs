@@ -88,8 +88,8 @@ mod version;
 
 pub use cause::Cause;
 pub use graph::{
-    Attribute, BadGraph, Builtin, Cardinality, CharacterCount, Choice, Code, CodeList, DigitCount,
-    Facet, Field, Graph, Label, Newtype, Opaque, Root, Struct, TypeDef, TypeRef, Value, Variant,
+    Attribute, Builtin, Cardinality, CharacterCount, Choice, Code, CodeList, DigitCount, Facet,
+    Field, Graph, Label, Newtype, Opaque, Root, Struct, TypeDef, TypeRef, Value, Variant,
 };
 pub use pattern::{Pattern, PatternFacet, Unjudged};
 pub use refusal::{At, Refusal, TypeAt};

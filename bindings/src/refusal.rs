@@ -78,6 +78,8 @@ pub enum Refusal {
         /// The type that has the name already.
         first: TypeAt,
     },
+    /// 21: the graph has not the form of a graph sheet, or, where it is reduced, two of its types have one name.
+    GraphForm,
     /// A number that no call should return here.
     Other {
         /// What the number says.
@@ -114,6 +116,7 @@ impl Refusal {
                 again: TypeAt::nameless(place),
                 first: TypeAt::nameless(0),
             },
+            Cause::GraphForm => Refusal::GraphForm,
             cause => Refusal::Other { cause, place },
         }
     }
@@ -138,6 +141,7 @@ impl Refusal {
             Refusal::GraphRoom => Cause::GraphRoom,
             Refusal::NoLabel => Cause::NoLabel,
             Refusal::RepeatedName { .. } => Cause::RepeatedName,
+            Refusal::GraphForm => Cause::GraphForm,
             Refusal::Other { cause, .. } => *cause,
         }
     }

@@ -343,3 +343,35 @@ fn the_table_of_causes_has_every_number_that_is_returned() {
     assert_eq!(Cause::of(99), Cause::Unknown(99));
     assert_eq!(Cause::Unknown(99).number(), 99);
 }
+
+/// A row of ten numbers: tag, first pair, a.
+fn row(tag: u32, at: u32, length: u32, a: u32) -> [u32; 10] {
+    [tag, at, length, 0, 0, 0, 0, a, 0, 0]
+}
+
+#[test]
+fn a_stored_graph_is_judged_by_the_library() -> Tried {
+    let good = [
+        [0, 3, 2, 0, 1, 0, 0, 0, 0, 0],
+        row(1, 0, 1, 0),
+        row(5, 1, 1, 4),
+    ]
+    .concat();
+    let graph = Graph::from_buffers(good.clone(), b"uA".to_vec())?;
+    assert_eq!(graph.types().next().map(|it| it.name()), Some("A"));
+    // A newtype without a built-in type, a type more than there is, a byte above 127, a number behind the used rows.
+    for (at, number) in [(27, 0), (27, 6), (4, 2), (22, 2), (35, 1)] {
+        let mut rows = good.clone();
+        rows.resize(40, 0);
+        rows[at] = number;
+        let refusal = Graph::from_buffers(rows, b"uA".to_vec()).err();
+        assert_eq!(refusal, Some(Refusal::GraphForm), "{at}");
+    }
+    let refusal = Graph::from_buffers(good.clone(), b"u\x80".to_vec()).err();
+    assert_eq!(refusal, Some(Refusal::GraphForm));
+    for rows in [0, 10, 25, 40_970] {
+        let refusal = Graph::from_buffers(vec![0; rows], Vec::new()).err();
+        assert_eq!(refusal, Some(Refusal::Lengths), "{rows}");
+    }
+    Ok(())
+}

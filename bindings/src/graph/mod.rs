@@ -1,11 +1,7 @@
 //! The type graph and its typed views.
 
-mod form;
 mod rows;
 mod types;
-
-use std::error::Error;
-use std::fmt;
 
 pub use types::{
     Attribute, Builtin, Cardinality, CharacterCount, Choice, Code, CodeList, DigitCount, Facet,
@@ -55,21 +51,6 @@ pub struct Graph<'a> {
     used: usize,
 }
 
-/// Stored buffers have not the form of a graph.
-#[derive(Clone, Copy, Debug, PartialEq, Eq)]
-pub struct BadGraph {
-    /// The first row that is wrong, from 0.
-    pub row: usize,
-}
-
-impl fmt::Display for BadGraph {
-    fn fmt(&self, f: &mut fmt::Formatter<'_>) -> fmt::Result {
-        write!(f, "row {} has not the form of a type graph", self.row)
-    }
-}
-
-impl Error for BadGraph {}
-
 /// The label of a row: the type that it refers to.
 #[derive(Clone, Copy, Debug, PartialEq, Eq)]
 pub enum Label<'g, 'w> {
@@ -95,9 +76,15 @@ impl Graph<'static> {
     ///
     /// # Errors
     ///
-    /// [`BadGraph`] where they have not the form of a graph.
-    pub fn from_buffers(rows: Vec<u32>, names: Vec<u8>) -> Result<Graph<'static>, BadGraph> {
-        let used = form::rows_used(&rows, &names).map_err(|row| BadGraph { row })?;
+    /// [`Refusal::GraphForm`] where they have not the form of a graph, [`Refusal::Lengths`] where a length is not taken.
+    pub fn from_buffers(rows: Vec<u32>, names: Vec<u8>) -> Result<Graph<'static>, Refusal> {
+        let answer = calls::graph_form(&rows, &names);
+        if answer.number != sys::LUBIKSAN_ACCEPTED {
+            return Err(Refusal::of(answer, 0));
+        }
+        let used = rows
+            .get(sys::LUBIKSAN_ROWS_USED_AT)
+            .map_or(0, |&n| n as usize);
         Ok(Graph::owned(rows, names, used))
     }
 
@@ -123,15 +110,16 @@ impl<'a> Graph<'a> {
         }
     }
 
-    /// Calls the lowering on the buffers and notes what it left.
+    /// Calls what writes a graph, the lowering or the reduction, on the buffers and notes what it left.
     pub(crate) fn fill(
         &mut self,
-        lower: impl FnOnce(&mut [u32], &mut [u8], &mut [u32]) -> Answer,
+        write: impl FnOnce(&mut [u32], &mut [u8], &mut [u32]) -> Answer,
     ) -> Answer {
-        let answer = lower(&mut self.rows, &mut self.names, &mut self.scratch);
+        let answer = write(&mut self.rows, &mut self.names, &mut self.scratch);
         match answer.number {
             sys::LUBIKSAN_ACCEPTED => self.used = answer.place,
-            sys::LUBIKSAN_LENGTHS | sys::LUBIKSAN_NOT_GOOD | sys::LUBIKSAN_SCRATCH => {}
+            sys::LUBIKSAN_LENGTHS | sys::LUBIKSAN_NOT_GOOD => {}
+            sys::LUBIKSAN_SCRATCH | sys::LUBIKSAN_GRAPH_FORM => {}
             _ => self.used = 0,
         }
         answer

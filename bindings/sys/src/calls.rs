@@ -123,6 +123,15 @@ extern "C" {
         row: usize,
     ) -> u32;
 
+    /// Whether a graph sheet has the form of one.
+    pub fn lubiksan_graph_form(
+        graph_rows: *const u32,
+        graph_rows_length: usize,
+        graph_names: *const u8,
+        graph_names_length: usize,
+        place: *mut usize,
+    ) -> u32;
+
     /// Turns the rows of a sheet into ten columns of differences.
     pub fn lubiksan_columns(
         rows: *const u32,

@@ -42,6 +42,8 @@ pub const LUBIKSAN_DOCTYPE: u32 = 18;
 pub const LUBIKSAN_MARKS: u32 = 19;
 /// Two finished types normalise to the same name.
 pub const LUBIKSAN_NAME_TWICE: u32 = 20;
+/// The graph has not the form of a graph sheet, or two of its types have one name.
+pub const LUBIKSAN_GRAPH_FORM: u32 = 21;
 /// The pattern is no regular expression of XML Schema.
 pub const LUBIKSAN_NO_PATTERN: u32 = 24;
 /// The pattern has a form that is not judged.
