@@ -69,6 +69,21 @@ pub(crate) fn read(rows: &mut [u32], names: &mut [u8], text: &[u8], marks: &[u32
     Answer { number, place }
 }
 
+pub(crate) fn convert(rows: &mut [u32], names: &[u8]) -> Answer {
+    let mut place = 0;
+    // SAFETY: each address and its length are those of one slice; all are lent for the call.
+    let number = unsafe {
+        c::lubiksan_convert(
+            rows.as_mut_ptr(),
+            rows.len(),
+            names.as_ptr(),
+            names.len(),
+            &mut place,
+        )
+    };
+    Answer { number, place }
+}
+
 pub(crate) fn lower(
     rows: &[u32],
     names: &[u8],

@@ -206,6 +206,40 @@ impl<'a> SchemaSheet<'a> {
         accepted(answer, 0).map(|_| ())
     }
 
+    /// Fills in the count of refused types of a sheet that was stored before there was one. A sheet that has 0 there, or the right count,
+    /// is taken; nothing else is changed, so that it goes on where it stood.
+    ///
+    /// # Errors
+    ///
+    /// [`Refusal::Lengths`] or [`Refusal::NotGood`]; nothing is changed then.
+    ///
+    /// ```
+    /// use lubiksan::{ReadAs, SchemaSheet, TapeBuilder};
+    ///
+    /// let mut piece = TapeBuilder::new();
+    /// piece.start("schema", &[])?;
+    /// piece.start("simpleType", &[("name", "Code")])?;
+    /// piece.empty("restriction", &[("base", "Text")])?;
+    /// piece.close()?;
+    /// let mut sheet = SchemaSheet::cleared(ReadAs::Standard);
+    /// sheet.read(&piece.finish())?;
+    /// assert_eq!(sheet.refused_types(), 1);
+    ///
+    /// // As it would have been stored before.
+    /// let mut rows = sheet.rows().to_vec();
+    /// rows[17] = 0;
+    /// let mut before = SchemaSheet::from_buffers(rows, sheet.names().to_vec());
+    /// assert!(before.check().is_err());
+    /// before.convert()?;
+    /// before.check()?;
+    /// assert_eq!(before.refused_types(), 1);
+    /// # Ok::<(), Box<dyn std::error::Error>>(())
+    /// ```
+    pub fn convert(&mut self) -> Result<(), Refusal> {
+        let answer = calls::convert(&mut self.rows, &self.names);
+        accepted(answer, 0).map(|_| ())
+    }
+
     /// Is the sheet good? Nothing is changed.
     ///
     /// # Errors
@@ -335,6 +369,14 @@ impl<'a> SchemaSheet<'a> {
             sys::LUBIKSAN_BY_STANDARD => ReadAs::Standard,
             _ => ReadAs::Original,
         }
+    }
+
+    /// How many finished simple types lowering would refuse by 13, as the sheet counts them: an unknown base, and no code enum. The open
+    /// type does not count. Above 0, no graph comes of the sheet.
+    pub fn refused_types(&self) -> usize {
+        self.rows
+            .get(sys::LUBIKSAN_REFUSED_TYPES_AT)
+            .map_or(0, |&count| count as usize)
     }
 
     /// A schema element was read.

@@ -1,4 +1,4 @@
-//! Clearing, reading, the tape of a text and the judgement of a pattern, by the static library `lubiksan`. A slice is passed as its address and its length.
+//! Clearing, reading, the conversion, the tape of a text and the judgement of a pattern, by the static library `lubiksan`. A slice is passed as its address and its length.
 
 #![allow(unsafe_code)]
 
@@ -23,6 +23,23 @@ pub fn clear(sheet: &mut Sheet, choice: u32) -> Answer {
             names.as_mut_ptr(),
             names.len(),
             choice,
+            &mut place,
+        )
+    };
+    answer(number, place as u32)
+}
+
+/// Fills in the count of a sheet.
+pub fn convert(sheet: &mut Sheet) -> Answer {
+    let (rows, names) = (&mut sheet.rows, &sheet.names);
+    let mut place = UNSET;
+    // SAFETY: each address and its length are those of one slice; all are lent for the call.
+    let number = unsafe {
+        c::lubiksan_convert(
+            rows.as_mut_ptr(),
+            rows.len(),
+            names.as_ptr(),
+            names.len(),
             &mut place,
         )
     };

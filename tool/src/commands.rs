@@ -10,6 +10,7 @@ use crate::document::Piece;
 use crate::failure::{named, say, though_unread, Failure};
 use crate::formats::{dot, json, plural, rows, rust, text};
 use crate::interrupt;
+use crate::light;
 use crate::lock;
 use crate::losses::{self, Counts};
 use crate::names::Names;
@@ -427,7 +428,8 @@ fn read(
     let read = advance(&source, sheet, &mut stored, events, &progress);
     progress.end();
     read?;
-    let line = format!("{}: {}\n", named(sheet), stored.progress());
+    let light = light::told(&stored.sheet, Some(&source));
+    let line = format!("{}: {}{light}\n", named(sheet), stored.progress());
     though_unread(write_output(None, line.as_bytes()))?;
     if !stored.is_whole() {
         return Ok(());
@@ -449,7 +451,7 @@ pub fn advance(
     events: usize,
     progress: &Progress,
 ) -> Result<(), Failure> {
-    let Stored { sheet, about } = stored;
+    let Stored { sheet, about, .. } = stored;
     let mut done = sheet.events_done();
     if events == 0 {
         stored::store(path, sheet, about)?;
@@ -490,8 +492,16 @@ fn described(path: &Path, stored: &Stored) -> String {
         ReadAs::Original => "as the original, any close at the top level ends the schema",
         ReadAs::Standard => "by the standard",
     };
+    let old = match stored.converted {
+        true => ", and old: it was stored before there was a count of refused types",
+        false => "",
+    };
+    let source = (sheet.refused_types() > 0)
+        .then(|| about.source())
+        .flatten();
+    let light = light::told(sheet, source.as_ref());
     format!(
-        "{}: good\nsource: {}, {} bytes, SHA-256 {sum}\nread: {read_as}\ndone: {}, {} tags open, {state}\nholds: {} elements, {} simple types, {} complex types\nuses: {} of {} rows, {} of {} bytes of names\n",
+        "{}: good{old}\nsource: {}, {} bytes, SHA-256 {sum}\nread: {read_as}\ndone: {}, {} tags open, {state}{light}\nholds: {} elements, {} simple types, {} complex types\nuses: {} of {} rows, {} of {} bytes of names\n",
         named(path),
         named(&about.path),
         about.length,

@@ -25,6 +25,7 @@ pub mod follow;
 pub mod formats;
 pub mod identifier;
 pub mod interrupt;
+pub mod light;
 pub mod lock;
 pub mod losses;
 pub mod names;

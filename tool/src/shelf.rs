@@ -14,6 +14,7 @@ use crate::commands::{advance, say_way, warn};
 use crate::failure::{named, say, though_unread, Failure};
 use crate::formats::plural;
 use crate::interrupt;
+use crate::light;
 use crate::lock;
 use crate::losses;
 use crate::notkept::{self, NotKept};
@@ -46,6 +47,7 @@ pub fn run(command: &Command, shelf: &Shelf) -> Result<(), Failure> {
     let ends = ends?;
     if !command.quiet {
         say_not_kept(&ends);
+        say_light(&ends);
     }
     ended(&ends)
 }
@@ -85,13 +87,19 @@ struct Done {
 /// How the work on one file ended.
 type End = Result<Done, Failure>;
 
+/// How it ended, and how many finished simple types its sheet has that lowering refuses.
+struct Ended {
+    end: End,
+    refused: usize,
+}
+
 /// Runs the jobs on several threads and prints a line for each in their order.
 fn side_by_side(
     command: &Command,
     shelf: &Shelf,
     jobs: &[Job],
     progress: &Progress,
-) -> Result<Vec<End>, Failure> {
+) -> Result<Vec<Ended>, Failure> {
     let cores = thread::available_parallelism().map_or(1, usize::from);
     let wanted = if shelf.jobs == 0 { cores } else { shelf.jobs };
     let next = AtomicUsize::new(0);
@@ -121,7 +129,7 @@ fn work(
     shelf: &Shelf,
     jobs: &[Job],
     next: &AtomicUsize,
-    ends: &Sender<(usize, End)>,
+    ends: &Sender<(usize, Ended)>,
 ) {
     loop {
         let index = next.fetch_add(1, Ordering::Relaxed);
@@ -137,19 +145,22 @@ fn work(
 /// Prints the lines in the order of the jobs, as soon as those before are there.
 fn in_order(
     count: usize,
-    ends: impl Iterator<Item = (usize, End)>,
+    ends: impl Iterator<Item = (usize, Ended)>,
     progress: &Progress,
-) -> Result<Vec<End>, Failure> {
-    let mut waiting: HashMap<usize, End> = HashMap::new();
+) -> Result<Vec<Ended>, Failure> {
+    let mut waiting: HashMap<usize, Ended> = HashMap::new();
     let mut printed = Vec::with_capacity(count);
     for (index, end) in ends {
         progress.add(1);
         waiting.insert(index, end);
         while let Some(end) = waiting.remove(&printed.len()) {
-            let line = match &end {
+            let mut line = match &end.end {
                 Ok(done) => done.line.clone(),
                 Err(failure) => failure.words().replace('\n', "; "),
             };
+            if end.refused > 0 {
+                line += &format!(", {}", light::counted(end.refused));
+            }
             let written = progress.aside(|| write_output(None, format!("{line}\n").as_bytes()));
             though_unread(written)?;
             printed.push(end);
@@ -159,7 +170,13 @@ fn in_order(
 }
 
 /// One schema: read on, stored after each piece, lowered.
-fn one(command: &Command, shelf: &Shelf, job: &Job) -> End {
+fn one(command: &Command, shelf: &Shelf, job: &Job) -> Ended {
+    let mut refused = 0;
+    let end = read_and_lowered(command, shelf, job, &mut refused);
+    Ended { end, refused }
+}
+
+fn read_and_lowered(command: &Command, shelf: &Shelf, job: &Job, refused: &mut usize) -> End {
     let of_job = |failure: Failure| match failure {
         Failure::Machine(words) if interrupt::asked() => {
             Failure::Machine(format!("{}: {words}", named(&job.file)))
@@ -176,7 +193,9 @@ fn one(command: &Command, shelf: &Shelf, job: &Job) -> End {
     let _lock = lock::on_sheet(&job.sheet, shelf.wait).map_err(of_job)?;
     let mut stored = stored::resumed(&job.sheet, &source, begin)?;
     let quiet = Progress::new(0, true);
-    advance(&source, &job.sheet, &mut stored, usize::MAX, &quiet).map_err(of_job)?;
+    let read = advance(&source, &job.sheet, &mut stored, usize::MAX, &quiet);
+    *refused = stored.sheet.refused_types();
+    read.map_err(of_job)?;
     let graph = lowered(&job.file, Some(&source), &stored.sheet)?;
     warn(command, losses::lines(&source, &stored.sheet))?;
     let found = NotKept::of(&source, &stored.sheet);
@@ -199,8 +218,9 @@ fn one(command: &Command, shelf: &Shelf, job: &Job) -> End {
 }
 
 /// What the graphs of all files do not keep, in one line.
-fn say_not_kept(ends: &[End]) {
-    let counts = ends.iter().flatten().map(|done| done.not_kept);
+fn say_not_kept(ends: &[Ended]) {
+    let done = ends.iter().filter_map(|end| end.end.as_ref().ok());
+    let counts = done.map(|done| done.not_kept);
     let counts: Vec<usize> = counts.filter(|&count| count > 0).collect();
     if !counts.is_empty() {
         let told = notkept::told(counts.iter().sum());
@@ -212,11 +232,24 @@ fn say_not_kept(ends: &[End]) {
     }
 }
 
+/// The light over all sheets, in one line.
+fn say_light(ends: &[Ended]) {
+    let red = ends
+        .iter()
+        .map(|end| end.refused)
+        .filter(|&count| count > 0);
+    let red: Vec<usize> = red.collect();
+    if !red.is_empty() {
+        let told = light::counted(red.iter().sum());
+        say(&format!("{told}: of {} of {} files", red.len(), ends.len()));
+    }
+}
+
 /// The end of the shelf: the machine's failures before the refusals.
-fn ended(ends: &[End]) -> Result<(), Failure> {
+fn ended(ends: &[Ended]) -> Result<(), Failure> {
     let count = |status: u8| {
         ends.iter()
-            .filter(|end| matches!(end, Err(f) if f.status() == status))
+            .filter(|end| matches!(&end.end, Err(f) if f.status() == status))
             .count()
     };
     let (machine, refused, all) = (count(3), count(1), ends.len());

@@ -17,7 +17,8 @@
 //!
 //! Two versions of before are still read. In version 2 the length of the packed part is not there, and behind the path stand the
 //! stored numbers (4 bytes each), not only of whole rows, and the stored bytes of names. In version 1 the three numbers from
-//! the places on are not there either, and all numbers and bytes are stored.
+//! the places on are not there either, and all numbers and bytes are stored. Sheets of all versions that were stored before there was a
+//! count of refused types have 0 for it; it is filled in as they are loaded, and stored at the next write.
 
 use std::ffi::OsStr;
 use std::os::unix::ffi::OsStrExt;
@@ -70,6 +71,8 @@ pub struct Stored {
     pub sheet: SchemaSheet<'static>,
     /// What it was read from.
     pub about: About,
+    /// It was stored before there was a count of refused types, which was filled in as it was loaded.
+    pub converted: bool,
 }
 
 impl About {
@@ -134,10 +137,12 @@ pub fn load(path: &Path) -> Result<Stored, Failure> {
 pub fn of_bytes(path: &Path, bytes: &[u8]) -> Result<Stored, Failure> {
     let refused = |words: String| Failure::Refused(format!("{}: {words}", named(path)));
     let mut stored = decoded(bytes).map_err(refused)?;
+    let counted = stored.sheet.refused_types();
     stored
         .sheet
-        .check()
+        .convert()
         .map_err(|refusal| refused(refusal.to_string()))?;
+    stored.converted = stored.sheet.refused_types() != counted;
     if stored.sheet.events_done() as u64 > stored.about.events {
         return Err(refused(
             "the sheet has more events done than its source has".to_owned(),
@@ -301,6 +306,7 @@ fn behind_header(header: Header, mut bytes: Cursor<'_>) -> Option<Stored> {
     Some(Stored {
         sheet: SchemaSheet::from_buffers(rows, names),
         about,
+        converted: false,
     })
 }
 
@@ -401,6 +407,7 @@ pub fn resumed(path: &Path, source: &Source, begin: Begin) -> Result<Stored, Fai
     let anew = || Stored {
         sheet: SchemaSheet::cleared(begin.read_as),
         about: About::of(source, begin.read_as),
+        converted: false,
     };
     let bytes = match bytes_of_file(path) {
         Ok(bytes) => bytes,

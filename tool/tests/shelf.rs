@@ -305,8 +305,11 @@ fn one_refused_file_does_not_stop_the_others() {
     let lines: Vec<&str> = ran.out.lines().collect();
     assert!(lines[0].ends_with("bad.xsd:1:9: complexType has no name (refused with 9, event 1)"));
     assert!(lines[1].ends_with("good.xsd: 3 events, 1 root, 0 types"));
-    assert!(lines[2].ends_with("base.xsd:1:9: simpleType \"T\" has no base (refused with 13)"));
-    assert_eq!(ran.err, "refused: 2 of 3 files\n");
+    assert!(lines[2].ends_with("base.xsd:1:9: simpleType \"T\" has no base (refused with 13), 1 simple type that lowering would refuse"));
+    assert_eq!(
+        ran.err,
+        "1 simple type that lowering would refuse: of 1 of 3 files\nrefused: 2 of 3 files\n"
+    );
     all_are_good(&shelf);
     let again = run(&shelf, &[bad, good], &[]);
     assert_eq!(

@@ -80,6 +80,15 @@ extern "C" {
         place: *mut usize,
     ) -> u32;
 
+    /// Fills in the count of a schema sheet that was stored before there was one.
+    pub fn lubiksan_convert(
+        rows: *mut u32,
+        rows_length: usize,
+        names: *const u8,
+        names_length: usize,
+        place: *mut usize,
+    ) -> u32;
+
     /// Lowers the finished types of a schema sheet to a graph sheet.
     pub fn lubiksan_lower(
         rows: *const u32,

@@ -32,6 +32,8 @@ pub const LUBIKSAN_OPEN_TAGS_AT: usize = 7;
 pub const LUBIKSAN_EXTENSION_AT: usize = 8;
 /// Column of row 0, of the schema sheet: the choice of its clearing.
 pub const LUBIKSAN_CHOICE_AT: usize = 9;
+/// Place among all numbers of the rows of the schema sheet: how many finished simple types lowering refuses, a of row 1.
+pub const LUBIKSAN_REFUSED_TYPES_AT: usize = 17;
 /// Column of row 0, of the graph sheet: how many roots.
 pub const LUBIKSAN_ROOTS_AT: usize = 3;
 /// Column of row 0, of the graph sheet: how many types.

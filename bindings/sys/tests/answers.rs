@@ -199,6 +199,10 @@ fn the_numbers_of_row_0() {
         (1, 0)
     );
     assert_eq!(at(LUBIKSAN_CHOICE_AT), LUBIKSAN_AS_ORIGINAL);
+    // One finished type without a base, and an open one.
+    let red = "<schema><simpleType name='S'><a/></simpleType><simpleType name='T'>";
+    let sheets = Sheets::of(red, LUBIKSAN_BY_STANDARD);
+    assert_eq!(sheets.schema(0, LUBIKSAN_REFUSED_TYPES_AT), 1);
     let none = Sheets::of("<a>", LUBIKSAN_BY_STANDARD);
     assert_eq!(none.schema(0, LUBIKSAN_CONTEXT_AT), LUBIKSAN_OUTSIDE);
     assert_eq!(none.schema(0, LUBIKSAN_ROOT_SEEN_AT), 0);

@@ -84,7 +84,7 @@ const SOURCES: [(&str, &str, Renamed); 8] = [
 ];
 
 /// The macros that no constant of the library names; `answers.rs` tries them, and `c.rs` measures the stack.
-const TRIED_ON_CALLS: [&str; 34] = [
+const TRIED_ON_CALLS: [&str; 35] = [
     "TAPE_STACK",
     "CLEAR_STACK",
     "READ_STACK",
@@ -107,6 +107,7 @@ const TRIED_ON_CALLS: [&str; 34] = [
     "OPEN_TAGS_AT",
     "EXTENSION_AT",
     "CHOICE_AT",
+    "REFUSED_TYPES_AT",
     "ROOTS_AT",
     "TYPES_AT",
     "AS_ORIGINAL",

@@ -73,6 +73,7 @@ static void others(void) {
         lubiksan_code_to_pascal_case(part, size, out, sizeof out);
         lubiksan_same_normalized(part, size, text, size);
     }
+    lubiksan_convert(rows, LUBIKSAN_ROWS_MAX, names, LUBIKSAN_NAMES_MAX, &place);
     lubiksan_columns(graph_rows, LUBIKSAN_ROWS_MAX, rows, LUBIKSAN_ROWS_MAX, &place);
     lubiksan_rows(graph_rows, LUBIKSAN_ROWS_MAX, rows, LUBIKSAN_ROWS_MAX, &place);
     lubiksan_parse_u32((const uint8_t *)" +0042 ", 7, &narrow);

@@ -1,7 +1,7 @@
 //! One call compared.
 
 use crate::paper::agree::{check_document, check_reading, ROOMY};
-use crate::paper::reading::{clear, events_of, read};
+use crate::paper::reading::{clear, convert, events_of, read};
 use crate::paper::sheet::{fits, names_used, rows_used, Lent, Sheet};
 use crate::paper::state::State;
 use crate::paper::Answer;
@@ -40,6 +40,20 @@ impl Checks {
         self.calls.given(given.number);
         let shown = || format!("lubiksan_clear of {:?} with {choice}", sheet.lent());
         self.calls.count(same(&model, &(given, after), shown));
+    }
+
+    /// A conversion; gives the sheet that the model leaves.
+    pub fn convert(&mut self, sheet: &Sheet) -> Sheet {
+        let model = convert(sheet);
+        let mut after = sheet.clone();
+        let given = reader::convert(&mut after);
+        self.calls.given(given.number);
+        let shown = || {
+            let first = &sheet.rows[..20.min(sheet.rows.len())];
+            format!("lubiksan_convert of {:?}, {first:?}", sheet.lent())
+        };
+        self.calls.count(same(&model, &(given, after), shown));
+        model.1
     }
 
     /// A reading; gives the sheet that the model leaves.

@@ -6,7 +6,7 @@ use std::path::Path;
 use std::process::ExitCode;
 use std::thread;
 
-use compare::calls::{labels, longer, numbered, numbers, small, standard, written};
+use compare::calls::{counted, labels, longer, numbered, numbers, small, standard, written};
 use compare::schemas;
 use compare::tally::Tally;
 
@@ -14,7 +14,7 @@ type Group = fn() -> Vec<Tally>;
 
 /// All of them.
 pub fn run() -> ExitCode {
-    let groups: [Group; 15] = [
+    let groups: [Group; 18] = [
         small::compare,
         numbers::compare,
         longer::documents,
@@ -30,6 +30,9 @@ pub fn run() -> ExitCode {
         numbered::written,
         numbered::sheets,
         numbered::documents,
+        counted::documents,
+        counted::sheets,
+        counted::light,
     ];
     let running = groups.map(thread::spawn);
     let tallies = running.map(|group| group.join().expect("the group runs to its end"));

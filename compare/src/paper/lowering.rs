@@ -138,10 +138,20 @@ impl State {
 
     /// The row of the first simple type that the Rust refuses when it stands alone.
     fn first_unknown(&self) -> u32 {
-        let refused = |rows: &[Row]| rows[0].tag == 3 && lower(&alone(rows)).is_err();
         let found = self.finished().into_iter().find(|(_, rows)| refused(rows));
         found.expect("the Rust refused one").0 as u32
     }
+
+    /// Order 7: "how many finished simple types lowering would refuse by 13", each as the Rust judges it alone.
+    pub fn refused_types(&self) -> u32 {
+        let finished = self.finished();
+        finished.iter().filter(|(_, rows)| refused(rows)).count() as u32
+    }
+}
+
+/// The Rust refuses the simple type of these rows.
+fn refused(rows: &[Row]) -> bool {
+    rows[0].tag == 3 && lower(&alone(rows)).is_err()
 }
 
 fn zeros(sheet: &Sheet) -> Sheet {

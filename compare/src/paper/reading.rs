@@ -15,6 +15,22 @@ pub fn clear(sheet: &Sheet, choice: u32) -> (Answer, Sheet) {
     }
 }
 
+/// Order 7's conversion: "takes sheets with 0 there, or the right count, and fills it in; it gives 1, or 2 for any other fault, and then
+/// changes nothing".
+pub fn convert(sheet: &Sheet) -> (Answer, Sheet) {
+    if !good_lengths(sheet.lent()) {
+        return (answer(1, 0), sheet.clone());
+    }
+    match State::with_count(sheet) {
+        Some((state, count)) if count == 0 || count == state.refused_types() => {
+            let mut filled = sheet.clone();
+            filled.rows[17] = state.refused_types();
+            (answer(0, 0), filled)
+        }
+        _ => (answer(2, 0), sheet.clone()),
+    }
+}
+
 /// The reading call: its answer and the sheet afterwards.
 pub fn read(sheet: &Sheet, tape: &Tape) -> (Answer, Sheet) {
     let lengths = good_lengths(sheet.lent()) && tape.text.len() <= 65_536;

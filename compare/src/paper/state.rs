@@ -2,7 +2,7 @@
 
 use super::sheet::{good_lengths, names_used, rows_used, Lent, Row, Sheet};
 
-/// The state of a run: row 0 and the other rows. `rows[0]` is row 1.
+/// The state of a run: row 0 and the other rows. `rows[0]` is row 1, its a 0: the count of order 7 is made for a sheet.
 #[derive(Clone, Debug, PartialEq, Eq)]
 pub struct State {
     pub rows: Vec<Row>,
@@ -50,14 +50,23 @@ impl State {
             u32::from(self.extension),
             u32::from(self.by_standard),
         ];
-        Sheet::packed(row0, &self.rows, lent)
+        let mut rows = self.rows.clone();
+        rows[0].a = self.refused_types();
+        Sheet::packed(row0, &rows, lent)
     }
 
-    /// The state that a sheet holds, if the sheet is good. Its lengths are good.
+    /// The state that a sheet holds, if the sheet is good. Its lengths are good. Order 7: "a sheet is good only if" its count is right.
     pub fn of(sheet: &Sheet) -> Option<State> {
+        let (state, count) = State::with_count(sheet)?;
+        (count == state.refused_types()).then_some(state)
+    }
+
+    /// The state and the count that a sheet holds, if it is good but for its count.
+    pub fn with_count(sheet: &Sheet) -> Option<(State, u32)> {
         let row0 = &sheet.rows[..10];
         let (rows, names) = used_parts(sheet)?;
-        let rows = unpacked(rows, names)?;
+        let mut rows = unpacked(rows, names)?;
+        let count = std::mem::take(&mut rows[0].a);
         let state = State {
             rows,
             context: row0[3],
@@ -68,7 +77,7 @@ impl State {
             extension: flag(row0[8])?,
             by_standard: flag(row0[9])?,
         };
-        (row0[0] == 0 && state.is_good()).then_some(state)
+        (row0[0] == 0 && state.is_good()).then_some((state, count))
     }
 
     /// The same, none also where the lengths are not good.
@@ -192,7 +201,8 @@ fn text_under(pair: &[u32], names: &[u8], end: &mut usize) -> Option<String> {
 fn pairs_used(ten: &[u32]) -> Option<usize> {
     let (a, b) = (ten[7], ten[8]);
     let (pairs, numbers_ok) = match ten[0] {
-        1 | 12 | 13 | 16 => (1, a == 0 && b == 0),
+        1 => (1, b == 0),
+        12 | 13 | 16 => (1, a == 0 && b == 0),
         2 | 3 | 14 | 19 => (2, a == 0 && b == 0),
         4 | 5 | 8 | 9 => (1, a == 0 && b == 0),
         6 | 7 => (0, true),

@@ -2,6 +2,7 @@
 --     Sized         the lengths of a sheet's buffers are in the paper's bounds
 --     lowered       what a lowering leaves, as one value
 --     Finished      a schema sheet whose finished items' rows end at `end`, and scratch enough for its types
+--     Counted       a schema sheet whose count is right for its finished items' rows, which end at `end`
 --     Cleared       a graph sheet of zeros, of such lengths
 --     GraphOf       the rows of a schema sheet up to `end` are lowered to the graph g
 --     asRow0        the code's row 0 of a graph as the definitions' row 0
@@ -12,7 +13,7 @@ use mathlib.Core.Path.{_≡_}
 use mathlib.Core.Bool.{Bool, true, false}
 use mathlib.Core.Option.{none, some}
 use mathlib.Core.List.{List, [], _∷_}
-use lib.ListN.{length}
+use lib.ListN.{length, getD}
 use Rattle.sheet.specs.Limits.{leastRows, rowsLimit, namesLimit}
 use Rattle.sheet.specs.Rows.{numbers}
 use Rattle.sheet.specs.Calls.{sheet, answered}
@@ -27,6 +28,7 @@ use Rattle.ir_lower.specs.Repeated.{firstRepeated, repeatedRow}
 use Rattle.ir_lower.specs.Call.{Lowered, zeros}
 use Rattle.xsd_types.specs.Places.{rowsFrom}
 use Rattle.xsd_types.specs.Refused.{refusedPlace}
+use Rattle.xsd_types.specs.Count.{refusedRows}
 use Rattle.ir_rows.specs.Lowered.{rootRows}
 use Rattle.ir_rows.specs.Types.{finishedPlaces, headsAt, graphRows}
 use Rattle.ir_append.specs.declared.Grown.{Grown}
@@ -45,6 +47,11 @@ pub record Finished (rows names : List ℕ) (end : ℕ) (scratch : List ℕ) : T
   pub inside : 10 * end ≤ length rows
   pub few : length rows ≤ rowsLimit
   pub enough : length (finishedPlaces rows names end) ≤ length scratch
+
+pub record Counted (rows names : List ℕ) (end : ℕ) : Type 0 where
+  pub atLeast : 2 ≤ end
+  pub inside : 10 * end ≤ length rows
+  pub count : getD rows 17 0 ≡ refusedRows (rowsFrom rows names 2 end)
 
 pub record Cleared (rows names : List ℕ) : Type 0 where
   pub rowsZero : rows ≡ zeros rows

@@ -10,6 +10,7 @@ use rows::lengths;
 use rows::numbers::Used;
 use rows::row;
 use sheet::returned;
+use xsd_good::count::count_in;
 use xsd_good::row0;
 use xsd_good::scan;
 use xsd_refused::first_refused;
@@ -21,15 +22,16 @@ ghost use Rattle.sheet.specs.Rows.{numbers};
 ghost use Rattle.sheet.specs.Lengths.{sheetLengths};
 ghost use Rattle.sheet.specs.Calls.{sheet, answered};
 ghost use Rattle.xsd_types.specs.State.{State};
-ghost use Rattle.xsd_types.specs.Good.{good};
-ghost use Rattle.xsd_types.specs.Back.{stateOf};
+ghost use Rattle.xsd_types.specs.Count.{good, stateOf};
+ghost use Rattle.xsd_types.specs.Places.{rowsFrom};
+ghost use Rattle.xsd_types.specs.Refused.{refusedPlace};
 ghost use Rattle.ir_types.specs.Types.{TypeGraph};
 ghost use Rattle.ir_types.specs.Row0.{graphRow0Ten};
 ghost use Rattle.ir_lower.specs.Repeated.{firstRepeated};
 ghost use Rattle.ir_lower.specs.Call.{LowerIs, zeros, written, repeatedOrWritten, lowerFinished, lowerState};
 ghost use Rattle.ir_rows.specs.Types.{finishedPlaces, headsAt, entryPlaces};
 ghost use Rattle.ir_index.specs.Index.{AllIn};
-ghost use Rattle.ir_call.specs.Steps.{Sized, lowered, Finished, Cleared, Lowers, GraphOf, asRow0, row0Of, GraphWritten};
+ghost use Rattle.ir_call.specs.Steps.{Sized, lowered, Finished, Counted, Cleared, Lowers, GraphOf, asRow0, row0Of, GraphWritten};
 
 fn answer(number: u32, place: usize) -> Answer
     ensures { λ r. ⌜ answered (r .number) (r .place) ≡ answered number place ⌝ }
@@ -172,6 +174,17 @@ fn lower_known(
     }
 }
 
+// 13's place, 0 where no simple type is refused: the sheet's count says whether there is one to look for (order 7).
+fn unknown_place(rows: &[u32], names: &[u8], end: usize) -> usize
+    requires { ⌜ Counted (now rows) (now names) end ⌝ }
+    ensures { λ r. ⌜ r ≡ refusedPlace 2 (rowsFrom (now (rows .entry)) (now (names .entry)) 2 end) ⌝ }
+{
+    if count_in(rows) == 0 {
+        return 0;
+    }
+    first_refused(rows, names, end)
+}
+
 // From 12 on graph sheet and scratch are left zero, so they are cleared before the tests.
 fn lower_finished(
     rows: &[u32],
@@ -182,7 +195,7 @@ fn lower_finished(
     graph_names: &mut [u8],
     scratch: &mut [u32],
 ) -> Answer
-    requires { ⌜ Finished (now rows) (now names) end (now scratch) × Sized (now «graph_rows») (now «graph_names») ⌝ }
+    requires { ⌜ Finished (now rows) (now names) end (now scratch) × Sized (now «graph_rows») (now «graph_names») × Counted (now rows) (now names) end ⌝ }
     ensures { λ r. ⌜ ((s : State) → Lowers (now (rows .entry)) (now (names .entry)) end «root_seen» s → lowered (r .number) (r .place) (now («graph_rows» .exit)) (now («graph_names» .exit)) (now (scratch .exit)) ≡ lowerFinished s (sheet (now («graph_rows» .entry)) (now («graph_names» .entry))) (now (scratch .entry))) ⌝ }
 {
     zero_graph(graph_rows, graph_names);
@@ -190,7 +203,7 @@ fn lower_finished(
     if !root_seen {
         return answer(returned::NO_ROOT, 0);
     }
-    let unknown = first_refused(rows, names, end);
+    let unknown = unknown_place(rows, names, end);
     if unknown != 0 {
         return answer(returned::UNKNOWN_BASE, unknown);
     }

@@ -12,3 +12,4 @@ pub mod Table
 pub mod Form
 pub mod Names
 pub mod Unnumbered
+pub mod Count

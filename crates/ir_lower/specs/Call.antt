@@ -22,8 +22,7 @@ use Rattle.sheet.specs.Lengths.{Answer, lengthsOf, goodLengths}
 use Rattle.sheet.specs.Returned as returned
 use Rattle.xsd_types.specs.Types.{Schema}
 use Rattle.xsd_types.specs.State.{State}
-use Rattle.xsd_types.specs.Good.{good}
-use Rattle.xsd_types.specs.Back.{stateOf}
+use Rattle.xsd_types.specs.Count.{good, stateOf}
 use Rattle.ir_types.specs.Types.{TypeGraph}
 use Rattle.ir_types.specs.Rows.{rowsUsed}
 use Rattle.ir_types.specs.Sheet.{graphFits, graphSheet}

@@ -14,7 +14,7 @@ use Rattle.sheet.specs.Rows.{Sheet}
 use Rattle.sheet.specs.Unfold.{computes as sheets}
 use Rattle.xsd_types.specs.Types.{Facet, MaxOccurs, ComplexContent, Item, Schema}
 use Rattle.xsd_types.specs.State.{ComplexContentBuilder, Context, State, firstState}
-use Rattle.xsd_types.specs.Sheet.{sheetOf}
+use Rattle.xsd_types.specs.Count.{sheetOf}
 use Rattle.xsd_types.specs.Unfold.{computes as schemas}
 use Rattle.ir_types.specs.Types.{TypeRef, Cardinality, TypeDef, TypeGraph}
 use Rattle.ir_types.specs.Unfold.{computes as graphs}

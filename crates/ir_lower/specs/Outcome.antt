@@ -13,8 +13,7 @@ use Rattle.sheet.specs.Lengths.{lengthsOf, goodLengths}
 use Rattle.sheet.specs.Returned as returned
 use Rattle.xsd_types.specs.Types.{Schema, simpleTypes}
 use Rattle.xsd_types.specs.State.{State}
-use Rattle.xsd_types.specs.Good.{good}
-use Rattle.xsd_types.specs.Back.{stateOf}
+use Rattle.xsd_types.specs.Count.{good, stateOf}
 use Rattle.ir_types.specs.Types.{TypeGraph}
 use Rattle.ir_types.specs.Distinct.{typeNames, distinctTexts, distinct}
 use Rattle.ir_types.specs.Rows.{rowsUsed}

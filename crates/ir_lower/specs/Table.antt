@@ -14,8 +14,7 @@ use Rattle.sheet.specs.Lengths.{lengthsOf, goodLengths}
 use Rattle.sheet.specs.Returned as returned
 use Rattle.xsd_types.specs.Types.{SimpleType, Item, Schema, simpleTypes}
 use Rattle.xsd_types.specs.Rows.{itemsRows}
-use Rattle.xsd_types.specs.Good.{good}
-use Rattle.xsd_types.specs.Back.{stateOf}
+use Rattle.xsd_types.specs.Count.{good, stateOf}
 use Rattle.ir_types.specs.Types.{TypeGraph}
 use Rattle.ir_types.specs.References.{GraphLabels}
 use Rattle.xsd_types.specs.Refused.{refusedBase}

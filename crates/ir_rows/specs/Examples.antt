@@ -13,7 +13,7 @@ use Rattle.sheet.specs.Rows.{Sheet, Row}
 use Rattle.sheet.specs.Unfold.{computes as sheets}
 use Rattle.xsd_types.specs.Types.{Facet, MaxOccurs, ComplexContent, Item}
 use Rattle.xsd_types.specs.State.{Context, State}
-use Rattle.xsd_types.specs.Sheet.{sheetOf}
+use Rattle.xsd_types.specs.Count.{sheetOf}
 use Rattle.xsd_types.specs.Unfold.{computes as schemas}
 use Rattle.ir_types.specs.Types.{TypeGraph}
 use Rattle.ir_types.specs.Rows.{rowsOf}

@@ -1,5 +1,5 @@
 /* The calls of the static library lubiksan (rt staticlib lubiksan): the text leaves; the tape of a schema text; a schema sheet
-   cleared, and a piece of a tape read into it; a schema sheet lowered to a graph sheet; the label of a row of a graph sheet; a
+   cleared, a piece of a tape read into it, and one stored earlier converted; a schema sheet lowered to a graph sheet; the label of a row of a graph sheet; a
    pattern judged; the rows of a graph sheet turned into columns for storing, and back.
 
    A buffer is a pointer and a length in elements. Every pointer is valid, also for a length of 0 (any pointer that is not null
@@ -39,7 +39,7 @@ extern "C" {
 /* Bytes of stack that a call takes below the frame that calls it, as measured on x86-64 Linux and rounded up to 1,024. */
 #define LUBIKSAN_TAPE_STACK 45056
 #define LUBIKSAN_CLEAR_STACK 1024
-#define LUBIKSAN_READ_STACK 1024
+#define LUBIKSAN_READ_STACK 2048
 #define LUBIKSAN_LOWER_STACK 67584
 #define LUBIKSAN_PATTERN_STACK 4096
 #define LUBIKSAN_OTHER_STACK 1024 /* any other call */
@@ -48,7 +48,8 @@ extern "C" {
 #define LUBIKSAN_ACCEPTED 0      /* the result; a reading's place is the events read, a lowering's the graph's rows used, a tape's the marks used */
 #define LUBIKSAN_LENGTHS 1       /* a buffer has a length outside the limits, a clearing's choice is above 1, or the two lengths of a
                                     turning differ: nothing is changed */
-#define LUBIKSAN_NOT_GOOD 2      /* the schema sheet is not good, as a cleared one is and one that a reading leaves: nothing is changed */
+#define LUBIKSAN_NOT_GOOD 2      /* the schema sheet is not good, as a cleared one is and one that a reading leaves; of lubiksan_convert: it would
+                                    not be with the right count either, or its count is neither 0 nor right: nothing is changed */
 /* 3 to 11: an event was refused. The place is its number in the piece, from 0, and the sheet holds the state after the events before it. */
 #define LUBIKSAN_RECORD 3        /* kind not 1 to 3, record cut short, too many attributes, a close with any */
 #define LUBIKSAN_PAIR 4          /* a pair outside the text or out of order */
@@ -124,7 +125,7 @@ extern "C" {
    empty tag of an element, the start tag of a type. Content, bases and the close leave it. 0 is unknown: in sheets stored before
    there were numbers, and for event 0 of a run begun inside a schema. Any other c of a head is below the events done, and no order
    among them is asked. Where c is not named it is 0. */
-#define LUBIKSAN_XSD_NAMESPACE 1       /* target namespace, always row 1 (namespace) */
+#define LUBIKSAN_XSD_NAMESPACE 1       /* target namespace, always row 1 (namespace), a the finished simple types that lowering refuses */
 #define LUBIKSAN_XSD_ELEMENT 2         /* element of the schema (name, type) */
 #define LUBIKSAN_XSD_SIMPLE_TYPE 3     /* simple type (name, base); its facets follow */
 #define LUBIKSAN_XSD_ENUMERATION 4     /* (value) */
@@ -230,6 +231,16 @@ uint32_t lubiksan_clear(uint32_t *rows, size_t rows_length, uint8_t *names, size
 /* Reads a piece of a tape into a schema sheet: 0 to 11, the place in *place. */
 uint32_t lubiksan_read(uint32_t *rows, size_t rows_length, uint8_t *names, size_t names_length, const uint8_t *text,
                        size_t text_length, const uint32_t *marks, size_t marks_length, size_t *place);
+
+/* The number of a schema sheet's rows that counts its finished simple types which lowering refuses by LUBIKSAN_UNKNOWN_BASE: a of row 1.
+   Every reading keeps it right, and a sheet is good only if it is; the open type does not count. Where a root was seen and the
+   lengths and the scratch are enough, lowering gives LUBIKSAN_UNKNOWN_BASE exactly if it is above 0. */
+#define LUBIKSAN_REFUSED_TYPES_AT 17
+
+/* Fills in the count of a schema sheet that was stored before there was one, and has 0 there, or has the right count:
+   LUBIKSAN_ACCEPTED, LUBIKSAN_LENGTHS or LUBIKSAN_NOT_GOOD. *place is set to 0. Nothing else is changed. Without it such a sheet
+   is not good, unless its count is 0. A converted sheet goes on where it stood: its events done and its numbers stay. */
+uint32_t lubiksan_convert(uint32_t *rows, size_t rows_length, const uint8_t *names, size_t names_length, size_t *place);
 
 /* Lowers the finished types of a schema sheet, which is unchanged, to a graph sheet, whatever that held: 0, 1, 2, 12 to 15 or
    20, the place in *place. The scratch has at least one number for each finished type, and is 0 afterwards. */

@@ -11,10 +11,10 @@ use Rattle.text.proofs.Laws.Tests.{bool-cases, and-true-left}
 use Rattle.sheet.specs.Rows.{Sheet}
 use Rattle.sheet.specs.Lengths.{sheetLengths, tapeLengths, Lengths, lengthsOf, goodLengths}
 use Rattle.xsd_types.specs.State.{State, firstState, proper}
-use Rattle.xsd_types.specs.Sheet.{sheetOf, stateFits}
-use Rattle.xsd_types.specs.Back.{stateOf}
+use Rattle.xsd_types.specs.Count.{sheetOf, stateOf}
+use Rattle.xsd_types.specs.Sheet.{stateFits}
 use Rattle.xsd_types.specs.Clear.{clear}
-use Rattle.xsd_types.proofs.Laws.SheetOf.{stateOf-sheetOf, good-sheetOf}
+use Rattle.xsd_types.proofs.Laws.Count.{stateOf-sheetOf, good-sheetOf}
 use Rattle.xsd_types.proofs.Laws.Clear.{first-proper, first-fits, clear-sheet}
 use Rattle.xsd_parser.specs.Tape.{Judged, event, refused}
 use Rattle.xsd_parser.specs.Step.{step}

@@ -20,7 +20,7 @@ use Rattle.xsd_types.specs.Rows.{contextRows, rowsOf, rowsUsed, namesUsed}
 use Rattle.xsd_types.specs.Sheet.{stateFits}
 use Rattle.xsd_types.specs.Clear.{clear}
 use Rattle.xsd_types.specs.Choice.{chosen, sheetChosen}
-use Rattle.xsd_types.proofs.Laws.Choice.{sheet-chosen}
+use Rattle.xsd_types.proofs.Laws.Count.{sheet-chosen}
 use Rattle.xsd_types.proofs.Laws.Clear.{clear-sheet}
 use Rattle.xsd_parser.specs.declared.words.Word.{Word}
 use Rattle.xsd_parser.specs.Event.{Event}

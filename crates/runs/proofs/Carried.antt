@@ -13,9 +13,7 @@ use Rattle.text.proofs.Laws.Texts.{same-refl}
 use Rattle.sheet.specs.Rows.{Sheet}
 use Rattle.sheet.specs.Lengths.{Lengths, lengthsOf, goodLengths}
 use Rattle.xsd_types.specs.State.{State, firstState, openPasses, headsPass}
-use Rattle.xsd_types.specs.Sheet.{sheetOf}
-use Rattle.xsd_types.specs.Good.{good}
-use Rattle.xsd_types.specs.Back.{stateOf}
+use Rattle.xsd_types.specs.Count.{sheetOf, good, stateOf}
 use Rattle.xsd_types.proofs.Laws.Events.{heads-weaken}
 use Rattle.xsd_parser.specs.Event.{Event, eventName}
 use Rattle.xsd_parser.specs.Tape.{Judged, event, refused}

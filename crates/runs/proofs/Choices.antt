@@ -12,10 +12,9 @@ use Rattle.sheet.specs.Rows.{Sheet, bit}
 use Rattle.sheet.specs.Lengths.{sheetLengths, tapeLengths, Lengths, lengthsOf, goodLengths}
 use Rattle.xsd_types.specs.State.{State}
 use Rattle.xsd_types.specs.Row0.{row0In}
-use Rattle.xsd_types.specs.Good.{good}
-use Rattle.xsd_types.specs.Back.{stateOf}
+use Rattle.xsd_types.specs.Count.{good, stateOf}
 use Rattle.xsd_types.specs.Clear.{clear}
-use Rattle.xsd_types.proofs.Laws.Choice.{choice-again, choice-made}
+use Rattle.xsd_types.proofs.Laws.Count.{choice-again, choice-made}
 use Rattle.xsd_parser.specs.Read.{readState}
 use Rattle.xsd_parser.proofs.Laws.Choices.{readState-choice}
 use Rattle.runs.specs.Runs.{Call, Held, hold, sheetHeld, readHeld, heldAfter, refusedWith, runCalls, answeredFirst, run}

@@ -1,4 +1,4 @@
--- The outer claims, each under the paper's words. What a call says of itself is `ClearIs`, `ReadIs`, `TapeIs`, `LowerIs`, `LabelIs` and `LabelNumberIs` (specs/ of
+-- The outer claims, each under the paper's words. What a call says of itself is `ClearIs`, `ConvertIs`, `ReadIs`, `TapeIs`, `LowerIs`, `LabelIs` and `LabelNumberIs` (specs/ of
 -- xsd_types, xsd_parser, xml, ir_lower, ir_types); a `Trace` is a list of readings and lowerings, each by its `ReadIs` or `LowerIs`. Every claim is proved below this file. Assumes nothing.
 use Prim.Native.Nat.{ℕ, _+_, _≤_, _<_}
 use mathlib.Core.Path.{_≡_}
@@ -24,16 +24,18 @@ use Rattle.xsd_types.specs.Rows.{rowsOf}
 use Rattle.xsd_types.specs.Unnumbered.{clearedRow, unnumberedSchema, unnumbered}
 use Rattle.xsd_types.proofs.Laws.Unnumbered.{rows-cleared}
 use Rattle.xsd_types.specs.Row0.{row0In}
-use Rattle.xsd_types.specs.Sheet.{sheetOf, stateFits}
-use Rattle.xsd_types.specs.Good.{good}
-use Rattle.xsd_types.specs.Back.{stateOf}
+use Rattle.xsd_types.specs.Good.{bareGood}
+use Rattle.xsd_types.specs.Back.{bareStateOf}
+use Rattle.xsd_types.specs.Count.{refusedTypes, countIn, bare, sheetOf, good, stateOf}
+use Rattle.xsd_types.specs.Sheet.{stateFits}
 use Rattle.xsd_types.specs.Clear.{clear}
-use Rattle.xsd_types.specs.Table.{ClearTable}
+use Rattle.xsd_types.specs.Convert.{convert}
+use Rattle.xsd_types.specs.Table.{ClearTable, ConvertTable}
 use Rattle.xsd_types.specs.Choice.{noNumbers, paperGood, sheetChosen}
-use Rattle.xsd_types.proofs.Laws.SheetOf.{stateOf-sheetOf}
+use Rattle.xsd_types.proofs.Laws.Count.{good-bare, good-count, count-sheetOf, stateOf-sheetOf, good-exactly, sheetOf-stateOf}
+use Rattle.xsd_types.proofs.Laws.Convert.{convert-table, convert-good, converted-good, converted-state, convert-twice}
 use Rattle.xsd_types.proofs.Laws.Clear.{good-clear}
 use Rattle.xsd_types.proofs.Laws.Table.{clear-table}
-use Rattle.xsd_types.proofs.Laws.StateOf.{good-exactly, sheetOf-stateOf}
 use Rattle.xsd_types.proofs.Laws.Choice.{good-before}
 use Rattle.xsd_parser.specs.Event.{Tag, Event}
 use Rattle.xsd_parser.specs.Kinds.{startKind, emptyKind}
@@ -74,7 +76,7 @@ use Rattle.ir_types.specs.Form.{graphForm}
 use Rattle.ir_types.specs.Label.{label}
 use Rattle.ir_types.specs.Table.{LabelTable}
 use Rattle.ir_types.proofs.Laws.Table.{label-table}
-use Rattle.ir_lower.specs.Lower.{lower, lowerCardinality, finishedDefinitions}
+use Rattle.ir_lower.specs.Lower.{lower, lowerCardinality, finishedDefinitions, finishedTypes}
 use Rattle.ir_lower.specs.Repeated.{heads as typeHeads, FirstRepeat}
 use Rattle.ir_lower.specs.Call.{lowering}
 use Rattle.ir_lower.specs.Unnumbered.{unnumberedLowered}
@@ -85,6 +87,7 @@ use Rattle.ir_lower.proofs.Laws.Table.{lowering-table, unknown-first, lowering-
 use Rattle.ir_lower.proofs.Laws.Cardinality.{optional-exactly, vec-exactly, bounded-exactly, required-exactly}
 use Rattle.ir_lower.proofs.Laws.Names.{lowering-accepted, lowering-last, repeated-exactly, repeated-place}
 use Rattle.ir_lower.proofs.Laws.Form.{lowering-form}
+use Rattle.ir_lower.proofs.Laws.Count.{thirteen-exactly}
 use Rattle.pattern.specs.Grammar.{Derives, regExp}
 use Rattle.pattern.specs.Scan.{start, go, scan}
 use Rattle.pattern.specs.Call.{Verdict}
@@ -99,6 +102,7 @@ use Rattle.runs.specs.Notes.{AlikeCalls, meetsNone, AlikeRuns, sheetsOf,
 use Rattle.runs.proofs.NoTwo.{NoneTwo, no-two}
 use Rattle.runs.proofs.Runs.{runs}
 use Rattle.runs.proofs.Joined.{last-joined, made-joined}
+use Rattle.runs.proofs.Converted.{converted-run}
 use Rattle.runs.proofs.Carried.{carried-run}
 use Rattle.runs.proofs.Cuts.{cut-run, cut-made, cut-joined}
 use Rattle.runs.proofs.Choices.{run-choice}
@@ -251,9 +255,9 @@ claim-tag-written = tag-written
 pub claim-tag-back : (text : Text) (at kind : ℕ) (t : Tag) (rest : Text) → drop at text ≡ writtenTag kind t ++ rest → eventRead text (writtenEvent at kind t) ≡ eventOf kind t
 claim-tag-back = tag-back
 
--- order 3, "0 as before", and order 5, "sheets stored earlier, which stay good": the sheets that paper 01 calls good are those that are good now with choice 0
--- and no number in c
-pub claim-good-before : (x : Sheet) → (paperGood x ≡ true) ↔ ((good x ≡ true) × (stateOf x .byStandard ≡ false) × (noNumbers (tensOf x) ≡ true))
+-- order 3, "0 as before", and order 5, "sheets stored earlier, which stay good": the sheets that paper 01 calls good are those that are good now, but for order 7's
+-- count, with choice 0, no number in c and 0 for the count
+pub claim-good-before : (x : Sheet) → (paperGood x ≡ true) ↔ ((bareGood x ≡ true) × (bareStateOf x .byStandard ≡ false) × (noNumbers (tensOf x) ≡ true))
 claim-good-before = good-before
 
 -- "kept as the last number of row 0": no call changes it, refused or not, from every first sheet
@@ -273,8 +277,8 @@ pub claim-both-choices : (x : Sheet) (calls : List Call) → clear 0 x .answer .
     → let r = run (clear 0 x .sheet) calls in run (clear 1 x .sheet) calls ≡ record { answers = r .answers; last = sheetChosen true (r .last) }
 claim-both-choices = cleared-runs
 
--- order 5, the numbers of events: with c cleared everywhere, reading and lowering are those of before. A state without numbers has the state's rows with c
--- of every head cleared. Sheets, and the claims on cutting, are with c: a cut changes none
+-- order 5, the numbers of events: with c cleared everywhere, reading and lowering are those of before. A state without numbers has the state's rows, without
+-- order 7's count, with c of every head cleared. Sheets, and the claims on cutting, are with c: a cut changes none
 pub claim-cleared-rows : (s : State) → map clearedRow (rowsOf s) ≡ rowsOf (unnumbered s)
 claim-cleared-rows = rows-cleared
 
@@ -347,6 +351,44 @@ claim-graph-back = graph-back
 -- what lowering writes has the graph's form
 pub claim-form : (x graph : Sheet) (scratch : List ℕ) → words (x .rows) ≡ true → lowering x graph scratch .answer .number ≡ 0 → graphForm (lowering x graph scratch .graph) ≡ true
 claim-form = lowering-form
+
+-- order 7, the count: "how many finished simple types lowering would refuse by 13 .. Keep that count in row 1 under a. Each event keeps it right, and a sheet is good
+-- only if it is": in a good sheet, and in that of every state that an event leads to
+pub claim-count-good : (x : Sheet) → good x ≡ true → countIn x ≡ refusedTypes (stateOf x .reader .schema .items)
+claim-count-good = good-count
+
+pub claim-count-kept : (s : State) (r n : ℕ) → stateFits r n s ≡ true → countIn (sheetOf s r n) ≡ refusedTypes (s .reader .schema .items)
+claim-count-kept = count-sheetOf
+
+-- but for it a good sheet is as it was before the order
+pub claim-count-bare : (x : Sheet) → good x ≡ true → bareGood (bare x) ≡ true
+claim-count-bare = good-bare
+
+-- the light: where 1, 2, 14 and 12 do not come, 13 comes exactly if a of row 1 is above 0
+pub claim-red-light : (x graph : Sheet) (scratch : List ℕ) → goodLengths (lengthsOf x) && goodLengths (lengthsOf graph) ≡ true → good x ≡ true → stateOf x .reader .rootSeen ≡ true → finishedTypes (stateOf x .reader .schema) ≤ length scratch
+    → (lowering x graph scratch .answer .number ≡ 13) ↔ (0 < countIn x)
+claim-red-light = thirteen-exactly
+
+-- the conversion: "it gives 1, or 2 for any other fault, and then changes nothing"
+pub claim-convert-table : (x : Sheet) → ConvertTable x (convert x)
+claim-convert-table = convert-table
+
+-- what it gives is good, a good sheet stays, and twice is once
+pub claim-converted-good : (x : Sheet) → convert x .answer .number ≡ 0 → good (convert x .sheet) ≡ true
+claim-converted-good = converted-good
+
+pub claim-convert-good : (x : Sheet) → good x ≡ true → convert x .sheet ≡ x
+claim-convert-good = convert-good
+
+pub claim-convert-twice : (x : Sheet) → convert (convert x .sheet) .sheet ≡ convert x .sheet
+claim-convert-twice = convert-twice
+
+-- "a converted sheet, too, counts as the one its run began with": it holds the state that was stored, its events done among it, and a run from it goes on from there
+pub claim-converted-state : (x : Sheet) → stateOf (convert x .sheet) ≡ stateOf x
+claim-converted-state = converted-state
+
+pub claim-converted-run : (x : Sheet) (calls : List Call) → convert x .answer .number ≡ 0 → run (convert x .sheet) calls .last ≡ sheetOf (afterRecords (lengthsOf x) (stateOf x) (joined (convert x .sheet) calls)) (length (x .rows)) (length (x .names))
+claim-converted-run = converted-run
 
 -- order 13, patterns: exactly one number fits every pattern, "order 1 for length, 5 for a byte above 127, 25, 24"
 pub claim-pattern-one : (s : Text) → (n : ℕ) × Verdict s n × ((m : ℕ) → Verdict s m → m ≡ n)

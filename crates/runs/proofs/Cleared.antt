@@ -13,8 +13,7 @@ use Rattle.sheet.specs.Rows.{Row, Sheet, row, namesOf}
 use Rattle.sheet.specs.Lengths.{Lengths, tapeLengths, lengthsOf, goodLengths}
 use Rattle.xsd_types.specs.Types.{Item, Schema, simpleTypes, complexTypes}
 use Rattle.xsd_types.specs.State.{State}
-use Rattle.xsd_types.specs.Good.{good}
-use Rattle.xsd_types.specs.Back.{stateOf}
+use Rattle.xsd_types.specs.Count.{good, stateOf}
 use Rattle.xsd_types.specs.Unnumbered.{unnumberedItem, unnumberedSchema, unnumberedReader, unnumbered}
 use Rattle.xsd_parser.specs.Read.{readState}
 use Rattle.xsd_parser.specs.Numbered.{unnumberedReading}

@@ -5,6 +5,7 @@ pub mod Served
 pub mod Runs
 pub mod NoTwo
 pub mod Joined
+pub mod Converted
 pub mod Carried
 pub mod Cuts
 pub mod Choices

@@ -10,8 +10,7 @@ use Rattle.text.proofs.Laws.Tests.{if-cases}
 use Rattle.sheet.specs.Rows.{Sheet}
 use Rattle.sheet.specs.Lengths.{tapeLengths, Lengths, lengthsOf, goodLengths}
 use Rattle.xsd_types.specs.State.{State}
-use Rattle.xsd_types.specs.Good.{good}
-use Rattle.xsd_types.specs.Back.{stateOf}
+use Rattle.xsd_types.specs.Count.{good, stateOf}
 use Rattle.xsd_parser.specs.Read.{readState}
 use Rattle.xsd_parser.proofs.Laws.Answers.{reading-not-two}
 use Rattle.ir_lower.specs.Call.{Lowered, unchanged, cleared, lowerState}

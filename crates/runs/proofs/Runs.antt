@@ -7,9 +7,8 @@ use Rattle.sheet.specs.Lengths.{Answer, lengthsOf, goodLengths}
 use Rattle.text.specs.Text.{if_then_else_}
 use Rattle.sheet.specs.Rows.{Sheet}
 use Rattle.sheet.specs.Form.{words}
-use Rattle.xsd_types.specs.Good.{good}
-use Rattle.xsd_types.specs.Back.{stateOf}
-use Rattle.xsd_types.proofs.Laws.StateOf.{sheetOf-stateOf, proper-stateOf, fits-stateOf}
+use Rattle.xsd_types.specs.Count.{good, stateOf}
+use Rattle.xsd_types.proofs.Laws.Count.{sheetOf-stateOf, proper-stateOf, fits-stateOf}
 use Rattle.xsd_parser.specs.Read.{ReadAnswer}
 use Rattle.runs.specs.Trace.{Trace, eventsDone}
 use Rattle.runs.specs.Runs.{Call, Answered, Ran, numberInRun, runCalls, answeredFirst, run, Held, hold, readHeld}

@@ -11,9 +11,9 @@ use Rattle.sheet.specs.Lengths.{tapeLengths, Lengths, lengthsOf, goodLengths}
 use Rattle.xsd_types.specs.State.{State, proper}
 use Rattle.xsd_types.specs.Row0.{row0From}
 use Rattle.xsd_types.specs.Rows.{row0}
-use Rattle.xsd_types.specs.Sheet.{sheetOf, stateFits}
-use Rattle.xsd_types.specs.Good.{good}
-use Rattle.xsd_types.proofs.Laws.SheetOf.{row0-made, good-sheetOf, stateOf-sheetOf, length-sheetOf}
+use Rattle.xsd_types.specs.Count.{sheetOf, good}
+use Rattle.xsd_types.specs.Sheet.{stateFits}
+use Rattle.xsd_types.proofs.Laws.Count.{good-sheetOf, stateOf-sheetOf, length-sheetOf, row0-sheetOf}
 use Rattle.xsd_parser.specs.Read.{ReadAnswer, readState, read, refusedAt, sheetOfReading}
 use Rattle.xsd_parser.proofs.Laws.Reads.{readState-proper, readState-fits}
 use Rattle.ir_lower.specs.Call.{unchanged, lowerState, lowering}
@@ -54,7 +54,7 @@ lower-state lent s graph scratch l p f =
 -- the events done in the sheet of a state
 eventsDone-sheetOf : (lent : Lengths) (s : State) → eventsDone (sheetOf s (lent .rows) (lent .names)) ≡ s .events
 unfolding eventsDone row0
-eventsDone-sheetOf lent s = ap (λ (t : Ten). row0From t .events) (row0-made s (lent .rows) (lent .names))
+eventsDone-sheetOf lent s = ap (λ (t : Ten). row0From t .events) (row0-sheetOf s (lent .rows) (lent .names))
 
 -- what a step leaves: the definition's answer, the refused event's number in the run, and a pair again
 pub record Kept (x : Sheet) (a : ReadAnswer) (st : Stepped) : Type 0 where

@@ -14,12 +14,10 @@ use Rattle.sheet.specs.Rows.{Sheet}
 use Rattle.sheet.specs.Form.{words}
 use Rattle.sheet.specs.Lengths.{Lengths, lengthsOf, goodLengths}
 use Rattle.xsd_types.specs.State.{State, proper, headsPass}
-use Rattle.xsd_types.specs.Sheet.{sheetOf, stateFits}
-use Rattle.xsd_types.specs.Good.{good}
-use Rattle.xsd_types.specs.Back.{stateOf}
+use Rattle.xsd_types.specs.Sheet.{stateFits}
+use Rattle.xsd_types.specs.Count.{sheetOf, good, stateOf}
 use Rattle.xsd_types.proofs.Laws.Events.{heads-weaken}
-use Rattle.xsd_types.proofs.Laws.SheetOf.{stateOf-sheetOf, good-sheetOf}
-use Rattle.xsd_types.proofs.Laws.StateOf.{proper-stateOf, fits-stateOf}
+use Rattle.xsd_types.proofs.Laws.Count.{stateOf-sheetOf, good-sheetOf, proper-stateOf, fits-stateOf}
 use Rattle.xsd_parser.specs.Event.{Event}
 use Rattle.xsd_parser.specs.Tape.{Judged, records}
 use Rattle.xsd_parser.specs.Handlers.{ok}

@@ -17,9 +17,7 @@ use Rattle.text.specs.Text.{Text, if_then_else_, between}
 use Rattle.sheet.specs.Rows.{Row, Sheet, row}
 use Rattle.sheet.specs.Lengths.{Answer, Lengths, tapeLengths}
 use Rattle.xsd_types.specs.State.{State, headsPass}
-use Rattle.xsd_types.specs.Sheet.{sheetOf}
-use Rattle.xsd_types.specs.Good.{good}
-use Rattle.xsd_types.specs.Back.{stateOf}
+use Rattle.xsd_types.specs.Count.{sheetOf, good, stateOf}
 use Rattle.xsd_types.specs.Unnumbered.{unnumbered}
 use Rattle.xsd_parser.specs.Read.{Reading}
 use Rattle.xsd_parser.specs.Numbered.{unknownNumber, readStateBy}

@@ -21,7 +21,7 @@ use Rattle.sheet.specs.Rows.{Sheet}
 use Rattle.sheet.specs.Lengths.{tapeLengths, Answer, Lengths}
 use Rattle.sheet.specs.Returned.{accepted, badLength}
 use Rattle.xsd_types.specs.State.{State}
-use Rattle.xsd_types.specs.Sheet.{sheetOf}
+use Rattle.xsd_types.specs.Count.{sheetOf}
 use Rattle.xsd_parser.specs.Tape.{Judged}
 use Rattle.xsd_parser.specs.Read.{Reading, readState}
 use Rattle.xsd_parser.specs.Whole.{wholeRecords}

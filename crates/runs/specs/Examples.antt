@@ -14,7 +14,7 @@ use Rattle.names.specs.Unfold.{computes as conversions}
 use Rattle.text.specs.Text.{bytes}
 use Rattle.sheet.specs.Rows.{Sheet}
 use Rattle.xsd_types.specs.Examples.Sheets.{line, noNamespace, sheet, junk, blank, blankBy, answer}
-use Rattle.xsd_types.specs.Good.{good}
+use Rattle.xsd_types.specs.Count.{good}
 use Rattle.xsd_parser.specs.Examples.Tapes.{Tag, start, empty, close, typed, schema, complexType, textOf, marksOf, taped}
 use Rattle.xsd_parser.specs.Event.{Event}
 use Rattle.xsd_parser.specs.Tape.{event}

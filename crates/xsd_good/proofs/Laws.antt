@@ -5,3 +5,5 @@ pub mod Open
 pub mod Held
 pub mod Good
 pub mod Clear
+pub mod Bare
+pub mod Convert

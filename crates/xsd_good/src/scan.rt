@@ -13,8 +13,8 @@ use xsd_types::tags;
 ghost use mathlib.Core.Path.{_≡_};
 ghost use mathlib.Core.Bool.{true};
 ghost use Prim.Native.Nat.{_-_, _*_, _≤_, _^_};
-ghost use lib.ListN.{length, drop};
-ghost use Rattle.sheet.specs.Rows.{tens};
+ghost use lib.ListN.{length, set, drop};
+ghost use Rattle.sheet.specs.Rows.{ten, tens};
 ghost use Rattle.sheet.specs.Form.{words};
 ghost use Rattle.xsd_types.specs.Good.{eventsTest};
 ghost use Rattle.rows.specs.Ten.{asTen};
@@ -91,12 +91,32 @@ fn scan_rows(rows: &[u32], n: usize, limit: u32, from: Scan) -> Scan
     s
 }
 
-// The rows of a sheet behind row 0, by the rows and names used that row 0 gives.
+// Row 1 with 0 for the count.
+fn bare_row1(rows: &[u32]) -> Ten
+    requires { ⌜ 20 ≤ length (now rows) ⌝ }
+    ensures { λ r. ⌜ asTen r ≡ ten (drop 10 (set (now (rows .entry)) 17 0)) ⌝ }
+{
+    let t = ten_at(rows, limits::ROW);
+    Ten {
+        tag: t.tag,
+        at0: t.at0,
+        len0: t.len0,
+        at1: t.at1,
+        len1: t.len1,
+        at2: t.at2,
+        len2: t.len2,
+        a: 0,
+        b: t.b,
+        c: t.c,
+    }
+}
+
+// The rows of a sheet behind row 0, by the rows and names used that row 0 gives. The count is not looked at.
 pub fn scan_sheet(rows: &[u32], rows_used: usize, names_used: u32) -> Scan
     requires { ⌜ (2 ≤ «rows_used») × (10 * «rows_used» ≤ length (now rows)) ⌝ }
-    ensures { λ r. ⌜ r ≡ scannedSheet «names_used» (tens («rows_used» - 1) (drop 10 (now (rows .entry)))) ⌝ }
+    ensures { λ r. ⌜ r ≡ scannedSheet «names_used» (tens («rows_used» - 1) (drop 10 (set (now (rows .entry)) 17 0))) ⌝ }
 {
-    let first = first_row(names_used, ten_at(rows, limits::ROW));
+    let first = first_row(names_used, bare_row1(rows));
     scan_rows(&rows[20..], rows_used - 2, names_used, first)
 }
 

@@ -28,3 +28,4 @@ pub mod Children
 pub mod ChildrenRead
 pub mod Choices
 pub mod Alike
+pub mod Grows

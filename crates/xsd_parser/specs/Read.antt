@@ -14,9 +14,7 @@ use Rattle.text.specs.Text.{Text, if_then_else_}
 use Rattle.sheet.specs.Rows.{Sheet}
 use Rattle.sheet.specs.Lengths.{tapeLengths, Answer, Lengths, lengthsOf, goodLengths}
 use Rattle.xsd_types.specs.State.{State}
-use Rattle.xsd_types.specs.Sheet.{sheetOf}
-use Rattle.xsd_types.specs.Good.{good}
-use Rattle.xsd_types.specs.Back.{stateOf}
+use Rattle.xsd_types.specs.Count.{sheetOf, good, stateOf}
 use Rattle.xsd_parser.specs.Tape.{Judged, event, refused, records}
 use Rattle.xsd_parser.specs.Handlers.{ok, refuse}
 use Rattle.xsd_parser.specs.Step.{step}

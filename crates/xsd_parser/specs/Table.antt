@@ -16,8 +16,7 @@ use Rattle.sheet.specs.Lengths.{tapeLengths, Lengths, lengthsOf, goodLengths}
 use Rattle.sheet.specs.Returned as returned
 use Rattle.xsd_types.specs.State.{Reader, State}
 use Rattle.xsd_types.specs.Sheet.{stateFits}
-use Rattle.xsd_types.specs.Good.{good}
-use Rattle.xsd_types.specs.Back.{stateOf}
+use Rattle.xsd_types.specs.Count.{good, stateOf}
 use Rattle.xsd_parser.specs.Kinds.{closeKind}
 use Rattle.xsd_parser.specs.Event.{Tag, Event}
 use Rattle.xsd_parser.specs.Tape.{next, allInside, allAscii, pairCount, pairsOf, formTest, record1}

@@ -6,4 +6,5 @@ pub mod Steps
 pub mod Records
 pub mod Loop
 pub mod Good
+pub mod Counted
 pub mod Calls

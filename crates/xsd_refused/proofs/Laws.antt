@@ -2,3 +2,5 @@
 pub mod Codes
 pub mod Base
 pub mod Refused
+pub mod Count
+pub mod Finished

@@ -1,4 +1,4 @@
-// The verdict on a simple type: whether lowering refuses it (13, "`UnknownBase`"), by the rows of a schema sheet. Places count rows; row 0 is
+// The verdict on a simple type: whether lowering refuses it (13, "`UnknownBase`"), by the rows of a schema sheet, and how many it refuses. Places count rows; row 0 is
 // at place 0.
 use builtin::map_builtin;
 use builtin::reference_number;
@@ -14,6 +14,7 @@ ghost use lib.ListN.{length};
 ghost use Rattle.builtin.specs.Builtin.{mapBuiltin, reference};
 ghost use Rattle.xsd_types.specs.Places.{rowAt, rowsFrom};
 ghost use Rattle.xsd_types.specs.Refused.{onlyCodes, isCodeEnum, refusedRow, refusedPlace};
+ghost use Rattle.xsd_types.specs.Count.{refusedRows};
 
 fn only_codes(rows: &[u32], from: usize, end: usize) -> bool
     requires { ⌜ 10 * end ≤ length (now rows) ⌝ }
@@ -78,4 +79,20 @@ pub fn first_refused(rows: &[u32], names: &[u8], end: usize) -> usize
         p += 1;
     }
     0
+}
+
+// Order 7: how many such heads stand from one place up to another. The rows behind a head decide whether it is a code enum, so they are looked at up to the same end.
+pub fn count_refused(rows: &[u32], names: &[u8], from: usize, end: usize) -> usize
+    requires { ⌜ (from ≤ end) × (10 * end ≤ length (now rows)) ⌝ }
+    ensures { λ r. ⌜ r ≡ refusedRows (rowsFrom (now (rows .entry)) (now (names .entry)) from end) ⌝ }
+{
+    let mut n = 0;
+    let mut p = from;
+    while p < end {
+        if is_refused(rows, names, p, end) {
+            n += 1;
+        }
+        p += 1;
+    }
+    n
 }

@@ -8,7 +8,7 @@
 --     lastGroup     the last group; noGroup (emptyRow): where there is none
 --     contextOf     the context, with the open type of the last group
 --     namespaceIn, behindNamespace    the text of row 1, and the rows behind it
---     stateOf       the state; stateOfRows: of row 0 and the rows behind it
+--     bareStateOf       the state; stateOfRows: of row 0 and the rows behind it
 use Prim.Native.Nat.{_+_, _*_, _^_}
 use mathlib.Core.List.{List, [], _∷_, map}
 use mathlib.Core.Bool.{Bool, true, false}
@@ -140,5 +140,5 @@ stateOfRows z rs =
       byStandard = eqb (z .choice) 1;
     }
 
-unfoldable pub stateOf : Sheet → State
-stateOf x = stateOfRows (row0In x) (rowsIn x)
+unfoldable pub bareStateOf : Sheet → State
+bareStateOf x = stateOfRows (row0In x) (rowsIn x)

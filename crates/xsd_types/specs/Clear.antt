@@ -12,7 +12,7 @@ use Rattle.sheet.specs.Rows.{Sheet}
 use Rattle.sheet.specs.Lengths.{sheetLengths, Answer}
 use Rattle.sheet.specs.Returned.{accepted, badLength}
 use Rattle.xsd_types.specs.State.{firstState}
-use Rattle.xsd_types.specs.Sheet.{sheetOf}
+use Rattle.xsd_types.specs.Count.{sheetOf}
 
 pub record Cleared : Type 0 where
   pub answer : Answer

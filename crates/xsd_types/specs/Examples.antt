@@ -1,5 +1,6 @@
 -- Small sheets through the definitions, by computation. Below: Sheets writes sheets by hand, Clearing has the clearing call, Judging the
--- sentences of a good sheet one by one, GoodSheets the good sheets at the borders, BadRows, BadOrder and BadContext each sentence broken once.
+-- sentences of a good sheet one by one, GoodSheets the good sheets at the borders, BadRows, BadOrder and BadContext each sentence broken once,
+-- Counting the count of order 7 and the conversion.
 use mathlib.Core.Path.{_≡_, refl}
 use mathlib.Core.Bool.{true, false}
 use mathlib.Core.List.{[], _∷_}
@@ -7,14 +8,13 @@ use mathlib.Core.Option.{some}
 use lib.ListN.{replicate}
 use Rattle.text.specs.Text.{bytes}
 use Rattle.text.specs.Unfold.{computes as texts}
+use Rattle.builtin.specs.Unfold.{computes as builtins}
 use Rattle.sheet.specs.Unfold.{computes as sheets}
 use Rattle.xsd_types.specs.Unfold.{computes as schemas}
 use Rattle.sheet.specs.Rows.{Sheet}
 use Rattle.xsd_types.specs.Types.{Facet, ComplexContent, Item, MaxOccurs}
 use Rattle.xsd_types.specs.State.{State, Context, ComplexContentBuilder}
-use Rattle.xsd_types.specs.Sheet.{sheetOf}
-use Rattle.xsd_types.specs.Good.{good}
-use Rattle.xsd_types.specs.Back.{stateOf}
+use Rattle.xsd_types.specs.Count.{sheetOf, good, stateOf}
 pub mod Sheets
 mod Clearing
 mod Judging
@@ -22,6 +22,7 @@ mod GoodSheets
 mod BadRows
 mod BadOrder
 mod BadContext
+mod Counting
 
 sampleState : State
 sampleState =
@@ -53,11 +54,11 @@ sampleState =
     }
 
 sample-good : good (sheetOf sampleState 130 60) ≡ true
-unfolding sampleState texts sheets schemas
+unfolding sampleState texts builtins sheets schemas
 sample-good = refl
 
 sample-back : stateOf (sheetOf sampleState 130 60) ≡ sampleState
-unfolding sampleState texts sheets schemas
+unfolding sampleState texts builtins sheets schemas
 sample-back = refl
 
 hugeSheet : Sheet

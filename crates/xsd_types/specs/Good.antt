@@ -122,8 +122,8 @@ headOf ts = lastHead 0 (map (λ (t : Ten). t .tag) ts)
 unfoldable pub eventsTest : ℕ → List Ten → Bool
 eventsTest events ts = every (λ (t : Ten). eventNumberOk events (t .c)) ts
 
-unfoldable pub good : Sheet → Bool
-good x =
+unfoldable pub bareGood : Sheet → Bool
+bareGood x =
     let z = row0In x in
     let ts = tensOf x in
     usedParts x && row0Form z && rowsForm ts && namesForm (z .namesUsed) ts && zerosBehind x && namesTest x

@@ -1,6 +1,6 @@
 -- The schema sheet of a state, in buffers of the given lengths. Paper 01, "Schema sheet".
 --     stateFits     the state's rows and names have room
---     sheetOf       the sheet
+--     bareSheetOf       the sheet
 use Prim.Native.Nat.{ℕ}
 use mathlib.Core.Bool.{Bool}
 use Rattle.sheet.specs.Rows.{Sheet, sheetOfRows}
@@ -12,5 +12,5 @@ use Rattle.xsd_types.specs.Rows.{rowsOf, row0, rowsUsed, namesUsed}
 unfoldable pub stateFits : ℕ → ℕ → State → Bool
 stateFits rowsLength namesLength s = fits (rowsUsed s) (namesUsed s) rowsLength namesLength
 
-unfoldable pub sheetOf : State → ℕ → ℕ → Sheet
-sheetOf s rowsLength namesLength = sheetOfRows (row0Ten (row0 s)) (rowsOf s) rowsLength namesLength
+unfoldable pub bareSheetOf : State → ℕ → ℕ → Sheet
+bareSheetOf s rowsLength namesLength = sheetOfRows (row0Ten (row0 s)) (rowsOf s) rowsLength namesLength

@@ -1,37 +1,49 @@
 -- What the steps of a lowering answer and leave is the definition's, number by number: each by the definition's tests, since zeros and room depend on
 -- lengths alone. Assumes nothing.
-use Prim.Native.Nat.{ℕ, _+_, _%_, _≤_, _<_}
-use mathlib.Core.Path.{_≡_, refl, sym, ap, _∙_, subst}
+use Prim.Native.Nat.{ℕ, suc, _+_, _%_, _≤_, _<_}
+use mathlib.Core.Path.{_≡_, refl, sym, ap, ap₂, _∙_, subst}
 use mathlib.Core.Bool.{Bool, true, false, _&&_}
 use mathlib.Core.Option.{Option, some, none}
-use mathlib.Core.List.{List, []}
+use mathlib.Core.List.{List, [], _∷_}
 use native.Mathlib.Omega.{arith}
 use lib.Dec.{eqb, leb}
-use lib.ListN.{length, replicate}
+use lib.ListN.{length, getD, set, drop, replicate}
+use lib.Seq.{getD-set-other, drop-set-add}
 use borrow.Author.Tests.{le-leb, lt-leb, leb-true}
-use Rattle.text.proofs.Laws.Tests.{two, four}
+use Rattle.text.specs.Text.{Text, between}
+use Rattle.text.proofs.Laws.Tests.{bool-cases, two, four}
+use Rattle.sheet.specs.Rows.{Row, row, ten, textAt, unpackRow}
+use Rattle.sheet.specs.Form.{words}
 use Rattle.sheet.specs.Lengths.{Answer, sheetLengths, lengthsOf, goodLengths}
 use Rattle.sheet.specs.Calls.{sheet, answered}
 use Rattle.sheet.specs.Limits.{rowNumbers, leastRows, rowsLimit, namesLimit}
 use Rattle.rows.specs.declared.numbers.Used.{Used}
 use Rattle.xsd_types.specs.State.{State}
-use Rattle.xsd_types.specs.Good.{good}
-use Rattle.xsd_types.specs.Back.{stateOf}
-use Rattle.xsd_types.specs.Rows.{itemsRows}
-use Rattle.xsd_good.specs.End.{Held}
+use Rattle.xsd_types.specs.Count.{refusedRows, countIn, good, stateOf}
+use Rattle.xsd_types.proofs.Laws.Count.{ten-count, good-bare, good-count}
+use Rattle.xsd_types.proofs.Laws.Places.{text0-at}
+use Rattle.xsd_refused.proofs.Laws.Finished.{rows-one, finished-rows, rowsFrom-count}
+use Rattle.xsd_types.specs.Row0.{Row0, row0From}
+use Rattle.xsd_types.specs.Rows.{itemsRows, namespaceRow}
+use Rattle.xsd_types.specs.Good.{usedPairs}
+use Rattle.xsd_types.specs.Back.{text0}
+use Rattle.xsd_good.specs.End.{finishedEnd, Held}
+use Rattle.xsd_good.proofs.Laws.Held.{root-held}
+use Rattle.xsd_good.proofs.Laws.Bare.{bare-held, bare-end, bare-room, bare-count}
 use Rattle.ir_types.specs.Types.{TypeGraph}
 use Rattle.ir_types.specs.Sheet.{graphFits}
 use Rattle.ir_lower.specs.Lower.{lower, finishedTypes}
 use Rattle.ir_lower.specs.Call.{Lowered, zeros, unchanged, cleared, written, repeatedOrWritten, refusedOrWritten, lowerFinished, lowerState, lowering}
 use Rattle.ir_lower.specs.Repeated.{firstRepeated, repeatedRow}
 use Rattle.ir_lower.proofs.Laws.Left.{length-zeros}
-use Rattle.xsd_types.specs.Places.{rowsFrom}
-use Rattle.xsd_types.specs.Refused.{refusedPlace}
+use Rattle.xsd_types.specs.Places.{rowAt, rowsFrom}
+use Rattle.xsd_types.specs.Refused.{refusedRow, refusedPlace}
+use Rattle.ir_rows.specs.Lowered.{loweredRow}
 use Rattle.ir_rows.specs.Types.{finishedPlaces, headsAt}
-use Rattle.ir_rows.proofs.Laws.Graph.{finished-types, unknown-place, unknown-refused, unknown-lowered, repeated-heads, root-count, type-count, graph-rows}
+use Rattle.ir_rows.proofs.Laws.Graph.{finished-types, unknown-place, unknown-refused, unknown-lowered, repeated-heads, root-count, type-count, graph-rows, namespace-lowered, Stands}
 use Rattle.ir_index.specs.declared.Indexed.{Indexed}
 use Rattle.ir_index.specs.Index.{AllIn, IndexIs}
-use Rattle.ir_call.specs.Steps.{Sized, Cleared, Lowers, GraphOf, GraphStands}
+use Rattle.ir_call.specs.Steps.{Sized, Counted, Cleared, Lowers, GraphOf, GraphStands}
 
 -- an answer, a graph sheet and a scratch as one value
 abbrev left : Answer → List ℕ → List ℕ → List ℕ → Lowered
@@ -140,32 +152,88 @@ module _ {rows names : List ℕ} {end : ℕ} {root : Bool} {s : State} (l : Lowe
       let seen = sym (l .root) ∙ t in
       rw seen (known-graph (lower (s .reader .schema)) refl u w)
 
+-- ---- the rows of a good sheet
+
+-- where the count is 0 no row is refused
+pub none-refused : (p : ℕ) (rs : List Row) → refusedRows rs ≡ 0 → refusedPlace p rs ≡ 0
+unfolding refusedRows refusedPlace
+none-refused p [] e = refl
+none-refused p (r ∷ rs) e =
+    bool-cases (refusedRow r rs) (λ q. let z : suc (refusedRows rs) ≡ 0 = rw q at e in absurd (omega arith)) (λ q. rw q (none-refused (p + 1) rs (rw q at e)))
+
+-- a number of row 1 but its a
+row1-number : (rows : List ℕ) (k : ℕ) → (k ≡ 7 → ⊥) → getD (drop 10 (set rows 17 0)) k 0 ≡ getD (drop 10 rows) k 0
+row1-number rows k h = ap (λ (l : List ℕ). getD l k 0) (drop-set-add 10 rows 7 0) ∙ getD-set-other (drop 10 rows) 7 k 0 0 h
+
+-- the text of row 1, whatever its a is
+row1-text : (rows names : List ℕ) → rowAt rows names 1 .tag ≡ 1 → text0 (rowAt rows names 1) ≡ textAt names (getD (drop 10 rows) 1 0) (getD (drop 10 rows) 2 0)
+unfolding rowAt ten unpackRow usedPairs between
+row1-text rows names e = text0-at names (ten (drop 10 rows)) (rw e (omega arith))
+
+module _ (rows names : List ℕ) (text : Text) (e : rowAt (set rows 17 0) names 1 ≡ namespaceRow text) where
+  row1-tag : rowAt rows names 1 .tag ≡ 1
+  unfolding rowAt ten unpackRow namespaceRow row
+  row1-tag = sym (row1-number rows 0 (λ n. omega arith)) ∙ ap (λ (r : Row). r .tag) e
+
+  pub namespace-there : loweredRow false (rowAt rows names 1) ≡ row 1 (text ∷ []) 0 0 0 ∷ []
+  unfolding namespaceRow row text0
+  namespace-there =
+      let bareTag : rowAt (set rows 17 0) names 1 .tag ≡ 1 = ap (λ (r : Row). r .tag) e in
+      let same = ap₂ (textAt names) (sym (row1-number rows 1 (λ n. omega arith))) (sym (row1-number rows 2 (λ n. omega arith))) in
+      let there = row1-text rows names row1-tag ∙ same ∙ sym (row1-text (set rows 17 0) names bareTag) ∙ ap text0 e in
+      namespace-lowered (rowAt rows names 1) row1-tag ∙ ap (λ (t : Text). row 1 (t ∷ []) 0 0 0 ∷ []) there
+
+module _ (rows names : List ℕ) (g : good (sheet rows names) ≡ true) (w : words rows ≡ true) where
+  held : Held (stateOf (sheet rows names)) (set rows 17 0) names
+  held = bare-held rows names (good-bare (sheet rows names) g) w
+
+  pub good-root : (z : Row0) → z ≡ row0From (ten rows) → eqb (z .rootSeen) 1 ≡ stateOf (sheet rows names) .reader .rootSeen
+  good-root z e = root-held held z (e ∙ ap row0From (sym (ten-count rows 0)))
+
+  pub good-end : (z : Row0) → z ≡ row0From (ten rows) → finishedEnd rows (z .context) (z .rowsUsed) ≡ 2 + length (itemsRows (stateOf (sheet rows names) .reader .schema .items))
+  good-end z e = ap (λ (y : Row0). finishedEnd rows (y .context) (y .rowsUsed)) e ∙ bare-end rows names (good-bare (sheet rows names) g) w
+
+  module _ {end : ℕ} (e : end ≡ 2 + length (itemsRows (stateOf (sheet rows names) .reader .schema .items))) where
+    pub good-stands : Stands (stateOf (sheet rows names)) rows names end
+    good-stands =
+        let s = stateOf (sheet rows names) in
+        record {
+          finished = sym (rowsFrom-count rows names 0 2 end (omega arith)) ∙ finished-rows s (held .packs) (held .proper) e;
+          namespace = namespace-there rows names _ (rows-one s (held .packs) (held .proper));
+        }
+
+    pub good-counted : Counted rows names end
+    unfolding countIn
+    good-counted =
+        let room = bare-room rows names (good-bare (sheet rows names) g) w e in
+        record { atLeast = room .0; inside = room .1; count = good-count (sheet rows names) g ∙ sym (bare-count rows names (good-bare (sheet rows names) g) w e) }
+
 -- ---- 14
 
-module _ {s : State} {rows names : List ℕ} {end : ℕ} (h : Held s rows names) (e : end ≡ 2 + length (itemsRows (s .reader .schema .items))) where
+module _ {s : State} {rows names : List ℕ} {end : ℕ} (h : Stands s rows names end) where
   pub lowers-held : {seen : Bool} → seen ≡ s .reader .rootSeen → Lowers rows names end seen s
   lowers-held root =
       record {
         root = root;
-        place = unknown-place s (h .packs) (h .proper) e;
-        refuses = unknown-refused s (h .packs) (h .proper) e;
-        repeated = repeated-heads s (h .packs) (h .proper) e;
-        lowers = λ g q. (unknown-lowered s (h .packs) (h .proper) e g q, record { rowsAre = graph-rows s (h .packs) (h .proper) e g q; roots = root-count s (h .packs) (h .proper) e g q; types = type-count s (h .packs) (h .proper) e g q });
+        place = unknown-place h;
+        refuses = unknown-refused h;
+        repeated = repeated-heads h;
+        lowers = λ g q. (unknown-lowered h g q, record { rowsAre = graph-rows h g q; roots = root-count h g q; types = type-count h g q });
       }
 
   pub state-short : (gr gn scratch : List ℕ) {n : ℕ} {a : Answer} → n ≡ length (finishedPlaces rows names end) → length scratch < n → a ≡ answered 14 0
       → left a gr gn scratch ≡ lowerState s (sheet gr gn) scratch
   unfolding lowerState unchanged
-  state-short gr gn scratch c l f =
-      let short = lt-leb (finishedTypes (s .reader .schema)) (length scratch) (rw (← finished-types s (h .packs) (h .proper) e, ← c) l) in
-      rw short (λ i. left (f i) gr gn scratch)
+  state-short gr gn scratch c l q =
+      let short = lt-leb (finishedTypes (s .reader .schema)) (length scratch) (rw (← finished-types h, ← c) l) in
+      rw short (λ i. left (q i) gr gn scratch)
 
   pub state-enough : (gr gn scratch : List ℕ) {n : ℕ} {x : Lowered} → n ≡ length (finishedPlaces rows names end) → n ≤ length scratch
       → x ≡ lowerFinished s (sheet gr gn) scratch → x ≡ lowerState s (sheet gr gn) scratch
   unfolding lowerState
-  state-enough gr gn scratch c l f =
-      let enough = le-leb (finishedTypes (s .reader .schema)) (length scratch) (rw (← finished-types s (h .packs) (h .proper) e, ← c) l) in
-      rw enough f
+  state-enough gr gn scratch c l q =
+      let enough = le-leb (finishedTypes (s .reader .schema)) (length scratch) (rw (← finished-types h, ← c) l) in
+      rw enough q
 
 -- ---- 1 and 2
 

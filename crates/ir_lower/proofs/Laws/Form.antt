@@ -12,8 +12,7 @@ use lib.ListN.{length}
 use Rattle.sheet.specs.Lengths.{lengthsOf, goodLengths}
 use Rattle.sheet.specs.Rows.{Sheet}
 use Rattle.xsd_types.specs.State.{State, schemaOk, countersOk, eventNumberOk, itemPasses, eventsOk, proper}
-use Rattle.xsd_types.specs.Good.{good}
-use Rattle.xsd_types.specs.Back.{stateOf}
+use Rattle.xsd_types.specs.Count.{good, stateOf}
 use Rattle.ir_types.specs.Form.{graphForm}
 use Rattle.ir_types.proofs.Laws.GraphForm.{graph-form}
 use Rattle.ir_lower.specs.Call.{Lowered, unchanged, lowerState, lowering}
@@ -26,7 +25,7 @@ use Rattle.xsd_types.proofs.Laws.Sound.{proper-parts}
 use Rattle.xsd_types.proofs.Laws.Events.{passing-parts, heads-weaken}
 use Rattle.ir_types.specs.Ok.{isSmall}
 use Rattle.sheet.specs.Form.{words}
-use Rattle.xsd_types.proofs.Laws.StateOf.{proper-stateOf}
+use Rattle.xsd_types.proofs.Laws.Count.{proper-stateOf}
 
 not-zero : (n : ℕ) (graph : Sheet) (scratch : List ℕ) (l : Lowered) → 1 ≤ n → l ≡ unchanged n graph scratch → l .answer .number ≡ 0 → ⊥
 not-zero n graph scratch l h e z = let q = unchanged-number n graph scratch l e in omega arith

@@ -11,8 +11,7 @@ use Rattle.sheet.specs.Lengths.{lengthsOf, goodLengths}
 use Rattle.text.specs.Text.{between}
 use Rattle.sheet.specs.Rows.{Sheet, allZero}
 use Rattle.xsd_types.specs.State.{State}
-use Rattle.xsd_types.specs.Good.{good}
-use Rattle.xsd_types.specs.Back.{stateOf}
+use Rattle.xsd_types.specs.Count.{good, stateOf}
 use Rattle.ir_types.specs.Types.{TypeGraph}
 use Rattle.ir_types.specs.Rows.{rowsUsed}
 use Rattle.ir_types.specs.Sheet.{graphFits, graphSheet}

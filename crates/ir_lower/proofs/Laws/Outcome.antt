@@ -11,8 +11,7 @@ use borrow.Author.Tests.{leb-true, leb-false}
 use Rattle.sheet.specs.Lengths.{lengthsOf, goodLengths}
 use Rattle.sheet.specs.Rows.{Sheet}
 use Rattle.xsd_types.specs.State.{State}
-use Rattle.xsd_types.specs.Good.{good}
-use Rattle.xsd_types.specs.Back.{stateOf}
+use Rattle.xsd_types.specs.Count.{good, stateOf}
 use Rattle.ir_types.specs.Types.{TypeGraph}
 use Rattle.ir_types.specs.Sheet.{graphFits}
 use Rattle.ir_lower.specs.Lower.{lower, finishedTypes}

@@ -13,8 +13,7 @@ use Rattle.sheet.specs.Rows.{Sheet}
 use Rattle.sheet.specs.Lengths.{sheetLengths, lengthsOf, goodLengths}
 use Rattle.xsd_types.specs.Types.{SimpleType, Item, simpleTypes}
 use Rattle.xsd_types.specs.State.{State}
-use Rattle.xsd_types.specs.Good.{good}
-use Rattle.xsd_types.specs.Back.{stateOf}
+use Rattle.xsd_types.specs.Count.{good, stateOf}
 use Rattle.xsd_types.specs.Refused.{refusedBase}
 use Rattle.ir_lower.specs.Lower.{anyUnknown, unknownRow}
 use Rattle.ir_lower.specs.Call.{Lowered, cleared, lowering}

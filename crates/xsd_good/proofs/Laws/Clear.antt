@@ -18,7 +18,7 @@ use Rattle.sheet.specs.Lengths.{sheetLengths}
 use Rattle.xsd_types.specs.State.{firstState}
 use Rattle.xsd_types.specs.Row0.{row0Ten}
 use Rattle.xsd_types.specs.Rows.{row0}
-use Rattle.xsd_types.specs.Sheet.{sheetOf}
+use Rattle.xsd_types.specs.Count.{sheetOf}
 use Rattle.xsd_types.specs.Clear.{Cleared, clear}
 use Rattle.sheet.specs.Calls.{sheet, answered}
 

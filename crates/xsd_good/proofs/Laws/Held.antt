@@ -16,12 +16,12 @@ use Rattle.sheet.proofs.Laws.Numbers.{ten-numbers}
 use Rattle.xsd_types.specs.State.{Context, State}
 use Rattle.xsd_types.specs.Row0.{Row0, row0From, row0Ten}
 use Rattle.xsd_types.specs.Rows.{itemsRows, contextRows, contextNumber, rowsOf, row0, rowsUsed, namesUsed}
-use Rattle.xsd_types.specs.Sheet.{stateFits, sheetOf}
-use Rattle.xsd_types.specs.Good.{good}
-use Rattle.xsd_types.specs.Back.{stateOf}
+use Rattle.xsd_types.specs.Sheet.{stateFits, bareSheetOf}
+use Rattle.xsd_types.specs.Good.{bareGood}
+use Rattle.xsd_types.specs.Back.{bareStateOf}
 use Rattle.xsd_types.proofs.Laws.Items.{bit-back}
 use Rattle.xsd_types.proofs.Laws.Parts.{parts-of}
-use Rattle.xsd_types.proofs.Laws.StateOf.{sheetOf-stateOf, proper-stateOf, fits-stateOf}
+use Rattle.xsd_types.proofs.Laws.StateOf.{bareSheetOf-bareStateOf, proper-bareStateOf, fits-bareStateOf}
 use Rattle.rows.specs.Packing.{Packs}
 use Rattle.rows.proofs.Laws.Room.{fits-room}
 use Rattle.rows.proofs.Laws.Sheet.{sheet-packs}
@@ -29,13 +29,16 @@ use Rattle.xsd_good.specs.End.{finishedEnd, Held}
 use Rattle.xsd_good.proofs.Laws.Open.{open-head-is}
 
 -- the used rows that row 0 of a good sheet gives, at least two, lie inside the buffer
-pub good-used : (rows names : List ℕ) → good (sheet rows names) ≡ true → (10 ≤ length rows) × (10 * rowsUsedIn (ten rows) ≤ length rows)
+pub good-rows : (rows names : List ℕ) → bareGood (sheet rows names) ≡ true → (20 ≤ length rows) × (10 * rowsUsedIn (ten rows) ≤ length rows)
 unfolding usedParts row0Of
-good-used rows names g =
+good-rows rows names g =
     let z = row0From (ten rows) in
     let used = two (leb 2 (z .rowsUsed)) _ (parts-of (sheet rows names) g .parts) in
     let room = fits-room (z .rowsUsed) (z .namesUsed) (length rows) (length names) (used .1) in
     (omega (arith, leb-true 2 (z .rowsUsed) (used .0), room .0), room .0)
+
+pub good-used : (rows names : List ℕ) → bareGood (sheet rows names) ≡ true → (10 ≤ length rows) × (10 * rowsUsedIn (ten rows) ≤ length rows)
+good-used rows names g = let r = good-rows rows names g in (omega (arith, r .0), r .1)
 
 -- row 0 of a packing
 pub ten-packs : (rows names : List ℕ) (z : Ten) (rs : List Row) → Packs rows names (numbers (z ∷ [])) rs → ten rows ≡ z
@@ -43,15 +46,15 @@ unfolding filled numbers
 ten-packs rows names z rs p = ap ten (p .rowsAre) ∙ ten-numbers z (pack 0 rs) _
 
 -- a good sheet holds its state
-pub held-good : (rows names : List ℕ) → good (sheet rows names) ≡ true → words rows ≡ true → Held (stateOf (sheet rows names)) rows names
-unfolding stateFits sheetOf rowsUsed namesUsed
+pub held-good : (rows names : List ℕ) → bareGood (sheet rows names) ≡ true → words rows ≡ true → Held (bareStateOf (sheet rows names)) rows names
+unfolding stateFits bareSheetOf rowsUsed namesUsed
 held-good rows names g w =
     let x = sheet rows names in
-    let s = stateOf x in
-    let room = fits-room (rowsUsed s) (namesUsed s) (length rows) (length names) (fits-stateOf x w g) in
+    let s = bareStateOf x in
+    let room = fits-room (rowsUsed s) (namesUsed s) (length rows) (length names) (fits-bareStateOf x w g) in
     record {
-      packs = sheet-packs x (row0Ten (row0 s)) (rowsOf s) (length rows) (length names) (room .0) (room .1) (sym (sheetOf-stateOf x w g));
-      proper = proper-stateOf x w g;
+      packs = sheet-packs x (row0Ten (row0 s)) (rowsOf s) (length rows) (length names) (room .0) (room .1) (sym (bareSheetOf-bareStateOf x w g));
+      proper = proper-bareStateOf x w g;
     }
 
 -- a context with no open type has no rows

@@ -7,7 +7,7 @@ use mathlib.Core.List.{List, [], _∷_, map}
 use Prim.Native.Nat.{ℕ, _+_, _-_, _≤_, _<_}
 use native.Mathlib.Omega.{arith}
 use lib.Dec.{eqb, leb, ltb}
-use lib.ListN.{length, take, drop}
+use lib.ListN.{length, set, take, drop}
 use borrow.Author.Needs.{zero≤}
 use borrow.Author.Tests.{leb-true, eqb-true}
 use Rattle.text.specs.Text.{if_then_else_, every, between}
@@ -16,6 +16,7 @@ use Rattle.sheet.specs.Rows.{Ten, ten, tens}
 use Rattle.sheet.specs.Form.{rowCovers, endOf, covers, covered}
 use Rattle.xsd_types.specs.Good.{usedPairs, tenForm, mayFollow, isHead, isChild, headAfter, inOrder, lastHead, rowsForm, namesForm, headOf, eventsTest}
 use Rattle.xsd_types.specs.State.{eventNumberOk}
+use Rattle.xsd_types.proofs.Laws.Count.{drop-count}
 use Rattle.xsd_good.specs.declared.scan.Scan.{Scan}
 use Rattle.xsd_good.specs.Scan.{failed, firstPasses, firstRow, nextPasses, nextRow, scanned, scannedSheet}
 use Rattle.text.proofs.Laws.Table.{part-from}
@@ -120,6 +121,7 @@ pub scan-stops : (limit : ℕ) (s : Scan) (left : ℕ) (rows : List ℕ) → lef
 unfolding scanned
 scan-stops limit s left rows h = rw (tens-none left rows h)
 
-pub scan-starts : (limit n : ℕ) (rows : List ℕ) (t : Ten) → 2 ≤ n → t ≡ ten (drop 10 rows) → scanned limit (firstRow limit t) (tens (n - 2) (take (length rows - 20) (drop 20 rows))) ≡ scannedSheet limit (tens (n - 1) (drop 10 rows))
+-- row 1 is looked at with 0 for the count, which stands before the others
+pub scan-starts : (limit n : ℕ) (rows : List ℕ) (t : Ten) → 2 ≤ n → t ≡ ten (drop 10 (set rows 17 0)) → scanned limit (firstRow limit t) (tens (n - 2) (take (length rows - 20) (drop 20 rows))) ≡ scannedSheet limit (tens (n - 1) (drop 10 (set rows 17 0)))
 unfolding scannedSheet
-scan-starts limit n rows t h e = rw (tens-two n rows h, part-from rows 20, e)
+scan-starts limit n rows t h e = rw (tens-two n (set rows 17 0) h, drop-count rows 0 20 (omega arith), part-from rows 20, e)

@@ -1,82 +1,38 @@
--- `xsd_good::is_good` meets its contract: the tests of the code are the parts of `good`, in its order, and where the used parts
--- do not lie inside the buffers, `good` fails too. Assumes nothing.
-use Prim.Native.Nat.{_*_, _≤_}
+-- `xsd_good::is_good` meets its contract: the test of the other sentences, and the count beside the one that is right. Assumes nothing.
+use mathlib.Core.Path.{_≡_, sym, _∙_}
 use mathlib.Core.Bool.{true}
-use mathlib.Core.Path.{_≡_, refl, sym, _∙_}
-use lib.ListN.{length}
+use native.Mathlib.Omega.{arith}
 use borrow.Author.Tests.{not-true, not-false}
 use borrow.Author.Needs.{needs}
-use Rattle.xsd_good.specs.Row0.{asRow0, partsFit}
-use Rattle.xsd_good.proofs.Laws.Good.{parts-in, not-inside, too-short, good-tests}
+use Rattle.sheet.specs.Calls.{sheet}
+use Rattle.xsd_types.specs.Good.{bareGood}
+use Rattle.xsd_types.specs.Count.{bare}
+use Rattle.xsd_good.proofs.Laws.Bare.{bare-used, good-not, good-by-count}
 use Rattle.xsd_good.proofs.is_good.Statement.{statement}
 use Rattle.xsd_good.proofs.is_good.Tie as tie
 
 returns : tie.Need-returns
 returns c =
-    let a = c .before .before .before .args in
-    sym (too-short (a .rows .now) (a .names .now) (c .if1 .taken))
+    let a = c .before .before .before .before .args in
+    sym (good-not (a .rows .now) (a .names .now) (sym (c .before .is-bare-good .ensures) ∙ not-true _ (c .if1 .taken)))
+
+-- behind the first test the sheet is good but for its count
+passes : (p : tie.Else1) → let a = p .before .before .before .before .args in bareGood (bare (sheet (a .rows .now) (a .names .now))) ≡ true
+passes p = sym (p .before .is-bare-good .ensures) ∙ not-false _ (p .if1 .left)
+
+count-in-requires : tie.Need-count-in-requires
+count-in-requires c κs =
+    let a = c .before .before .before .before .args in
+    omega (arith, bare-used (a .rows .now) (a .names .now) (passes c) .0)
+
+count-of-requires : tie.Need-count-of-requires
+count-of-requires c κs = passes (c .before)
 
 returns-2 : tie.Need-returns-2
 returns-2 c =
-    let a = c .before .before .before .before .before .before .args in
-    let f = sym (c .before .used-parts .ensures) ∙ not-true _ (c .if2 .taken) in
-    sym (not-inside (a .rows .now) (a .names .now) (rw (c .before .before .row0-at .ensures) at f))
-
--- behind the second test the used parts lie inside the buffers
-fits : (p : tie.Else2) → partsFit (asRow0 (p .before .before .row0-at .result)) (length (p .before .before .before .before .before .before .args .rows .now)) (length (p .before .before .before .before .before .before .args .names .now)) ≡ true
-fits p = sym (p .before .used-parts .ensures) ∙ not-false _ (p .if2 .left)
-
-inside : (p : tie.Else2) → (2 ≤ p .before .before .row0-at .result .«rows_used») × (10 * p .before .before .row0-at .result .«rows_used» ≤ length (p .before .before .before .before .before .before .args .rows .now)) × (p .before .before .row0-at .result .«names_used» ≤ length (p .before .before .before .before .before .before .args .names .now))
-inside p =
-    let a = p .before .before .before .before .before .before .args in
-    parts-in (asRow0 (p .before .before .row0-at .result)) (length (a .rows .now)) (length (a .names .now)) (fits p)
-
-scan-sheet-requires : tie.Need-scan-sheet-requires
-scan-sheet-requires c κs =
-    let h = inside (c .before .before) in
-    (h .0, h .1)
-
-zeros-behind-requires : tie.Need-zeros-behind-requires
-zeros-behind-requires c κs =
-    let h = inside (c .before .before .before .before .before .before) in
-    (h .1, h .2)
-
-names-test-requires : tie.Need-names-test-requires
-names-test-requires c κs = inside (c .before .before .before .before .before .before .before) .2
-
-events-test-requires : tie.Need-events-test-requires
-events-test-requires c κs =
-    let h = inside (c .before .before .before .before .before .before .before .before .before .before .before .before .before) in
-    (h .0, h .1)
-
-returns-3 : tie.Need-returns-3
-returns-3 c =
-    let d = c .before in
-    let r = d .before .before .before .before .before in
-    let q = r .before .before .before .before in
-    let p = q .before .before .before .before in
-    let a = p .before .before .before .before .before .before .args in
-    let z = asRow0 (p .before .before .row0-at .result) in
-    good-tests (a .rows .now) (a .names .now) z (q .before .scan-sheet .result) (q .row0-form .ensures) refl (r .before .zeros-behind .ensures) (r .names-test .ensures) (d .before .before .before .before .limits .ensures) (d .before .before .before .root-test .ensures) (d .before .before .nesting-test .ensures) (d .before .context-test .ensures) (d .extension-test .ensures) (c .events-test .ensures) (p .before .before .row0-at .ensures) (fits p) (q .before .scan-sheet .ensures)
+    let p = c .before .before in
+    let a = p .before .before .before .before .args in
+    good-by-count (a .rows .now) (a .names .now) (passes p) (c .before .count-in .ensures) (c .count-of .ensures .0)
 
 pub is-good-spec : {M : Type 1} → statement M
-is-good-spec =
-    tie.close
-    (tie.spec
-    returns
-    (λ c κs. search needs)
-    (λ c κs. search needs)
-    returns-2
-    (λ c. search needs)
-    (λ c. search needs)
-    scan-sheet-requires
-    (λ c κs. search needs)
-    zeros-behind-requires
-    names-test-requires
-    (λ c κs. search needs)
-    (λ c κs. search needs)
-    (λ c κs. search needs)
-    (λ c κs. search needs)
-    (λ c κs. search needs)
-    events-test-requires
-    returns-3)
+is-good-spec = tie.close (tie.spec (λ c κs. search needs) returns count-in-requires count-of-requires returns-2)

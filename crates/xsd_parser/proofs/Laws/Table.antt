@@ -14,8 +14,7 @@ use Rattle.sheet.specs.Rows.{Sheet}
 use Rattle.sheet.specs.Lengths.{tapeLengths, Lengths, lengthsOf, goodLengths}
 use Rattle.xsd_types.specs.State.{Reader, State}
 use Rattle.xsd_types.specs.Sheet.{stateFits}
-use Rattle.xsd_types.specs.Good.{good}
-use Rattle.xsd_types.specs.Back.{stateOf}
+use Rattle.xsd_types.specs.Count.{good, stateOf}
 use Rattle.xsd_parser.specs.Event.{Event}
 use Rattle.xsd_parser.specs.Tape.{Judged, event, Recorded, bad, next, allInside, allAscii, pairCount, pairsOf, formTest, tagRecord, record1, recordsFrom, records}
 use Rattle.xsd_parser.specs.Handlers.{Outcome, ok, refuse, _andThen_}

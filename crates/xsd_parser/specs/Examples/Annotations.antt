@@ -1,7 +1,7 @@
 -- Order 3, "An annotation must not end the schema", by computation: what clearing with choice 1 changes, beside choice 0.
 use mathlib.Core.Path.{_≡_, refl}
 use mathlib.Core.List.{List, [], _∷_}
-use Rattle.xsd_types.specs.Examples.Sheets.{line, noNamespace, sheet, blank, blankBy}
+use Rattle.xsd_types.specs.Examples.Sheets.{line, noNamespace, counting, sheet, blank, blankBy}
 use Rattle.xsd_parser.specs.Examples.Tapes.{Tag, start, empty, close, named, typed, based, valued, schema, simpleType, complexType, reads, gives, taped}
 
 -- ---- annotations at the top and below an element
@@ -89,7 +89,7 @@ empty-tags = refl
 -- the start of a type counts from the type, and its close leads back to nesting 0
 type-standard :
     reads (blankBy 1 40 9) (schema ∷ simpleType "S" ∷ start "annotation" [] ∷ close ∷ close ∷ [])
-    ≡ gives 0 5 (sheet 40 9 (line 0 3 1 1 0 1 5 1 0 1 ∷ noNamespace ∷ line 3 0 1 1 0 0 0 0 0 1 ∷ []) "S")
+    ≡ gives 0 5 (sheet 40 9 (line 0 3 1 1 0 1 5 1 0 1 ∷ counting 1 ∷ line 3 0 1 1 0 0 0 0 0 1 ∷ []) "S")
 unfolding taped
 type-standard = refl
 

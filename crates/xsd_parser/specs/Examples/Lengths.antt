@@ -15,7 +15,7 @@ use Rattle.xsd_types.specs.State.{firstState}
 use Rattle.xsd_types.specs.Clear.{clear}
 use Rattle.xsd_types.specs.Examples.Sheets.{line, noNamespace, sheet, junk, blank, blankBy, answer}
 use Rattle.xsd_types.proofs.Laws.Clear.{clear-sheet, good-clear, first-fits}
-use Rattle.xsd_types.proofs.Laws.SheetOf.{length-sheetOf}
+use Rattle.xsd_types.proofs.Laws.Count.{length-sheetOf}
 use Rattle.xsd_parser.specs.Read.{read, refusedAt, sheetOfReading, readState, readRecords}
 use Rattle.xsd_parser.specs.Tape.{records, recordsFrom}
 use Rattle.xsd_parser.specs.Examples.Tapes.{schema, reads, gives, taped}

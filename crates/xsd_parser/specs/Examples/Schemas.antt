@@ -1,7 +1,7 @@
 -- What an event does, by computation: contexts 0 and 1, and pieces.
 use mathlib.Core.Path.{_≡_, refl}
 use mathlib.Core.List.{[], _∷_}
-use Rattle.xsd_types.specs.Examples.Sheets.{line, noNamespace, sheet, blank}
+use Rattle.xsd_types.specs.Examples.Sheets.{line, noNamespace, counting, sheet, blank}
 use Rattle.xsd_parser.specs.Examples.Tapes.{start, empty, close, named, typed, schema, simpleType, reads, gives, taped}
 
 -- ---- context 0
@@ -123,7 +123,7 @@ close-in-0 = refl
 -- the close of a type returns to context 1, so the next type is read
 close-of-type :
     reads (blank 50 12) (schema ∷ simpleType "S" ∷ close ∷ simpleType "R" ∷ close ∷ [])
-    ≡ gives 0 5 (sheet 50 12 (line 0 4 2 1 0 1 5 1 0 0 ∷ noNamespace ∷ line 3 0 1 1 0 0 0 0 0 1 ∷ line 3 1 1 2 0 0 0 0 0 3 ∷ []) "SR")
+    ≡ gives 0 5 (sheet 50 12 (line 0 4 2 1 0 1 5 1 0 0 ∷ counting 2 ∷ line 3 0 1 1 0 0 0 0 0 1 ∷ line 3 1 1 2 0 0 0 0 0 3 ∷ []) "SR")
 unfolding taped
 close-of-type = refl
 

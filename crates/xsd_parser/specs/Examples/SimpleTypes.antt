@@ -1,7 +1,7 @@
 -- What an event does, by computation: simple types.
 use mathlib.Core.Path.{_≡_, refl}
 use mathlib.Core.List.{[], _∷_}
-use Rattle.xsd_types.specs.Examples.Sheets.{line, noNamespace, sheet, blank}
+use Rattle.xsd_types.specs.Examples.Sheets.{line, noNamespace, counting, sheet, blank}
 use Rattle.xsd_parser.specs.Examples.Tapes.{start, empty, close, typed, based, valued, schema, simpleType, reads, gives, taped}
 
 -- ---- the base
@@ -110,14 +110,14 @@ close-lowers = refl
 -- "or at 0 finishes the type .. and returns to context 1"
 close-finishes :
     reads (blank 110 16) (schema ∷ simpleType "S" ∷ start "restriction" (based "b") ∷ close ∷ close ∷ [])
-    ≡ gives 0 5 (sheet 110 16 (line 0 3 2 1 0 1 5 1 0 0 ∷ noNamespace ∷ line 3 0 1 1 1 0 0 0 0 1 ∷ []) "Sb")
+    ≡ gives 0 5 (sheet 110 16 (line 0 3 2 1 0 1 5 1 0 0 ∷ counting 1 ∷ line 3 0 1 1 1 0 0 0 0 1 ∷ []) "Sb")
 unfolding taped
 close-finishes = refl
 
 -- two types of one name are two
 same-name :
     reads (blank 110 16) (schema ∷ simpleType "S" ∷ close ∷ simpleType "S" ∷ close ∷ [])
-    ≡ gives 0 5 (sheet 110 16 (line 0 4 2 1 0 1 5 1 0 0 ∷ noNamespace ∷ line 3 0 1 1 0 0 0 0 0 1 ∷ line 3 1 1 2 0 0 0 0 0 3 ∷ []) "SS")
+    ≡ gives 0 5 (sheet 110 16 (line 0 4 2 1 0 1 5 1 0 0 ∷ counting 2 ∷ line 3 0 1 1 0 0 0 0 0 1 ∷ line 3 1 1 2 0 0 0 0 0 3 ∷ []) "SS")
 unfolding taped
 same-name = refl
 

@@ -12,6 +12,7 @@ use lib.ListN.{length}
 use Rattle.text.specs.Text.{Text, bytes}
 use Rattle.text.specs.Unfold.{computes as texts}
 use Rattle.number.specs.Unfold.{computes as numbers}
+use Rattle.builtin.specs.Unfold.{computes as builtins}
 use Rattle.sheet.specs.Rows.{Sheet}
 use Rattle.sheet.specs.Unfold.{computes as sheets}
 use Rattle.xsd_types.specs.Unfold.{computes as schemas}
@@ -82,5 +83,5 @@ unfoldable pub complexType : String → Tag
 complexType n = start "complexType" (named n)
 
 unfoldable pub taped : Unit {0}
-unfolding named typed based valued schema simpleType complexType attributesText tagText textOf attributesMarks tagMarks marksOf reads gives written texts numbers sheets schemas readings
+unfolding named typed based valued schema simpleType complexType attributesText tagText textOf attributesMarks tagMarks marksOf reads gives written texts numbers builtins sheets schemas readings
 taped = tt

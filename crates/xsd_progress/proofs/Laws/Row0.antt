@@ -9,8 +9,8 @@ use Rattle.sheet.specs.Form.{words, rowsUsedIn}
 use Rattle.xsd_types.specs.State.{State, proper}
 use Rattle.xsd_types.specs.Row0.{row0From, row0Ten}
 use Rattle.xsd_types.specs.Rows.{rowsOf, row0, rowsUsed, namesUsed, contextNumber}
-use Rattle.xsd_types.specs.Good.{good}
-use Rattle.xsd_types.specs.Back.{stateOf}
+use Rattle.xsd_types.specs.Good.{bareGood}
+use Rattle.xsd_types.specs.Back.{bareStateOf}
 use Rattle.xsd_types.proofs.Laws.Items.{bit-back}
 use Rattle.xsd_good.specs.Heads.{headRow}
 use Rattle.rows.specs.Packing.{Packs, Holds}
@@ -41,9 +41,9 @@ at-state rows names s p k =
     }
 
 -- where a good sheet stands
-pub at-row0 : (rows names : List ℕ) → good (sheet rows names) ≡ true → words rows ≡ true → At (stateOf (sheet rows names)) rows names (progressIn rows)
+pub at-row0 : (rows names : List ℕ) → bareGood (sheet rows names) ≡ true → words rows ≡ true → At (bareStateOf (sheet rows names)) rows names (progressIn rows)
 unfolding progressIn
 at-row0 rows names g w =
-    let s = stateOf (sheet rows names) in
+    let s = bareStateOf (sheet rows names) in
     let h = held-good rows names g w in
     subst (λ (t : Ten). At s rows names (progressOf (row0From t) (headRow rows (rowsUsedIn t)))) (sym (row0-held h)) (at-state rows names s (h .packs) (h .proper))

@@ -11,9 +11,9 @@ use Rattle.text.proofs.Laws.Tests.{two, four}
 use Rattle.sheet.specs.Rows.{Sheet}
 use Rattle.sheet.specs.Lengths.{Answer, sheetLengths, tapeLengths, lengthsOf, goodLengths}
 use Rattle.sheet.specs.Calls.{sheet, answered}
-use Rattle.xsd_types.specs.Good.{good}
+use Rattle.xsd_types.specs.Count.{good}
 use Rattle.xsd_parser.specs.Read.{ReadAnswer, ReadIs, read, refusedAt}
-use Rattle.xsd_read.specs.Good.{GoodSheet, GoodRead}
+use Rattle.xsd_read.specs.Good.{CountedSheet, CountedRead}
 
 -- the lengths of the four buffers
 abbrev pub lengthsPass : List ℕ → List ℕ → Text → List ℕ → Bool
@@ -33,12 +33,12 @@ unfolding read goodLengths lengthsOf refusedAt
 read-two rows names text marks q e f = ap (λ (a : Answer). answerOf a (sheet rows names)) q ∙ rw (e, f)
 
 pub read-through : (rows names : List ℕ) (text : Text) (marks : List ℕ) {a : Answer} {x : Sheet} → lengthsPass rows names text marks ≡ true → good (sheet rows names) ≡ true
-    → GoodRead rows names text marks a x → ReadIs (sheet rows names) text marks a x
+    → CountedRead rows names text marks a x → ReadIs (sheet rows names) text marks a x
 unfolding read goodLengths lengthsOf
 read-through rows names text marks e f g = rw (e, f) g
 
 pub good-sheet : (rows names : List ℕ) (text : Text) (marks : List ℕ) → lengthsPass rows names text marks ≡ true → good (sheet rows names) ≡ true
-    → GoodSheet rows names text
+    → CountedSheet rows names text
 unfolding sheetLengths tapeLengths
 good-sheet rows names text marks e f =
     let both = two (sheetLengths (length rows) (length names)) (tapeLengths (length text) (length marks)) e in

@@ -2,7 +2,7 @@
 use mathlib.Core.Path.{_≡_, sym, _∙_}
 use mathlib.Core.Bool.{true}
 use Rattle.sheet.specs.Calls.{sheet}
-use Rattle.xsd_types.specs.Good.{good}
+use Rattle.xsd_types.specs.Count.{good}
 use borrow.Author.Tests.{not-true, not-false}
 use borrow.Author.Needs.{needs}
 use Rattle.xsd_read.proofs.Laws.Calls.{lengthsPass, read-one, read-two, read-through, good-sheet}
@@ -26,15 +26,15 @@ returns-2 c =
     let a = c .before .before .before .before .before .before .before .before .before .before .before .args in
     read-two (a .rows .now) (a .names .now) (a .text .now) (a .marks .now) (c .refused2 .ensures) (lengths-pass (c .before .before .before .before .before)) (sym (c .before .before .is-good .ensures) ∙ not-true _ (c .before .if2 .taken))
 
-read-good-requires : tie.Need-read-good-requires
-read-good-requires c κs =
+read-counted-requires : tie.Need-read-counted-requires
+read-counted-requires c κs =
     let a = c .before .before .before .before .before .before .before .before .before .before .before .before .args in
     good-sheet (a .rows .now) (a .names .now) (a .text .now) (a .marks .now) (lengths-pass (c .before .before .before .before .before .before)) (sheet-good (c .before .before))
 
 returns-3 : tie.Need-returns-3
 returns-3 c =
     let a = c .before .before .before .before .before .before .before .before .before .before .before .before .before .before .before .before .before .args in
-    read-through (a .rows .now) (a .names .now) (a .text .now) (a .marks .now) (lengths-pass (c .before .before .before .before .before .before .before .before .before .before .before)) (sheet-good (c .before .before .before .before .before .before .before)) (c .before .before .before .before .read-good .ensures)
+    read-through (a .rows .now) (a .names .now) (a .text .now) (a .marks .now) (lengths-pass (c .before .before .before .before .before .before .before .before .before .before .before)) (sheet-good (c .before .before .before .before .before .before .before)) (c .before .before .before .before .read-counted .ensures)
 
 pub read-spec : {M : Type 1} → statement M
-read-spec = tie.close (tie.spec (λ c κs. search needs) (λ c κs. search needs) returns (λ c κs. search needs) (λ c κs. search needs) (λ c. search needs) (λ c. search needs) returns-2 read-good-requires (λ c. search needs) (λ c. search needs) returns-3)
+read-spec = tie.close (tie.spec (λ c κs. search needs) (λ c κs. search needs) returns (λ c κs. search needs) (λ c κs. search needs) (λ c. search needs) (λ c. search needs) returns-2 read-counted-requires (λ c. search needs) (λ c. search needs) returns-3)

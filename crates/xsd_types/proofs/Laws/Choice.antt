@@ -16,9 +16,9 @@ use Rattle.sheet.specs.Form.{isFlag, tensOf, usedParts, zerosBehind}
 use Rattle.xsd_types.specs.State.{State, eventNumberOk}
 use Rattle.xsd_types.specs.Row0.{Row0, row0In}
 use Rattle.xsd_types.specs.Rows.{rowsOf, rowsUsed, namesUsed, row0}
-use Rattle.xsd_types.specs.Sheet.{stateFits, sheetOf}
-use Rattle.xsd_types.specs.Good.{row0Form, rowsForm, namesForm, namesTest, limits, rootTest, openTagsTest, nestingZero, nestingTest, contextTest, extensionTest, headOf, eventsTest, good}
-use Rattle.xsd_types.specs.Back.{stateOfRows, stateOf}
+use Rattle.xsd_types.specs.Sheet.{stateFits, bareSheetOf}
+use Rattle.xsd_types.specs.Good.{row0Form, rowsForm, namesForm, namesTest, limits, rootTest, openTagsTest, nestingZero, nestingTest, contextTest, extensionTest, headOf, eventsTest, bareGood}
+use Rattle.xsd_types.specs.Back.{stateOfRows, bareStateOf}
 use Rattle.xsd_types.specs.Choice.{paperForm, paperNesting, noNumbers, paperGood, chosen, sheetChosen}
 use Rattle.xsd_types.proofs.Laws.Rows.{bit-again}
 use Rattle.xsd_types.proofs.Laws.Parts.{parts-of, first-of}
@@ -48,14 +48,14 @@ pub none-before : (events : ℕ) (ts : List Ten) → noNumbers ts ≡ true → e
 unfolding noNumbers eventsTest eventNumberOk
 none-before events ts h = every-weaken (λ (t : Ten). eqb (t .c) 0) (λ (t : Ten). eqb (t .c) 0 || ltb (t .c) events) (λ t e. rw e) ts h
 
-pub same-before : (x : Sheet) → row0In x .choice ≡ 0 → noNumbers (tensOf x) ≡ true → good x ≡ paperGood x
-unfolding good paperGood
+pub same-before : (x : Sheet) → row0In x .choice ≡ 0 → noNumbers (tensOf x) ≡ true → bareGood x ≡ paperGood x
+unfolding bareGood paperGood
 same-before x e n = rw (form-before (row0In x) e, nesting-before (row0In x) e, none-before (row0In x .events) (tensOf x) n, n)
 
 -- a good sheet's choice is its state's
-pub choice-again : (x : Sheet) → good x ≡ true → bit (stateOf x .byStandard) ≡ row0In x .choice
-unfolding stateOf stateOfRows
-choice-again x g = bit-again (row0In x .choice) (first-of (row0In x) (parts-of x g .row0) .choiceIs)
+pub bareChoice-again : (x : Sheet) → bareGood x ≡ true → bit (bareStateOf x .byStandard) ≡ row0In x .choice
+unfolding bareStateOf stateOfRows
+bareChoice-again x g = bit-again (row0In x .choice) (first-of (row0In x) (parts-of x g .row0) .choiceIs)
 
 pub paper-choice : (x : Sheet) → paperGood x ≡ true → row0In x .choice ≡ 0
 unfolding paperGood paperForm
@@ -75,11 +75,11 @@ paper-none x g =
     and-true-right before (noNumbers ts) g
 
 -- every sheet that paper 01 calls good is good now, and these are all with choice 0 and no numbers
-pub good-before : (x : Sheet) → (paperGood x ≡ true) ↔ ((good x ≡ true) × (stateOf x .byStandard ≡ false) × (noNumbers (tensOf x) ≡ true))
-unfolding stateOf stateOfRows bit
+pub good-before : (x : Sheet) → (paperGood x ≡ true) ↔ ((bareGood x ≡ true) × (bareStateOf x .byStandard ≡ false) × (noNumbers (tensOf x) ≡ true))
+unfolding bareStateOf stateOfRows bit
 good-before x = (
   λ g. let e = paper-choice x g in (same-before x e (paper-none x g) ∙ g, rw e, paper-none x g),
-  λ h. let e : row0In x .choice ≡ 0 = sym (choice-again x (h .0)) ∙ ap bit (h .1) in sym (same-before x e (h .2)) ∙ h .0,
+  λ h. let e : row0In x .choice ≡ 0 = sym (bareChoice-again x (h .0)) ∙ ap bit (h .1) in sym (same-before x e (h .2)) ∙ h .0,
 )
 
 -- a state under a choice: the room is the same, and so is the sheet but for the last number of row 0
@@ -87,10 +87,10 @@ pub fits-chosen : (b : Bool) (s : State) (r n : ℕ) → stateFits r n (chosen b
 unfolding stateFits rowsUsed namesUsed rowsOf chosen
 fits-chosen b s r n = refl
 
-pub sheet-chosen : (b : Bool) (s : State) (r n : ℕ) → sheetOf (chosen b s) r n ≡ sheetChosen b (sheetOf s r n)
-unfolding sheetOf sheetOfRows filled numbers row0 rowsUsed namesUsed rowsOf chosen sheetChosen
-sheet-chosen b s r n = refl
+pub bareSheetOf-chosen : (b : Bool) (s : State) (r n : ℕ) → bareSheetOf (chosen b s) r n ≡ sheetChosen b (bareSheetOf s r n)
+unfolding bareSheetOf sheetOfRows filled numbers row0 rowsUsed namesUsed rowsOf chosen sheetChosen
+bareSheetOf-chosen b s r n = refl
 
-pub choice-made : (s : State) (r n : ℕ) → row0In (sheetOf s r n) .choice ≡ bit (s .byStandard)
+pub bareChoice-made : (s : State) (r n : ℕ) → row0In (bareSheetOf s r n) .choice ≡ bit (s .byStandard)
 unfolding row0
-choice-made s r n = rw (row0-made s r n)
+bareChoice-made s r n = rw (row0-made s r n)

@@ -10,11 +10,10 @@ use Rattle.sheet.specs.Rows.{Sheet, namesOf, row}
 use Rattle.sheet.specs.Lengths.{sheetLengths, fits}
 use Rattle.xsd_types.specs.State.{firstState, schemaOk, contextOk, isNoContext, isEmpty, rootOk, countersOk, openPasses, headsPass, eventsOk, proper}
 use Rattle.xsd_types.specs.Rows.{namespaceRow, itemsRows, contextRows, rowsOf, rowsUsed, namesUsed}
-use Rattle.xsd_types.specs.Sheet.{stateFits, sheetOf}
-use Rattle.xsd_types.specs.Good.{good}
-use Rattle.xsd_types.specs.Back.{stateOf}
+use Rattle.xsd_types.specs.Count.{sheetOf, good, stateOf}
+use Rattle.xsd_types.specs.Sheet.{stateFits}
 use Rattle.xsd_types.specs.Clear.{clear}
-use Rattle.xsd_types.proofs.Laws.SheetOf.{good-sheetOf, stateOf-sheetOf}
+use Rattle.xsd_types.proofs.Laws.Count.{good-sheetOf, stateOf-sheetOf}
 
 pub first-proper : (byStandard : Bool) → proper (firstState byStandard) ≡ true
 unfolding firstState proper countersOk eventsOk headsPass openPasses rootOk contextOk schemaOk isNoContext isEmpty isText every

@@ -14,7 +14,7 @@ use Rattle.sheet.specs.Form.{isFlag, covers, covered, rowsUsedOf, namesUsedOf, 
 use Rattle.sheet.specs.Lengths.{fits}
 use Rattle.sheet.proofs.Laws.Unpacks.{few}
 use Rattle.xsd_types.specs.Row0.{Row0, row0In}
-use Rattle.xsd_types.specs.Good.{usedPairs, rowForm, inOrder, row0Form, tenForm, rowsForm, namesForm, namesTest, limits, rootTest, nestingTest, contextTest, extensionTest, headOf, eventsTest, good}
+use Rattle.xsd_types.specs.Good.{usedPairs, rowForm, inOrder, row0Form, tenForm, rowsForm, namesForm, namesTest, limits, rootTest, nestingTest, contextTest, extensionTest, headOf, eventsTest, bareGood}
 use Rattle.xsd_types.proofs.Laws.Shapes.{form-parts}
 use Rattle.xsd_types.proofs.Laws.Rows.{flag-of}
 use Rattle.text.proofs.Laws.Every.{every-weaken}
@@ -34,8 +34,8 @@ pub record Parts (x : Sheet) : Type 0 where
   pub extension : extensionTest (row0In x) (headOf (tensOf x)) ≡ true
   pub events : eventsTest (row0In x .events) (tensOf x) ≡ true
 
-pub parts-of : (x : Sheet) → good x ≡ true → Parts x
-unfolding good
+pub parts-of : (x : Sheet) → bareGood x ≡ true → Parts x
+unfolding bareGood
 parts-of x g =
     let z = row0In x in
     let ts = tensOf x in

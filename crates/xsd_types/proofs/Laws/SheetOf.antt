@@ -15,9 +15,9 @@ use Rattle.sheet.proofs.Laws.Sheets.{first-ten, tens-behind, length-rows, lengt
 use Rattle.xsd_types.specs.State.{State, rootOk, countersOk, eventNumberOk, headsPass, eventsOk, proper}
 use Rattle.xsd_types.specs.Rows.{namespaceRow, namespaceA, itemsRows, contextRows, rowsOf, rowsUsed, namesUsed, row0}
 use Rattle.xsd_types.specs.Row0.{row0Ten, row0In}
-use Rattle.xsd_types.specs.Sheet.{stateFits, sheetOf}
-use Rattle.xsd_types.specs.Good.{usedPairs, isHead, headAfter, lastHead, row0Form, rowsForm, namesForm, namesTest, limits, rootTest, nestingTest, contextTest, extensionTest, headOf, eventsTest, good}
-use Rattle.xsd_types.specs.Back.{rowsIn, stateOf}
+use Rattle.xsd_types.specs.Sheet.{stateFits, bareSheetOf}
+use Rattle.xsd_types.specs.Good.{usedPairs, isHead, headAfter, lastHead, row0Form, rowsForm, namesForm, namesTest, limits, rootTest, nestingTest, contextTest, extensionTest, headOf, eventsTest, bareGood}
+use Rattle.xsd_types.specs.Back.{rowsIn, bareStateOf}
 use Rattle.xsd_types.proofs.Laws.Row0.{nesting-both}
 use Rattle.xsd_types.proofs.Laws.Items.{bit-back}
 use Rattle.xsd_types.proofs.Laws.Order.{tags}
@@ -30,23 +30,23 @@ use Rattle.text.proofs.Laws.Every.{every-weaken}
 use Rattle.sheet.specs.Form.{row0Of, rowsUsedOf, namesUsedOf, tensOf, usedParts, zerosBehind}
 
 module _ (s : State) (r n : ℕ) where
-  pub row0-made : row0Of (sheetOf s r n) ≡ row0Ten (row0 s)
-  unfolding row0Of sheetOf
+  pub row0-made : row0Of (bareSheetOf s r n) ≡ row0Ten (row0 s)
+  unfolding row0Of bareSheetOf
   row0-made = first-ten (row0Ten (row0 s)) (rowsOf s) r n
 
-  pub tens-made : tensOf (sheetOf s r n) ≡ pack 0 (rowsOf s)
-  unfolding tensOf row0 rowsUsed sheetOf
+  pub tens-made : tensOf (bareSheetOf s r n) ≡ pack 0 (rowsOf s)
+  unfolding tensOf row0 rowsUsed bareSheetOf
   tens-made =
-      let used : rowsUsedOf (sheetOf s r n) - 1 ≡ length (rowsOf s) = rw row0-made (omega arith) in
+      let used : rowsUsedOf (bareSheetOf s r n) - 1 ≡ length (rowsOf s) = rw row0-made (omega arith) in
       rw used (tens-behind (row0Ten (row0 s)) (rowsOf s) r n)
 
-  pub rows-made : proper s ≡ true → rowsIn (sheetOf s r n) ≡ rowsOf s
-  unfolding rowsIn sheetOf
+  pub rows-made : proper s ≡ true → rowsIn (bareSheetOf s r n) ≡ rowsOf s
+  unfolding rowsIn bareSheetOf
   rows-made ok = rw tens-made (rows-read (row0Ten (row0 s)) (rowsOf s) r n usedPairs (counted-rows s ok))
 
-  pub stateOf-sheetOf : proper s ≡ true → stateFits r n s ≡ true → stateOf (sheetOf s r n) ≡ s
-  unfolding stateOf
-  stateOf-sheetOf ok fit = rw (row0-made, rows-made ok) (state-back s)
+  pub bareStateOf-bareSheetOf : proper s ≡ true → stateFits r n s ≡ true → bareStateOf (bareSheetOf s r n) ≡ s
+  unfolding bareStateOf
+  bareStateOf-bareSheetOf ok fit = rw (row0-made, rows-made ok) (state-back s)
 
   pub fit-rows : stateFits r n s ≡ true → 10 * (1 + length (rowsOf s)) ≤ r
   unfolding stateFits fits rowsUsed
@@ -56,9 +56,9 @@ module _ (s : State) (r n : ℕ) where
   unfolding stateFits fits namesUsed
   fit-names fit = leb-true (length (namesOf (rowsOf s))) n (and-true-right (leb (10 * rowsUsed s) r) _ fit)
 
-  pub length-sheetOf : stateFits r n s ≡ true → (length (sheetOf s r n .rows) ≡ r) × (length (sheetOf s r n .names) ≡ n)
-  unfolding sheetOf
-  length-sheetOf fit = (length-rows (row0Ten (row0 s)) (rowsOf s) r n (fit-rows fit), length-names (row0Ten (row0 s)) (rowsOf s) r n (fit-names fit))
+  pub length-bareSheetOf : stateFits r n s ≡ true → (length (bareSheetOf s r n .rows) ≡ r) × (length (bareSheetOf s r n .names) ≡ n)
+  unfolding bareSheetOf
+  length-bareSheetOf fit = (length-rows (row0Ten (row0 s)) (rowsOf s) r n (fit-rows fit), length-names (row0Ten (row0 s)) (rowsOf s) r n (fit-names fit))
 
 pub rowsUsed-two : (s : State) → 2 ≤ rowsUsed s
 unfolding rowsUsed rowsOf
@@ -66,65 +66,65 @@ rowsUsed-two s = omega arith
 
 -- the parts of `good` for the sheet of a proper state that has room
 module _ (s : State) (r n : ℕ) (ok : proper s ≡ true) (fit : stateFits r n s ≡ true) where
-  pub made-parts : usedParts (sheetOf s r n) ≡ true
+  pub made-parts : usedParts (bareSheetOf s r n) ≡ true
   unfolding usedParts row0 stateFits
   made-parts =
-      let l = length-sheetOf s r n fit in
+      let l = length-bareSheetOf s r n fit in
       rw (row0-made s r n, l .0, l .1) (and-true (le-leb 2 (rowsUsed s) (rowsUsed-two s)) fit)
 
-  pub made-row0 : row0Form (row0In (sheetOf s r n)) ≡ true
+  pub made-row0 : row0Form (row0In (bareSheetOf s r n)) ≡ true
   unfolding row0Form row0
   made-row0 = rw (row0-made s r n) (and-true (and-true (and-true (small-context (s .reader .context)) (flag-bit (s .reader .rootSeen))) (flag-context (s .reader .context))) (flag-bit (s .byStandard)))
 
-  pub made-rows : rowsForm (tensOf (sheetOf s r n)) ≡ true
+  pub made-rows : rowsForm (tensOf (bareSheetOf s r n)) ≡ true
   unfolding rowsForm rowsOf bodyRows pack packRow namespaceRow namespaceA row
   made-rows =
       let k = 0 + length (join (s .reader .schema .targetNamespace ∷ [])) in
       let form = every-weaken soundRow formedRow sound-formed (bodyRows s) (sound-body s ok) in
       rw (tens-made s r n, form-pack k (bodyRows s), tags-pack k (bodyRows s)) (and-true form (order-body 1 s refl))
 
-  pub made-names : namesForm (namesUsedOf (sheetOf s r n)) (tensOf (sheetOf s r n)) ≡ true
+  pub made-names : namesForm (namesUsedOf (bareSheetOf s r n)) (tensOf (bareSheetOf s r n)) ≡ true
   unfolding namesForm row0 namesUsed
   made-names = rw (row0-made s r n, tens-made s r n) (and-true (covers-pack usedPairs 0 (rowsOf s) (counted-rows s ok)) (eq-eqb _ _ (covered-pack usedPairs 0 (rowsOf s) (counted-rows s ok) ∙ omega arith)))
 
-  pub made-zeros : zerosBehind (sheetOf s r n) ≡ true
-  unfolding zerosBehind sheetOf row0 rowsUsed namesUsed
+  pub made-zeros : zerosBehind (bareSheetOf s r n) ≡ true
+  unfolding zerosBehind bareSheetOf row0 rowsUsed namesUsed
   made-zeros = rw (row0-made s r n) (and-true (zeros-rows (row0Ten (row0 s)) (rowsOf s) r n) (zeros-names (row0Ten (row0 s)) (rowsOf s) r n))
 
-  pub made-text : namesTest (sheetOf s r n) ≡ true
-  unfolding namesTest sheetOf row0 namesUsed textRow
+  pub made-text : namesTest (bareSheetOf s r n) ≡ true
+  unfolding namesTest bareSheetOf row0 namesUsed textRow
   made-text = rw (row0-made s r n, used-names (row0Ten (row0 s)) (rowsOf s) r n, isText-namesOf (rowsOf s)) (text-rows s ok)
 
-  pub made-limits : limits (row0In (sheetOf s r n)) ≡ true
+  pub made-limits : limits (row0In (bareSheetOf s r n)) ≡ true
   unfolding limits row0 countersOk
   made-limits = rw (row0-made s r n) (proper-parts s ok .0)
 
-  pub made-root : rootTest (row0In (sheetOf s r n)) ≡ true
+  pub made-root : rootTest (row0In (bareSheetOf s r n)) ≡ true
   unfolding rootOk
   made-root = rw (row0-made s r n) (test-root (s .reader .schema .targetNamespace) (s .reader .schema .items) (s .reader .rootSeen) (s .reader .context) (s .events) (s .openTags) (s .byStandard) (proper-parts s ok .1))
 
-  pub made-nesting : nestingTest (row0In (sheetOf s r n)) ≡ true
+  pub made-nesting : nestingTest (row0In (bareSheetOf s r n)) ≡ true
   unfolding row0
   made-nesting = rw (row0-made s r n, nesting-both (row0 s), bit-back (s .byStandard)) (test-nesting (s .byStandard) (s .reader .context) (s .openTags) (proper-parts s ok .2))
 
-  pub made-head : headOf (tensOf (sheetOf s r n)) ≡ lastHead 0 (tags (itemsRows (s .reader .schema .items) ++ contextRows (s .reader .context)))
+  pub made-head : headOf (tensOf (bareSheetOf s r n)) ≡ lastHead 0 (tags (itemsRows (s .reader .schema .items) ++ contextRows (s .reader .context)))
   unfolding headOf rowsOf lastHead headAfter isHead between namespaceRow row
   made-head = rw (tens-made s r n, tags-pack 0 (rowsOf s))
 
-  pub made-context : contextTest (row0In (sheetOf s r n) .context) (headOf (tensOf (sheetOf s r n))) ≡ true
+  pub made-context : contextTest (row0In (bareSheetOf s r n) .context) (headOf (tensOf (bareSheetOf s r n))) ≡ true
   unfolding row0
   made-context = rw (row0-made s r n, made-head) (test-context 0 (s .reader .schema .items) (s .reader .context) refl)
 
-  pub made-extension : extensionTest (row0In (sheetOf s r n)) (headOf (tensOf (sheetOf s r n))) ≡ true
+  pub made-extension : extensionTest (row0In (bareSheetOf s r n)) (headOf (tensOf (bareSheetOf s r n))) ≡ true
   unfolding extensionTest row0
   made-extension = rw (row0-made s r n, made-head) (test-extension 0 (s .reader .schema .items) (s .reader .context))
 
-  pub made-events : eventsTest (row0In (sheetOf s r n) .events) (tensOf (sheetOf s r n)) ≡ true
+  pub made-events : eventsTest (row0In (bareSheetOf s r n) .events) (tensOf (bareSheetOf s r n)) ≡ true
   unfolding row0 rowsOf namespaceRow row every eventsOk headsPass eventRow eventNumberOk
   made-events = rw (row0-made s r n, tens-made s r n, events-pack (s .events) 0 (rowsOf s), body-events (s .events) (s .reader .schema .items) (s .reader .context)) (proper-parts s ok .4)
 
-  pub good-sheetOf : good (sheetOf s r n) ≡ true
-  unfolding good
-  good-sheetOf =
+  pub bareGood-bareSheetOf : bareGood (bareSheetOf s r n) ≡ true
+  unfolding bareGood
+  bareGood-bareSheetOf =
       let form = and-true (and-true (and-true (and-true (and-true made-parts made-row0) made-rows) made-names) made-zeros) made-text in
       and-true (and-true (and-true (and-true (and-true (and-true form made-limits) made-root) made-nesting) made-context) made-extension) made-events

@@ -15,9 +15,9 @@ use Rattle.xsd_types.specs.Types.{Item}
 use Rattle.xsd_types.specs.State.{Context, State, schemaOk, isNoContext, isEmpty, rootOk, countersOk, headsPass, eventsOk, proper}
 use Rattle.xsd_types.specs.Rows.{namespaceRow, itemRows, itemsRows, contextRows, rowsOf, contextNumber, rowsUsed, namesUsed, row0}
 use Rattle.xsd_types.specs.Row0.{Row0, row0In}
-use Rattle.xsd_types.specs.Sheet.{stateFits, sheetOf}
-use Rattle.xsd_types.specs.Good.{limits, rootTest, good}
-use Rattle.xsd_types.specs.Back.{rowsIn, stateOf}
+use Rattle.xsd_types.specs.Sheet.{stateFits, bareSheetOf}
+use Rattle.xsd_types.specs.Good.{limits, rootTest, bareGood}
+use Rattle.xsd_types.specs.Back.{rowsIn, bareStateOf}
 use Rattle.xsd_types.proofs.Laws.Groups.{isGroup}
 use Rattle.xsd_types.proofs.Laws.Items.{group-item}
 use Rattle.xsd_types.proofs.Laws.Sound.{textRow}
@@ -25,7 +25,7 @@ use Rattle.xsd_types.proofs.Laws.Rows.{bit-again}
 use Rattle.xsd_types.proofs.Laws.Events.{body-events}
 use Rattle.xsd_types.proofs.Laws.Parts.{Parts, parts-of, used-fits, first-of}
 use Rattle.xsd_types.proofs.Laws.Read.{names-length, names-text, sheet-again, rows-length, bodyIn, namespaceAt, rows-split, body-numbered, body-opened}
-use Rattle.xsd_types.proofs.Laws.SheetOf.{good-sheetOf, stateOf-sheetOf}
+use Rattle.xsd_types.proofs.Laws.SheetOf.{bareGood-bareSheetOf, bareStateOf-bareSheetOf}
 use Rattle.text.proofs.Laws.Every.{every-head}
 use Rattle.sheet.specs.Form.{rowsUsedOf, namesUsedOf, words}
 
@@ -86,8 +86,8 @@ module _ (x : Sheet) (p : Parts x) (w : words (x .rows) ≡ true) where
       let f = first-of (row0In x) (p .row0) in
       λ i. record { first = sym (f .firstIs) i; rowsUsed = held-rowsUsed i; namesUsed = held-namesUsed i; context = o .numberIs i; nesting = o .depthIs i; rootSeen = bit-again (row0In x .rootSeen) (f .rootIs) i; events = row0In x .events; openTags = row0In x .openTags; extension = o .flagIs i; choice = bit-again (row0In x .choice) (f .choiceIs) i }
 
-  pub held-sheet : sheetOf held (length (x .rows)) (length (x .names)) ≡ x
-  unfolding sheetOf
+  pub held-sheet : bareSheetOf held (length (x .rows)) (length (x .names)) ≡ x
+  unfolding bareSheetOf
   held-sheet = rw (held-row0, held-rows) (sheet-again x p)
 
   pub held-fits : stateFits (length (x .rows)) (length (x .names)) held ≡ true
@@ -126,23 +126,23 @@ module _ (x : Sheet) (p : Parts x) (w : words (x .rows) ≡ true) where
       and-true (and-true (and-true (and-true (p .limit) held-root) (o .contextIsOk)) (and-true held-namespace (o .itemsOk))) held-events
 
 -- the state of a good sheet: its sheet is the sheet, it is proper, it has room
-module _ (x : Sheet) (w : words (x .rows) ≡ true) (g : good x ≡ true) where
-  pub stateOf-held : stateOf x ≡ held x (parts-of x g) w
-  stateOf-held =
+module _ (x : Sheet) (w : words (x .rows) ≡ true) (g : bareGood x ≡ true) where
+  pub bareStateOf-held : bareStateOf x ≡ held x (parts-of x g) w
+  bareStateOf-held =
       let p = parts-of x g in
-      ap stateOf (sym (held-sheet x p w)) ∙ stateOf-sheetOf (held x p w) (length (x .rows)) (length (x .names)) (held-proper x p w) (held-fits x p w)
+      ap bareStateOf (sym (held-sheet x p w)) ∙ bareStateOf-bareSheetOf (held x p w) (length (x .rows)) (length (x .names)) (held-proper x p w) (held-fits x p w)
 
-  pub sheetOf-stateOf : sheetOf (stateOf x) (length (x .rows)) (length (x .names)) ≡ x
-  sheetOf-stateOf = rw stateOf-held (held-sheet x (parts-of x g) w)
+  pub bareSheetOf-bareStateOf : bareSheetOf (bareStateOf x) (length (x .rows)) (length (x .names)) ≡ x
+  bareSheetOf-bareStateOf = rw bareStateOf-held (held-sheet x (parts-of x g) w)
 
-  pub proper-stateOf : proper (stateOf x) ≡ true
-  proper-stateOf = rw stateOf-held (held-proper x (parts-of x g) w)
+  pub proper-bareStateOf : proper (bareStateOf x) ≡ true
+  proper-bareStateOf = rw bareStateOf-held (held-proper x (parts-of x g) w)
 
-  pub fits-stateOf : stateFits (length (x .rows)) (length (x .names)) (stateOf x) ≡ true
-  fits-stateOf = rw stateOf-held (held-fits x (parts-of x g) w)
+  pub fits-bareStateOf : stateFits (length (x .rows)) (length (x .names)) (bareStateOf x) ≡ true
+  fits-bareStateOf = rw bareStateOf-held (held-fits x (parts-of x g) w)
 
 -- a sheet of u32 is good exactly if it is the sheet of a proper state in buffers of these lengths
-pub good-exactly : (x : Sheet) → words (x .rows) ≡ true
-    → (good x ≡ true) ↔ ((s : State) × (proper s ≡ true) × (stateFits (length (x .rows)) (length (x .names)) s ≡ true) × (sheetOf s (length (x .rows)) (length (x .names)) ≡ x))
-good-exactly x w =
-    (λ g. (stateOf x, proper-stateOf x w g, fits-stateOf x w g, sheetOf-stateOf x w g), λ h. rw (h .3) at (good-sheetOf (h .0) (length (x .rows)) (length (x .names)) (h .1) (h .2)))
+pub bareGood-exactly : (x : Sheet) → words (x .rows) ≡ true
+    → (bareGood x ≡ true) ↔ ((s : State) × (proper s ≡ true) × (stateFits (length (x .rows)) (length (x .names)) s ≡ true) × (bareSheetOf s (length (x .rows)) (length (x .names)) ≡ x))
+bareGood-exactly x w =
+    (λ g. (bareStateOf x, proper-bareStateOf x w g, fits-bareStateOf x w g, bareSheetOf-bareStateOf x w g), λ h. rw (h .3) at (bareGood-bareSheetOf (h .0) (length (x .rows)) (length (x .names)) (h .1) (h .2)))

@@ -2,7 +2,7 @@
 use mathlib.Core.Bool.{false}
 use mathlib.Core.Path.{_≡_, refl}
 use mathlib.Core.List.{[], _∷_}
-use Rattle.xsd_types.specs.Good.{good}
+use Rattle.xsd_types.specs.Count.{good}
 use Rattle.xsd_types.specs.Examples.Sheets.{line, noNamespace, sheet}
 use Rattle.xsd_types.specs.Examples.Judging.{Part, verdict, badBy, badByBoth, judged}
 
@@ -71,8 +71,8 @@ row1-tag : verdict (sheet 20 0 (line 0 2 0 0 0 1 0 0 0 0 ∷ line 0 0 0 0 0 0 0 
 unfolding judged
 row1-tag = refl
 
--- a, b and c of row 1
-row1-a : verdict (sheet 20 0 (line 0 2 0 0 0 1 0 0 0 0 ∷ line 1 0 0 0 0 0 0 1 0 0 ∷ []) "") ≡ badBy Part.row1
+-- b and c of row 1; a is the count
+row1-a : verdict (sheet 20 0 (line 0 2 0 0 0 1 0 0 0 0 ∷ line 1 0 0 0 0 0 0 1 0 0 ∷ []) "") ≡ badBy Part.count
 unfolding judged
 row1-a = refl
 

@@ -10,7 +10,7 @@ use Rattle.sheet.specs.Lengths.{sheetLengths}
 use Rattle.sheet.specs.Unfold.{computes as sheets}
 use Rattle.xsd_types.specs.Unfold.{computes as schemas}
 use Rattle.xsd_types.specs.Clear.{Cleared, clear}
-use Rattle.xsd_types.specs.Good.{good}
+use Rattle.xsd_types.specs.Count.{good}
 use Rattle.xsd_types.specs.Examples.Sheets.{line, sheet, junk, blankBy, blank, answer, written}
 
 gives : ℕ → Sheet → Cleared

@@ -17,9 +17,9 @@ namespace : verdict (sheet 20 2 (line 0 2 2 0 0 1 1 0 0 0 ∷ line 1 0 2 0 0 0 0
 unfolding judged
 namespace = refl
 
--- every finished tag behind its head: facets behind 3
+-- every finished tag behind its head: facets behind 3; its base is no built-in type, so the count is 1
 facets :
-    verdict (sheet 110 8 (line 0 11 8 0 0 1 0 0 0 0 ∷ noNamespace ∷ line 3 0 1 1 1 0 0 0 0 0 ∷ line 4 2 1 0 0 0 0 0 0 0
+    verdict (sheet 110 8 (line 0 11 8 0 0 1 0 0 0 0 ∷ line 1 0 0 0 0 0 0 1 0 0 ∷ line 3 0 1 1 1 0 0 0 0 0 ∷ line 4 2 1 0 0 0 0 0 0 0
     ∷ line 5 3 1 0 0 0 0 0 0 0 ∷ line 6 0 0 0 0 0 0 5 6 0 ∷ line 7 0 0 0 0 0 0 4294967295 4294967295 0 ∷ line 8 4 2 0 0 0 0 0 0 0
     ∷ line 9 6 2 0 0 0 0 0 0 0 ∷ line 10 0 0 0 0 0 0 18 0 0 ∷ line 11 0 0 0 0 0 0 5 0 0 ∷ []) "SBvp1020")
     ≡ fine

@@ -1,7 +1,7 @@
 -- Sheets written out by hand, for the examples.
 --     line          a row: tag, three pairs, a, b, c; of row 0: 0, rows used, names used, context, nesting, root seen, events done, open tags,
 --                   extension flag, choice
---     noNamespace   row 1 with the empty namespace
+--     noNamespace   row 1 with the empty namespace; counting c: with the count c
 --     sheet r n rows names    buffers of r numbers and n bytes: the rows and the names, zeros behind
 --     junk r n      buffers of r numbers and n bytes with something in them
 --     blankBy choice r n    the same, cleared; blank r n: with choice 0
@@ -22,6 +22,9 @@ line tag o0 l0 o1 l1 o2 l2 a b c = tag ∷ o0 ∷ l0 ∷ o1 ∷ l1 ∷ o2 ∷ l2
 unfoldable pub noNamespace : List ℕ
 noNamespace = line 1 0 0 0 0 0 0 0 0 0
 
+unfoldable pub counting : ℕ → List ℕ
+counting c = line 1 0 0 0 0 0 0 c 0 0
+
 unfoldable pub sheet : ℕ → ℕ → List (List ℕ) → String → Sheet
 sheet r n rows names = record { rows = filled r (join rows); names = filled n (bytes names) }
 
@@ -38,5 +41,5 @@ unfoldable pub answer : ℕ → ℕ → Answer
 answer n p = record { number = n; place = p }
 
 unfoldable pub written : Unit {0}
-unfolding line noNamespace sheet junk blankBy blank answer
+unfolding line noNamespace counting sheet junk blankBy blank answer
 written = tt

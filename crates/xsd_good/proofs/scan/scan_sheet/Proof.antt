@@ -1,4 +1,4 @@
--- `xsd_good::scan::scan_sheet` meets its contract: the first row behind row 0 and the pass over the others are the pass over all. Assumes nothing.
+-- `xsd_good::scan::scan_sheet` meets its contract: row 1 with 0 for the count and the pass over the others are the pass over all. Assumes nothing.
 use native.Mathlib.Omega.{arith}
 use lib.ListN.{length-take, length-drop}
 use borrow.Author.Needs.{needs}
@@ -10,15 +10,15 @@ use Rattle.xsd_good.proofs.scan.scan_sheet.Tie as tie
 scan-rows-requires : tie.Need-scan-rows-requires
 scan-rows-requires c κs =
     let a = c .before .before .before .before .args in
-    let t = asTen (c .before .before .ten-at .result) in
+    let t = asTen (c .before .before .bare-row1 .result) in
     (simp (length-take, length-drop) (omega arith), rw (c .before .first-row .ensures) (omega (arith, first-end (a .names-used) t)))
 
 returns : tie.Need-returns
 returns c =
     let a = c .before .before .before .before .before .args in
-    let t = asTen (c .before .before .before .ten-at .result) in
+    let t = asTen (c .before .before .before .bare-row1 .result) in
     rw (c .scan-rows .ensures, c .before .before .first-row .ensures)
-    (scan-starts (a .names-used) (a .rows-used) (a .rows .now) t (omega arith) (c .before .before .before .ten-at .ensures))
+    (scan-starts (a .names-used) (a .rows-used) (a .rows .now) t (omega arith) (c .before .before .before .bare-row1 .ensures))
 
 pub scan-sheet-spec : {M : Type 1} → statement M
 scan-sheet-spec =
