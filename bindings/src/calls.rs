@@ -111,6 +111,23 @@ pub(crate) fn lower(
     Answer { number, place }
 }
 
+pub(crate) fn write(rows: &[u32], names: &[u8], text: &mut [u8]) -> Answer {
+    let mut place = 0;
+    // SAFETY: each address and its length are those of one slice; all are lent for the call.
+    let number = unsafe {
+        c::lubiksan_write(
+            rows.as_ptr(),
+            rows.len(),
+            names.as_ptr(),
+            names.len(),
+            text.as_mut_ptr(),
+            text.len(),
+            &mut place,
+        )
+    };
+    Answer { number, place }
+}
+
 /// What the label call gives: its number, whether the part lies in the words, where it starts, its length.
 pub(crate) struct Part {
     pub number: u32,

@@ -99,6 +99,10 @@ causes! {
     RepeatedName = LUBIKSAN_NAME_TWICE, "two types have the same name in the graph";
     /// 21: the graph has not the form of a graph sheet, or two of its types have one name.
     GraphForm = LUBIKSAN_GRAPH_FORM, "the graph has not the form of a type graph, or two types of one name";
+    /// 22: a value that an attribute of XML 1.0 can't hold as it is.
+    NoValue = LUBIKSAN_NO_VALUE, "a value can't stand in XML as it is";
+    /// 23: the schema's text is longer than lent, or than 65,536 bytes.
+    TextRoom = LUBIKSAN_TEXT_ROOM, "the schema's text is longer than lent";
     /// 24: no derivation of the pattern exists by the productions of XML Schema.
     NoPattern = LUBIKSAN_NO_PATTERN, "not a regular expression of XML Schema";
     /// 25: the pattern has a form that is not judged.

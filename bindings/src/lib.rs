@@ -7,6 +7,7 @@
 //! | [`Tape::of_text`], [`tape_of`], [`NoTape`] | the tape of a schema text, or why it has none |
 //! | [`SchemaSheet`] | the state of a reading: what the events so far say. It is two buffers and can be stored |
 //! | [`ReadAs`] | the choice made when a sheet is cleared: as the original, or a schema ends at its own tag |
+//! | [`SchemaSheet::to_xsd`] | the schema written back as text |
 //! | [`Graph`] | the type graph of a schema, with typed views that borrow from it |
 //! | [`Refusal`], [`Cause`] | why a call was refused: the library's number, a sentence, the place |
 //! | [`check_version`] | is the archive that was linked the one that this crate was written for? |

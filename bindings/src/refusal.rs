@@ -80,6 +80,13 @@ pub enum Refusal {
     },
     /// 21: the graph has not the form of a graph sheet, or, where it is reduced, two of its types have one name.
     GraphForm,
+    /// 22: a row of the schema sheet has a value that XML 1.0 can't hold in an attribute.
+    NoValue {
+        /// The row, from 0; 1 is the namespace.
+        row: usize,
+    },
+    /// 23: the schema's text is longer than lent, or than 65,536 bytes.
+    TextRoom,
     /// A number that no call should return here.
     Other {
         /// What the number says.
@@ -117,6 +124,8 @@ impl Refusal {
                 first: TypeAt::nameless(0),
             },
             Cause::GraphForm => Refusal::GraphForm,
+            Cause::NoValue => Refusal::NoValue { row: place },
+            Cause::TextRoom => Refusal::TextRoom,
             cause => Refusal::Other { cause, place },
         }
     }
@@ -142,6 +151,8 @@ impl Refusal {
             Refusal::NoLabel => Cause::NoLabel,
             Refusal::RepeatedName { .. } => Cause::RepeatedName,
             Refusal::GraphForm => Cause::GraphForm,
+            Refusal::NoValue { .. } => Cause::NoValue,
+            Refusal::TextRoom => Cause::TextRoom,
             Refusal::Other { cause, .. } => *cause,
         }
     }
@@ -151,10 +162,10 @@ impl Refusal {
         self.cause().number()
     }
 
-    /// The place: the event's number in the piece, the row of 13 and 20, else 0.
+    /// The place: the event's number in the piece, the row of 13, 20 and 22, else 0.
     pub fn place(&self) -> usize {
         match self {
-            Refusal::UnknownBase { row } => *row,
+            Refusal::UnknownBase { row } | Refusal::NoValue { row } => *row,
             Refusal::RepeatedName { again, .. } => again.row,
             Refusal::Other { place, .. } => *place,
             _ => self.at().map_or(0, |at| at.place),
@@ -189,7 +200,9 @@ impl fmt::Display for Refusal {
         write!(f, " (refused with {}", self.number())?;
         match (self.event(), self) {
             (Some(event), _) => write!(f, ", event {event})"),
-            (None, Refusal::UnknownBase { row }) => write!(f, ", row {row})"),
+            (None, Refusal::UnknownBase { row } | Refusal::NoValue { row }) => {
+                write!(f, ", row {row})")
+            }
             (None, Refusal::RepeatedName { again, first }) => {
                 write!(f, ", rows {} and {})", first.row, again.row)
             }

@@ -5,7 +5,7 @@ use lubiksan_sys as sys;
 use crate::buffer::Buffer;
 use crate::calls::{self, Answer};
 use crate::graph::Graph;
-use crate::limits::{NAMES, ROW, ROWS, ROW_NUMBERS};
+use crate::limits::{NAMES, ROW, ROWS, ROW_NUMBERS, TEXT};
 use crate::names::same_normalized;
 use crate::refusal::{Refusal, TypeAt};
 use crate::tape::Tape;
@@ -333,6 +333,57 @@ impl<'a> SchemaSheet<'a> {
         heads
     }
 
+    /// Writes the finished elements and types as schema text into `text`, whatever it held, and gives how many bytes; the rest is zero.
+    /// [`SchemaSheet::to_xsd`] lends a text of its own.
+    ///
+    /// # Errors
+    ///
+    /// The [`Refusal`] of the call: [`Refusal::NoRoot`], [`Refusal::NoValue`] or [`Refusal::TextRoom`], all of the text is zero then; or
+    /// [`Refusal::Lengths`] (also where over 65,536 bytes are lent) or [`Refusal::NotGood`], and it is as it was.
+    pub fn write_xsd(&self, text: &mut [u8]) -> Result<usize, Refusal> {
+        accepted(calls::write(&self.rows, &self.names, text), 0)
+    }
+
+    /// The finished elements and types as schema text, in one line, tags with the prefix `xs:`. Read again it gives the same rows and
+    /// names, but for the numbers of events. A type that is still open is left out, and so is what no sheet keeps: annotations, comments,
+    /// other attributes and other facets.
+    ///
+    /// # Errors
+    ///
+    /// [`Refusal::NoRoot`]; [`Refusal::NoValue`] with the first row that has a value which XML 1.0 can't hold in an attribute: values stay
+    /// as they are, nothing is escaped; [`Refusal::TextRoom`] for a text of over 65,536 bytes; [`Refusal::Lengths`] or
+    /// [`Refusal::NotGood`].
+    ///
+    /// ```
+    /// use lubiksan::{ReadAs, Refusal, SchemaSheet, Tape, TapeBuilder};
+    ///
+    /// let text = "<schema><!-- a note --><element name='D' type='T'/><complexType name='T'><choice/></complexType></schema>";
+    /// let mut sheet = SchemaSheet::cleared(ReadAs::Standard);
+    /// sheet.read(&Tape::of_text(text.into())?)?;
+    /// assert_eq!(
+    ///     sheet.to_xsd()?,
+    ///     "<xs:schema xmlns:xs=\"http://www.w3.org/2001/XMLSchema\" targetNamespace=\"\">\
+    ///      <xs:element name=\"D\" type=\"T\"/>\
+    ///      <xs:complexType name=\"T\"><xs:sequence><xs:any/></xs:sequence></xs:complexType></xs:schema>"
+    /// );
+    ///
+    /// // Events need not come from XML, and a value may be one that XML can't hold.
+    /// let mut piece = TapeBuilder::new();
+    /// piece.start("schema", &[])?;
+    /// piece.empty("element", &[("name", "a<b"), ("type", "T")])?;
+    /// sheet.clear(ReadAs::Standard)?;
+    /// sheet.read(&piece.finish())?;
+    /// assert_eq!(sheet.to_xsd(), Err(Refusal::NoValue { row: 2 }));
+    /// # Ok::<(), Box<dyn std::error::Error>>(())
+    /// ```
+    pub fn to_xsd(&self) -> Result<String, Refusal> {
+        let mut text = vec![0; TEXT];
+        let length = self.write_xsd(&mut text)?;
+        text.truncate(length);
+        // What the call writes is ASCII, so nothing is lost.
+        Ok(String::from_utf8_lossy(&text).into_owned())
+    }
+
     /// The rows, ten numbers each.
     pub fn rows(&self) -> &[u32] {
         &self.rows
@@ -421,6 +472,17 @@ impl<'a> SchemaSheet<'a> {
             second,
             event: Some(self.number(row, sys::LUBIKSAN_C_AT)).filter(|&event| event > 0),
         }))
+    }
+
+    /// The texts of a row, from 0, that are not empty, in the order of its pairs: a name, then a type, base or namespace; or a value.
+    pub fn texts(&self, row: usize) -> impl Iterator<Item = &str> {
+        let columns = [
+            sys::LUBIKSAN_FIRST_AT,
+            sys::LUBIKSAN_SECOND_AT,
+            sys::LUBIKSAN_THIRD_AT,
+        ];
+        let texts = columns.map(|column| self.text(row, column));
+        texts.into_iter().filter(|text| !text.is_empty())
     }
 
     pub(crate) fn number(&self, row: usize, column: usize) -> u32 {

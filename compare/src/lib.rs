@@ -19,6 +19,7 @@
 //! | `lowerings` | lowering compared with the model and with `lower` of the Rust |
 //! | `texts` | the tape of a text compared with the model of order 1 and with other parsers |
 //! | `columns` | rows as columns and back compared with the model of order 10 |
+//! | `writes` | the schema written back compared with the model of order 8, other parsers, and read again |
 //! | `parsers` | quick-xml's events as a tape, and the verdicts of expat and libxml2 |
 //! | `patterns` | the pattern call compared with an Earley parser and a descent over the productions |
 //! | `schemas` | where the real schemas stand |
@@ -62,4 +63,6 @@ pub mod tally;
 pub mod tape;
 pub mod tapes;
 pub mod texts;
+#[cfg(feature = "ours")]
+pub mod writes;
 pub mod xsd;

@@ -30,6 +30,15 @@ pub enum Format {
     Stored,
 }
 
+/// The form in which a schema is written back.
+#[derive(Clone, Copy, Debug, PartialEq, Eq)]
+pub struct TextForm {
+    /// Each tag on a line of its own.
+    pub pretty: bool,
+    /// With what every schema of ISO 20022 has and no sheet keeps.
+    pub iso20022: bool,
+}
+
 /// A command with its arguments.
 #[derive(Clone, Debug, PartialEq, Eq)]
 pub enum Action {
@@ -57,6 +66,17 @@ pub enum Action {
     Patterns {
         /// An XSD or a stored sheet.
         file: PathBuf,
+    },
+    /// `write`
+    Write {
+        /// An XSD or a stored sheet.
+        file: PathBuf,
+        /// Where it is written.
+        output: Option<PathBuf>,
+        /// The form of the text.
+        form: TextForm,
+        /// A sheet that is not whole is taken.
+        partial: bool,
     },
     /// `read`
     Read {
@@ -164,6 +184,7 @@ pub fn parser() -> Parser {
         .subcommand(graph())
         .subcommand(names())
         .subcommand(patterns())
+        .subcommand(write())
         .subcommand(read())
         .subcommand(shelf())
         .subcommand(Parser::new("check").about("Is a stored sheet good, and how far is it").arg(path("SHEET").help("A stored sheet")))
@@ -216,6 +237,27 @@ fn patterns() -> Parser {
         )
         .arg(path("FILE").help("An XSD file, a stored sheet as far as it is read, or a stored graph"))
         .arg(as_original())
+}
+
+fn write() -> Parser {
+    Parser::new("write")
+        .about("The schema written back as XSD: what the library keeps of it, and nothing else")
+        .arg(path("FILE").help("An XSD file or a stored sheet; - is standard input"))
+        .arg(option("output", "OUT").help("The file that is written; whole or as it was"))
+        .arg(flag(
+            "pretty",
+            "Each tag on a line of its own, indented; the library's text has no white space between tags",
+        ))
+        .arg(flag(
+            "iso20022",
+            "Add what every ISO 20022 schema has and no sheet keeps, for validators: the default namespace and elementFormDefault",
+        ))
+        .arg(flag(
+            "partial",
+            "Take a stored sheet that is not read to its end; a type that is still open is left out",
+        ))
+        .arg(as_original())
+        .arg(strict())
 }
 
 fn read() -> Parser {
@@ -297,7 +339,7 @@ fn flag(name: &'static str, help: &'static str) -> Arg {
 fn strict() -> Arg {
     flag(
         "strict",
-        "Refuse a schema of which the graph does not keep something",
+        "Refuse a schema of which the graph, or the text written back, does not keep something",
     )
 }
 
@@ -350,6 +392,15 @@ fn action(name: &str, matches: &ArgMatches) -> Action {
             partial: matches.get_flag("partial"),
         },
         "patterns" => Action::Patterns { file: path("FILE") },
+        "write" => Action::Write {
+            file: path("FILE"),
+            output: matches.get_one::<PathBuf>("output").cloned(),
+            form: TextForm {
+                pretty: matches.get_flag("pretty"),
+                iso20022: matches.get_flag("iso20022"),
+            },
+            partial: matches.get_flag("partial"),
+        },
         "read" => Action::Read {
             file: path("FILE"),
             sheet: path("sheet"),

@@ -5,7 +5,7 @@ use std::time::Duration;
 
 use lubiksan::{Context, Graph, Kind, ReadAs, SchemaSheet};
 
-use crate::args::{Action, Command, Format};
+use crate::args::{Action, Command, Format, TextForm};
 use crate::document::Piece;
 use crate::failure::{named, say, though_unread, Failure};
 use crate::formats::{dot, json, plural, rows, rust, text};
@@ -26,6 +26,7 @@ use crate::shelf;
 use crate::source::{bytes_of, Source};
 use crate::stored::{self, About, Begin, Stored};
 use crate::stored_graph::{self, StoredGraph};
+use crate::writing;
 use crate::xml::Lines;
 
 /// Runs a command.
@@ -44,6 +45,12 @@ pub fn run(command: &Command) -> Result<(), Failure> {
         } => graph(command, file, *format, output.as_deref(), *partial),
         Action::Names { file, partial } => names(command, file, *partial),
         Action::Patterns { file } => patterns_of(command, file),
+        Action::Write {
+            file,
+            output,
+            form,
+            partial,
+        } => write(command, file, output.as_deref(), *form, *partial),
         Action::Read {
             file,
             sheet,
@@ -408,6 +415,41 @@ fn patterns_of(command: &Command, file: &Path) -> Result<(), Failure> {
             Err(Failure::Refused(words))
         }
     }
+}
+
+/// Writes the schema of a sheet back.
+fn write(
+    command: &Command,
+    file: &Path,
+    output: Option<&Path>,
+    form: TextForm,
+    partial: bool,
+) -> Result<(), Failure> {
+    if let Some(output) = output {
+        remove_left_beside(output);
+    }
+    let input = input(command, file, partial)?;
+    let Some(sheet) = input.sheet() else {
+        let words = "it is a stored graph, which has no schema to write; take its XSD file or a stored sheet";
+        return Err(Failure::Refused(format!("{}: {words}", named(file))));
+    };
+    let mut text = input.with_source(|source| {
+        let text = writing::text(file, source, sheet)?;
+        let not_kept = match source {
+            Some(source) => writing::not_kept(source, sheet),
+            None => writing::unnamed(file, input.about.as_ref()),
+        };
+        let open = writing::open_type(file, sheet);
+        warn(command, not_kept.into_iter().chain(open).collect())?;
+        Ok(text)
+    })?;
+    if form.iso20022 {
+        text = writing::for_iso20022(&text);
+    }
+    if form.pretty {
+        text = writing::indented(&text);
+    }
+    write_output(output, text.as_bytes())
 }
 
 fn read(

@@ -3,7 +3,7 @@
 use std::path::Path;
 
 use lubiksan::names::parse_u32;
-use lubiksan::{limits, Declared, Refusal, SchemaSheet, TypeAt};
+use lubiksan::{limits, Declared, Kind, Refusal, SchemaSheet, TypeAt};
 
 use crate::document::Document;
 use crate::failure::{named, quoted, Failure};
@@ -131,6 +131,45 @@ pub fn lowering(
         other => format!("{name}: {other}"),
     };
     Failure::Answered { lines, words }
+}
+
+/// A refused writing.
+pub fn writing(
+    file: &Path,
+    source: Option<&Source>,
+    sheet: &SchemaSheet<'_>,
+    refusal: &Refusal,
+) -> Failure {
+    let (name, number) = (named(file), refusal.number());
+    Failure::Refused(match refusal {
+        Refusal::NoRoot => format!("{name}: there is no schema element (refused with {number})"),
+        Refusal::TextRoom => format!(
+            "{name}: the schema written back takes more than {} bytes (refused with {number})",
+            limits::TEXT
+        ),
+        Refusal::NoValue { row } => no_value(file, source, sheet, *row),
+        other => format!("{name}: {other}"),
+    })
+}
+
+/// 22 names the element or type with its line where the file is at hand, and the texts of the row.
+fn no_value(file: &Path, source: Option<&Source>, sheet: &SchemaSheet<'_>, row: usize) -> String {
+    let head = sheet.declared().filter(|found| found.row <= row).last();
+    let owner = match head {
+        None => "the namespace".to_owned(),
+        Some(head) if head.kind == Kind::Element => format!("element {}", quoted(head.name)),
+        Some(head) => format!("type {}", quoted(head.name)),
+    };
+    let texts: Vec<String> = sheet.texts(row).map(quoted).collect();
+    let words = format!(
+        "{owner}: XML can't hold {} as it is: a \"<\", both quotes, a control character or an \"&\" without a reference (refused with 22, row {row})",
+        texts.join(" or ")
+    );
+    let known = head.and_then(|head| located(source, sheet, head.row));
+    match known {
+        Some((source, at)) => source.at(at, &words),
+        None => format!("{}: {words}", named(file)),
+    }
 }
 
 /// 13 names the type, and its line where the file is at hand.

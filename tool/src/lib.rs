@@ -8,6 +8,7 @@
 //! | [`explain`], [`losses`] | a refusal in words; what of the file was not kept |
 //! | [`follow`], [`notkept`] | what the library's reader does with each tag; where the graph is not the schema |
 //! | [`patterns`] | the patterns of a schema, each judged by the library |
+//! | [`writing`] | the schema written back, as the library's text or indented |
 //! | [`origins`] | where a root or type comes from, by the number of its event |
 //! | [`stored`], [`stored_graph`], [`packed`], [`output`] | stored sheets, stored graphs, the packed part of both; files that are whole or as they were |
 //! | [`formats`], [`names`], [`identifier`], [`places`] | the graph as text, JSON, dot, Rust and rows; names that meet, and where |
@@ -42,6 +43,7 @@ pub mod shelf;
 pub mod source;
 pub mod stored;
 pub mod stored_graph;
+pub mod writing;
 
 use std::ffi::OsString;
 

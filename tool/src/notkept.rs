@@ -79,8 +79,27 @@ impl<'d> NotKept<'d> {
         lines
     }
 
+    /// The places that the schema sheet does not keep either, nor the text written from it: enumerations beside other facets and maxOccurs 0 stand
+    /// there as the schema has them.
+    #[must_use]
+    pub fn of_sheet(mut self) -> NotKept<'d> {
+        let kept = |kind| matches!(kind, Kind::Enumeration | Kind::MaxOccursZero);
+        self.places.retain(|place| !kept(place.kind));
+        self
+    }
+
     /// How many there are of each kind.
     pub fn counted(&self, source: &Source) -> String {
+        format!(
+            "{}: {}: {}",
+            named(source.path()),
+            told(self.places.len()),
+            self.by_kind()
+        )
+    }
+
+    /// `2 element, 1 facet`
+    pub fn by_kind(&self) -> String {
         let mut counts: BTreeMap<&str, usize> = BTreeMap::new();
         for place in &self.places {
             *counts.entry(place.kind.name()).or_default() += 1;
@@ -89,12 +108,7 @@ impl<'d> NotKept<'d> {
             .iter()
             .map(|(kind, count)| format!("{count} {kind}"))
             .collect();
-        format!(
-            "{}: {}: {}",
-            named(source.path()),
-            told(self.places.len()),
-            parts.join(", ")
-        )
+        parts.join(", ")
     }
 
     /// The places by the type's name in the graph.

@@ -104,6 +104,17 @@ extern "C" {
         place: *mut usize,
     ) -> u32;
 
+    /// Writes the finished part of a schema sheet as schema text.
+    pub fn lubiksan_write(
+        rows: *const u32,
+        rows_length: usize,
+        names: *const u8,
+        names_length: usize,
+        text: *mut u8,
+        text_length: usize,
+        place: *mut usize,
+    ) -> u32;
+
     /// The type reference of a row of a graph sheet.
     pub fn lubiksan_label(
         graph_rows: *const u32,

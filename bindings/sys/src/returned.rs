@@ -1,6 +1,6 @@
 //! The numbers returned.
 
-/// The result; the place is the events read, the graph's rows used, the marks used, or 0.
+/// The result; the place is the events read, the graph's rows used, the marks used, the bytes written, or 0.
 pub const LUBIKSAN_ACCEPTED: u32 = 0;
 /// A length outside the limits, or a choice above 1.
 pub const LUBIKSAN_LENGTHS: u32 = 1;
@@ -44,6 +44,10 @@ pub const LUBIKSAN_MARKS: u32 = 19;
 pub const LUBIKSAN_NAME_TWICE: u32 = 20;
 /// The graph has not the form of a graph sheet, or two of its types have one name.
 pub const LUBIKSAN_GRAPH_FORM: u32 = 21;
+/// A value that XML 1.0 can't hold in an attribute.
+pub const LUBIKSAN_NO_VALUE: u32 = 22;
+/// The text is longer than lent.
+pub const LUBIKSAN_TEXT_ROOM: u32 = 23;
 /// The pattern is no regular expression of XML Schema.
 pub const LUBIKSAN_NO_PATTERN: u32 = 24;
 /// The pattern has a form that is not judged.

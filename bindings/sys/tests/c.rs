@@ -8,7 +8,7 @@ use std::process::{Command, Output};
 
 use lubiksan_sys::{
     LUBIKSAN_CLEAR_STACK, LUBIKSAN_LOWER_STACK, LUBIKSAN_OTHER_STACK, LUBIKSAN_PATTERN_STACK,
-    LUBIKSAN_READ_STACK, LUBIKSAN_TAPE_STACK,
+    LUBIKSAN_READ_STACK, LUBIKSAN_TAPE_STACK, LUBIKSAN_WRITE_STACK,
 };
 
 type Tried = Result<(), Box<dyn Error>>;
@@ -121,6 +121,7 @@ fn the_stack_of_each_call_is_as_the_header_says() -> Tried {
         ("CLEAR", LUBIKSAN_CLEAR_STACK),
         ("READ", LUBIKSAN_READ_STACK),
         ("LOWER", LUBIKSAN_LOWER_STACK),
+        ("WRITE", LUBIKSAN_WRITE_STACK),
         ("PATTERN", LUBIKSAN_PATTERN_STACK),
         ("OTHER", LUBIKSAN_OTHER_STACK),
     ];

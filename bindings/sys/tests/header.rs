@@ -25,7 +25,7 @@ type Calls = BTreeMap<String, (Call, Vec<String>)>;
 type Renamed = &'static [(&'static str, &'static str)];
 
 /// The library's constants, by file: the prefix behind `LUBIKSAN_` of their macros, and those with another name.
-const SOURCES: [(&str, &str, Renamed); 8] = [
+const SOURCES: [(&str, &str, Renamed); 9] = [
     ("lubiksan/src/version.rt", "", &[]),
     (
         "sheet/src/limits.rt",
@@ -89,6 +89,7 @@ const TRIED_ON_CALLS: [&str; 35] = [
     "CLEAR_STACK",
     "READ_STACK",
     "LOWER_STACK",
+    "WRITE_STACK",
     "PATTERN_STACK",
     "OTHER_STACK",
     "TAG_AT",

@@ -43,6 +43,10 @@ static void lower(void) {
                             LUBIKSAN_NAMES_MAX, scratch, LUBIKSAN_ROWS_MAX / LUBIKSAN_ROW, &place);
 }
 
+static void write_back(void) {
+    number = lubiksan_write(rows, LUBIKSAN_ROWS_MAX, names, LUBIKSAN_NAMES_MAX, out, LUBIKSAN_TEXT_MAX, &place);
+}
+
 /* Classes, escapes and quantifiers inside as many parentheses as are judged, and a pattern that is left open. */
 static void pattern(void) {
     static const char deepest[] = "((((((((((((((((((((((((((((((((a|[b-d]*\\.+))))))))))))))))))))))))))))))){2})";
@@ -115,9 +119,9 @@ static size_t taken(void (*call)(void)) {
 }
 
 int main(int argc, char **argv) {
-    static void (*const calls[])(void) = {tape, clear, read_piece, lower, pattern, others};
-    static const char *const told[] = {"TAPE", "CLEAR", "READ", "LOWER", "PATTERN", "OTHER"};
-    size_t most[6] = {0};
+    static void (*const calls[])(void) = {tape, clear, read_piece, lower, write_back, pattern, others};
+    static const char *const told[] = {"TAPE", "CLEAR", "READ", "LOWER", "WRITE", "PATTERN", "OTHER"};
+    size_t most[7] = {0};
     if (posix_memalign((void **)&stack, 4096, STACK) != 0) {
         return EXIT_FAILURE;
     }
@@ -129,12 +133,12 @@ int main(int argc, char **argv) {
         }
         text_length = fread(text, 1, sizeof text, file);
         fclose(file);
-        for (size_t call = 0; call < 6; call++) {
+        for (size_t call = 0; call < 7; call++) {
             size_t bytes = taken(calls[call]);
             most[call] = bytes > most[call] ? bytes : most[call];
         }
     }
-    for (size_t call = 0; call < 6; call++) {
+    for (size_t call = 0; call < 7; call++) {
         printf("%s %zu\n", told[call], most[call]);
     }
     return EXIT_SUCCESS;

@@ -15,6 +15,8 @@ pub mod prints;
 #[cfg(feature = "ours")]
 pub mod texts;
 pub mod vectors;
+#[cfg(feature = "ours")]
+pub mod writes;
 
 use std::fmt::Display;
 use std::process::ExitCode;

@@ -14,6 +14,7 @@
 //! | `label` | the label call |
 //! | `tree` | order 3's choice 1 anew, over the tree of the tags |
 //! | `xml` | order 1: the tape of a text |
+//! | `written` | order 8: the schema written back, as a tree of tags |
 //! | `agree` | the model against the handlers of parser.rs, event by event |
 
 pub mod agree;
@@ -28,6 +29,7 @@ pub mod repeated;
 pub mod sheet;
 pub mod state;
 pub mod tree;
+pub mod written;
 pub mod xml;
 
 /// A returned number with its place.

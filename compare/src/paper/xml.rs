@@ -235,6 +235,12 @@ fn is_value(value: &[u8]) -> bool {
     !value.contains(&b'<') && has_good_references(value)
 }
 
+/// Some [10] AttValue has this between its quotes: one of the two quotes does not stand in it, and all of it are Chars.
+pub fn can_stand_in_quotes(value: &[u8]) -> bool {
+    let free = [b'"', b'\''].iter().any(|quote| !value.contains(quote));
+    free && all_chars(value) && is_value(value)
+}
+
 /// [14] CharData and references, up to the next `<` or the end
 fn char_data(left: &[u8]) -> Option<&[u8]> {
     let end = left.iter().position(|&byte| byte == b'<');

@@ -1,6 +1,7 @@
 /* The calls of the static library lubiksan (rt staticlib lubiksan): the text leaves; the tape of a schema text; a schema sheet
-   cleared, a piece of a tape read into it, and one stored earlier converted; a schema sheet lowered to a graph sheet; the label of a row of a graph sheet; a
-   pattern judged; the rows of a graph sheet turned into columns for storing, and back.
+   cleared, a piece of a tape read into it, and one stored earlier converted; a schema sheet written back as schema text; a schema
+   sheet lowered to a graph sheet; the label of a row of a graph sheet; a pattern judged; the rows of a graph sheet turned into
+   columns for storing, and back.
 
    A buffer is a pointer and a length in elements. Every pointer is valid, also for a length of 0 (any pointer that is not null
    and is aligned for its type), and the buffers of a call and what it stores do not overlap. Any bytes and numbers are taken.
@@ -41,11 +42,13 @@ extern "C" {
 #define LUBIKSAN_CLEAR_STACK 1024
 #define LUBIKSAN_READ_STACK 2048
 #define LUBIKSAN_LOWER_STACK 67584
+#define LUBIKSAN_WRITE_STACK 1024
 #define LUBIKSAN_PATTERN_STACK 4096
 #define LUBIKSAN_OTHER_STACK 1024 /* any other call */
 
 /* The numbers returned, with what is left and which place is stored; where no place is named it is 0. */
-#define LUBIKSAN_ACCEPTED 0      /* the result; a reading's place is the events read, a lowering's the graph's rows used, a tape's the marks used */
+#define LUBIKSAN_ACCEPTED 0      /* the result; a reading's place is the events read, a lowering's the graph's rows used, a tape's the marks used,
+                                    a writing's the length of the text */
 #define LUBIKSAN_LENGTHS 1       /* a buffer has a length outside the limits, a clearing's choice is above 1, or the two lengths of a
                                     turning differ: nothing is changed */
 #define LUBIKSAN_NOT_GOOD 2      /* the schema sheet is not good, as a cleared one is and one that a reading leaves; of lubiksan_convert: it would
@@ -62,7 +65,7 @@ extern "C" {
 #define LUBIKSAN_ROOM 11         /* the state after the event needs more rows or names than lent */
 /* 12 to 15 and 20: lowering. Under 12, 13, 15 and 20 all of graph and scratch is 0, under 14 nothing is changed. Of several the first
    in the order 14, 12, 13, 20, 15 is returned. */
-#define LUBIKSAN_NO_ROOT 12      /* no schema tag was read */
+#define LUBIKSAN_NO_ROOT 12      /* no schema tag was read; also of lubiksan_write: all of the text is 0 */
 #define LUBIKSAN_UNKNOWN_BASE 13 /* a simple type's base is not built in; the place is the row of the first such type */
 #define LUBIKSAN_SCRATCH 14      /* the scratch has less than one number for each finished type */
 #define LUBIKSAN_GRAPH_ROOM 15   /* the graph needs more rows or names than lent */
@@ -74,6 +77,10 @@ extern "C" {
 #define LUBIKSAN_NAME_TWICE 20   /* lowering: two finished types normalise to the same name; the place is the row of the first head, simple
                                     types before complex ones, whose name came before */
 #define LUBIKSAN_GRAPH_FORM 21   /* a graph is not in the form of a graph sheet: nothing is changed */
+/* 22 and 23: lubiksan_write, after 1, 2 and 12 and tried in this order. All of the text is 0. */
+#define LUBIKSAN_NO_VALUE 22     /* a value that XML 1.0 cannot hold in an attribute: a <, both quotes, a forbidden control byte, an & that starts no
+                                    predefined entity or legal character reference; the place is the first such row, 1 for the namespace */
+#define LUBIKSAN_TEXT_ROOM 23    /* the text is longer than lent */
 /* 24 and 25: lubiksan_pattern, after 1 and 5 and tried in the order 25, 24. */
 #define LUBIKSAN_NO_PATTERN 24   /* no derivation of the pattern exists by the productions of XML Schema Part 2 (Second Edition), Appendix F */
 #define LUBIKSAN_PATTERN_ASIDE 25 /* not judged: the bytes \p, \P or -[ anywhere, or more than LUBIKSAN_PATTERN_OPENS_MAX bytes ( */
@@ -241,6 +248,13 @@ uint32_t lubiksan_read(uint32_t *rows, size_t rows_length, uint8_t *names, size_
    LUBIKSAN_ACCEPTED, LUBIKSAN_LENGTHS or LUBIKSAN_NOT_GOOD. *place is set to 0. Nothing else is changed. Without it such a sheet
    is not good, unless its count is 0. A converted sheet goes on where it stood: its events done and its numbers stay. */
 uint32_t lubiksan_convert(uint32_t *rows, size_t rows_length, const uint8_t *names, size_t names_length, size_t *place);
+
+/* Writes the finished part of a schema sheet, which is unchanged, as schema text, whatever text held: 0, 1, 2, 12, 22 or 23, tried in
+   this order, the place in *place. The finished part is all rows behind row 0 but an open type's. Text is 0 to LUBIKSAN_TEXT_MAX
+   bytes long, and 0 behind what is written; under 1 and 2 it is unchanged. There is no XML declaration and nothing between tags;
+   values are copied byte by byte. */
+uint32_t lubiksan_write(const uint32_t *rows, size_t rows_length, const uint8_t *names, size_t names_length, uint8_t *text,
+                        size_t text_length, size_t *place);
 
 /* Lowers the finished types of a schema sheet, which is unchanged, to a graph sheet, whatever that held: 0, 1, 2, 12 to 15 or
    20, the place in *place. The scratch has at least one number for each finished type, and is 0 afterwards. */

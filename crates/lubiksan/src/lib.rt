@@ -8,3 +8,4 @@ mod lowering;
 mod reading;
 mod tape;
 mod version;
+mod writing;

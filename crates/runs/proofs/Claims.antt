@@ -1,5 +1,6 @@
--- The outer claims, each under the paper's words. What a call says of itself is `ClearIs`, `ConvertIs`, `ReadIs`, `TapeIs`, `LowerIs`, `LabelIs` and `LabelNumberIs` (specs/ of
--- xsd_types, xsd_parser, xml, ir_lower, ir_types); a `Trace` is a list of readings and lowerings, each by its `ReadIs` or `LowerIs`. Every claim is proved below this file. Assumes nothing.
+-- The outer claims, each under the paper's words. What a call says of itself is `ClearIs`, `ConvertIs`, `ReadIs`, `TapeIs`, `LowerIs`, `LabelIs`, `LabelNumberIs` and `WriteIs`
+-- (specs/ of xsd_types, xsd_parser, xml, ir_lower, ir_types, xsd_written); a `Trace` is a list of readings and lowerings, each by its `ReadIs` or `LowerIs`. Every claim is
+-- proved below this file. Assumes nothing.
 use Prim.Native.Nat.{ℕ, _+_, _≤_, _<_}
 use mathlib.Core.Path.{_≡_}
 use mathlib.Core.Logic.{_↔_}
@@ -17,7 +18,8 @@ use Rattle.builtin.proofs.Laws.Source.{builtin-kept}
 use Rattle.sheet.specs.Rows.{Sheet}
 use Rattle.sheet.specs.Form.{words, tensOf}
 use Rattle.sheet.specs.Returned.{accepted, malformed, doctype}
-use Rattle.sheet.specs.Lengths.{sheetLengths, Lengths, lengthsOf, goodLengths}
+use Rattle.sheet.specs.Lengths.{sheetLengths, Lengths, lengthsOf, goodLengths, Answer}
+use Rattle.sheet.specs.Calls.{answered}
 use Rattle.xsd_types.specs.Types.{Schema, MaxOccurs}
 use Rattle.xsd_types.specs.State.{Reader, State, firstState, headsPass, proper}
 use Rattle.xsd_types.specs.Rows.{rowsOf}
@@ -28,7 +30,7 @@ use Rattle.xsd_types.specs.Good.{bareGood}
 use Rattle.xsd_types.specs.Back.{bareStateOf}
 use Rattle.xsd_types.specs.Count.{refusedTypes, countIn, bare, sheetOf, good, stateOf}
 use Rattle.xsd_types.specs.Sheet.{stateFits}
-use Rattle.xsd_types.specs.Clear.{clear}
+use Rattle.xsd_types.specs.Clear.{clear, ClearIs}
 use Rattle.xsd_types.specs.Convert.{convert}
 use Rattle.xsd_types.specs.Table.{ClearTable, ConvertTable}
 use Rattle.xsd_types.specs.Choice.{noNumbers, paperGood, sheetChosen}
@@ -43,7 +45,7 @@ use Rattle.xsd_parser.specs.EventText.{eventOk}
 use Rattle.xsd_parser.specs.Tape.{Judged, event, eventOf, records}
 use Rattle.xsd_parser.specs.Handlers.{ok, isUnbounded}
 use Rattle.xsd_parser.specs.Step.{step}
-use Rattle.xsd_parser.specs.Read.{readRecords, read, readState}
+use Rattle.xsd_parser.specs.Read.{readRecords, read, readState, ReadIs}
 use Rattle.xsd_parser.specs.Table.{ReadTable}
 use Rattle.xsd_parser.proofs.Laws.Table.{read-table}
 use Rattle.xsd_parser.specs.Numbered.{readRecordsBy, readStateBy, unknownNumber, unnumberedReading, gave}
@@ -57,7 +59,7 @@ use Rattle.xml.specs.Tags.{tag}
 use Rattle.xml.specs.Document.{wellFormed, document, tapeOf}
 use Rattle.xml.specs.Accepted.{EventsAt, fewAttributes, eventRead, recordsRead, ReadsThrough}
 use Rattle.xml.specs.Written.{isNameText, attributeOk, newKeys, writtenTag, writtenEvent, taggedAs}
-use Rattle.xml.specs.Grammar.{Derived, BegunByDoctype}
+use Rattle.xml.specs.Grammar.{AttValue, Derived, BegunByDoctype}
 use Rattle.xml.specs.Call.{Readable, TapeIs}
 use Rattle.xml.proofs.Laws.Grammar.Documents.{document-exactly, derived-once}
 use Rattle.xml.proofs.Laws.Grammar.Taken.{taken, tape-exactly, eighteen-exactly, seventeen-exactly}
@@ -92,6 +94,12 @@ use Rattle.pattern.specs.Grammar.{Derives, regExp}
 use Rattle.pattern.specs.Scan.{start, go, scan}
 use Rattle.pattern.specs.Call.{Verdict}
 use Rattle.pattern.proofs.Laws.One.{verdict-one, scan-exactly}
+use Rattle.xsd_written.specs.Call.{holds, Wrote, writeBack, WriteIs}
+use Rattle.xsd_written.specs.Round.{SameFinished, SameNumbers, writtenText, readWritten, RoundTrip}
+use Rattle.xsd_written.proofs.Laws.Finished.{finished-numbers}
+use Rattle.xsd_written.specs.Table.{WriteTable}
+use Rattle.xsd_written.proofs.Laws.Values.{held-exactly}
+use Rattle.xsd_written.proofs.Laws.Table.{write-exactly}
 use Rattle.columns.specs.Columns.{columnsOf, rowsOf as rowsOfColumns}
 use Rattle.columns.proofs.Laws.Calls.{rows-back, columns-back}
 use Rattle.runs.specs.Runs.{Call, Answered, Ran, run}
@@ -117,6 +125,7 @@ use Rattle.runs.proofs.Stored.{stored-run}
 use mathlib.Core.Option.{some}
 use Rattle.runs.specs.Given.{GraphPasses}
 use Rattle.runs.proofs.Given.{graph-passes}
+use Rattle.runs.proofs.Written.{round-trip, round-made}
 
 -- "A sheet is good if it has this form, ..": exactly the sheets of proper states
 pub claim-good : (x : Sheet) → words (x .rows) ≡ true → (good x ≡ true) ↔ ((s : State) × (proper s ≡ true) × (stateFits (length (x .rows)) (length (x .names)) s ≡ true) × (sheetOf s (length (x .rows)) (length (x .names)) ≡ x))
@@ -254,6 +263,31 @@ claim-tag-written = tag-written
 -- and the pairs of what it is read as stand for the tag's own texts
 pub claim-tag-back : (text : Text) (at kind : ℕ) (t : Tag) (rest : Text) → drop at text ≡ writtenTag kind t ++ rest → eventRead text (writtenEvent at kind t) ≡ eventOf kind t
 claim-tag-back = tag-back
+
+-- order 8, "1 (over 65,536 bytes of text lent too), 2, 12, 22, 23, text zero from 12 on; accepted, place is the length and the rest is zero"
+-- exactly what the table says, 22 by the grammar of XML 1.0
+pub claim-write-table : (x : Sheet) (before : List ℕ) (w : Wrote) → WriteTable x before w ↔ (w ≡ writeBack x before)
+claim-write-table = write-exactly
+
+-- order 8, 22, "a value XML 1.0 cannot hold in an attribute": what is held is exactly what stands between the quotes of a derived AttValue
+pub claim-held : (v : Text) → (holds v ≡ true) ↔ ((w : Text) × AttValue v w)
+claim-held = held-exactly
+
+-- order 8, "Read into a cleared sheet through order 1 and the event reader, under either choice of order 3, where marks and sheet have the room, it gives the same
+-- finished rows and names, event numbers aside": where they have not, the numbers are 19 and 11, and no other is met
+pub claim-written-back : (x y : Sheet) (choice : ℕ) (lent marks : List ℕ) → words (x .rows) ≡ true → writeBack x lent .number ≡ accepted → clear choice y .answer .number ≡ accepted
+    → length marks ≤ 16384 → let text = writtenText x lent in RoundTrip x y (length marks) (tapeOf text marks .number) (readWritten y choice text marks)
+claim-written-back = round-trip
+
+-- the same of any four such calls, by what they say of themselves
+pub claim-written-made : (x y y′ z : Sheet) (choice place number used k : ℕ) (lent text marks tape : List ℕ) (a : Answer) → WriteIs x lent accepted place text
+    → ClearIs choice y (answered accepted k) y′ → TapeIs (take place text) marks number used tape → ReadIs y′ (take place text) (take used tape) a z
+    → words (x .rows) ≡ true → length marks ≤ 16384 → RoundTrip x y (length marks) number (record { answer = a; sheet = z })
+claim-written-made = round-made
+
+-- two sheets with the same finished rows have the same numbers and bytes up to where those of the second are used, event numbers aside
+pub claim-written-numbers : (x y : Sheet) → words (x .rows) ≡ true → words (y .rows) ≡ true → good x ≡ true → good y ≡ true → SameFinished x y → SameNumbers x y
+claim-written-numbers = finished-numbers
 
 -- order 3, "0 as before", and order 5, "sheets stored earlier, which stay good": the sheets that paper 01 calls good are those that are good now, but for order 7's
 -- count, with choice 0, no number in c and 0 for the count

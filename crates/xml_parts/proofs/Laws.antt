@@ -3,3 +3,4 @@ pub mod Classes
 pub mod Moved
 pub mod Skips
 pub mod Matched
+pub mod Held

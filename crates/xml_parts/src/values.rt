@@ -15,6 +15,7 @@ ghost use Rattle.xml.specs.Grammar.{digitOf};
 ghost use Rattle.xml.specs.Values.{isNumber, isEntity, isReference, isPlain, valueEnd, isQuote, value, charData, isInText, isInValue};
 ghost use Rattle.xml_parts.specs.Answers.{moved, classTable};
 ghost use Rattle.xml.specs.Steps.{behind, many};
+ghost use Rattle.xml.specs.Written.{isValue};
 
 // A digit's value, 16 for any other byte.
 pub fn digit_of(b: u8) -> u32
@@ -92,7 +93,7 @@ pub fn is_plain(text: &[u8], at: usize) -> bool
 }
 
 // Behind the bytes of a value that need no look: eight at a time at first, then one by one.
-fn value_run(classes: &[u8; 256], text: &[u8], at: usize) -> usize
+pub fn value_run(classes: &[u8; 256], text: &[u8], at: usize) -> usize
     requires { ⌜ now classes ≡ classTable ⌝ }
     ensures { λ r. ⌜ behind r (drop r (now (text .entry))) ≡ many isInValue at (drop at (now (text .entry))) ⌝ }
 {
@@ -181,4 +182,27 @@ pub fn char_data(classes: &[u8; 256], text: &[u8], at: usize) -> Moved
         i = text_run(classes, text, i + 1);
     }
     Moved::To(i)
+}
+
+// Whether a part may stand whole between two quotes of the kind: nothing behind the part is looked at.
+pub fn is_value(classes: &[u8; 256], part: &[u8], quote: u8) -> bool
+    requires { ⌜ isQuote quote ≡ true ⌝ }
+    requires { ⌜ now classes ≡ classTable ⌝ }
+    ensures { λ r. ⌜ r ≡ isValue quote (now (part .entry)) ⌝ }
+{
+    let mut i = value_run(classes, part, 0);
+    while i < part.len() {
+        let b = part[i];
+        if b == quote {
+            return false;
+        }
+        if b == b'<' {
+            return false;
+        }
+        if !is_plain(part, i) {
+            return false;
+        }
+        i = value_run(classes, part, i + 1);
+    }
+    true
 }

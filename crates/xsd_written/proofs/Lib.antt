@@ -1,0 +1,2 @@
+-- Laws of the crate `xsd_written`.
+pub mod Laws
