@@ -191,6 +191,30 @@ pub(crate) fn graph_form(rows: &[u32], names: &[u8]) -> Answer {
     Answer { number, place }
 }
 
+pub(crate) fn reduce(
+    graph_rows: &[u32],
+    graph_names: &[u8],
+    rows: &mut [u32],
+    names: &mut [u8],
+) -> Answer {
+    let mut place = 0;
+    // SAFETY: each address and its length are those of one slice; all are lent for the call.
+    let number = unsafe {
+        c::lubiksan_reduce(
+            graph_rows.as_ptr(),
+            graph_rows.len(),
+            graph_names.as_ptr(),
+            graph_names.len(),
+            rows.as_mut_ptr(),
+            rows.len(),
+            names.as_mut_ptr(),
+            names.len(),
+            &mut place,
+        )
+    };
+    Answer { number, place }
+}
+
 pub(crate) fn columns(rows: &[u32], columns: &mut [u32]) -> Answer {
     let mut place = 0;
     // SAFETY: each address and its length are those of one slice; all are lent for the call.

@@ -375,3 +375,53 @@ fn a_stored_graph_is_judged_by_the_library() -> Tried {
     }
     Ok(())
 }
+
+#[test]
+fn reduction_refuses_by_number() -> Tried {
+    let twice = [
+        [0, 4, 3, 0, 2, 0, 0, 0, 0, 0],
+        row(1, 0, 1, 0),
+        row(5, 1, 1, 4),
+        row(3, 2, 1, 0),
+    ]
+    .concat();
+    let graph = Graph::from_buffers(twice, b"uAA".to_vec())?;
+    let refusal = graph.reduced().err().ok_or("refused")?;
+    assert_eq!((refusal.number(), refusal.place()), (21, 0));
+    assert_eq!(
+        refusal.to_string(),
+        "the graph has not the form of a type graph, or two types of one name (refused with 21)"
+    );
+    assert_eq!(Graph::new().reduced().err(), Some(Refusal::Lengths));
+    Ok(())
+}
+
+#[test]
+fn a_reduced_graph_takes_the_room_that_it_needs() -> Tried {
+    let text = "<schema targetNamespace='u'><element name='D' type='A'/>\
+                <simpleType name='A'><restriction base='string'/></simpleType>\
+                <simpleType name='BB'><restriction base='string'/></simpleType></schema>";
+    let mut sheet = SchemaSheet::cleared(ReadAs::Standard);
+    sheet.read(&Tape::of_text(text.into())?)?;
+    let mut graph = Graph::new();
+    assert_eq!(sheet.lower(&mut graph)?, 5);
+    // Row 0, the namespace, the root and A; the names u, D, A, A.
+    for (rows, names, given) in [
+        (40, 4, Ok(4)),
+        (30, 4, Err(Refusal::GraphRoom)),
+        (40, 3, Err(Refusal::GraphRoom)),
+        (35, 4, Err(Refusal::Lengths)),
+    ] {
+        let (mut rows, mut names) = (vec![7; rows], vec![7; names]);
+        let mut target = Graph::lend(&mut rows, &mut names, &mut []);
+        assert_eq!(graph.reduce(&mut target), given);
+        let types: Vec<&str> = target.types().map(|it| it.name()).collect();
+        assert_eq!(types, if given.is_ok() { &["A"][..] } else { &[] });
+        match given {
+            Err(Refusal::GraphRoom) => assert!(rows.iter().all(|&n| n == 0)),
+            Err(_) => assert!(rows.iter().all(|&n| n == 7)),
+            Ok(_) => assert_eq!((rows[1], rows[4], &names[..]), (4, 1, &b"uDAA"[..])),
+        }
+    }
+    Ok(())
+}

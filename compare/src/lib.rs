@@ -22,6 +22,7 @@
 //! | `writes` | the schema written back compared with the model of order 8, other parsers, and read again |
 //! | `parsers` | quick-xml's events as a tape, and the verdicts of expat and libxml2 |
 //! | `patterns` | the pattern call compared with an Earley parser and a descent over the productions |
+//! | `reduce` | the reduction of a graph to what its roots use, and a graph's form, compared with the model of order 6 |
 //! | `schemas` | where the real schemas stand |
 //! | `events` | the events of an XML text |
 //! | `prints` | the printing program: what it prints by the model, and inputs to try |
@@ -57,6 +58,7 @@ pub mod prints;
 pub mod random;
 #[cfg(feature = "ours")]
 pub mod reader;
+pub mod reduce;
 pub mod samples;
 pub mod schemas;
 pub mod tally;

@@ -9,6 +9,7 @@
 //! | `compare patterns` | the pattern call against an Earley parser and a descent over the productions |
 //! | `compare columns` | rows into columns and back against a model of order 10 |
 //! | `compare writes` | the schema written back against the model, quick-xml, expat and libxml2, and read again |
+//! | `compare reduce` | graphs reduced to what their roots use, and judged, against a model of order 6 |
 //! | `compare texts [all]` | the tape of a text against the model, quick-xml, expat and libxml2: over a million texts, or all |
 //! | `compare prints run PROGRAM` | what the printing program prints against the model |
 //! | `compare prints table`, `answers` | the part `print` of stdin and stdout of crates/replay, by the model |
@@ -17,7 +18,7 @@
 //!
 //! It ends with 0 where all agree, with 1 where something differs, with 2 for wrong use and what can't be read or written. Those with schemas
 //! take them from LUBIKSAN_SCHEMAS, or else from ../shared/schemas beside the repository; without them they pass these cases over, and fail
-//! where `CI` is set. `leaves`, `calls`, `lowerings`, `patterns`, `columns`, `writes` and `texts` are built with the feature `ours`.
+//! where `CI` is set. `leaves`, `calls`, `lowerings`, `patterns`, `columns`, `writes`, `reduce` and `texts` are built with the feature `ours`.
 
 mod commands;
 
@@ -26,7 +27,7 @@ use std::process::ExitCode;
 
 use commands::{definitions, prints, vectors};
 
-const USAGE: &str = "usage: compare leaves | calls | lowerings | patterns | columns | writes | texts [all] | prints run PROGRAM | prints table | prints answers | \
+const USAGE: &str = "usage: compare leaves | calls | lowerings | patterns | columns | writes | reduce | texts [all] | prints run PROGRAM | prints table | prints answers | \
                      vectors inputs | vectors answers | definitions FOLDER SEED";
 
 fn main() -> ExitCode {
@@ -45,7 +46,7 @@ fn main() -> ExitCode {
 /// The comparisons with the static library.
 #[cfg(feature = "ours")]
 fn of_the_library(words: &[&str]) -> ExitCode {
-    use commands::{calls, columns, leaves, lowerings, patterns, texts, writes};
+    use commands::{calls, columns, leaves, lowerings, patterns, reduce, texts, writes};
     use compare::texts::Extent;
     match words {
         ["leaves"] => leaves::run(),
@@ -54,6 +55,7 @@ fn of_the_library(words: &[&str]) -> ExitCode {
         ["patterns"] => patterns::run(),
         ["columns"] => columns::run(),
         ["writes"] => writes::run(),
+        ["reduce"] => reduce::run(),
         ["texts"] => texts::run(Extent::Gate),
         ["texts", "all"] => texts::run(Extent::All),
         _ => commands::failed("compare", &USAGE),
@@ -63,7 +65,7 @@ fn of_the_library(words: &[&str]) -> ExitCode {
 #[cfg(not(feature = "ours"))]
 fn of_the_library(words: &[&str]) -> ExitCode {
     match words {
-        ["leaves" | "calls" | "lowerings" | "patterns" | "columns" | "writes" | "texts", ..] => {
+        ["leaves" | "calls" | "lowerings" | "patterns" | "columns" | "writes" | "reduce" | "texts", ..] => {
             commands::failed("compare", &"it was built without the feature `ours`")
         }
         _ => commands::failed("compare", &USAGE),

@@ -133,6 +133,8 @@ pub struct Command {
     pub verbose: bool,
     /// What was not kept is a refusal.
     pub strict: bool,
+    /// Of a graph only what its roots use.
+    pub used: bool,
     /// How a file is read into a new sheet.
     pub read_as: ReadAs,
 }
@@ -160,6 +162,7 @@ fn shown(error: &clap::Error) -> Result<Command, Failure> {
                 quiet: true,
                 verbose: false,
                 strict: false,
+                used: false,
                 read_as: ReadAs::Standard,
             })
         }
@@ -210,6 +213,7 @@ fn graph() -> Parser {
             "partial",
             "Take a stored sheet that is not read to its end",
         ))
+        .arg(used())
         .arg(as_original())
         .arg(strict())
 }
@@ -226,6 +230,7 @@ fn names() -> Parser {
             "partial",
             "Take a stored sheet that is not read to its end",
         ))
+        .arg(used())
         .arg(as_original())
         .arg(strict())
 }
@@ -343,6 +348,13 @@ fn strict() -> Arg {
     )
 }
 
+fn used() -> Arg {
+    flag(
+        "used",
+        "Only the types that a root element leads to, by any number of references",
+    )
+}
+
 fn as_original() -> Arg {
     flag(
         AS_ORIGINAL,
@@ -366,6 +378,7 @@ fn command(matches: &ArgMatches) -> Command {
         quiet: matches.get_flag("quiet") || inner.get_flag("quiet"),
         verbose: matches.get_flag("verbose") || inner.get_flag("verbose"),
         strict: set("strict"),
+        used: set("used"),
         read_as: match set(AS_ORIGINAL) {
             true => ReadAs::Original,
             false => ReadAs::Standard,

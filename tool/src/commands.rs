@@ -82,6 +82,8 @@ struct Input {
     source: Option<Source>,
     /// What a stored sheet or a stored graph was read from.
     about: Option<About>,
+    /// Of the graph only what its roots use.
+    used: bool,
 }
 
 impl Input {
@@ -99,9 +101,16 @@ impl Input {
         file: &Path,
         made: impl FnOnce(&Graph<'_>) -> Result<A, Failure>,
     ) -> Result<A, Failure> {
+        let of = |graph: &Graph<'_>| match self.used {
+            true => {
+                let refused = |refusal| Failure::Refused(format!("{}: {refusal}", named(file)));
+                made(&graph.reduced().map_err(refused)?)
+            }
+            false => made(graph),
+        };
         match &self.held {
-            Held::Sheet(sheet) => made(&lowered(file, self.source.as_ref(), sheet)?),
-            Held::Graph(stored) => made(&stored.graph),
+            Held::Sheet(sheet) => of(&lowered(file, self.source.as_ref(), sheet)?),
+            Held::Graph(stored) => of(&stored.graph),
         }
     }
 
@@ -147,11 +156,15 @@ impl Input {
     /// The bytes of the graph as a stored one.
     fn stored_graph(&self, graph: &Graph<'_>) -> Result<Vec<u8>, Failure> {
         let read_as = self.read_as();
-        let about = match (&self.about, &self.source) {
+        let mut about = match (&self.about, &self.source) {
             (Some(about), _) => about.clone(),
             (None, Some(source)) => About::of(source, read_as),
             (None, None) => return Err(Failure::Machine("the source is not known".to_owned())),
         };
+        if self.used {
+            // What was left out was not lost.
+            about.counts = counts_of(graph);
+        }
         stored_graph::encoded(graph, &about, self.events_done(), read_as)
     }
 
@@ -181,6 +194,14 @@ impl Input {
     }
 }
 
+/// The roots and types of a graph.
+fn counts_of(graph: &Graph<'_>) -> Counts {
+    Counts {
+        elements: graph.roots().count(),
+        types: graph.types().count(),
+    }
+}
+
 /// What a file holds, which is an XSD, a stored sheet or a stored graph.
 fn input(command: &Command, file: &Path, partial: bool) -> Result<Input, Failure> {
     let bytes = bytes_of(file).map_err(|error| Failure::input(file, &error))?;
@@ -201,6 +222,7 @@ fn input(command: &Command, file: &Path, partial: bool) -> Result<Input, Failure
         held: Held::Sheet(sheet),
         source: Some(source),
         about: None,
+        used: command.used,
     })
 }
 
@@ -226,6 +248,7 @@ fn of_stored(
         held: Held::Sheet(stored.sheet),
         source: None,
         about: Some(stored.about),
+        used: command.used,
     })
 }
 
@@ -234,11 +257,7 @@ fn of_stored_graph(command: &Command, file: &Path, stored: StoredGraph) -> Resul
         let words = "its schema was read by the standard; --as-original is for a new one";
         return Err(Failure::Refused(format!("{}: {words}", named(file))));
     }
-    let kept = Counts {
-        elements: stored.graph.roots().count(),
-        types: stored.graph.types().count(),
-    };
-    let counts = losses::compared(stored.about.counts, kept, "source");
+    let counts = losses::compared(stored.about.counts, counts_of(&stored.graph), "source");
     if stored.done == stored.about.events && !counts.is_empty() {
         warn(command, vec![format!("{}: {counts}", named(file))])?;
     }
@@ -246,6 +265,7 @@ fn of_stored_graph(command: &Command, file: &Path, stored: StoredGraph) -> Resul
         about: Some(stored.about.clone()),
         held: Held::Graph(Box::new(stored)),
         source: None,
+        used: command.used,
     })
 }
 

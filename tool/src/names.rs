@@ -46,7 +46,7 @@ pub struct Names {
 }
 
 impl Names {
-    /// The names of a sheet and its graph.
+    /// The names of a sheet and its graph, which may have only some of the sheet's types.
     pub fn of(sheet: &SchemaSheet<'_>, graph: &Graph<'_>) -> Names {
         let finished = finished(sheet);
         let mut names = Names::default();
@@ -58,7 +58,7 @@ impl Names {
             let (xml, type_name) = (declared.name, declared.second);
             names.put_root(xml, type_name, declared.row, &known);
         }
-        names.put_types(&finished);
+        names.put_types(&finished, &known);
         let heads = heads(&finished);
         for found in graph.types() {
             let head = heads.get(found.name()).copied().unwrap_or(0);
@@ -132,14 +132,16 @@ impl Names {
         }
     }
 
-    /// The types as the schema spells them. Lowering has refused two of one name; two may still have one Rust name.
-    fn put_types(&mut self, finished: &[Declared<'_>]) {
+    /// The types of the graph as the schema spells them. Lowering has refused two of one name; two may still have one Rust name.
+    fn put_types(&mut self, finished: &[Declared<'_>], known: &HashSet<&str>) {
         let types = finished
             .iter()
-            .filter(|declared| declared.kind != Kind::Element);
-        let named = types.map(|declared| Named {
+            .filter(|declared| declared.kind != Kind::Element)
+            .map(|declared| (declared, normalize_type_name(declared.name)))
+            .filter(|(_, rust)| known.contains(rust.as_str()));
+        let named = types.map(|(declared, rust)| Named {
             xml: declared.name,
-            rust: normalize_type_name(declared.name),
+            rust,
             place: if declared.kind == Kind::SimpleType {
                 SIMPLE_TYPE
             } else {

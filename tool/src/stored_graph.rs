@@ -7,7 +7,7 @@
 //! | 4 | how the schema was read: 0 as the original, 1 by the standard |
 //! | 4, 4, 4, 4 | numbers of rows, bytes of names, bytes of the source's path, bytes of the packed part |
 //! | 8, 8, 8 | the source's length in bytes, its events, those that were read |
-//! | 4, 4 | its global elements, its named types |
+//! | 4, 4 | its global elements, its named types; of a graph of only what is used, those that the graph has |
 //! | 4 | its places that the graph does not keep |
 //! | 32 | the source's SHA-256 |
 //! | 32 | the SHA-256 of all other bytes of this file |

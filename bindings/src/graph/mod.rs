@@ -125,6 +125,52 @@ impl<'a> Graph<'a> {
         answer
     }
 
+    /// What the roots use: a graph with all of them and the types that some chain of references reaches from one, in their order.
+    /// A root leads to the type of its normalised type name, a named reference to the type of that name.
+    ///
+    /// ```
+    /// use lubiksan::{Graph, ReadAs, SchemaSheet, Tape};
+    ///
+    /// let text = "<schema><element name='D' type='_a'/>\
+    ///     <simpleType name='A'><restriction base='string'/></simpleType>\
+    ///     <simpleType name='B'><restriction base='string'/></simpleType></schema>";
+    /// let mut sheet = SchemaSheet::cleared(ReadAs::Standard);
+    /// sheet.read(&Tape::of_text(text.into())?)?;
+    /// let mut graph = Graph::new();
+    /// sheet.lower(&mut graph)?;
+    /// let used = graph.reduced()?;
+    /// let names: Vec<_> = used.types().map(|it| it.name().to_owned()).collect();
+    /// assert_eq!((graph.types().count(), names), (2, vec!["A".to_owned()]));
+    /// assert_eq!(used.reduced()?.rows(), used.rows());
+    /// # Ok::<(), Box<dyn std::error::Error>>(())
+    /// ```
+    ///
+    /// # Errors
+    ///
+    /// [`Refusal::GraphForm`] where two types have one name, [`Refusal::Lengths`] of a graph that holds nothing.
+    pub fn reduced(&self) -> Result<Graph<'static>, Refusal> {
+        // No row and no name is added: the rooms of this graph are enough.
+        let mut target = Graph::owned(vec![0; self.rows().len()], vec![0; self.names().len()], 0);
+        self.reduce(&mut target)?;
+        Ok(target)
+    }
+
+    /// [`Graph::reduced`] into a graph that is lent; the rows used.
+    ///
+    /// # Errors
+    ///
+    /// As [`Graph::reduced`], with the target as it was, or [`Refusal::GraphRoom`] where it is too small; it is empty then.
+    pub fn reduce(&self, target: &mut Graph<'_>) -> Result<usize, Refusal> {
+        let (rows, names) = (self.rows(), self.names());
+        let answer = target.fill(|target_rows, target_names, _| {
+            calls::reduce(rows, names, target_rows, target_names)
+        });
+        match answer.number {
+            sys::LUBIKSAN_ACCEPTED => Ok(answer.place),
+            _ => Err(Refusal::of(answer, 0)),
+        }
+    }
+
     /// The target namespace.
     pub fn namespace(&self) -> &str {
         self.used_rows()

@@ -152,6 +152,19 @@ extern "C" {
         place: *mut usize,
     ) -> u32;
 
+    /// Writes a second graph sheet with all roots of the first and the types that some chain of references reaches from one.
+    pub fn lubiksan_reduce(
+        graph_rows: *const u32,
+        graph_rows_length: usize,
+        graph_names: *const u8,
+        graph_names_length: usize,
+        rows: *mut u32,
+        rows_length: usize,
+        names: *mut u8,
+        names_length: usize,
+        place: *mut usize,
+    ) -> u32;
+
     /// Turns the rows of a sheet into ten columns of differences.
     pub fn lubiksan_columns(
         rows: *const u32,

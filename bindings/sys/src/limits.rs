@@ -34,6 +34,8 @@ pub const LUBIKSAN_CLEAR_STACK: usize = 1024;
 pub const LUBIKSAN_READ_STACK: usize = 2048;
 /// Bytes of stack that `lubiksan_lower` takes.
 pub const LUBIKSAN_LOWER_STACK: usize = 67584;
+/// Bytes of stack that `lubiksan_reduce` takes.
+pub const LUBIKSAN_REDUCE_STACK: usize = 70656;
 /// Bytes of stack that `lubiksan_write` takes.
 pub const LUBIKSAN_WRITE_STACK: usize = 1024;
 /// Bytes of stack that `lubiksan_pattern` takes.

@@ -89,6 +89,7 @@ const TRIED_ON_CALLS: [&str; 35] = [
     "CLEAR_STACK",
     "READ_STACK",
     "LOWER_STACK",
+    "REDUCE_STACK",
     "WRITE_STACK",
     "PATTERN_STACK",
     "OTHER_STACK",

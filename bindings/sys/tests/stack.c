@@ -21,6 +21,8 @@ static uint32_t marks[LUBIKSAN_MARKS_MAX];
 static size_t marks_used;
 static uint32_t rows[LUBIKSAN_ROWS_MAX], graph_rows[LUBIKSAN_ROWS_MAX], scratch[LUBIKSAN_ROWS_MAX / LUBIKSAN_ROW];
 static uint8_t names[LUBIKSAN_NAMES_MAX], graph_names[LUBIKSAN_NAMES_MAX], out[2 * LUBIKSAN_TEXT_MAX];
+static uint32_t reduced_rows[LUBIKSAN_ROWS_MAX];
+static uint8_t reduced_names[LUBIKSAN_NAMES_MAX];
 static size_t place;
 static uint32_t number;
 
@@ -45,6 +47,11 @@ static void lower(void) {
 
 static void write_back(void) {
     number = lubiksan_write(rows, LUBIKSAN_ROWS_MAX, names, LUBIKSAN_NAMES_MAX, out, LUBIKSAN_TEXT_MAX, &place);
+}
+
+static void reduce(void) {
+    number = lubiksan_reduce(graph_rows, LUBIKSAN_ROWS_MAX, graph_names, LUBIKSAN_NAMES_MAX, reduced_rows, LUBIKSAN_ROWS_MAX,
+                             reduced_names, LUBIKSAN_NAMES_MAX, &place);
 }
 
 /* Classes, escapes and quantifiers inside as many parentheses as are judged, and a pattern that is left open. */
@@ -78,6 +85,7 @@ static void others(void) {
         lubiksan_same_normalized(part, size, text, size);
     }
     lubiksan_convert(rows, LUBIKSAN_ROWS_MAX, names, LUBIKSAN_NAMES_MAX, &place);
+    lubiksan_graph_form(graph_rows, LUBIKSAN_ROWS_MAX, graph_names, LUBIKSAN_NAMES_MAX, &place);
     lubiksan_columns(graph_rows, LUBIKSAN_ROWS_MAX, rows, LUBIKSAN_ROWS_MAX, &place);
     lubiksan_rows(graph_rows, LUBIKSAN_ROWS_MAX, rows, LUBIKSAN_ROWS_MAX, &place);
     lubiksan_parse_u32((const uint8_t *)" +0042 ", 7, &narrow);
@@ -119,9 +127,10 @@ static size_t taken(void (*call)(void)) {
 }
 
 int main(int argc, char **argv) {
-    static void (*const calls[])(void) = {tape, clear, read_piece, lower, write_back, pattern, others};
-    static const char *const told[] = {"TAPE", "CLEAR", "READ", "LOWER", "WRITE", "PATTERN", "OTHER"};
-    size_t most[7] = {0};
+    static void (*const calls[])(void) = {tape, clear, read_piece, lower, reduce, write_back, pattern, others};
+    static const char *const told[] = {"TAPE", "CLEAR", "READ", "LOWER", "REDUCE", "WRITE", "PATTERN", "OTHER"};
+    enum { CALLS = sizeof calls / sizeof calls[0] };
+    size_t most[CALLS] = {0};
     if (posix_memalign((void **)&stack, 4096, STACK) != 0) {
         return EXIT_FAILURE;
     }
@@ -133,12 +142,12 @@ int main(int argc, char **argv) {
         }
         text_length = fread(text, 1, sizeof text, file);
         fclose(file);
-        for (size_t call = 0; call < 7; call++) {
+        for (size_t call = 0; call < CALLS; call++) {
             size_t bytes = taken(calls[call]);
             most[call] = bytes > most[call] ? bytes : most[call];
         }
     }
-    for (size_t call = 0; call < 7; call++) {
+    for (size_t call = 0; call < CALLS; call++) {
         printf("%s %zu\n", told[call], most[call]);
     }
     return EXIT_SUCCESS;

@@ -13,6 +13,8 @@ pub mod lowerings;
 pub mod patterns;
 pub mod prints;
 #[cfg(feature = "ours")]
+pub mod reduce;
+#[cfg(feature = "ours")]
 pub mod texts;
 pub mod vectors;
 #[cfg(feature = "ours")]

@@ -1,4 +1,4 @@
--- The way back: the graph that a graph sheet holds. A head takes the rows behind it, up to the next head, as its children.
+-- The way back: the graph that a graph sheet holds, paper 01, "Graph sheet". A head takes the rows behind it, up to the next head, as its children.
 --     text i r          the i-th text of a row
 --     rustTypeOf, refOf, cardinalityOf    the built-in type of a number; a row's reference, whose text is the i-th; the cardinality of b and c
 --     fieldOf .. attrOf, constraintOf     the children of rows

@@ -1,7 +1,7 @@
 /* The calls of the static library lubiksan (rt staticlib lubiksan): the text leaves; the tape of a schema text; a schema sheet
    cleared, a piece of a tape read into it, and one stored earlier converted; a schema sheet written back as schema text; a schema
-   sheet lowered to a graph sheet; the label of a row of a graph sheet; a pattern judged; the rows of a graph sheet turned into
-   columns for storing, and back.
+   sheet lowered to a graph sheet; the label of a row of a graph sheet; a graph sheet reduced to what its roots reach; a pattern
+   judged; the rows of a graph sheet turned into columns for storing, and back.
 
    A buffer is a pointer and a length in elements. Every pointer is valid, also for a length of 0 (any pointer that is not null
    and is aligned for its type), and the buffers of a call and what it stores do not overlap. Any bytes and numbers are taken.
@@ -42,13 +42,14 @@ extern "C" {
 #define LUBIKSAN_CLEAR_STACK 1024
 #define LUBIKSAN_READ_STACK 2048
 #define LUBIKSAN_LOWER_STACK 67584
+#define LUBIKSAN_REDUCE_STACK 70656
 #define LUBIKSAN_WRITE_STACK 1024
 #define LUBIKSAN_PATTERN_STACK 4096
 #define LUBIKSAN_OTHER_STACK 1024 /* any other call */
 
 /* The numbers returned, with what is left and which place is stored; where no place is named it is 0. */
-#define LUBIKSAN_ACCEPTED 0      /* the result; a reading's place is the events read, a lowering's the graph's rows used, a tape's the marks used,
-                                    a writing's the length of the text */
+#define LUBIKSAN_ACCEPTED 0      /* the result; a reading's place is the events read, a lowering's and a reduction's the rows used
+                                    of the graph written, a tape's the marks used, a writing's the length of the text */
 #define LUBIKSAN_LENGTHS 1       /* a buffer has a length outside the limits, a clearing's choice is above 1, or the two lengths of a
                                     turning differ: nothing is changed */
 #define LUBIKSAN_NOT_GOOD 2      /* the schema sheet is not good, as a cleared one is and one that a reading leaves; of lubiksan_convert: it would
@@ -68,7 +69,7 @@ extern "C" {
 #define LUBIKSAN_NO_ROOT 12      /* no schema tag was read; also of lubiksan_write: all of the text is 0 */
 #define LUBIKSAN_UNKNOWN_BASE 13 /* a simple type's base is not built in; the place is the row of the first such type */
 #define LUBIKSAN_SCRATCH 14      /* the scratch has less than one number for each finished type */
-#define LUBIKSAN_GRAPH_ROOM 15   /* the graph needs more rows or names than lent */
+#define LUBIKSAN_GRAPH_ROOM 15   /* the graph needs more rows or names than lent; also of lubiksan_reduce: all of its target is 0 */
 #define LUBIKSAN_NO_LABEL 16     /* label: the row has no type reference, or the word list is not five words */
 /* 17 to 19: the tape of a text, and 5 before them. All marks are 0. */
 #define LUBIKSAN_MALFORMED 17    /* the text is not well formed by XML 1.0 (Fifth Edition), or not whole */
@@ -76,7 +77,8 @@ extern "C" {
 #define LUBIKSAN_MARKS 19        /* the tape needs more marks than lent */
 #define LUBIKSAN_NAME_TWICE 20   /* lowering: two finished types normalise to the same name; the place is the row of the first head, simple
                                     types before complex ones, whose name came before */
-#define LUBIKSAN_GRAPH_FORM 21   /* a graph is not in the form of a graph sheet: nothing is changed */
+#define LUBIKSAN_GRAPH_FORM 21   /* a graph is not in the form of a graph sheet, or, of lubiksan_reduce, two of its types have one name:
+                                    nothing is changed */
 /* 22 and 23: lubiksan_write, after 1, 2 and 12 and tried in this order. All of the text is 0. */
 #define LUBIKSAN_NO_VALUE 22     /* a value that XML 1.0 cannot hold in an attribute: a <, both quotes, a forbidden control byte, an & that starts no
                                     predefined entity or legal character reference; the place is the first such row, 1 for the namespace */
@@ -278,6 +280,14 @@ uint32_t lubiksan_label_number(const uint32_t *graph_rows, size_t graph_rows_len
    zeros behind the used parts; not judged are what the names say, c of roots and types, and how many children a type has. */
 uint32_t lubiksan_graph_form(const uint32_t *graph_rows, size_t graph_rows_length, const uint8_t *graph_names,
                              size_t graph_names_length, size_t *place);
+
+/* Writes from a graph sheet, which is unchanged, a second one, whatever that held: all roots, and exactly the types that some chain of
+   references reaches from a root, in their order, with their rows. A root leads to the type named by its type name as
+   lubiksan_normalize_type_name converts it, a named reference to the type of that name, or nowhere. 0, 1, 15 or 21, tried in the order
+   1, 21, 15; the place in *place. */
+uint32_t lubiksan_reduce(const uint32_t *graph_rows, size_t graph_rows_length, const uint8_t *graph_names,
+                         size_t graph_names_length, uint32_t *rows, size_t rows_length, uint8_t *names, size_t names_length,
+                         size_t *place);
 
 /* Turns rows into ten columns, one after the other, each number below the first of its column stored as its difference from the
    number above, modulo 4294967296: LUBIKSAN_ACCEPTED or LUBIKSAN_LENGTHS. *place is set to 0. The two lengths are one and the same,

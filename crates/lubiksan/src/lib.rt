@@ -6,6 +6,7 @@ mod label;
 mod leaves;
 mod lowering;
 mod reading;
+mod reducing;
 mod tape;
 mod version;
 mod writing;

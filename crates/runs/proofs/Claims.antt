@@ -1,5 +1,5 @@
--- The outer claims, each under the paper's words. What a call says of itself is `ClearIs`, `ConvertIs`, `ReadIs`, `TapeIs`, `LowerIs`, `LabelIs`, `LabelNumberIs` and `WriteIs`
--- (specs/ of xsd_types, xsd_parser, xml, ir_lower, ir_types, xsd_written); a `Trace` is a list of readings and lowerings, each by its `ReadIs` or `LowerIs`. Every claim is
+-- The outer claims, each under the paper's words. What a call says of itself is `ClearIs`, `ConvertIs`, `ReadIs`, `TapeIs`, `LowerIs`, `LabelIs`, `LabelNumberIs`,
+-- `WriteIs` and `Reduction` (specs/ of xsd_types, xsd_parser, xml, ir_lower, ir_types, xsd_written, ir_reduce); a `Trace` is a list of readings and lowerings, each by its `ReadIs` or `LowerIs`. Every claim is
 -- proved below this file. Assumes nothing.
 use Prim.Native.Nat.{ℕ, _+_, _≤_, _<_}
 use mathlib.Core.Path.{_≡_}
@@ -15,7 +15,7 @@ use Rattle.number.proofs.Laws.Spellings.{number-kept, number-exactly}
 use Rattle.builtin.specs.Builtin.{firstMatch, mapBuiltin}
 use Rattle.builtin.specs.Source.{sourceBuiltins}
 use Rattle.builtin.proofs.Laws.Source.{builtin-kept}
-use Rattle.sheet.specs.Rows.{Sheet}
+use Rattle.sheet.specs.Rows.{Row, Sheet}
 use Rattle.sheet.specs.Form.{words, tensOf}
 use Rattle.sheet.specs.Returned.{accepted, malformed, doctype}
 use Rattle.sheet.specs.Lengths.{sheetLengths, Lengths, lengthsOf, goodLengths, Answer}
@@ -90,6 +90,12 @@ use Rattle.ir_lower.proofs.Laws.Cardinality.{optional-exactly, vec-exactly, bou
 use Rattle.ir_lower.proofs.Laws.Names.{lowering-accepted, lowering-last, repeated-exactly, repeated-place}
 use Rattle.ir_lower.proofs.Laws.Form.{lowering-form}
 use Rattle.ir_lower.proofs.Laws.Count.{thirteen-exactly}
+use Rattle.ir_reduce.specs.Groups.{GraphType, Parted, parted, rowsOf as rowsOfGraph}
+use Rattle.ir_reduce.specs.Reach.{In, Chain, Reduced}
+use Rattle.ir_reduce.specs.Call.{inForm, Reduction}
+use Rattle.ir_reduce.proofs.Laws.Reach.{reduced-exactly}
+use Rattle.ir_reduce.proofs.Laws.Parted.{rows-twice}
+use Rattle.ir_reduce.proofs.Laws.Once.{reduction-once}
 use Rattle.pattern.specs.Grammar.{Derives, regExp}
 use Rattle.pattern.specs.Scan.{start, go, scan}
 use Rattle.pattern.specs.Call.{Verdict}
@@ -126,6 +132,7 @@ use mathlib.Core.Option.{some}
 use Rattle.runs.specs.Given.{GraphPasses}
 use Rattle.runs.proofs.Given.{graph-passes}
 use Rattle.runs.proofs.Written.{round-trip, round-made}
+use Rattle.runs.proofs.Reduced.{lowering-in-form}
 
 -- "A sheet is good if it has this form, ..": exactly the sheets of proper states
 pub claim-good : (x : Sheet) → words (x .rows) ≡ true → (good x ≡ true) ↔ ((s : State) × (proper s ≡ true) × (stateFits (length (x .rows)) (length (x .names)) s ≡ true) × (sheetOf s (length (x .rows)) (length (x .names)) ≡ x))
@@ -385,6 +392,23 @@ claim-graph-back = graph-back
 -- what lowering writes has the graph's form
 pub claim-form : (x graph : Sheet) (scratch : List ℕ) → words (x .rows) ≡ true → lowering x graph scratch .answer .number ≡ 0 → graphForm (lowering x graph scratch .graph) ≡ true
 claim-form = lowering-form
+
+-- order 6, only what the message uses: "The answer is shown against chains, with a definition that does not search". What the call says of itself is
+-- `Reduction` (specs/ of ir_reduce); it fixes number, place, and every number and byte of the target
+pub claim-reduction-once : {x target y z : Sheet} {a b : Answer} → Reduction x target a y → Reduction x target b z → (a ≡ b) × (y ≡ z)
+claim-reduction-once = reduction-once
+
+-- "exactly the types that some chain of references reaches from a root": a type is among those kept exactly if there is a chain to it
+pub claim-reduced : {p q : Parted} → Reduced p q → (t : GraphType) → In t (q .types) ↔ Chain p t
+claim-reduced = reduced-exactly
+
+-- "reducing twice equals reducing once": the rows of what is kept, parted and reduced again
+pub claim-reduced-twice : (rs : List Row) {q r : Parted} → Reduced (parted rs) q → Reduced (parted (rowsOfGraph q)) r → r ≡ q
+claim-reduced-twice = rows-twice
+
+-- what lowering writes never gives 21: it is in the form, and no two of its types have one name
+pub claim-lowered-in-form : (x graph : Sheet) (scratch : List ℕ) → words (x .rows) ≡ true → lowering x graph scratch .answer .number ≡ 0 → inForm (lowering x graph scratch .graph) ≡ true
+claim-lowered-in-form = lowering-in-form
 
 -- order 7, the count: "how many finished simple types lowering would refuse by 13 .. Keep that count in row 1 under a. Each event keeps it right, and a sheet is good
 -- only if it is": in a good sheet, and in that of every state that an event leads to

@@ -5,6 +5,7 @@ use mathlib.Core.Path.{_≡_}
 use mathlib.Core.Logic.{⊎-elim}
 use mathlib.Core.Bool.{true, _&&_}
 use mathlib.Core.List.{List}
+use mathlib.Core.Option.{some}
 use native.Mathlib.Omega.{arith}
 use lib.Dec.{eqb, leb, ltb}
 use borrow.Author.Tests.{eqb-true, leb-true, ltb-true, lt-ltb}
@@ -13,8 +14,10 @@ use Rattle.sheet.specs.Lengths.{lengthsOf, goodLengths}
 use Rattle.sheet.specs.Rows.{Sheet}
 use Rattle.xsd_types.specs.State.{State, schemaOk, countersOk, eventNumberOk, itemPasses, eventsOk, proper}
 use Rattle.xsd_types.specs.Count.{good, stateOf}
+use Rattle.ir_types.specs.Types.{TypeGraph}
 use Rattle.ir_types.specs.Form.{graphForm}
 use Rattle.ir_types.proofs.Laws.GraphForm.{graph-form}
+use Rattle.ir_lower.specs.Lower.{lower}
 use Rattle.ir_lower.specs.Call.{Lowered, unchanged, lowerState, lowering}
 use Rattle.ir_lower.specs.Outcome.{Outcome}
 use Rattle.ir_lower.proofs.Laws.GraphOk.{smallEvent, lower-ok}
@@ -23,7 +26,7 @@ use Rattle.text.specs.Text.{every}
 use Rattle.text.proofs.Laws.Tests.{and-true-left, or-cases, test-cases}
 use Rattle.xsd_types.proofs.Laws.Sound.{proper-parts}
 use Rattle.xsd_types.proofs.Laws.Events.{passing-parts, heads-weaken}
-use Rattle.ir_types.specs.Ok.{isSmall}
+use Rattle.ir_types.specs.Ok.{isSmall, graphOk}
 use Rattle.sheet.specs.Form.{words}
 use Rattle.xsd_types.proofs.Laws.Count.{proper-stateOf}
 
@@ -70,5 +73,13 @@ pub lowering-form : (x graph : Sheet) (scratch : List ℕ) → words (x .rows) �
 lowering-form x graph scratch w z =
     ⊎-elim
     (λ k. ⊎-elim (λ g. good-form x graph scratch k g (proper-stateOf x w g) z) (λ g. absurd (not-zero 2 graph scratch _ (omega arith) (lowering-2 x graph scratch k g) z)) (test-cases (good x)))
+    (λ k. absurd (not-zero 1 graph scratch _ (omega arith) (lowering-1 x graph scratch k) z))
+    (test-cases (goodLengths (lengthsOf x) && goodLengths (lengthsOf graph)))
+
+-- and its texts and numbers have the widths by which a graph sheet can be read back
+pub lowering-ok : (x graph : Sheet) (scratch : List ℕ) → words (x .rows) ≡ true → lowering x graph scratch .answer .number ≡ 0 → (g : TypeGraph) → lower (stateOf x .reader .schema) ≡ some g → graphOk g ≡ true
+lowering-ok x graph scratch w z g c =
+    ⊎-elim
+    (λ k. ⊎-elim (λ e. let h = proper-stateOf x w e in lower-ok (stateOf x .reader .schema) g (proper-schema (stateOf x) h) (proper-small (stateOf x) h) c) (λ e. absurd (not-zero 2 graph scratch _ (omega arith) (lowering-2 x graph scratch k e) z)) (test-cases (good x)))
     (λ k. absurd (not-zero 1 graph scratch _ (omega arith) (lowering-1 x graph scratch k) z))
     (test-cases (goodLengths (lengthsOf x) && goodLengths (lengthsOf graph)))

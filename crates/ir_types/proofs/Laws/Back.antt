@@ -10,6 +10,7 @@ use lib.ListN.{length, replicate}
 use Rattle.text.specs.Text.{Text, between}
 use Rattle.builtin.specs.Builtin.{RustType, rustTypeNumber}
 use Rattle.sheet.specs.Rows.{Row, row, bit, pack, namesOf, unpackRow, filled, sheetOfRows}
+use Rattle.sheet.specs.Form.{tensOf}
 use Rattle.sheet.proofs.Laws.Packs.{rows-back}
 use Rattle.ir_types.specs.Types.{TypeRef, Cardinality, FieldDef, VariantDef, Constraint, CodeValue, AttrDef, TypeDef, RootElement, TypeGraph}
 use Rattle.ir_types.specs.Rows.{refA, refText, cardinalityB, cardinalityC, fieldRow, variantRow, constraintRow, codeRow, attrRow, typeRows, typesRows, rootRow, rowsOf}
@@ -192,3 +193,11 @@ rows-in g r n h = rows-back usedPairs (graphSheet g r n .names) 0 (rowsOf g) (re
 pub graph-back : (g : TypeGraph) (r n : ℕ) → graphOk g ≡ true → graphBack (graphSheet g r n) ≡ g
 unfolding graphBack
 graph-back g r n h = rw (sheet-tens g r n) (ap graphOfRows (rows-in g r n h) ∙ graph-of-rows g)
+
+-- the rows of a graph sheet, and the definitions that they hold
+pub sheet-rows : (g : TypeGraph) (r n : ℕ) → graphOk g ≡ true → map (unpackRow usedPairs (graphSheet g r n .names)) (tensOf (graphSheet g r n)) ≡ rowsOf g
+sheet-rows g r n h = rw (sheet-tens g r n) (rows-in g r n h)
+
+pub rows-types : (g : TypeGraph) → typesBack (rowsOf g) .types ≡ g .types
+unfolding typesBack withRow rowsOf row between
+rows-types g = roots-wait (g .rootElements) (g .types)
