@@ -65,9 +65,8 @@ fn of_the_library(words: &[&str]) -> ExitCode {
 #[cfg(not(feature = "ours"))]
 fn of_the_library(words: &[&str]) -> ExitCode {
     match words {
-        ["leaves" | "calls" | "lowerings" | "patterns" | "columns" | "writes" | "reduce" | "texts", ..] => {
-            commands::failed("compare", &"it was built without the feature `ours`")
-        }
+        ["leaves" | "calls" | "lowerings" | "patterns" | "columns" | "writes" | "reduce"
+        | "texts", ..] => commands::failed("compare", &"it was built without the feature `ours`"),
         _ => commands::failed("compare", &USAGE),
     }
 }

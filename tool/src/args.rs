@@ -10,7 +10,9 @@ use clap::{value_parser, Arg, ArgAction, ArgMatches, Command as Parser};
 
 use lubiksan::ReadAs;
 
+use crate::bindings::Wanted;
 use crate::failure::{escaped_but, Failure};
+use crate::formats::dot::Part;
 use crate::output::write_output;
 
 /// How a graph is shown.
@@ -22,6 +24,8 @@ pub enum Format {
     Json,
     /// For Graphviz.
     Dot,
+    /// One page for a browser.
+    Html,
     /// Rust source.
     Rust,
     /// What the printing program prints.
@@ -39,6 +43,17 @@ pub struct TextForm {
     pub iso20022: bool,
 }
 
+/// What of a graph is shown.
+#[derive(Clone, Debug, Default, PartialEq, Eq)]
+pub struct Shown {
+    /// Without events, files and lines.
+    pub no_places: bool,
+    /// In `dot` a node for every type.
+    pub all_nodes: bool,
+    /// In `dot` this part alone.
+    pub part: Part,
+}
+
 /// A command with its arguments.
 #[derive(Clone, Debug, PartialEq, Eq)]
 pub enum Action {
@@ -54,6 +69,8 @@ pub enum Action {
         output: Option<PathBuf>,
         /// A sheet that is not whole is taken.
         partial: bool,
+        /// What of it is shown.
+        shown: Shown,
     },
     /// `names`
     Names {
@@ -91,6 +108,10 @@ pub enum Action {
         /// Begin anew.
         restart: bool,
     },
+    /// `bindings`
+    Bindings(Bindings),
+    /// `diff`
+    Diff(Diff),
     /// `shelf`
     Shelf(Shelf),
     /// `check`
@@ -105,6 +126,34 @@ pub enum Action {
         /// Where the tape is written.
         output: PathBuf,
     },
+}
+
+/// The arguments of `bindings`.
+#[derive(Clone, Debug, PartialEq, Eq)]
+pub struct Bindings {
+    /// The schemas.
+    pub files: Vec<PathBuf>,
+    /// The folder of the crate, or the file with `--module`.
+    pub output: Option<PathBuf>,
+    /// One file in the place of a crate.
+    pub module: bool,
+    /// Which types, and what is done where the schema can't be followed.
+    pub wanted: Wanted,
+}
+
+/// The arguments of `diff`.
+#[derive(Clone, Debug, PartialEq, Eq)]
+pub struct Diff {
+    /// An XSD, a stored sheet or a stored graph.
+    pub old: PathBuf,
+    /// Another one.
+    pub new: PathBuf,
+    /// JSON in the place of text.
+    pub json: bool,
+    /// The exit status tells whether they differ.
+    pub exit_code: bool,
+    /// Breaking changes alone.
+    pub breaking: bool,
 }
 
 /// The arguments of `shelf`.
@@ -188,6 +237,8 @@ pub fn parser() -> Parser {
         .subcommand(names())
         .subcommand(patterns())
         .subcommand(write())
+        .subcommand(bindings())
+        .subcommand(diff())
         .subcommand(read())
         .subcommand(shelf())
         .subcommand(Parser::new("check").about("Is a stored sheet good, and how far is it").arg(path("SHEET").help("A stored sheet")))
@@ -195,7 +246,8 @@ pub fn parser() -> Parser {
 }
 
 fn graph() -> Parser {
-    let formats = PossibleValuesParser::new(["text", "json", "dot", "rust", "rows", "stored"]);
+    let formats =
+        PossibleValuesParser::new(["text", "json", "html", "dot", "rust", "rows", "stored"]);
     Parser::new("graph")
         .about("The type graph of an XSD file, a stored sheet or a stored graph")
         .arg(
@@ -214,6 +266,21 @@ fn graph() -> Parser {
             "Take a stored sheet that is not read to its end",
         ))
         .arg(used())
+        .arg(flag(
+            "no-places",
+            "Without events, files and lines, so that two outputs can be compared",
+        ))
+        .arg(flag(
+            "all-nodes",
+            "In dot a node for every type, newtypes and code lists too",
+        ))
+        .arg(
+            Arg::new("root")
+                .long("root")
+                .value_name("NAME")
+                .help("In dot what this root element or type leads to"),
+        )
+        .arg(number("depth").help("In dot so many steps from the root"))
         .arg(as_original())
         .arg(strict())
 }
@@ -263,6 +330,54 @@ fn write() -> Parser {
         ))
         .arg(as_original())
         .arg(strict())
+}
+
+fn bindings() -> Parser {
+    Parser::new("bindings")
+        .about(
+            "A Rust crate that reads and writes the messages of XSD files, by serde and quick-xml",
+        )
+        .arg(
+            path("FILE")
+                .num_args(1..)
+                .help("XSD files; each becomes a module"),
+        )
+        .arg(
+            option("output", "DIR")
+                .required_unless_present("module")
+                .help("The folder of the crate, or with --module the file that is written"),
+        )
+        .arg(flag(
+            "module",
+            "One file with a module for each schema, in the place of a crate",
+        ))
+        .arg(flag("all", "Also the types that no root element reaches"))
+        .arg(flag(
+            "lossy",
+            "Leave out what can't be followed, such as any content, and say so",
+        ))
+        .arg(as_original())
+        .arg(strict())
+}
+
+fn diff() -> Parser {
+    Parser::new("diff")
+        .about("What changed between two schemas; what makes old messages invalid is marked as breaking")
+        .arg(path("OLD").help("An XSD file, a stored sheet or a stored graph"))
+        .arg(path("NEW").help("An XSD file, a stored sheet or a stored graph"))
+        .arg(
+            Arg::new("format")
+                .long("format")
+                .value_parser(PossibleValuesParser::new(["text", "json"]))
+                .default_value("text")
+                .help("How it is shown"),
+        )
+        .arg(flag(
+            "exit-code",
+            "End with 1 where they differ; with --breaking with 2 where a change is breaking",
+        ))
+        .arg(flag("breaking", "Breaking changes alone"))
+        .arg(as_original())
 }
 
 fn read() -> Parser {
@@ -399,6 +514,14 @@ fn action(name: &str, matches: &ArgMatches) -> Action {
             format: format(matches),
             output: matches.get_one::<PathBuf>("output").cloned(),
             partial: matches.get_flag("partial"),
+            shown: Shown {
+                no_places: matches.get_flag("no-places"),
+                all_nodes: matches.get_flag("all-nodes"),
+                part: Part {
+                    root: matches.get_one::<String>("root").cloned(),
+                    depth: number_of(matches, "depth"),
+                },
+            },
         },
         "names" => Action::Names {
             file: path("FILE"),
@@ -421,6 +544,14 @@ fn action(name: &str, matches: &ArgMatches) -> Action {
             wait: seconds(matches),
             restart: matches.get_flag("restart"),
         },
+        "bindings" => Action::Bindings(bindings_of(matches)),
+        "diff" => Action::Diff(Diff {
+            old: path("OLD"),
+            new: path("NEW"),
+            json: matches.get_one::<String>("format").map(String::as_str) == Some("json"),
+            exit_code: matches.get_flag("exit-code"),
+            breaking: matches.get_flag("breaking"),
+        }),
         "shelf" => Action::Shelf(shelf_of(matches)),
         "check" => Action::Check {
             sheet: path("SHEET"),
@@ -428,6 +559,19 @@ fn action(name: &str, matches: &ArgMatches) -> Action {
         _ => Action::Tape {
             file: path("FILE"),
             output: path("output"),
+        },
+    }
+}
+
+fn bindings_of(matches: &ArgMatches) -> Bindings {
+    let files = matches.get_many::<PathBuf>("FILE").into_iter().flatten();
+    Bindings {
+        files: files.cloned().collect(),
+        output: matches.get_one::<PathBuf>("output").cloned(),
+        module: matches.get_flag("module"),
+        wanted: Wanted {
+            all: matches.get_flag("all"),
+            lossy: matches.get_flag("lossy"),
         },
     }
 }
@@ -459,6 +603,7 @@ fn format(matches: &ArgMatches) -> Format {
     match matches.get_one::<String>("format").map(String::as_str) {
         Some("json") => Format::Json,
         Some("dot") => Format::Dot,
+        Some("html") => Format::Html,
         Some("rust") => Format::Rust,
         Some("rows") => Format::Rows,
         Some("stored") => Format::Stored,

@@ -5,10 +5,13 @@ use std::time::Duration;
 
 use lubiksan::{Context, Graph, Kind, ReadAs, SchemaSheet};
 
-use crate::args::{Action, Command, Format, TextForm};
+use crate::args::{Action, Command, Format, Shown, TextForm};
+use crate::bindings;
+use crate::diff;
 use crate::document::Piece;
 use crate::failure::{named, say, though_unread, Failure};
-use crate::formats::{dot, json, plural, rows, rust, text};
+use crate::formats::dot::Part;
+use crate::formats::{dot, dot_all, html, json, plural, rows, rust, text};
 use crate::interrupt;
 use crate::light;
 use crate::lock;
@@ -42,7 +45,16 @@ pub fn run(command: &Command) -> Result<(), Failure> {
             format,
             output,
             partial,
-        } => graph(command, file, *format, output.as_deref(), *partial),
+            shown,
+        } => {
+            only_in_dot(*format, shown)?;
+            graph(
+                command,
+                (file, *partial),
+                (*format, shown),
+                output.as_deref(),
+            )
+        }
         Action::Names { file, partial } => names(command, file, *partial),
         Action::Patterns { file } => patterns_of(command, file),
         Action::Write {
@@ -64,6 +76,8 @@ pub fn run(command: &Command) -> Result<(), Failure> {
             };
             read(command, file, sheet, *events, begin, *wait)
         }
+        Action::Bindings(arguments) => bindings::run(command, arguments),
+        Action::Diff(arguments) => diff::run(command, arguments),
         Action::Shelf(arguments) => shelf::run(command, arguments),
         Action::Check { sheet } => check(sheet),
         Action::Tape { file, output } => tape(command, file, output),
@@ -77,7 +91,7 @@ enum Held {
 }
 
 /// What a file holds, and the source where it was just read.
-struct Input {
+pub(crate) struct Input {
     held: Held,
     source: Option<Source>,
     /// What a stored sheet or a stored graph was read from.
@@ -96,7 +110,7 @@ impl Input {
     }
 
     /// What is made of the graph: of the sheet's, or of the stored one.
-    fn with_graph<A>(
+    pub(crate) fn with_graph<A>(
         &self,
         file: &Path,
         made: impl FnOnce(&Graph<'_>) -> Result<A, Failure>,
@@ -169,12 +183,12 @@ impl Input {
     }
 
     /// What of the source the graph does not keep, of the events that were read.
-    fn not_kept<'s>(&self, source: &'s Source) -> NotKept<'s> {
+    pub(crate) fn not_kept<'s>(&self, source: &'s Source) -> NotKept<'s> {
         NotKept::of_events(source, self.read_as(), self.events_done() as usize)
     }
 
     /// The source that was just read, or that of a stored sheet or graph where it is still there as it was.
-    fn with_source<A>(&self, shown: impl Fn(Option<&Source>) -> A) -> A {
+    pub(crate) fn with_source<A>(&self, shown: impl Fn(Option<&Source>) -> A) -> A {
         let stored = || self.about.as_ref().and_then(About::source);
         match &self.source {
             Some(source) => shown(Some(source)),
@@ -203,7 +217,7 @@ fn counts_of(graph: &Graph<'_>) -> Counts {
 }
 
 /// What a file holds, which is an XSD, a stored sheet or a stored graph.
-fn input(command: &Command, file: &Path, partial: bool) -> Result<Input, Failure> {
+pub(crate) fn input(command: &Command, file: &Path, partial: bool) -> Result<Input, Failure> {
     let bytes = bytes_of(file).map_err(|error| Failure::input(file, &error))?;
     if stored::is_stored(&bytes) {
         let stored = stored::of_bytes(file, &bytes)?;
@@ -297,12 +311,21 @@ pub fn warn(command: &Command, lines: Vec<String>) -> Result<(), Failure> {
     Ok(())
 }
 
+/// `--all-nodes`, `--root` and `--depth` are for the format dot.
+fn only_in_dot(format: Format, shown: &Shown) -> Result<(), Failure> {
+    let asked = shown.all_nodes || shown.part != Part::default();
+    if asked && format != Format::Dot {
+        let words = "--all-nodes, --root and --depth are for --format dot";
+        return Err(Failure::Usage(words.to_owned()));
+    }
+    Ok(())
+}
+
 fn graph(
     command: &Command,
-    file: &Path,
-    format: Format,
+    (file, partial): (&Path, bool),
+    (format, how): (Format, &Shown),
     output: Option<&Path>,
-    partial: bool,
 ) -> Result<(), Failure> {
     if let Some(output) = output {
         remove_left_beside(output);
@@ -319,7 +342,13 @@ fn graph(
                     lines.extend(input.refused_patterns(file, source));
                 }
                 warn(command, lines)?;
-                shown(file, format, &input, graph, (source, not_kept.as_ref()))
+                shown(
+                    file,
+                    (format, how),
+                    &input,
+                    graph,
+                    (source, not_kept.as_ref()),
+                )
             })
         })
     });
@@ -334,7 +363,7 @@ fn graph(
 }
 
 /// So many places that are not kept are said.
-fn most(command: &Command) -> usize {
+pub fn most(command: &Command) -> usize {
     match command.verbose {
         true => usize::MAX,
         false => notkept::MOST,
@@ -347,19 +376,29 @@ type Known<'k> = (Option<&'k Source>, Option<&'k NotKept<'k>>);
 /// The graph in a format.
 fn shown(
     file: &Path,
-    format: Format,
+    (format, how): (Format, &Shown),
     input: &Input,
     graph: &Graph<'_>,
     (source, not_kept): Known<'_>,
 ) -> Result<Vec<u8>, Failure> {
     let notes = not_kept.map(NotKept::notes).unwrap_or_default();
+    let origins = match how.no_places {
+        true => Origins::hidden(),
+        false => Origins::of(source),
+    };
     match format {
-        Format::Text => Ok(text::print(graph, &Origins::of(source), &notes).into_bytes()),
-        Format::Dot => Ok(dot::print(graph).into_bytes()),
+        Format::Text => Ok(text::print(graph, &origins, &notes).into_bytes()),
+        Format::Dot if how.all_nodes => Ok(dot_all::print(graph).into_bytes()),
+        Format::Dot => Ok(dot::print(graph, &how.part)?.into_bytes()),
+        Format::Html => {
+            let text = html::print(graph, &origins, &notes);
+            let text = text.map_err(|error| Failure::Machine(error.to_string()))?;
+            Ok(text.into_bytes())
+        }
         Format::Rows => Ok(rows::print(input.events_done() as usize, graph)),
         Format::Stored => input.stored_graph(graph),
         Format::Json => {
-            let text = json::print(graph, &Origins::of(source), not_kept);
+            let text = json::print(graph, &origins, not_kept);
             let text = text.map_err(|error| Failure::Machine(error.to_string()))?;
             Ok(text.into_bytes())
         }

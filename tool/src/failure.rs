@@ -23,6 +23,8 @@ pub enum Failure {
     Machine(String),
     /// What reads the output has gone; nothing is to be said.
     Pipe,
+    /// Two schemas differ, and the exit status was asked for; nothing more is to be said.
+    Differ(u8),
 }
 
 impl Failure {
@@ -30,6 +32,7 @@ impl Failure {
     pub fn status(&self) -> u8 {
         match self {
             Failure::Pipe => 0,
+            Failure::Differ(status) => *status,
             Failure::Refused(_) | Failure::Answered { .. } => 1,
             Failure::Usage(_) => 2,
             Failure::Machine(_) => 3,
@@ -39,7 +42,7 @@ impl Failure {
     /// The words, none for a broken pipe.
     pub fn words(&self) -> &str {
         match self {
-            Failure::Pipe => "",
+            Failure::Pipe | Failure::Differ(_) => "",
             Failure::Refused(words) | Failure::Usage(words) | Failure::Machine(words) => words,
             Failure::Answered { words, .. } => words,
         }
@@ -47,7 +50,7 @@ impl Failure {
 
     /// Says the words on standard error.
     pub fn say(&self) {
-        if *self != Failure::Pipe {
+        if !matches!(self, Failure::Pipe | Failure::Differ(_)) {
             say(self.words());
         }
     }

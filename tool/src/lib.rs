@@ -12,6 +12,7 @@
 //! | [`origins`] | where a root or type comes from, by the number of its event |
 //! | [`stored`], [`stored_graph`], [`packed`], [`output`] | stored sheets, stored graphs, the packed part of both; files that are whole or as they were |
 //! | [`formats`], [`names`], [`identifier`], [`places`] | the graph as text, JSON, dot, Rust and rows; names that meet, and where |
+//! | [`bindings`], [`diff`] | crates that read and write messages; what changed between two schemas |
 //! | [`shelf`], [`lock`], [`interrupt`], [`progress`] | many schemas side by side |
 //! | [`args`], [`commands`], [`failure`] | the command line |
 
@@ -19,7 +20,9 @@
 #![deny(unsafe_code)]
 
 pub mod args;
+pub mod bindings;
 pub mod commands;
+pub mod diff;
 pub mod explain;
 pub mod failure;
 pub mod follow;

@@ -8,7 +8,10 @@ use crate::source::Source;
 use crate::xml::Lines;
 
 /// The file whose events a sheet holds, where it is at hand.
-pub struct Origins<'s>(Option<(&'s Source, Lines)>);
+pub struct Origins<'s> {
+    source: Option<(&'s Source, Lines)>,
+    hidden: bool,
+}
 
 /// A place in a file.
 #[derive(Clone, Copy, Debug, PartialEq, Eq)]
@@ -22,12 +25,28 @@ pub struct Origin<'s> {
 impl<'s> Origins<'s> {
     /// The places in this file; without it none is known.
     pub fn of(source: Option<&'s Source>) -> Origins<'s> {
-        Origins(source.map(|source| (source, Lines::of(source.document().text()))))
+        Origins {
+            source: source.map(|source| (source, Lines::of(source.document().text()))),
+            hidden: false,
+        }
+    }
+
+    /// No place and no event is to be shown.
+    pub fn hidden() -> Origins<'s> {
+        Origins {
+            source: None,
+            hidden: true,
+        }
+    }
+
+    /// The number of an event, where it is to be shown.
+    pub fn shown(&self, event: Option<u32>) -> Option<u32> {
+        event.filter(|_| !self.hidden)
     }
 
     /// The place of the tag of an event; none where the event is not known.
     pub fn at(&self, event: Option<u32>) -> Option<Origin<'s>> {
-        let (source, lines) = self.0.as_ref()?;
+        let (source, lines) = self.source.as_ref()?;
         let at = tag_at(source, event)?;
         Some(Origin {
             file: source.path(),

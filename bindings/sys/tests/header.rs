@@ -25,7 +25,7 @@ type Calls = BTreeMap<String, (Call, Vec<String>)>;
 type Renamed = &'static [(&'static str, &'static str)];
 
 /// The library's constants, by file: the prefix behind `LUBIKSAN_` of their macros, and those with another name.
-const SOURCES: [(&str, &str, Renamed); 9] = [
+const SOURCES: [(&str, &str, Renamed); 8] = [
     ("lubiksan/src/version.rt", "", &[]),
     (
         "sheet/src/limits.rt",
@@ -84,7 +84,7 @@ const SOURCES: [(&str, &str, Renamed); 9] = [
 ];
 
 /// The macros that no constant of the library names; `answers.rs` tries them, and `c.rs` measures the stack.
-const TRIED_ON_CALLS: [&str; 35] = [
+const TRIED_ON_CALLS: [&str; 37] = [
     "TAPE_STACK",
     "CLEAR_STACK",
     "READ_STACK",

@@ -1,154 +1,252 @@
-//! The graph for Graphviz.
+//! The graph for Graphviz: a table for each struct, choice, value and opaque type, newtypes and code lists as rows of these, an edge from each field.
 
-use std::collections::HashMap;
+use std::collections::{BTreeMap, BTreeSet, VecDeque};
 use std::fmt::Write;
 
 use lubiksan::names::{map_builtin, normalize_type_name};
-use lubiksan::{Code, Field, Graph, TypeDef, TypeRef};
+use lubiksan::{Cardinality, Graph, TypeDef, TypeRef};
 
-use super::{facet_words, with_cardinality, word_of};
-use crate::failure::{escaped, quoted};
+use super::{facet_words, word_of};
+use crate::failure::{escaped, quoted, Failure};
+
+/// Which part of the graph is shown.
+#[derive(Clone, Debug, Default, PartialEq, Eq)]
+pub struct Part {
+    /// From this root element or type on.
+    pub root: Option<String>,
+    /// So many steps.
+    pub depth: Option<usize>,
+}
 
 /// The text for `dot`.
-pub fn print(graph: &Graph<'_>) -> String {
+///
+/// # Errors
+///
+/// [`Failure::Refused`] where there is no root element or type of the name that is asked for.
+pub fn print(graph: &Graph<'_>, part: &Part) -> Result<String, Failure> {
+    let types: BTreeMap<&str, (usize, TypeDef<'_>)> = graph
+        .types()
+        .enumerate()
+        .map(|(index, found)| (found.name(), (index, found)))
+        .collect();
+    let writer = Writer { types };
+    let shown = writer.shown(graph, part)?;
     let mut out = String::from(
-        "digraph schema {\n    rankdir=LR;\n    node [shape=box, fontname=\"monospace\"];\n",
+        "digraph schema {\n    rankdir=LR;\n    node [shape=plain, fontname=\"sans-serif\", fontsize=11];\n    edge [color=\"#777777\"];\n",
     );
-    let mut nodes = Nodes::of(graph);
     for (index, root) in graph.roots().enumerate() {
+        let name = normalize_type_name(root.type_name);
+        let asked = part
+            .root
+            .as_deref()
+            .is_none_or(|asked| asked == root.xml_name);
+        if !asked || (map_builtin(root.type_name).is_none() && !shown.contains(name.as_str())) {
+            continue;
+        }
         let _ = writeln!(
             out,
-            "    root{index} [shape=ellipse, label={}];",
-            label(root.xml_name)
+            "    root{index} [shape=oval, style=filled, fillcolor=\"#f4d58d\", label=<{}>];",
+            html(root.xml_name)
         );
-        if map_builtin(root.type_name).is_none() {
-            let node = nodes.node(&normalize_type_name(root.type_name));
-            let _ = writeln!(out, "    root{index} -> {node};");
+        if let Some((number, _)) = writer
+            .types
+            .get(name.as_str())
+            .filter(|(_, found)| is_node(found))
+        {
+            let _ = writeln!(out, "    root{index} -> type{number};");
         }
     }
-    for found in graph.types() {
-        put_type(&mut out, &mut nodes, &found);
+    for found in graph
+        .types()
+        .filter(|found| shown.contains(found.name()) && is_node(found))
+    {
+        writer.put_type(&mut out, &found, &shown);
     }
-    nodes.put_missing(&mut out);
     out.push_str("}\n");
-    out
+    Ok(out)
 }
 
-/// The nodes of the types by name, and those of names that are no types.
-struct Nodes {
-    types: HashMap<String, String>,
-    missing: Vec<String>,
+/// It has a node of its own.
+fn is_node(found: &TypeDef<'_>) -> bool {
+    !matches!(found, TypeDef::Newtype(_) | TypeDef::CodeList(_))
 }
 
-impl Nodes {
-    fn of(graph: &Graph<'_>) -> Nodes {
-        let names = graph.types().map(|found| found.name().to_owned());
-        let types = names
-            .enumerate()
-            .map(|(index, name)| (name, format!("type{index}")))
-            .collect();
-        Nodes {
-            types,
-            missing: Vec::new(),
+struct Writer<'g> {
+    types: BTreeMap<&'g str, (usize, TypeDef<'g>)>,
+}
+
+/// A row: the name, how often, the type.
+struct Row<'g> {
+    name: String,
+    often: String,
+    reference: TypeRef<'g>,
+}
+
+impl<'g> Writer<'g> {
+    /// The names of the types that are shown.
+    fn shown(&self, graph: &Graph<'_>, part: &Part) -> Result<BTreeSet<String>, Failure> {
+        let Some(asked) = &part.root else {
+            let starts = match part.depth {
+                Some(_) => graph
+                    .roots()
+                    .map(|root| normalize_type_name(root.type_name))
+                    .collect(),
+                None => self.types.keys().map(|name| (*name).to_owned()).collect(),
+            };
+            return Ok(self.reached(starts, part.depth));
+        };
+        let root = graph.roots().find(|root| root.xml_name == *asked);
+        let start = match root {
+            Some(root) => normalize_type_name(root.type_name),
+            None => normalize_type_name(asked),
+        };
+        if root.is_none() && !self.types.contains_key(start.as_str()) {
+            let words = format!("there is no root element and no type {}", quoted(asked));
+            return Err(Failure::Refused(words));
         }
+        Ok(self.reached(vec![start], part.depth))
     }
 
-    fn node(&mut self, name: &str) -> String {
-        let next = format!("missing{}", self.missing.len());
-        let node = self.types.entry(name.to_owned()).or_insert_with(|| {
-            self.missing.push(name.to_owned());
-            next
-        });
-        node.clone()
+    fn reached(&self, starts: Vec<String>, depth: Option<usize>) -> BTreeSet<String> {
+        let mut shown = BTreeSet::new();
+        let mut rest: VecDeque<(String, usize)> =
+            starts.into_iter().map(|name| (name, 0)).collect();
+        while let Some((name, steps)) = rest.pop_front() {
+            let Some((_, found)) = self.types.get(name.as_str()) else {
+                continue;
+            };
+            if shown.insert(name) && depth.is_none_or(|depth| steps < depth) {
+                let names = rows(found)
+                    .into_iter()
+                    .filter_map(|row| match row.reference {
+                        TypeRef::Named(name) => Some((name.to_owned(), steps + 1)),
+                        TypeRef::Builtin(_) => None,
+                    });
+                rest.extend(names);
+            }
+        }
+        shown
     }
 
-    fn put_missing(&self, out: &mut String) {
-        for (index, name) in self.missing.iter().enumerate() {
-            let _ = writeln!(
-                out,
-                "    missing{index} [style=dashed, label={}];",
-                label(name)
+    fn put_type(&self, out: &mut String, found: &TypeDef<'g>, shown: &BTreeSet<String>) {
+        let number = self
+            .types
+            .get(found.name())
+            .map_or(0, |(number, _)| *number);
+        let (colour, style) = match found {
+            TypeDef::Choice(_) => ("#b7e4c7", " style=\"rounded\""),
+            TypeDef::Value(_) => ("#f8edad", ""),
+            TypeDef::Opaque(_) => ("#dddddd", " style=\"dashed\""),
+            _ => ("#bcd4f0", ""),
+        };
+        let mut table = format!(
+            "<table border=\"1\" cellborder=\"0\" cellspacing=\"0\" cellpadding=\"3\"{style}><tr><td colspan=\"3\" bgcolor=\"{colour}\"><b>{}</b> {}</td></tr>",
+            html(found.name()),
+            word_of(found)
+        );
+        let mut edges = String::new();
+        for (index, row) in rows(found).iter().enumerate() {
+            let _ = write!(
+                table,
+                "<tr><td align=\"left\">{}</td><td align=\"left\">{}</td><td align=\"left\" port=\"f{index}\">{}</td></tr>",
+                html(&row.name),
+                html(&row.often),
+                html(&self.described(row.reference))
             );
+            if let Some(target) = self.target(row.reference, shown) {
+                let _ = writeln!(edges, "    type{number}:f{index} -> type{target};");
+            }
         }
+        let _ = write!(out, "    type{number} [label=<{table}</table>>];\n{edges}");
+    }
+
+    /// The node that a row leads to.
+    fn target(&self, reference: TypeRef<'_>, shown: &BTreeSet<String>) -> Option<usize> {
+        let TypeRef::Named(name) = reference else {
+            return None;
+        };
+        let (number, found) = self.types.get(name)?;
+        (is_node(found) && shown.contains(name)).then_some(*number)
+    }
+
+    /// A type in a row; a newtype or code list with what it asks.
+    fn described(&self, reference: TypeRef<'_>) -> String {
+        let TypeRef::Named(name) = reference else {
+            return reference.to_string();
+        };
+        let more = match self.types.get(name) {
+            Some((_, TypeDef::Newtype(it))) => {
+                let facets = it.facets().map(|facet| facet_words(&facet));
+                let parts: Vec<String> = std::iter::once(it.inner().name().to_owned())
+                    .chain(facets)
+                    .collect();
+                parts.join(", ")
+            }
+            Some((_, TypeDef::CodeList(it))) => {
+                let codes: Vec<&str> = it.codes().map(|code| code.xml_value).collect();
+                codes.join(" ")
+            }
+            Some(_) => return name.to_owned(),
+            None => "not there".to_owned(),
+        };
+        const LONGEST: usize = 60;
+        let short: String = more.chars().take(LONGEST).collect();
+        let dots = if short.len() < more.len() { ".." } else { "" };
+        format!("{name}: {short}{dots}")
     }
 }
 
-fn put_type(out: &mut String, nodes: &mut Nodes, found: &TypeDef<'_>) {
-    let node = nodes.node(found.name());
-    let mut lines = vec![format!("{} {}", word_of(found), escaped(found.name()))];
-    let mut edges = Vec::new();
-    for (line, reference) in children(found) {
-        lines.push(line);
-        if let Some(TypeRef::Named(name)) = reference {
-            edges.push(nodes.node(name));
-        }
-    }
-    let text: String = lines
-        .iter()
-        .map(|line| format!("{}\\l", inside(line)))
-        .collect();
-    let _ = writeln!(out, "    {node} [label=\"{text}\"];");
-    edges.sort();
-    edges.dedup();
-    for edge in edges {
-        let _ = writeln!(out, "    {node} -> {edge};");
-    }
-}
-
-/// A line for a child, and the type that it refers to.
-type Child<'g> = (String, Option<TypeRef<'g>>);
-
-fn children<'g>(found: &TypeDef<'g>) -> Vec<Child<'g>> {
+/// The rows of a type.
+fn rows<'g>(found: &TypeDef<'g>) -> Vec<Row<'g>> {
+    let row = |name: &str, often: &str, reference| Row {
+        name: name.to_owned(),
+        often: often.to_owned(),
+        reference,
+    };
     match found {
-        TypeDef::Struct(it) => it.fields().map(field).collect(),
+        TypeDef::Struct(it) => it
+            .fields()
+            .map(|f| row(f.xml_name, &often(f.cardinality), f.type_ref))
+            .collect(),
         TypeDef::Choice(it) => it
             .variants()
-            .map(|v| referring(v.rust_name, v.type_ref))
+            .map(|v| row(v.xml_name, "", v.type_ref))
             .collect(),
-        TypeDef::CodeList(it) => {
-            let code = |c: Code<'g>| plain(&format!("{}: {}", c.rust_name, quoted(c.xml_value)));
-            it.codes().map(code).collect()
-        }
-        TypeDef::Newtype(it) => {
-            let facets = it.facets().map(|facet| plain(&facet_words(&facet)));
-            std::iter::once(plain(it.inner().name()))
-                .chain(facets)
-                .collect()
-        }
         TypeDef::Value(it) => {
-            let value = (escaped(&format!("  {}", it.value())), Some(it.value()));
-            let attributes = it.attributes().map(|a| referring(a.rust_name, a.type_ref));
-            std::iter::once(value).chain(attributes).collect()
+            let attribute = |a: lubiksan::Attribute<'g>| {
+                let often = if a.required { "1" } else { "0..1" };
+                row(&format!("@{}", a.xml_name), often, a.type_ref)
+            };
+            let text = std::iter::once(row("text", "1", it.value()));
+            text.chain(it.attributes().map(attribute)).collect()
         }
-        TypeDef::Opaque(it) => it
-            .namespace()
-            .map(|name| plain(&quoted(name)))
-            .into_iter()
-            .collect(),
+        TypeDef::CodeList(_) | TypeDef::Newtype(_) | TypeDef::Opaque(_) => Vec::new(),
     }
 }
 
-fn field(field: Field<'_>) -> Child<'_> {
-    let kind = with_cardinality(&field.type_ref.to_string(), field.cardinality);
-    (
-        escaped(&format!("  {}: {kind}", field.rust_name)),
-        Some(field.type_ref),
-    )
+/// `0..1`
+pub(crate) fn often(cardinality: Cardinality) -> String {
+    match cardinality {
+        Cardinality::Required => "1".to_owned(),
+        Cardinality::Optional => "0..1".to_owned(),
+        Cardinality::Vec => "0..*".to_owned(),
+        Cardinality::Bounded(most) => format!("0..{most}"),
+    }
 }
 
-fn referring<'g>(name: &str, reference: TypeRef<'g>) -> Child<'g> {
-    (escaped(&format!("  {name}: {reference}")), Some(reference))
-}
-
-fn plain<'g>(words: &str) -> Child<'g> {
-    (escaped(&format!("  {words}")), None)
-}
-
-/// A text in the quotes of dot.
-fn label(text: &str) -> String {
-    format!("\"{}\"", inside(&escaped(text)))
-}
-
-fn inside(text: &str) -> String {
-    text.replace('\\', "\\\\").replace('"', "\\\"")
+/// A text inside the labels of dot, and inside HTML.
+pub(crate) fn html(text: &str) -> String {
+    let mut out = String::new();
+    for c in escaped(text).chars() {
+        match c {
+            '&' => out.push_str("&amp;"),
+            '<' => out.push_str("&lt;"),
+            '>' => out.push_str("&gt;"),
+            '"' => out.push_str("&quot;"),
+            '\'' => out.push_str("&#39;"),
+            '\\' => out.push_str("&#92;"),
+            c => out.push(c),
+        }
+    }
+    out
 }

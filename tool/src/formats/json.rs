@@ -65,7 +65,7 @@ impl<'o, T> Located<'o, T> {
     ) -> Result<(), S::Error> {
         let origin = self.origins.at(event);
         let file = origin.map(|origin| origin.file.to_string_lossy());
-        out.serialize_field("event", &event)?;
+        out.serialize_field("event", &self.origins.shown(event))?;
         out.serialize_field("file", &file)?;
         out.serialize_field("line", &origin.map(|origin| origin.line))
     }

@@ -1,6 +1,8 @@
 //! The formats of a graph.
 
 pub mod dot;
+pub mod dot_all;
+pub mod html;
 pub mod json;
 pub mod rows;
 pub mod rust;

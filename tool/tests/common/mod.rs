@@ -2,6 +2,8 @@
 
 #![allow(dead_code)]
 
+pub mod messages;
+
 use std::ffi::OsStr;
 use std::fs;
 use std::path::{Path, PathBuf};
