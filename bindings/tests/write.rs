@@ -28,9 +28,9 @@ fn sheet_of(rows: &[Given<'_>], context: u32, seen: u32) -> SchemaSheet<'static>
     SchemaSheet::from_buffers(numbers, names)
 }
 
-/// One of each kind of row.
+/// One of each kind of row; the base of S is not built in, so that one type is counted as refused.
 const ALL: [Given<'static>; 20] = [
-    (1, &["urn:x"], 0, 0),
+    (1, &["urn:x"], 1, 0),
     (2, &["D", "T"], 0, 0),
     (3, &["S", ""], 0, 0),
     (4, &["it's"], 0, 0),

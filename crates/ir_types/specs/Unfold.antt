@@ -11,5 +11,9 @@ use Rattle.ir_types.specs.Sheet.{graphFits, graphSheet}
 use Rattle.ir_types.specs.Types.{nameOf}
 
 unfoldable pub computes : Unit {0}
-unfolding typeNames among distinctTexts distinct insert insertAll usedPairs isTypeTag formA formB formC tenForm isChild mayFollow headAfter inOrder count tagsOf row0Form rowsForm namesForm graphForm noLabel newline wordsOf goodWords wordAt rowTen hasReference referenceAt referenceLength namedLabel wordLabel rowLabel label refOk cardinalityOk fieldOk variantOk constraintOk codeOk attrOk typeOk rootOk graphOk rowForm isSmall rowSmall rowOk hasTag rowRefuses refuses refA refText cardinalityB cardinalityC fieldRow variantRow constraintRow codeRow attrRow typeRows typesRows rootRow rowsOf rowsUsed namesUsed row0 graphFits graphSheet nameOf unnumberedRoot unnumberedType unnumberedGraph
+unfolding typeNames among distinctTexts distinct insert insertAll usedPairs isTypeTag formA formB formC tenForm isChild mayFollow headAfter inOrder count tagsOf row0Form
+    rowsForm namesForm graphForm noLabel newline wordsOf goodWords wordAt rowTen hasReference referenceAt referenceLength namedLabel wordLabel rowLabel label refOk
+    cardinalityOk fieldOk variantOk constraintOk codeOk attrOk typeOk rootOk graphOk rowForm isSmall rowSmall rowOk hasTag rowRefuses refuses refA refText cardinalityB
+    cardinalityC fieldRow variantRow constraintRow codeRow attrRow typeRows typesRows rootRow rowsOf rowsUsed namesUsed row0 graphFits graphSheet nameOf unnumberedRoot
+    unnumberedType unnumberedGraph
 computes = tt

@@ -6,5 +6,6 @@ use Rattle.pattern.specs.Scan.{isEscaped, leave, isPlain, fresh, inside,
 use Rattle.pattern.specs.Call.{isAsidePair, asideFrom, asidePairs, countOf, isAside}
 
 unfoldable pub computes : Unit {0}
-unfolding bytes contains between isChar charBut isNormal isXmlChar isInClass isMark isSingle isMulti isEscaped leave isPlain fresh inside step final scan isAsidePair asideFrom asidePairs countOf isAside
+unfolding bytes contains between isChar charBut isNormal isXmlChar isInClass isMark isSingle isMulti isEscaped leave isPlain fresh inside step final scan isAsidePair
+    asideFrom asidePairs countOf isAside
 computes = tt

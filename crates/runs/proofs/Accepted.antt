@@ -75,13 +75,15 @@ hold-cleared x l e = rw e (hold-first true x l)
 
 children-of : (x : Sheet) (calls : List Call) → sheetLengths (length (x .rows)) (length (x .names)) ≡ true
     → let js = joinedFrom calls (Held.holding (lengthsOf x) (firstState true)) in
-    heads (stateOf (sheetOf (afterRecords (lengthsOf x) (firstState true) js) (length (x .rows)) (length (x .names))) .reader) ≡ directChildren (map event (acceptedEvents (lengthsOf x) (firstState true) js))
+    heads (stateOf (sheetOf (afterRecords (lengthsOf x) (firstState true) js) (length (x .rows)) (length (x .names))) .reader)
+    ≡ directChildren (map event (acceptedEvents (lengthsOf x) (firstState true) js))
 unfolding lengthsOf
 children-of x calls l =
     let lent = lengthsOf x in
     let js = joinedFrom calls (Held.holding lent (firstState true)) in
     let p = joined-keeps (λ s. proper s ≡ true) lent (λ s text marks q. readState-proper lent s text marks q) calls (firstState true) (first-proper true) in
-    let f = joined-keeps (λ s. stateFits (lent .rows) (lent .names) s ≡ true) lent (λ s text marks q. readState-fits lent s text marks q) calls (firstState true) (first-fits true (length (x .rows)) (length (x .names)) l) in
+    let f = joined-keeps (λ s. stateFits (lent .rows) (lent .names) s ≡ true) lent (λ s text marks q. readState-fits lent s text marks q) calls (firstState true)
+    (first-fits true (length (x .rows)) (length (x .names)) l) in
     ap (λ (y : State). heads (y .reader)) (stateOf-sheetOf (afterRecords lent (firstState true) js) (length (x .rows)) (length (x .names)) p f)
     ∙ first-children (after-accepted lent (firstState true) js)
 

@@ -46,8 +46,11 @@ Carrying es s = (length es ≡ s .events) × (headsPass (λ v n. gave es n v) (s
 carrying-step : (lent : Lengths) (es : List Event) (s s′ : State) (e : Event) → step lent s e ≡ ok s′ → Carrying es s → Carrying (es ++ e ∷ []) s′
 carrying-step lent es s s′ e q h =
     let more = heads-weaken (λ v n. gave es n v) (λ v n. gave (es ++ e ∷ []) n v) (λ v n. gave-more es (e ∷ []) n v) (s .reader) (h .1) in
-    let own : makesHead e ≡ true → (v : Text) → eventName e ≡ some v → gave (es ++ e ∷ []) (s .events) v ≡ true = λ m v k. subst (λ (n : ℕ). gave (es ++ e ∷ []) n v ≡ true) (h .0) (gave-last es e v m k) in
-    (length-append es (e ∷ []) ∙ omega (arith, h .0, step-events lent s e s′ q), gives-value (handled-passes (λ v n. gave (es ++ e ∷ []) n v) (s .events) (s .byStandard) e (s .reader) own more) (step-reader lent s e s′ q))
+    let own : makesHead e ≡ true → (v : Text) → eventName e ≡ some v
+    → gave (es ++ e ∷ []) (s .events) v ≡ true = λ m v k. subst (λ (n : ℕ). gave (es ++ e ∷ []) n v ≡ true) (h .0) (gave-last es e v m k) in (
+      length-append es (e ∷ []) ∙ omega (arith, h .0, step-events lent s e s′ q),
+      gives-value (handled-passes (λ v n. gave (es ++ e ∷ []) n v) (s .events) (s .byStandard) e (s .reader) own more) (step-reader lent s e s′ q),
+    )
 
 pub accepted-ok : (lent : Lengths) (s x : State) (e : Event) (js : List Judged) → step lent s e ≡ ok x → acceptedEvents lent s (event e ∷ js) ≡ e ∷ acceptedEvents lent x js
 unfolding acceptedEvents
@@ -72,13 +75,15 @@ carrying-after lent es s (event e ∷ js) h =
     subst (λ (l : List Event). Carrying (es ++ l) (afterRecords lent s (event e ∷ js))) (sym (accepted-refuse lent s e js k q))
     (subst (λ (y : State). Carrying (es ++ acceptedEvents lent s js) (afterRecords lent y js)) (sym (afterRecord-refuse lent s e k q)) (carrying-after lent es s js h)))
 
-pub carried : (byStandard : Bool) (lent : Lengths) (js : List Judged) → headsPass (λ v n. gave (acceptedEvents lent (firstState byStandard) js) n v) (afterRecords lent (firstState byStandard) js .reader) ≡ true
+pub carried : (byStandard : Bool) (lent : Lengths) (js : List Judged)
+    → headsPass (λ v n. gave (acceptedEvents lent (firstState byStandard) js) n v) (afterRecords lent (firstState byStandard) js .reader) ≡ true
 unfolding firstState headsPass openPasses every
 carried b lent js = carrying-after lent [] (firstState b) js (refl, refl) .1
 
 -- the last sheet of a run from a cleared one
 pub carried-run : (byStandard : Bool) (x : Sheet) (calls : List Call) → goodLengths (lengthsOf x) ≡ true → good x ≡ true → stateOf x ≡ firstState byStandard
-    → (s : State) × (run x calls .last ≡ sheetOf s (length (x .rows)) (length (x .names))) × (headsPass (λ v n. gave (acceptedEvents (lengthsOf x) (firstState byStandard) (joined x calls)) n v) (s .reader) ≡ true)
+    → (s : State) × (run x calls .last ≡ sheetOf s (length (x .rows)) (length (x .names)))
+    × (headsPass (λ v n. gave (acceptedEvents (lengthsOf x) (firstState byStandard) (joined x calls)) n v) (s .reader) ≡ true)
 carried-run b x calls l g z =
     let js = joined x calls in (
       afterRecords (lengthsOf x) (firstState b) js,

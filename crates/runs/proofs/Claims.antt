@@ -1,5 +1,6 @@
 -- The outer claims, each under the paper's words. What a call says of itself is `ClearIs`, `ConvertIs`, `ReadIs`, `TapeIs`, `LowerIs`, `LabelIs`, `LabelNumberIs`,
--- `WriteIs` and `Reduction` (specs/ of xsd_types, xsd_parser, xml, ir_lower, ir_types, xsd_written, ir_reduce); a `Trace` is a list of readings and lowerings, each by its `ReadIs` or `LowerIs`. Every claim is
+-- `WriteIs` and `Reduction` (specs/ of xsd_types, xsd_parser, xml, ir_lower, ir_types, xsd_written, ir_reduce); a `Trace` is a list of readings and lowerings, each by
+-- its `ReadIs` or `LowerIs`. Every claim is
 -- proved below this file. Assumes nothing.
 use Prim.Native.Nat.{ℕ, _+_, _≤_, _<_}
 use mathlib.Core.Path.{_≡_}
@@ -135,7 +136,9 @@ use Rattle.runs.proofs.Written.{round-trip, round-made}
 use Rattle.runs.proofs.Reduced.{lowering-in-form}
 
 -- "A sheet is good if it has this form, ..": exactly the sheets of proper states
-pub claim-good : (x : Sheet) → words (x .rows) ≡ true → (good x ≡ true) ↔ ((s : State) × (proper s ≡ true) × (stateFits (length (x .rows)) (length (x .names)) s ≡ true) × (sheetOf s (length (x .rows)) (length (x .names)) ≡ x))
+pub claim-good : (x : Sheet) → words (x .rows) ≡ true
+    → (good x ≡ true) ↔ ((s : State) × (proper s ≡ true) × (stateFits (length (x .rows)) (length (x .names)) s ≡ true)
+    × (sheetOf s (length (x .rows)) (length (x .names)) ≡ x))
 claim-good = good-exactly
 
 -- the state can be read back, and reading back and writing gives the same sheet
@@ -179,15 +182,18 @@ claim-event = step-proper
 
 -- "Demand 3 is one claim about the list": the answers of the calls made, a refused event's number in the run among them, and the last sheet are the
 -- definition's, from every first sheet
-pub claim-runs : {x x′ : Sheet} {calls : List Call} {answers : List Answered} → words (x .rows) ≡ true → Trace x calls answers x′ → _≡_ {A = Ran} (record { answers = answers; last = x′ }) (run x calls)
+pub claim-runs : {x x′ : Sheet} {calls : List Call} {answers : List Answered} → words (x .rows) ≡ true → Trace x calls answers x′
+    → _≡_ {A = Ran} (record { answers = answers; last = x′ }) (run x calls)
 claim-runs = runs
 
 -- "Events joined are the records so judged." From a good sheet the last sheet is that of the first state after them, one after the other, wherever the
 -- pieces ended: by the definition, and for the calls made
-pub claim-joined : (x : Sheet) (calls : List Call) → goodLengths (lengthsOf x) ≡ true → good x ≡ true → run x calls .last ≡ sheetOf (afterRecords (lengthsOf x) (stateOf x) (joined x calls)) (length (x .rows)) (length (x .names))
+pub claim-joined : (x : Sheet) (calls : List Call) → goodLengths (lengthsOf x) ≡ true → good x ≡ true
+    → run x calls .last ≡ sheetOf (afterRecords (lengthsOf x) (stateOf x) (joined x calls)) (length (x .rows)) (length (x .names))
 claim-joined = last-joined
 
-pub claim-joined-made : {x x′ : Sheet} {calls : List Call} {answers : List Answered} → words (x .rows) ≡ true → goodLengths (lengthsOf x) ≡ true → good x ≡ true → Trace x calls answers x′ → x′ ≡ sheetOf (afterRecords (lengthsOf x) (stateOf x) (joined x calls)) (length (x .rows)) (length (x .names))
+pub claim-joined-made : {x x′ : Sheet} {calls : List Call} {answers : List Answered} → words (x .rows) ≡ true → goodLengths (lengthsOf x) ≡ true → good x ≡ true
+    → Trace x calls answers x′ → x′ ≡ sheetOf (afterRecords (lengthsOf x) (stateOf x) (joined x calls)) (length (x .rows)) (length (x .names))
 claim-joined-made = made-joined
 
 -- "From a good sheet no call of the run gives 2."
@@ -248,7 +254,8 @@ pub claim-tape-is : (text : Text) (before : List ℕ) (number place : ℕ) (afte
 claim-tape-is = tape-exactly
 
 -- an accepted tape is that of a well-formed text below 128, up to its place
-pub claim-tape : (text : Text) (before : List ℕ) → tapeOf text before .number ≡ accepted → (es : List TapeEvent) × (document text ≡ wellFormed es) × (isText text ≡ true) × (take (tapeOf text before .place) (tapeOf text before .marks) ≡ tapeMarks es)
+pub claim-tape : (text : Text) (before : List ℕ) → tapeOf text before .number ≡ accepted → (es : List TapeEvent) × (document text ≡ wellFormed es) × (isText text ≡ true)
+    × (take (tapeOf text before .place) (tapeOf text before .marks) ≡ tapeMarks es)
 claim-tape = accepted-tape
 
 -- "a tape whose pairs point into it": under each pair stands the name or the value that the production has at that place
@@ -260,11 +267,13 @@ pub claim-tape-records : (text : Text) (es : List TapeEvent) → document text �
 claim-tape-records = tape-records
 
 -- nor does it meet 6, from any state, and where it is accepted as many tags are open as before
-pub claim-tape-read : (lent : Lengths) (s : State) (text : Text) (es : List TapeEvent) → document text ≡ wellFormed es → isText text ≡ true → every fewAttributes es ≡ true → ReadsThrough (s .openTags) (readState lent s text (tapeMarks es))
+pub claim-tape-read : (lent : Lengths) (s : State) (text : Text) (es : List TapeEvent) → document text ≡ wellFormed es → isText text ≡ true
+    → every fewAttributes es ≡ true → ReadsThrough (s .openTags) (readState lent s text (tapeMarks es))
 claim-tape-read = tape-reads
 
 -- a tag written by the productions is read as that tag, whatever stands behind it
-pub claim-tag-written : (at kind : ℕ) (t : Tag) (rest : Text) → startKind ≤ kind → kind ≤ emptyKind → isNameText (t .name) ≡ true → every attributeOk (t .attributes) ≡ true → newKeys [] (t .attributes) ≡ true → tag at (writtenTag kind t ++ rest) ≡ taggedAs at kind t rest
+pub claim-tag-written : (at kind : ℕ) (t : Tag) (rest : Text) → startKind ≤ kind → kind ≤ emptyKind → isNameText (t .name) ≡ true
+    → every attributeOk (t .attributes) ≡ true → newKeys [] (t .attributes) ≡ true → tag at (writtenTag kind t ++ rest) ≡ taggedAs at kind t rest
 claim-tag-written = tag-written
 
 -- and the pairs of what it is read as stand for the tag's own texts
@@ -338,16 +347,20 @@ claim-cleared-lower = lower-unnumbered
 pub claim-cleared-graph : (g : TypeGraph) → map clearedGraphRow (graphRowsOf g) ≡ graphRowsOf (unnumberedGraph g)
 claim-cleared-graph = graph-cleared
 
-pub claim-cleared-run : (x : Sheet) (calls : List Call) → goodLengths (lengthsOf x) ≡ true → good x ≡ true → RunCleared (lengthsOf x) (run x calls) (runBefore calls (lengthsOf x) (unnumbered (stateOf x)))
+pub claim-cleared-run : (x : Sheet) (calls : List Call) → goodLengths (lengthsOf x) ≡ true → good x ≡ true
+    → RunCleared (lengthsOf x) (run x calls) (runBefore calls (lengthsOf x) (unnumbered (stateOf x)))
 claim-cleared-run = sheet-cleared
 
 -- "Zero means unknown, as in sheets stored earlier, which stay good": from a good sheet without numbers the last sheet of every run is good, and every c is 0 or that of an event of the run
-pub claim-stored : (x : Sheet) (calls : List Call) → words (x .rows) ≡ true → goodLengths (lengthsOf x) ≡ true → good x ≡ true → headsPass isZero (stateOf x .reader) ≡ true → Stored x (run x calls .last)
+pub claim-stored : (x : Sheet) (calls : List Call) → words (x .rows) ≡ true → goodLengths (lengthsOf x) ≡ true → good x ≡ true
+    → headsPass isZero (stateOf x .reader) ≡ true → Stored x (run x calls .last)
 claim-stored = stored-run
 
 -- "the number in the run of the event that gave it its name": in the last sheet of a run from a cleared one, event c of those accepted is a tag that a head is made of,
 -- start or empty, and its name is the head's
-pub claim-carried : (byStandard : Bool) (x : Sheet) (calls : List Call) → goodLengths (lengthsOf x) ≡ true → good x ≡ true → stateOf x ≡ firstState byStandard → (s : State) × (run x calls .last ≡ sheetOf s (length (x .rows)) (length (x .names))) × (headsPass (λ name c. gave (acceptedEvents (lengthsOf x) (firstState byStandard) (joined x calls)) c name) (s .reader) ≡ true)
+pub claim-carried : (byStandard : Bool) (x : Sheet) (calls : List Call) → goodLengths (lengthsOf x) ≡ true → good x ≡ true → stateOf x ≡ firstState byStandard
+    → (s : State) × (run x calls .last ≡ sheetOf s (length (x .rows)) (length (x .names)))
+    × (headsPass (λ name c. gave (acceptedEvents (lengthsOf x) (firstState byStandard) (joined x calls)) c name) (s .reader) ≡ true)
 claim-carried = carried-run
 
 -- "of both sheets": what the names and numbers of a state's heads pass, those of its graph pass, a type's by its name in the schema
@@ -374,7 +387,8 @@ pub claim-types : (x graph : Sheet) (scratch : List ℕ) → lowering x graph sc
 claim-types = lowering-accepted
 
 -- "The last-definition rule then touches no accepted sheet": by paper 01's rule the types would be the same
-pub claim-last : (x graph : Sheet) (scratch : List ℕ) → lowering x graph scratch .answer .number ≡ 0 → insertAll (finishedDefinitions (stateOf x .reader .schema)) [] ≡ finishedDefinitions (stateOf x .reader .schema)
+pub claim-last : (x graph : Sheet) (scratch : List ℕ) → lowering x graph scratch .answer .number ≡ 0
+    → insertAll (finishedDefinitions (stateOf x .reader .schema)) [] ≡ finishedDefinitions (stateOf x .reader .schema)
 claim-last = lowering-last
 
 -- 20 exactly where 1, 2, 14, 12 and 13 do not come and "two finished types normalise to the same name"
@@ -382,7 +396,8 @@ pub claim-repeated : (x graph : Sheet) (scratch : List ℕ) → (lowering x grap
 claim-repeated = repeated-exactly
 
 -- "the place is the row of the first head, in lowering's order, whose name came before"
-pub claim-repeated-place : (x graph : Sheet) (scratch : List ℕ) → lowering x graph scratch .answer .number ≡ 20 → FirstRepeat [] (typeHeads 2 (stateOf x .reader .schema .items)) (lowering x graph scratch .answer .place)
+pub claim-repeated-place : (x graph : Sheet) (scratch : List ℕ) → lowering x graph scratch .answer .number ≡ 20
+    → FirstRepeat [] (typeHeads 2 (stateOf x .reader .schema .items)) (lowering x graph scratch .answer .place)
 claim-repeated-place = repeated-place
 
 -- a graph sheet can be read back, as a schema sheet can
@@ -423,7 +438,8 @@ pub claim-count-bare : (x : Sheet) → good x ≡ true → bareGood (bare x) ≡
 claim-count-bare = good-bare
 
 -- the light: where 1, 2, 14 and 12 do not come, 13 comes exactly if a of row 1 is above 0
-pub claim-red-light : (x graph : Sheet) (scratch : List ℕ) → goodLengths (lengthsOf x) && goodLengths (lengthsOf graph) ≡ true → good x ≡ true → stateOf x .reader .rootSeen ≡ true → finishedTypes (stateOf x .reader .schema) ≤ length scratch
+pub claim-red-light : (x graph : Sheet) (scratch : List ℕ) → goodLengths (lengthsOf x) && goodLengths (lengthsOf graph) ≡ true → good x ≡ true
+    → stateOf x .reader .rootSeen ≡ true → finishedTypes (stateOf x .reader .schema) ≤ length scratch
     → (lowering x graph scratch .answer .number ≡ 13) ↔ (0 < countIn x)
 claim-red-light = thirteen-exactly
 
@@ -445,7 +461,8 @@ claim-convert-twice = convert-twice
 pub claim-converted-state : (x : Sheet) → stateOf (convert x .sheet) ≡ stateOf x
 claim-converted-state = converted-state
 
-pub claim-converted-run : (x : Sheet) (calls : List Call) → convert x .answer .number ≡ 0 → run (convert x .sheet) calls .last ≡ sheetOf (afterRecords (lengthsOf x) (stateOf x) (joined (convert x .sheet) calls)) (length (x .rows)) (length (x .names))
+pub claim-converted-run : (x : Sheet) (calls : List Call) → convert x .answer .number ≡ 0
+    → run (convert x .sheet) calls .last ≡ sheetOf (afterRecords (lengthsOf x) (stateOf x) (joined (convert x .sheet) calls)) (length (x .rows)) (length (x .names))
 claim-converted-run = converted-run
 
 -- order 13, patterns: exactly one number fits every pattern, "order 1 for length, 5 for a byte above 127, 25, 24"
@@ -459,10 +476,13 @@ claim-pattern-scan = scan-exactly
 -- order 14, notes change nothing. "Compare two runs of the same number of events, cut alike, lowerings at the same places, from equal sheets, lent equal lengths
 -- .. If neither run meets 1, 3, 4 or 5, numbers, places and sheets are equal at every step, and graphs unless lowering gives 2 or 14": from every first sheet,
 -- by the definition, and for the calls made
-pub claim-notes : {cs cs′ : List Call} (x : Sheet) → AlikeCalls cs cs′ → meetsNone (run x cs .answers) ≡ true → meetsNone (run x cs′ .answers) ≡ true → AlikeRuns (run x cs) (run x cs′) (sheetsOf x cs) (sheetsOf x cs′)
+pub claim-notes : {cs cs′ : List Call} (x : Sheet) → AlikeCalls cs cs′ → meetsNone (run x cs .answers) ≡ true → meetsNone (run x cs′ .answers) ≡ true
+    → AlikeRuns (run x cs) (run x cs′) (sheetsOf x cs) (sheetsOf x cs′)
 claim-notes = notes-nothing
 
-pub claim-notes-made : {x x₁ x₂ : Sheet} {cs cs′ : List Call} {xs ys : List Answered} → words (x .rows) ≡ true → AlikeCalls cs cs′ → (made₁ : Trace x cs xs x₁) (made₂ : Trace x cs′ ys x₂) → meetsNone xs ≡ true → meetsNone ys ≡ true → AlikeRuns (record { answers = xs; last = x₁ }) (record { answers = ys; last = x₂ }) (sheetsMade made₁) (sheetsMade made₂)
+pub claim-notes-made : {x x₁ x₂ : Sheet} {cs cs′ : List Call} {xs ys : List Answered} → words (x .rows) ≡ true → AlikeCalls cs cs′
+    → (made₁ : Trace x cs xs x₁) (made₂ : Trace x cs′ ys x₂) → meetsNone xs ≡ true → meetsNone ys ≡ true
+    → AlikeRuns (record { answers = xs; last = x₁ }) (record { answers = ys; last = x₂ }) (sheetsMade made₁) (sheetsMade made₂)
 claim-notes-made = notes-made
 
 -- order 9: "The answer .. stays the same for every name": as by the list of 001

@@ -16,7 +16,9 @@ use Rattle.xsd_parser.proofs.Laws.Alike.{SeenAlike, step-alike as seen-step}
 use Rattle.runs.specs.Notes.{readWords, isOne, readOf, AlikeTags, AlikeEvents}
 
 -- a lookup of one of the words passes over the others
-look-step : (x : Attr) (xs : List Attr) (word : String) (r b : Bool) → isOne readWords (localName (x .key)) ≡ r → is (localName (x .key)) word ≡ b → (b ≡ true → r ≡ true) → lookup (readOf xs) word ≡ lookup xs word → lookup (if r then x ∷ readOf xs else readOf xs) word ≡ (if b then some (x .value) else lookup xs word)
+look-step : (x : Attr) (xs : List Attr) (word : String) (r b : Bool) → isOne readWords (localName (x .key)) ≡ r → is (localName (x .key)) word ≡ b
+    → (b ≡ true → r ≡ true) → lookup (readOf xs) word ≡ lookup xs word
+    → lookup (if r then x ∷ readOf xs else readOf xs) word ≡ (if b then some (x .value) else lookup xs word)
 unfolding lookup
 look-step x xs word true b e f h on = rw f (ap (λ (o : Option Text). if b then some (x .value) else o) on)
 look-step x xs word false true e f h on = absurd (false≢true (h refl))

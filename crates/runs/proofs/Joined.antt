@@ -89,9 +89,11 @@ pub hold-good : (x : Sheet) → goodLengths (lengthsOf x) ≡ true → good x �
 unfolding hold
 hold-good x l g = rw (l, g)
 
-pub last-joined : (x : Sheet) (calls : List Call) → goodLengths (lengthsOf x) ≡ true → good x ≡ true → run x calls .last ≡ sheetOf (afterRecords (lengthsOf x) (stateOf x) (joined x calls)) (length (x .rows)) (length (x .names))
+pub last-joined : (x : Sheet) (calls : List Call) → goodLengths (lengthsOf x) ≡ true → good x ≡ true
+    → run x calls .last ≡ sheetOf (afterRecords (lengthsOf x) (stateOf x) (joined x calls)) (length (x .rows)) (length (x .names))
 unfolding run joined lengthsOf
 last-joined x calls l g = rw (hold-good x l g) (last-joined-from calls (lengthsOf x) (stateOf x))
 
-pub made-joined : {x x′ : Sheet} {calls : List Call} {answers : List Answered} → words (x .rows) ≡ true → goodLengths (lengthsOf x) ≡ true → good x ≡ true → Trace x calls answers x′ → x′ ≡ sheetOf (afterRecords (lengthsOf x) (stateOf x) (joined x calls)) (length (x .rows)) (length (x .names))
+pub made-joined : {x x′ : Sheet} {calls : List Call} {answers : List Answered} → words (x .rows) ≡ true → goodLengths (lengthsOf x) ≡ true → good x ≡ true
+    → Trace x calls answers x′ → x′ ≡ sheetOf (afterRecords (lengthsOf x) (stateOf x) (joined x calls)) (length (x .rows)) (length (x .names))
 made-joined {x} {calls = calls} w l g t = ap (λ (r : Ran). r .last) (runs w t) ∙ last-joined x calls l g

@@ -48,7 +48,8 @@ outcome-not-two s graph scratch l (Outcome.fitting a b g c r f e) z = omega (ari
 lower-not-two : (lent : Lengths) (s : State) (graph : Sheet) (scratch : List ℕ) → lowerHeld (Held.holding lent s) graph scratch .answer .number ≡ 2 → ⊥
 unfolding lowerHeld unchanged
 lower-not-two lent s graph scratch =
-    if-cases (λ (l : Lowered). l .answer .number ≡ 2 → ⊥) (goodLengths (lengthsOf graph)) (λ t. outcome-not-two s graph scratch (lowerState s graph scratch) (outcome s graph scratch)) (λ t e. omega arith)
+    if-cases (λ (l : Lowered). l .answer .number ≡ 2 → ⊥) (goodLengths (lengthsOf graph))
+    (λ t. outcome-not-two s graph scratch (lowerState s graph scratch) (outcome s graph scratch)) (λ t e. omega arith)
 
 -- a reading on a state leaves a state
 pub read-holds : (lent : Lengths) (s : State) (text : Text) (marks : List ℕ) → (s′ : State) × (readHeld (Held.holding lent s) text marks .held ≡ Held.holding lent s′)

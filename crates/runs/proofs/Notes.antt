@@ -38,7 +38,8 @@ not-met : (n : ℕ) → between 3 5 n ≡ true → not (meets n) ≡ true → �
 unfolding meets
 not-met n b m = false≢true (sym (ap not (or-right (eqb n 1) b)) ∙ m)
 
-records-alike : (lent : Lengths) (n : ℕ) (s : State) (js js′ : List Judged) → AlikeRecords js js′ → not (meets (readRecords lent n s js .answer .number)) ≡ true → readRecords lent n s js ≡ readRecords lent n s js′
+records-alike : (lent : Lengths) (n : ℕ) (s : State) (js js′ : List Judged) → AlikeRecords js js′ → not (meets (readRecords lent n s js .answer .number)) ≡ true
+    → readRecords lent n s js ≡ readRecords lent n s js′
 unfolding readRecords
 records-alike lent n s [] [] AlikeRecords.end m = refl
 records-alike lent n s (event e ∷ js) (event e′ ∷ js′) (AlikeRecords.alike h w) m =
@@ -52,19 +53,25 @@ one-met : not (meets 1) ≡ true → ⊥
 unfolding meets
 one-met m = false≢true m
 
-held-alike : (h : Held) (text text′ : Text) (marks marks′ : List ℕ) → AlikeRecords (records text marks) (records text′ marks′) → not (meets (readHeld h text marks .answer .number)) ≡ true → not (meets (readHeld h text′ marks′ .answer .number)) ≡ true → readHeld h text marks ≡ readHeld h text′ marks′
+held-alike : (h : Held) (text text′ : Text) (marks marks′ : List ℕ) → AlikeRecords (records text marks) (records text′ marks′)
+    → not (meets (readHeld h text marks .answer .number)) ≡ true → not (meets (readHeld h text′ marks′ .answer .number)) ≡ true
+    → readHeld h text marks ≡ readHeld h text′ marks′
 unfolding readHeld readState heldAfter refusedWith
 held-alike (Held.badLengths x) text text′ marks marks′ w m m′ = refl
 held-alike (Held.notGood x) text text′ marks marks′ w m m′ = lengths (tapeLengths (length text) (length marks)) (tapeLengths (length text′) (length marks′)) m m′
   where
-    lengths : (a b : Bool) → not (meets (if a then 2 else 1)) ≡ true → not (meets (if b then 2 else 1)) ≡ true → refusedWith (if a then 2 else 1) (Held.notGood x) ≡ refusedWith (if b then 2 else 1) (Held.notGood x)
+    lengths : (a b : Bool) → not (meets (if a then 2 else 1)) ≡ true → not (meets (if b then 2 else 1)) ≡ true
+        → refusedWith (if a then 2 else 1) (Held.notGood x) ≡ refusedWith (if b then 2 else 1) (Held.notGood x)
     lengths true true k k′ = refl
     lengths false b k k′ = absurd (one-met k)
     lengths true false k k′ = absurd (one-met k′)
 held-alike (Held.holding lent s) text text′ marks marks′ w m m′ =
-    lengths (tapeLengths (length text) (length marks)) (tapeLengths (length text′) (length marks′)) m m′ (λ k. ap (heldAfter lent s) (records-alike lent 0 s (records text marks) (records text′ marks′) w k))
+    lengths (tapeLengths (length text) (length marks)) (tapeLengths (length text′) (length marks′)) m m′
+    (λ k. ap (heldAfter lent s) (records-alike lent 0 s (records text marks) (records text′ marks′) w k))
   where
-    lengths : {p q : Stepped} (a b : Bool) → not (meets ((if a then p else refusedWith 1 (Held.holding lent s)) .answer .number)) ≡ true → not (meets ((if b then q else refusedWith 1 (Held.holding lent s)) .answer .number)) ≡ true → (not (meets (p .answer .number)) ≡ true → p ≡ q) → (if a then p else refusedWith 1 (Held.holding lent s)) ≡ (if b then q else refusedWith 1 (Held.holding lent s))
+    lengths : {p q : Stepped} (a b : Bool) → not (meets ((if a then p else refusedWith 1 (Held.holding lent s)) .answer .number)) ≡ true
+        → not (meets ((if b then q else refusedWith 1 (Held.holding lent s)) .answer .number)) ≡ true → (not (meets (p .answer .number)) ≡ true → p ≡ q)
+        → (if a then p else refusedWith 1 (Held.holding lent s)) ≡ (if b then q else refusedWith 1 (Held.holding lent s))
     lengths true true k k′ f = f k
     lengths false b k k′ f = absurd (one-met k)
     lengths true false k k′ f = absurd (one-met k′)
@@ -113,9 +120,11 @@ module _ (graph graph′ : Sheet) (scratch scratch′ : List ℕ) (e : lengthsOf
 
   state-like : (s : State) → Like (lowerState s graph scratch) (lowerState s graph′ scratch′)
   unfolding lowerState lowerFinished
-  state-like s = rw (← f) (if-like (leb (finishedTypes (s .reader .schema)) (length scratch)) (if-like (s .reader .rootSeen) (refused-like (s .reader .schema) (lower (s .reader .schema))) (cleared-like 12 0)) short-like)
+  state-like s = rw (← f) (if-like (leb (finishedTypes (s .reader .schema)) (length scratch))
+      (if-like (s .reader .rootSeen) (refused-like (s .reader .schema) (lower (s .reader .schema))) (cleared-like 12 0)) short-like)
 
-  good-like : (b : Bool) {l l′ : Lowered} → Like l l′ → not (meets ((if b then l else unchanged 1 graph scratch) .answer .number)) ≡ true → Like (if b then l else unchanged 1 graph scratch) (if b then l′ else unchanged 1 graph′ scratch′)
+  good-like : (b : Bool) {l l′ : Lowered} → Like l l′ → not (meets ((if b then l else unchanged 1 graph scratch) .answer .number)) ≡ true
+      → Like (if b then l else unchanged 1 graph scratch) (if b then l′ else unchanged 1 graph′ scratch′)
   unfolding unchanged
   good-like true w m = w
   good-like false w m = absurd (one-met m)
@@ -127,19 +136,22 @@ module _ (graph graph′ : Sheet) (scratch scratch′ : List ℕ) (e : lengthsOf
   lower-like (Held.holding lent s) m = rw (← e) (good-like (goodLengths (lengthsOf graph)) (state-like s) m)
 
 -- ---- the runs
-calls-alike : {cs cs′ : List Call} (h : Held) → AlikeCalls cs cs′ → meetsNone (runCalls cs h .answers) ≡ true → meetsNone (runCalls cs′ h .answers) ≡ true → AlikeRuns (runCalls cs h) (runCalls cs′ h) (sheetsAfter cs h) (sheetsAfter cs′ h)
+calls-alike : {cs cs′ : List Call} (h : Held) → AlikeCalls cs cs′ → meetsNone (runCalls cs h .answers) ≡ true → meetsNone (runCalls cs′ h .answers) ≡ true
+    → AlikeRuns (runCalls cs h) (runCalls cs′ h) (sheetsAfter cs h) (sheetsAfter cs′ h)
 unfolding runCalls meetsNone every numberOf answeredFirst sheetsAfter
 calls-alike h AlikeCalls.end m m′ = record { answers = AlikeAnswers.end; last = refl; between = refl }
 calls-alike h (AlikeCalls.read {text} {text′} {marks} {marks′} {cs} {cs′} w on) m m′ =
     let e = held-alike h text text′ marks marks′ w (and-true-left _ _ m) (and-true-left _ _ m′) in
-    let rest = calls-alike (readHeld h text marks .held) on (and-true-right (not (meets (readHeld h text marks .answer .number))) _ m) (rw (← e) at (and-true-right (not (meets (readHeld h text′ marks′ .answer .number))) _ m′)) in
+    let rest = calls-alike (readHeld h text marks .held) on (and-true-right (not (meets (readHeld h text marks .answer .number))) _ m)
+    (rw (← e) at (and-true-right (not (meets (readHeld h text′ marks′ .answer .number))) _ m′)) in
     rw (← e) (record { answers = AlikeAnswers.read (rest .answers); last = rest .last; between = ap (λ (xs : List Sheet). sheetHeld (readHeld h text marks .held) ∷ xs) (rest .between) })
 calls-alike h (AlikeCalls.lower {graph} {graph′} {scratch} {scratch′} {cs} {cs′} e f on) m m′ =
     let l = lower-like graph graph′ scratch scratch′ e f h (and-true-left _ _ m) in
     let rest = calls-alike h on (and-true-right (not (meets (lowerHeld h graph scratch .answer .number))) _ m) (and-true-right (not (meets (lowerHeld h graph′ scratch′ .answer .number))) _ m′) in
     record { answers = AlikeAnswers.lower (l .answer) (l .graph) (rest .answers); last = rest .last; between = ap (λ (xs : List Sheet). sheetHeld h ∷ xs) (rest .between) }
 
-pub notes-nothing : {cs cs′ : List Call} (x : Sheet) → AlikeCalls cs cs′ → meetsNone (run x cs .answers) ≡ true → meetsNone (run x cs′ .answers) ≡ true → AlikeRuns (run x cs) (run x cs′) (sheetsOf x cs) (sheetsOf x cs′)
+pub notes-nothing : {cs cs′ : List Call} (x : Sheet) → AlikeCalls cs cs′ → meetsNone (run x cs .answers) ≡ true → meetsNone (run x cs′ .answers) ≡ true
+    → AlikeRuns (run x cs) (run x cs′) (sheetsOf x cs) (sheetsOf x cs′)
 unfolding run sheetsOf
 notes-nothing x w m m′ = calls-alike (hold x) w m m′
 
@@ -154,7 +166,9 @@ sheets-made {h = h} v (Trace.readNext {text = text} {marks = marks} is t) =
     ap₂ (λ (y : Sheet) (ys : List Sheet). y ∷ ys) (sym (served-sheet serves)) (sheets-made serves t)
 sheets-made {h = h} v (Trace.lowerNext is t) = ap₂ (λ (y : Sheet) (ys : List Sheet). y ∷ ys) (sym (served-sheet v)) (sheets-made v t)
 
-pub notes-made : {x x₁ x₂ : Sheet} {cs cs′ : List Call} {answers₁ answers₂ : List Answered} → words (x .rows) ≡ true → AlikeCalls cs cs′ → (t₁ : Trace x cs answers₁ x₁) (t₂ : Trace x cs′ answers₂ x₂) → meetsNone answers₁ ≡ true → meetsNone answers₂ ≡ true → AlikeRuns (record { answers = answers₁; last = x₁ }) (record { answers = answers₂; last = x₂ }) (sheetsMade t₁) (sheetsMade t₂)
+pub notes-made : {x x₁ x₂ : Sheet} {cs cs′ : List Call} {answers₁ answers₂ : List Answered} → words (x .rows) ≡ true → AlikeCalls cs cs′
+    → (t₁ : Trace x cs answers₁ x₁) (t₂ : Trace x cs′ answers₂ x₂) → meetsNone answers₁ ≡ true → meetsNone answers₂ ≡ true
+    → AlikeRuns (record { answers = answers₁; last = x₁ }) (record { answers = answers₂; last = x₂ }) (sheetsMade t₁) (sheetsMade t₂)
 unfolding sheetsOf
 notes-made {x} w alike t₁ t₂ m m′ =
     let e₁ = runs w t₁ in

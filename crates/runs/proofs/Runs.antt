@@ -15,7 +15,8 @@ use Rattle.runs.specs.Runs.{Call, Answered, Ran, numberInRun, runCalls, 
 use Rattle.runs.proofs.Served.{Served, servedLengths, servedBad, servedState, served-sheet, read-served, lower-served}
 
 -- what a run begins with
-hold-cases : (x : Sheet) (l g : Bool) → words (x .rows) ≡ true → goodLengths (lengthsOf x) ≡ l → good x ≡ g → Served x (if l then if g then Held.holding (lengthsOf x) (stateOf x) else Held.notGood x else Held.badLengths x)
+hold-cases : (x : Sheet) (l g : Bool) → words (x .rows) ≡ true → goodLengths (lengthsOf x) ≡ l → good x ≡ g
+    → Served x (if l then if g then Held.holding (lengthsOf x) (stateOf x) else Held.notGood x else Held.badLengths x)
 unfolding lengthsOf
 hold-cases x false g w e k = servedLengths e
 hold-cases x true false w e k = servedBad e k
@@ -31,7 +32,8 @@ abbrev asMade : Sheet → Answer → Answered
 asMade x a = Answered.readAs a (numberInRun (eventsDone x) a)
 
 -- the calls from a pair on
-pub runs-from : {x x′ : Sheet} {h : Held} {calls : List Call} {answers : List Answered} → Served x h → Trace x calls answers x′ → _≡_ {A = Ran} (record { answers = answers; last = x′ }) (runCalls calls h)
+pub runs-from : {x x′ : Sheet} {h : Held} {calls : List Call} {answers : List Answered} → Served x h → Trace x calls answers x′
+    → _≡_ {A = Ran} (record { answers = answers; last = x′ }) (runCalls calls h)
 unfolding runCalls answeredFirst
 runs-from v Trace.done = λ i. record { answers = []; last = sym (served-sheet v) i }
 runs-from {x} {h = h} v (Trace.readNext {text = text} {marks = marks} {calls = calls} is t) =

@@ -23,7 +23,8 @@ use Rattle.runs.specs.Trace.{eventsDone}
 pub data Served : Sheet → Held → Type 0 where
   servedLengths : {x : Sheet} → goodLengths (lengthsOf x) ≡ false → Served x (Held.badLengths x)
   servedBad : {x : Sheet} → goodLengths (lengthsOf x) ≡ true → good x ≡ false → Served x (Held.notGood x)
-  servedState : {x : Sheet} {lent : Lengths} {s : State} → x ≡ sheetOf s (lent .rows) (lent .names) → goodLengths lent ≡ true → proper s ≡ true → stateFits (lent .rows) (lent .names) s ≡ true → Served x (Held.holding lent s)
+  servedState : {x : Sheet} {lent : Lengths} {s : State} → x ≡ sheetOf s (lent .rows) (lent .names) → goodLengths lent ≡ true → proper s ≡ true
+      → stateFits (lent .rows) (lent .names) s ≡ true → Served x (Held.holding lent s)
 
 -- the sheet is the one held
 pub served-sheet : {x : Sheet} {h : Held} → Served x h → sheetHeld h ≡ x
@@ -40,13 +41,16 @@ lengthsOf-sheetOf s lent f =
     λ i. record { rows = l .0 i; names = l .1 i }
 
 -- reading the sheet of a state is reading the state
-pub read-state : (lent : Lengths) (s : State) (text : Text) (marks : List ℕ) → goodLengths lent ≡ true → proper s ≡ true → stateFits (lent .rows) (lent .names) s ≡ true → read (sheetOf s (lent .rows) (lent .names)) text marks ≡ (if tapeLengths (length text) (length marks) then sheetOfReading lent (readState lent s text marks) else refusedAt 1 (sheetOf s (lent .rows) (lent .names)))
+pub read-state : (lent : Lengths) (s : State) (text : Text) (marks : List ℕ) → goodLengths lent ≡ true → proper s ≡ true → stateFits (lent .rows) (lent .names) s ≡ true
+    → read (sheetOf s (lent .rows) (lent .names)) text marks
+    ≡ (if tapeLengths (length text) (length marks) then sheetOfReading lent (readState lent s text marks) else refusedAt 1 (sheetOf s (lent .rows) (lent .names)))
 unfolding read
 read-state lent s text marks l p f =
     rw (lengthsOf-sheetOf s lent f, l, good-sheetOf s (lent .rows) (lent .names) p f, stateOf-sheetOf s (lent .rows) (lent .names) p f)
 
 -- lowering the sheet of a state is lowering the state
-lower-state : (lent : Lengths) (s : State) (graph : Sheet) (scratch : List ℕ) → goodLengths lent ≡ true → proper s ≡ true → stateFits (lent .rows) (lent .names) s ≡ true → lowering (sheetOf s (lent .rows) (lent .names)) graph scratch ≡ (if goodLengths (lengthsOf graph) then lowerState s graph scratch else unchanged 1 graph scratch)
+lower-state : (lent : Lengths) (s : State) (graph : Sheet) (scratch : List ℕ) → goodLengths lent ≡ true → proper s ≡ true → stateFits (lent .rows) (lent .names) s ≡ true
+    → lowering (sheetOf s (lent .rows) (lent .names)) graph scratch ≡ (if goodLengths (lengthsOf graph) then lowerState s graph scratch else unchanged 1 graph scratch)
 unfolding lowering
 lower-state lent s graph scratch l p f =
     rw (ap goodLengths (lengthsOf-sheetOf s lent f) ∙ l, good-sheetOf s (lent .rows) (lent .names) p f, stateOf-sheetOf s (lent .rows) (lent .names) p f)
@@ -67,7 +71,10 @@ unfolding refusedAt refusedWith sheetHeld numberInRun between
 kept-bad x true l g = record { answers = refl; numbers = refl; serves = servedBad l g }
 kept-bad x false l g = record { answers = refl; numbers = refl; serves = servedBad l g }
 
-kept-state : (lent : Lengths) (s : State) (text : Text) (marks : List ℕ) (t : Bool) → goodLengths lent ≡ true → proper s ≡ true → stateFits (lent .rows) (lent .names) s ≡ true → Kept (sheetOf s (lent .rows) (lent .names)) (if t then sheetOfReading lent (readState lent s text marks) else refusedAt 1 (sheetOf s (lent .rows) (lent .names))) (if t then heldAfter lent s (readState lent s text marks) else refusedWith 1 (Held.holding lent s))
+kept-state : (lent : Lengths) (s : State) (text : Text) (marks : List ℕ) (t : Bool) → goodLengths lent ≡ true → proper s ≡ true
+    → stateFits (lent .rows) (lent .names) s ≡ true
+    → Kept (sheetOf s (lent .rows) (lent .names)) (if t then sheetOfReading lent (readState lent s text marks) else refusedAt 1 (sheetOf s (lent .rows) (lent .names)))
+    (if t then heldAfter lent s (readState lent s text marks) else refusedWith 1 (Held.holding lent s))
 unfolding refusedAt refusedWith heldAfter sheetOfReading sheetHeld numberInRun between
 kept-state lent s text marks true l p f =
     record {

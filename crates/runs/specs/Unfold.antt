@@ -4,5 +4,6 @@ use Rattle.runs.specs.Joined.{judgedIn, judgedHeld, joinedFrom, joined, 
 use Rattle.runs.specs.Runs.{numberInRun, hold, sheetHeld, refusedWith, heldAfter, readHeld, lowerHeld, answeredFirst, runCalls, run}
 
 unfoldable pub computes : Unit {0}
-unfolding endedFirst tapeAnswer jobsDone jobsJudged isLowering heldBehind isLowered judgedIn judgedHeld joinedFrom joined acceptedEvents afterRecord afterRecords numberInRun hold sheetHeld refusedWith heldAfter readHeld lowerHeld answeredFirst runCalls run
+unfolding endedFirst tapeAnswer jobsDone jobsJudged isLowering heldBehind isLowered judgedIn judgedHeld joinedFrom joined acceptedEvents afterRecord afterRecords
+    numberInRun hold sheetHeld refusedWith heldAfter readHeld lowerHeld answeredFirst runCalls run
 computes = tt

@@ -12,9 +12,12 @@ use Rattle.xml.specs.Document.{toEnd, documentFrom, document, refused, w
 
 -- the parts that give no event
 unfoldable pub partsCompute : Unit {0}
-unfolding isChar isWhiteSpace isLetter isNameStart isName isEncoding startsWith literal many oneThen spaces space name nameOf until comment isXml target instructionEnd instruction section digitOf isNumber isEntity isReference isPlain valueEnd isQuote value charData eq quoted versionNumber encodingName yesOrNo declared optional declaration isMisc miscPart miscFrom misc isDeclaration prolog
+unfolding isChar isWhiteSpace isLetter isNameStart isName isEncoding startsWith literal many oneThen spaces space name nameOf until comment isXml target instructionEnd
+    instruction section digitOf isNumber isEntity isReference isPlain valueEnd isQuote value charData eq quoted versionNumber encodingName yesOrNo declared optional
+    declaration isMisc miscPart miscFrom misc isDeclaration prolog
 partsCompute = tt
 
 unfoldable pub computes : Unit {0}
-unfolding partsCompute attributeMarks eventMarks tapeMarks attribute partOf isAmong attributesFrom attributes tag close markup piece opened turn addEvents inside root toEnd documentFrom document refused written takenOf tapeOf
+unfolding partsCompute attributeMarks eventMarks tapeMarks attribute partOf isAmong attributesFrom attributes tag close markup piece opened turn addEvents inside root
+    toEnd documentFrom document refused written takenOf tapeOf
 computes = tt

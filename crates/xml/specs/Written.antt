@@ -1,4 +1,4 @@
--- A tag as a writer spells it, for the law that a written tag is read as that tag.
+-- Order 8 (and the law of order 1 that a written tag is read as that tag): a tag as a writer spells it.
 --     isNameText         the text is a Name; isValue: it may stand between the quotes
 --     quoteOf            the quote of a value: order 8's "quotes double unless the value has one"
 --     attributeOk        key and value may be written; newKeys: no key is among those before it

@@ -46,7 +46,9 @@ moved-cleared n xs r to m {d} e long fits room count f g =
     let clear : length (zeros m) ≡ m = length-replicate m 0 in
     let all : take (length r + m) (r ++ zeros m) ≡ r ++ zeros m = take-all (length r + m) (r ++ zeros m) (rw (length-append, clear) (omega arith)) in
     g ∙ ap (λ (l : List ℕ). paste l (to + length r) (zeros m) m) f ∙ rw clear at (paste-paste d r (zeros m) to (rw clear (omega arith)))
-    ∙ rw (all, append-assoc (take to d) (r ++ zeros m) (drop (to + (length r + m)) d)) (ap (λ (l : List ℕ). take to d ++ (r ++ zeros m ++ drop (to + (length r + m)) l)) e ∙ ap (λ (l : List ℕ). take to d ++ l) (zeros-behind n xs r to m room fits count))
+    ∙ rw (all, append-assoc (take to d) (r ++ zeros m) (drop (to + (length r + m)) d))
+    (ap (λ (l : List ℕ). take to d ++ (r ++ zeros m ++ drop (to + (length r + m)) l)) e
+    ∙ ap (λ (l : List ℕ). take to d ++ l) (zeros-behind n xs r to m room fits count))
 
 -- a text stored before a part, over what stood behind p
 pub stored-before : (n : ℕ) (p xs y s : List ℕ) (at : ℕ) {d : List ℕ} → d ≡ filled n (p ++ xs) → length d ≡ n → length p ≡ at → at + length s ≤ n
@@ -66,7 +68,8 @@ unfolding filled
 text-replaced n p q r s at len used m {d} {d₁} {d₂} {d₃} e long place size whole fits room freed f g h =
     let bytes = simp length-append at whole in
     let count : length r ≡ used - (at + len) = omega arith in
-    let part : take (used - (at + len)) (drop (at + len) d) ≡ r = ap (λ (l : List ℕ). take (used - (at + len)) (drop (at + len) l)) e ∙ part-behind n p q r (at + len) (used - (at + len)) (omega arith) count in
+    let part : take (used - (at + len)) (drop (at + len) d) ≡ r = ap (λ (l : List ℕ). take (used - (at + len)) (drop (at + len) l)) e
+    ∙ part-behind n p q r (at + len) (used - (at + len)) (omega arith) count in
     let cleared = moved-cleared n (p ++ q ++ r) r (at + length s) m e long (omega arith) (omega arith) (omega arith) (rw (part, ← count) at f) (rw (← count) at g) in
     let left : n - (at + length s + length r) ≡ n - length (p ++ s ++ r) = simp length-append (omega arith) in
     h ∙ ap (λ (l : List ℕ). paste l at s (length s)) cleared

@@ -55,7 +55,13 @@ pub moving-store : (d₀ s : List ℕ) (to j : ℕ) → to + length s ≤ length
 moving-store d₀ s to j room more =
     let p = take (to + j) d₀ in
     let rest = drop (to + length s) d₀ in
-    rw (add-suc to j, take-suc d₀ (to + j) 0 (omega arith), drop-cons s j 0 more, append-assoc p (getD d₀ (to + j) 0 ∷ []) (drop (suc j) s), append-assoc p ((getD d₀ (to + j) 0 ∷ []) ++ drop (suc j) s) rest)
+    rw (
+      add-suc to j,
+      take-suc d₀ (to + j) 0 (omega arith),
+      drop-cons s j 0 more,
+      append-assoc p (getD d₀ (to + j) 0 ∷ []) (drop (suc j) s),
+      append-assoc p ((getD d₀ (to + j) 0 ∷ []) ++ drop (suc j) s) rest,
+    )
     (set-at p (getD d₀ (to + j) 0) (drop (suc j) s ++ rest) (getD s j 0) (to + j) (length-take-le (to + j) d₀ (omega arith))
     ∙ sym (append-assoc p (getD s j 0 ∷ drop (suc j) s) rest))
 

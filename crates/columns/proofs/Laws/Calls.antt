@@ -40,11 +40,13 @@ lengths-sized source target e =
     let same = eqb-true (length source) (length target) (parts .1) in
     record { sourceLong = tall .tens; targetLong = omega (arith, tall .tens); few = tall .few }
 
-pub turned-not : (f : List ℕ → List ℕ) (source target : List ℕ) → sameLengths (length source) (length target) ≡ false → _≡_ {A = Turned} (record { number = 1; place = 0; target = target }) (turned f source target)
+pub turned-not : (f : List ℕ → List ℕ) (source target : List ℕ) → sameLengths (length source) (length target) ≡ false
+    → _≡_ {A = Turned} (record { number = 1; place = 0; target = target }) (turned f source target)
 unfolding turned
 turned-not f source target e = rw e
 
-pub turned-to : (f : List ℕ → List ℕ) (source target after : List ℕ) → sameLengths (length source) (length target) ≡ true → after ≡ f source → _≡_ {A = Turned} (record { number = 0; place = 0; target = after }) (turned f source target)
+pub turned-to : (f : List ℕ → List ℕ) (source target after : List ℕ) → sameLengths (length source) (length target) ≡ true → after ≡ f source
+    → _≡_ {A = Turned} (record { number = 0; place = 0; target = after }) (turned f source target)
 unfolding turned
 turned-to f source target after e g = rw (e, g)
 

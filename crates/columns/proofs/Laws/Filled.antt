@@ -56,7 +56,8 @@ plus-zero : (x : ℕ) → x < modulus → plus 0 x ≡ x
 unfolding plus
 plus-zero x h = omega arith
 
-restored-is : (columns out : List ℕ) (c r k : ℕ) → c < 10 → k ≡ 10 * r + c → Filled (rowAt columns) k out → inColumn columns c r < modulus → plus (aboveIn out k) (inColumn columns c r) ≡ restored columns c r
+restored-is : (columns out : List ℕ) (c r k : ℕ) → c < 10 → k ≡ 10 * r + c → Filled (rowAt columns) k out → inColumn columns c r < modulus
+    → plus (aboveIn out k) (inColumn columns c r) ≡ restored columns c r
 unfolding restored aboveIn rowAt
 restored-is columns out c zero k l e w s = rw (lt-ltb k 10 (omega arith)) (plus-zero _ s)
 restored-is columns out c (suc r) k l e w s =
@@ -67,7 +68,8 @@ restored-is columns out c (suc r) k l e w s =
     rw (le-ltb k 10 b, filled-at w (k - 10) (omega arith), j, m, d)
 
 -- the number at place k of the rows
-pub row-number : (columns out : List ℕ) (h c r k : ℕ) → length columns ≡ 10 * h → c < 10 → k ≡ 10 * r + c → Filled (rowAt columns) k out → getD columns (c * h + r) 0 < modulus → plus (aboveIn out k) (getD columns (c * h + r) 0) ≡ rowAt columns k
+pub row-number : (columns out : List ℕ) (h c r k : ℕ) → length columns ≡ 10 * h → c < 10 → k ≡ 10 * r + c → Filled (rowAt columns) k out
+    → getD columns (c * h + r) 0 < modulus → plus (aboveIn out k) (getD columns (c * h + r) 0) ≡ rowAt columns k
 unfolding rowAt
 row-number columns out h c r k n l e w s =
     let g : height columns ≡ h = omega arith in

@@ -95,7 +95,8 @@ short-more {rows} {names} {xs = xs} ys k =
     record {
       rowsLength = k .rowsLength;
       namesLength = k .namesLength;
-      short = λ z rs h. fits-less (1 + length (rs ++ xs)) (length (namesOf (rs ++ xs))) (1 + length (rs ++ (xs ++ ys))) (length (namesOf (rs ++ (xs ++ ys)))) (length rows) (length names) (simp length-append (omega arith)) (simp (namesOf-append, length-append) (omega arith)) (k .short z rs h);
+      short = λ z rs h. fits-less (1 + length (rs ++ xs)) (length (namesOf (rs ++ xs))) (1 + length (rs ++ (xs ++ ys))) (length (namesOf (rs ++ (xs ++ ys))))
+          (length rows) (length names) (simp length-append (omega arith)) (simp (namesOf-append, length-append) (omega arith)) (k .short z rs h);
     }
 
 -- one row that has no room among the rows
@@ -104,16 +105,20 @@ short-rows {rows} {names} {used} r few =
     record {
       rowsLength = refl;
       namesLength = refl;
-      short = λ z rs h. fits-less (used .rows + 1) 0 (1 + length (rs ++ r ∷ [])) (length (namesOf (rs ++ r ∷ []))) (length rows) (length names) (simp length-append (omega (arith, h .rowsUsed))) (omega arith) (few-rows (used .rows + 1) 0 (length rows) (length names) (omega arith));
+      short = λ z rs h. fits-less (used .rows + 1) 0 (1 + length (rs ++ r ∷ [])) (length (namesOf (rs ++ r ∷ []))) (length rows) (length names)
+          (simp length-append (omega (arith, h .rowsUsed))) (omega arith) (few-rows (used .rows + 1) 0 (length rows) (length names) (omega arith));
     }
 
 -- one row whose texts have no room among the names
-pub short-names : {rows names names′ : List ℕ} {used : Used} (r : Row) → length names′ ≡ length names → length names < used .names + length (join (r .texts)) → Short rows names used (r ∷ []) rows names′
+pub short-names : {rows names names′ : List ℕ} {used : Used} (r : Row) → length names′ ≡ length names → length names < used .names + length (join (r .texts))
+    → Short rows names used (r ∷ []) rows names′
 short-names {rows} {names} {names′} {used} r e few =
     record {
       rowsLength = refl;
       namesLength = e;
-      short = λ z rs h. fits-less 0 (used .names + length (join (r .texts))) (1 + length (rs ++ r ∷ [])) (length (namesOf (rs ++ r ∷ []))) (length rows) (length names) (omega arith) (rw (names-one rs r, length-append, h .namesUsed) (le-refl _)) (few-names 0 (used .names + length (join (r .texts))) (length rows) (length names) few);
+      short = λ z rs h. fits-less 0 (used .names + length (join (r .texts))) (1 + length (rs ++ r ∷ [])) (length (namesOf (rs ++ r ∷ []))) (length rows) (length names)
+          (omega arith) (rw (names-one rs r, length-append, h .namesUsed) (le-refl _))
+          (few-names 0 (used .names + length (join (r .texts))) (length rows) (length names) few);
     }
 
 -- one row stored with its texts
@@ -132,8 +137,10 @@ grown-one {rows} {names} {rows′} {names′} {used} r end rowsRoom namesRoom e 
     }
 
 -- what an answer says, by its case
-pub grown-of : (rows names : List ℕ) (used : Used) (more : List Row) (rows′ names′ : List ℕ) (r : Grown) {used′ : Used} → Grows rows names used more rows′ names′ r → r ≡ Grown.To used′ → GrownTo rows names used more rows′ names′ used′
+pub grown-of : (rows names : List ℕ) (used : Used) (more : List Row) (rows′ names′ : List ℕ) (r : Grown) {used′ : Used} → Grows rows names used more rows′ names′ r
+    → r ≡ Grown.To used′ → GrownTo rows names used more rows′ names′ used′
 grown-of rows names used more rows′ names′ r g e = subst (λ (r : Grown). Grows rows names used more rows′ names′ r) e g
 
-pub short-of : (rows names : List ℕ) (used : Used) (more : List Row) (rows′ names′ : List ℕ) (r : Grown) → Grows rows names used more rows′ names′ r → r ≡ Grown.Full → Short rows names used more rows′ names′
+pub short-of : (rows names : List ℕ) (used : Used) (more : List Row) (rows′ names′ : List ℕ) (r : Grown) → Grows rows names used more rows′ names′ r → r ≡ Grown.Full
+    → Short rows names used more rows′ names′
 short-of rows names used more rows′ names′ r g e = subst (λ (r : Grown). Grows rows names used more rows′ names′ r) e g

@@ -36,7 +36,8 @@ join-spelled k t u ts = join-before (isNothing k) (spelledText k t u) ts (nothin
 pub recipe-bytes : (p : Recipe) (t u : Text) → join (recipeRow p t u .texts) ≡ recipeBytes p t u
 unfolding recipeRow recipeBytes row join
 recipe-bytes p t u =
-    let last : join (spelledTexts (p .third) t u) ≡ spelledText (p .third) t u = ap join (sym (append-nil (spelledTexts (p .third) t u))) ∙ join-spelled (p .third) t u [] ∙ append-nil (spelledText (p .third) t u) in
+    let last : join (spelledTexts (p .third) t u) ≡ spelledText (p .third) t u = ap join (sym (append-nil (spelledTexts (p .third) t u)))
+    ∙ join-spelled (p .third) t u [] ∙ append-nil (spelledText (p .third) t u) in
     rw (join-spelled (p .first) t u, join-spelled (p .second) t u, last)
 
 -- the ten numbers of a row by which texts it has
@@ -52,10 +53,12 @@ numbers-by false true false x y z at tag k l m o f g h = absurd (false≢true o)
 numbers-by true false e x y z at tag k l m o f g h = absurd (false≢true o)
 numbers-by true true false x y z at tag k l m o f g h = absurd (false≢true o)
 
-pub recipe-numbers : (p : Recipe) (t u : Text) (at n m k : ℕ) → orderly p ≡ true → n ≡ length (spelledText (p .first) t u) → m ≡ length (spelledText (p .second) t u) → k ≡ length (spelledText (p .third) t u)
+pub recipe-numbers : (p : Recipe) (t u : Text) (at n m k : ℕ) → orderly p ≡ true → n ≡ length (spelledText (p .first) t u) → m ≡ length (spelledText (p .second) t u)
+    → k ≡ length (spelledText (p .third) t u)
     → rowNumbers p at n m k ≡ numbersOf at (recipeRow p t u)
 unfolding orderly recipeRow spelledTexts rowNumbers
 recipe-numbers p t u at n m k o e f g =
     rw (e, f, g)
-    (sym (numbers-by (isNothing (p .first)) (isNothing (p .second)) (isNothing (p .third)) (spelledText (p .first) t u) (spelledText (p .second) t u) (spelledText (p .third) t u) at (p .tag) (p .a) (p .b) (p .c) o
+    (sym (numbers-by (isNothing (p .first)) (isNothing (p .second)) (isNothing (p .third)) (spelledText (p .first) t u) (spelledText (p .second) t u)
+    (spelledText (p .third) t u) at (p .tag) (p .a) (p .b) (p .c) o
     (nothing-empty (p .first) t u) (nothing-empty (p .second) t u) (nothing-empty (p .third) t u)))

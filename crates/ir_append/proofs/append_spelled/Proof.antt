@@ -51,8 +51,12 @@ returns-3 c =
     let a = start .args in
     let s = rw (at .n .given .1) at (at .before .before .before .before .put-texts .ensures) in
     let bytes = recipe-bytes (a .recipe) (a .first .now) (a .second .now) in
-    let numbers = c .before .before .before .before .spelled-row .ensures ∙ recipe-numbers (a .recipe) (a .first .now) (a .second .now) (a .used .names) _ _ _ (start .pre .1) (s .firstLength) (s .secondLength) (s .thirdLength) in
-    grown-one (recipeRow (a .recipe) (a .first .now) (a .second .now)) _ (c .before .before .before .before .before .before .before .before .before .before .before .before .if1 .left) (rw bytes (omega (arith, s .stored .inside, s .stored .count))) (rw (← numbers) (c .before .before .put-row .ensures)) (rw bytes (stored-whole (s .stored))) (rw bytes (omega (arith, s .stored .count)))
+    let numbers = c .before .before .before .before .spelled-row .ensures
+    ∙ recipe-numbers (a .recipe) (a .first .now) (a .second .now) (a .used .names) _ _ _ (start .pre .1) (s .firstLength) (s .secondLength) (s .thirdLength) in
+    grown-one (recipeRow (a .recipe) (a .first .now) (a .second .now)) _
+    (c .before .before .before .before .before .before .before .before .before .before .before .before .if1 .left)
+    (rw bytes (omega (arith, s .stored .inside, s .stored .count))) (rw (← numbers) (c .before .before .put-row .ensures)) (rw bytes (stored-whole (s .stored)))
+    (rw bytes (omega (arith, s .stored .count)))
 
 pub append-spelled-spec : {M : Type 1} → statement M
 append-spelled-spec =

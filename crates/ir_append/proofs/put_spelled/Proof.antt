@@ -5,7 +5,9 @@ use Rattle.ir_append.proofs.put_spelled.Statement.{statement}
 use Rattle.ir_append.proofs.put_spelled.Tie as tie
 
 returns : tie.Need-returns
-returns c = rw (c .enum-told .given .1) (stores-none (c .before .before .before .before .before .args .names .now) (c .before .before .before .before .before .args .at) (c .before .before .before .before .before .pre))
+returns c = rw (c .enum-told .given .1)
+    (stores-none (c .before .before .before .before .before .args .names .now) (c .before .before .before .before .before .args .at)
+    (c .before .before .before .before .before .pre))
 
 returns-2 : tie.Need-returns-2
 returns-2 c = rw (c .before .before .before .before .enum-told2 .given .1) (c .before .before .put-plain .ensures)

@@ -57,7 +57,9 @@ returns-4 c =
     let m = l .before .before .before .before .before .before .before in
     let n = m .before .before .before .before .before .before .before in
     let a = n .before .before .before .before .before .before .before .before .before .args in
-    spread (a .names .now) (a .at) (a .recipe) (a .first .now) (a .second .now) (rw (n .n .given .1) at (n .before .before .before .before .put-spelled .ensures)) (rw (m .m .given .1) at (m .before .before .before .before .put-spelled2 .ensures)) (rw (l .k .given .1) at (l .before .before .before .before .put-spelled3 .ensures))
+    spread (a .names .now) (a .at) (a .recipe) (a .first .now) (a .second .now) (rw (n .n .given .1) at (n .before .before .before .before .put-spelled .ensures))
+    (rw (m .m .given .1) at (m .before .before .before .before .put-spelled2 .ensures))
+    (rw (l .k .given .1) at (l .before .before .before .before .put-spelled3 .ensures))
 
 pub put-texts-spec : {M : Type 1} → statement M
 put-texts-spec =

@@ -72,28 +72,32 @@ cleared-zeros {rows} {names} s =
 
 -- ---- a graph, and 15
 
-pub known-full : (rows names scratch rows₁ names₁ scratch₁ : List ℕ) {rows₂ names₂ scratch₂ : List ℕ} {a : Answer} (g : TypeGraph) → graphFits (length rows) (length names) g ≡ false → a ≡ answered 15 0
+pub known-full : (rows names scratch rows₁ names₁ scratch₁ : List ℕ) {rows₂ names₂ scratch₂ : List ℕ} {a : Answer} (g : TypeGraph)
+    → graphFits (length rows) (length names) g ≡ false → a ≡ answered 15 0
     → length rows₁ ≡ length rows → rows₂ ≡ zeros rows₁ → length names₁ ≡ length names → names₂ ≡ zeros names₁ → length scratch₁ ≡ length scratch → scratch₂ ≡ zeros scratch₁
     → left a rows₂ names₂ scratch₂ ≡ written g (sheet rows names) scratch
 unfolding written cleared
 known-full rows names scratch rows₁ names₁ scratch₁ g short e lr r ln n ls s =
     rw short (λ i. left (e i) ((r ∙ zeros-as rows₁ rows lr) i) ((n ∙ zeros-as names₁ names ln) i) ((s ∙ zeros-as scratch₁ scratch ls) i))
 
-pub known-stands : (scratch scratch₁ : List ℕ) {rows names rows₁ names₁ scratch₂ : List ℕ} {used : Used} {a : Answer} (g : TypeGraph) → GraphStands g rows names rows₁ names₁ used → a ≡ answered 0 (used .rows)
+pub known-stands : (scratch scratch₁ : List ℕ) {rows names rows₁ names₁ scratch₂ : List ℕ} {used : Used} {a : Answer} (g : TypeGraph)
+    → GraphStands g rows names rows₁ names₁ used → a ≡ answered 0 (used .rows)
     → length scratch₁ ≡ length scratch → scratch₂ ≡ zeros scratch₁ → left a rows₁ names₁ scratch₂ ≡ written g (sheet rows names) scratch
 unfolding written
 known-stands scratch scratch₁ g st e ls s =
     rw (st .fits) (λ i. record { answer = (e ∙ ap (answered 0) (st .place)) i; graph = st .graph i; scratch = (s ∙ zeros-as scratch₁ scratch ls) i })
 
 -- what is left from 20 on depends on the lengths alone
-written-zeros : (o : Option ℕ) (g : TypeGraph) (rows names scratch : List ℕ) → repeatedOrWritten o g (sheet (zeros rows) (zeros names)) (zeros scratch) ≡ repeatedOrWritten o g (sheet rows names) scratch
+written-zeros : (o : Option ℕ) (g : TypeGraph) (rows names scratch : List ℕ)
+    → repeatedOrWritten o g (sheet (zeros rows) (zeros names)) (zeros scratch) ≡ repeatedOrWritten o g (sheet rows names) scratch
 unfolding written cleared
 written-zeros (some row) g rows names scratch = rw (← zeros-twice rows, ← zeros-twice names, ← zeros-twice scratch)
 written-zeros none g rows names scratch = rw (length-zeros rows, length-zeros names, ← zeros-twice rows, ← zeros-twice names, ← zeros-twice scratch)
 
 -- ---- 20: the graph is zeros already
 
-pub known-repeated : {rows names : List ℕ} (scratch scratch₁ : List ℕ) {scratch₂ : List ℕ} {a : Answer} {row : ℕ} (o : Option ℕ) (g : TypeGraph) → o ≡ some row → Cleared rows names → a ≡ answered 20 row
+pub known-repeated : {rows names : List ℕ} (scratch scratch₁ : List ℕ) {scratch₂ : List ℕ} {a : Answer} {row : ℕ} (o : Option ℕ) (g : TypeGraph) → o ≡ some row
+    → Cleared rows names → a ≡ answered 20 row
     → length scratch₁ ≡ length scratch → scratch₂ ≡ zeros scratch₁ → left a rows names scratch₂ ≡ repeatedOrWritten o g (sheet rows names) scratch
 unfolding cleared
 known-repeated {rows} {names} scratch scratch₁ o g q c e ls s =
@@ -123,7 +127,8 @@ module _ {rows names : List ℕ} {end : ℕ} {root : Bool} {s : State} (l : Lowe
       let seen = sym (l .root) ∙ f in
       rw seen (λ i. left (e i) (r i) (n i) (z i))
 
-  refused-place : {gr₁ gn₁ scratch₁ : List ℕ} {a : Answer} {unknown : ℕ} (o : Option TypeGraph) → lower (s .reader .schema) ≡ o → (unknown ≡ 0 → ⊥) → unknown ≡ refusedPlace 2 (rowsFrom rows names 2 end)
+  refused-place : {gr₁ gn₁ scratch₁ : List ℕ} {a : Answer} {unknown : ℕ} (o : Option TypeGraph) → lower (s .reader .schema) ≡ o → (unknown ≡ 0 → ⊥)
+      → unknown ≡ refusedPlace 2 (rowsFrom rows names 2 end)
       → a ≡ answered 13 unknown → gr₁ ≡ zeros gr → gn₁ ≡ zeros gn → scratch₁ ≡ zeros scratch
       → left a gr₁ gn₁ scratch₁ ≡ refusedOrWritten (s .reader .schema) o (sheet gr gn) scratch
   unfolding cleared
@@ -146,7 +151,8 @@ module _ {rows names : List ℕ} {end : ℕ} {root : Bool} {s : State} (l : Lowe
       w g (l .lowers g q .1) ∙ rw (l .repeated) (written-zeros (repeatedRow (s .reader .schema)) g gr gn scratch)
 
   pub finished-known : {x : Lowered} → root ≡ true → 0 ≡ refusedPlace 2 (rowsFrom rows names 2 end)
-      → ((g : TypeGraph) → GraphOf rows names end g → x ≡ repeatedOrWritten (firstRepeated [] (headsAt rows names end)) g (sheet (zeros gr) (zeros gn)) (zeros scratch)) → x ≡ lowerFinished s (sheet gr gn) scratch
+      → ((g : TypeGraph) → GraphOf rows names end g → x ≡ repeatedOrWritten (firstRepeated [] (headsAt rows names end)) g (sheet (zeros gr) (zeros gn)) (zeros scratch))
+      → x ≡ lowerFinished s (sheet gr gn) scratch
   unfolding lowerFinished
   finished-known t u w =
       let seen = sym (l .root) ∙ t in
@@ -255,7 +261,8 @@ module _ (rows names gr gn scratch : List ℕ) where
   unfolding lowering unchanged goodLengths lengthsOf
   lower-two e t f = rw (t, f) (λ i. left (e i) gr gn scratch)
 
-  pub lower-through : {x : Lowered} → bothLengths rows names gr gn ≡ true → good (sheet rows names) ≡ true → x ≡ lowerState (stateOf (sheet rows names)) (sheet gr gn) scratch → x ≡ lowering (sheet rows names) (sheet gr gn) scratch
+  pub lower-through : {x : Lowered} → bothLengths rows names gr gn ≡ true → good (sheet rows names) ≡ true
+      → x ≡ lowerState (stateOf (sheet rows names)) (sheet gr gn) scratch → x ≡ lowering (sheet rows names) (sheet gr gn) scratch
   unfolding lowering goodLengths lengthsOf
   lower-through t g e = rw (t, g) e
 

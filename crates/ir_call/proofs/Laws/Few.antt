@@ -18,7 +18,8 @@ use Rattle.xsd_types.proofs.Laws.Places.{length-rowsFrom}
 placesOf-few : (test : ℕ → Bool) (p : ℕ) (rs : List Row) → length (placesOf test p rs) ≤ length rs
 unfolding placesOf
 placesOf-few test p [] = omega arith
-placesOf-few test p (r ∷ rs) = if-cases (λ (l : List ℕ). length l ≤ length (r ∷ rs)) (test (r .tag)) (λ k. omega (arith, placesOf-few test (p + 1) rs)) (λ k. omega (arith, placesOf-few test (p + 1) rs))
+placesOf-few test p (r ∷ rs) = if-cases (λ (l : List ℕ). length l ≤ length (r ∷ rs)) (test (r .tag)) (λ k. omega (arith, placesOf-few test (p + 1) rs))
+    (λ k. omega (arith, placesOf-few test (p + 1) rs))
 
 -- an element is one row of the graph
 root-one : (r : Row) → eqb (r .tag) 2 ≡ true → length (loweredRow false r) ≡ 1
@@ -31,7 +32,8 @@ rootRows-few : (rs : List Row) → length (rootRows rs) ≤ length rs
 unfolding rootRows
 rootRows-few [] = omega arith
 rootRows-few (r ∷ rs) =
-    if-cases (λ (l : List Row). length l ≤ length (r ∷ rs)) (eqb (r .tag) 2) (λ k. omega (arith, rootRows-few rs, root-one r k, length-append (loweredRow false r) (rootRows rs))) (λ k. omega (arith, rootRows-few rs))
+    if-cases (λ (l : List Row). length l ≤ length (r ∷ rs)) (eqb (r .tag) 2)
+    (λ k. omega (arith, rootRows-few rs, root-one r k, length-append (loweredRow false r) (rootRows rs))) (λ k. omega (arith, rootRows-few rs))
 
 pub roots-few : (rows names : List ℕ) (end : ℕ) → length (rootRows (rowsFrom rows names 2 end)) ≤ end
 roots-few rows names end = omega (arith, rootRows-few (rowsFrom rows names 2 end), length-rowsFrom rows names 2 end)

@@ -43,15 +43,18 @@ first-holds {rows} {names} c =
       namesUsed = refl;
     }
 
-pub graph-short : {rows names rows′ names′ : List ℕ} {more : List Row} (g : TypeGraph) → Cleared rows names → more ≡ rowsOf g → Short rows names first more rows′ names′ → graphFits (length rows) (length names) g ≡ false
+pub graph-short : {rows names rows′ names′ : List ℕ} {more : List Row} (g : TypeGraph) → Cleared rows names → more ≡ rowsOf g → Short rows names first more rows′ names′
+    → graphFits (length rows) (length names) g ≡ false
 unfolding graphFits rowsUsed namesUsed
 graph-short {rows} {names} g c e s = subst (λ (rs : List Row). fits (1 + length rs) (length (namesOf rs)) (length rows) (length names) ≡ false) e (s .short (replicate 10 0) [] (first-holds c))
 
-pub row0-graph : (g : TypeGraph) (used : Used) (roots types : ℕ) → used .rows ≡ rowsUsed g → used .names ≡ namesUsed g → roots ≡ length (g .rootElements) → types ≡ length (g .types) → row0Of used roots types ≡ numbers (graphRow0Ten (row0 g) ∷ [])
+pub row0-graph : (g : TypeGraph) (used : Used) (roots types : ℕ) → used .rows ≡ rowsUsed g → used .names ≡ namesUsed g → roots ≡ length (g .rootElements)
+    → types ≡ length (g .types) → row0Of used roots types ≡ numbers (graphRow0Ten (row0 g) ∷ [])
 unfolding row0 numbers
 row0-graph g used roots types a b c d = rw (a, b, c, d)
 
-pub graph-stands : {rows names rows₁ names₁ rows₂ z : List ℕ} {more : List Row} {used : Used} {roots types : ℕ} (g : TypeGraph) → Cleared rows names → more ≡ rowsOf g → GrownTo rows names first more rows₁ names₁ used
+pub graph-stands : {rows names rows₁ names₁ rows₂ z : List ℕ} {more : List Row} {used : Used} {roots types : ℕ} (g : TypeGraph) → Cleared rows names → more ≡ rowsOf g
+    → GrownTo rows names first more rows₁ names₁ used
     → roots ≡ length (g .rootElements) → types ≡ length (g .types) → z ≡ row0Of used roots types → Row0Put rows₁ z rows₂ → GraphStands g rows names rows₂ names₁ used
 unfolding graphFits rowsUsed namesUsed fits graphSheet
 graph-stands {rows} {names} {rows₁} {names₁} {rows₂} {z} {more} {used} {roots} {types} g c e grown r t f put =
@@ -60,13 +63,16 @@ graph-stands {rows} {names} {rows₁} {names₁} {rows₂} {z} {more} {used} {ro
     let packs = put .packs names₁ (replicate 10 0) (rowsOf g) (h .packs) in
     let whole = packs-sheet (graphRow0Ten (row0 g)) (subst (λ (l : List ℕ). Packs rows₂ names₁ l (rowsOf g)) set packs) in
     record {
-      fits = and-true (le-leb (10 * (1 + length (rowsOf g))) (length rows) (omega (arith, grown .rowsInside, grown .rowsLength, h .rowsUsed))) (le-leb (length (namesOf (rowsOf g))) (length names) (omega (arith, grown .namesInside, grown .namesLength, h .namesUsed)));
+      fits = and-true (le-leb (10 * (1 + length (rowsOf g))) (length rows) (omega (arith, grown .rowsInside, grown .rowsLength, h .rowsUsed)))
+          (le-leb (length (namesOf (rowsOf g))) (length names) (omega (arith, grown .namesInside, grown .namesLength, h .namesUsed)));
       place = h .rowsUsed;
-      graph = whole ∙ ap (λ (n : ℕ). sheetOfRows (graphRow0Ten (row0 g)) (rowsOf g) n (length names₁)) (put .rowsLength ∙ grown .rowsLength) ∙ ap (sheetOfRows (graphRow0Ten (row0 g)) (rowsOf g) (length rows)) (grown .namesLength);
+      graph = whole ∙ ap (λ (n : ℕ). sheetOfRows (graphRow0Ten (row0 g)) (rowsOf g) n (length names₁)) (put .rowsLength ∙ grown .rowsLength)
+          ∙ ap (sheetOfRows (graphRow0Ten (row0 g)) (rowsOf g) (length rows)) (grown .namesLength);
     }
 
 -- what an answer says, by its case
-pub stands-of : (g : TypeGraph) (rows names : List ℕ) (r : Grown) (rows′ names′ : List ℕ) {used : Used} → GraphWritten g rows names r rows′ names′ → r ≡ Grown.To used → GraphStands g rows names rows′ names′ used
+pub stands-of : (g : TypeGraph) (rows names : List ℕ) (r : Grown) (rows′ names′ : List ℕ) {used : Used} → GraphWritten g rows names r rows′ names′ → r ≡ Grown.To used
+    → GraphStands g rows names rows′ names′ used
 stands-of g rows names r rows′ names′ w e = subst (λ (r : Grown). GraphWritten g rows names r rows′ names′) e w
 
 pub full-of : (g : TypeGraph) (rows names : List ℕ) (r : Grown) (rows′ names′ : List ℕ) → GraphWritten g rows names r rows′ names′ → r ≡ Grown.Full → graphFits (length rows) (length names) g ≡ false

@@ -10,21 +10,24 @@ returns : tie.Need-returns
 returns c =
     let lengths = c .before .before in
     let a = lengths .before .before .before .before .before .before .args in
-    lower-one (a .rows .now) (a .names .now) (a .graph-rows .now) (a .graph-names .now) (a .scratch .now) (c .answer .ensures) (sym (lengths .lower-lengths .ensures) ∙ not-true _ (c .before .if1 .taken))
+    lower-one (a .rows .now) (a .names .now) (a .graph-rows .now) (a .graph-names .now) (a .scratch .now) (c .answer .ensures)
+    (sym (lengths .lower-lengths .ensures) ∙ not-true _ (c .before .if1 .taken))
 
 returns-2 : tie.Need-returns-2
 returns-2 c =
     let good = c .before .before in
     let lengths = good .before .before in
     let a = lengths .before .before .before .before .before .before .args in
-    lower-two (a .rows .now) (a .names .now) (a .graph-rows .now) (a .graph-names .now) (a .scratch .now) (c .answer2 .ensures) (sym (lengths .lower-lengths .ensures) ∙ not-false _ (good .before .if1 .left)) (sym (good .is-good .ensures) ∙ not-true _ (c .before .if2 .taken))
+    lower-two (a .rows .now) (a .names .now) (a .graph-rows .now) (a .graph-names .now) (a .scratch .now) (c .answer2 .ensures)
+    (sym (lengths .lower-lengths .ensures) ∙ not-false _ (good .before .if1 .left)) (sym (good .is-good .ensures) ∙ not-true _ (c .before .if2 .taken))
 
 lower-good-requires : tie.Need-lower-good-requires
 lower-good-requires c κs =
     let good = c .before .before .before .before in
     let lengths = good .before .before in
     let a = lengths .before .before .before .before .before .before .args in
-    let sizes = sized-both (a .rows .now) (a .names .now) (a .graph-rows .now) (a .graph-names .now) (a .scratch .now) (sym (lengths .lower-lengths .ensures) ∙ not-false _ (good .before .if1 .left)) in
+    let sizes = sized-both (a .rows .now) (a .names .now) (a .graph-rows .now) (a .graph-names .now) (a .scratch .now)
+    (sym (lengths .lower-lengths .ensures) ∙ not-false _ (good .before .if1 .left)) in
     (sym (good .is-good .ensures) ∙ not-false _ (c .before .before .before .if2 .left), sizes .0, sizes .1)
 
 returns-3 : tie.Need-returns-3
@@ -33,7 +36,9 @@ returns-3 c =
     let good = low .before .before .before .before .before in
     let lengths = good .before .before in
     let a = lengths .before .before .before .before .before .before .args in
-    lower-through (a .rows .now) (a .names .now) (a .graph-rows .now) (a .graph-names .now) (a .scratch .now) (sym (lengths .lower-lengths .ensures) ∙ not-false _ (good .before .if1 .left)) (sym (good .is-good .ensures) ∙ not-false _ (low .before .before .before .before .if2 .left)) (low .lower-good .ensures)
+    lower-through (a .rows .now) (a .names .now) (a .graph-rows .now) (a .graph-names .now) (a .scratch .now)
+    (sym (lengths .lower-lengths .ensures) ∙ not-false _ (good .before .if1 .left))
+    (sym (good .is-good .ensures) ∙ not-false _ (low .before .before .before .before .if2 .left)) (low .lower-good .ensures)
 
 pub lower-spec : {M : Type 1} → statement M
 lower-spec =

@@ -26,7 +26,8 @@ returns-2 c =
     let a = start .args in
     let z = graph .zero-graph .ensures in
     let s = scr .zero-scratch .ensures in
-    λ st l. finished-unknown l (a .graph-rows .now) (a .graph-names .now) (a .scratch .now) (not-false _ (unknown .before .if1 .left)) (c .before .if2 .taken) (unknown .unknown-place .ensures) (c .answer2 .ensures) (z .0) (z .1) s
+    λ st l. finished-unknown l (a .graph-rows .now) (a .graph-names .now) (a .scratch .now) (not-false _ (unknown .before .if1 .left)) (c .before .if2 .taken)
+    (unknown .unknown-place .ensures) (c .answer2 .ensures) (z .0) (z .1) s
 
 lower-known-requires : tie.Need-lower-known-requires
 lower-known-requires c κs =
@@ -50,7 +51,8 @@ returns-3 c =
     let a = start .args in
     let z = graph .zero-graph .ensures in
     let s = scr .zero-scratch .ensures in
-    λ st l. finished-known l (a .graph-rows .now) (a .graph-names .now) (a .scratch .now) (not-false _ (unknown .before .if1 .left)) (sym (known .before .before .before .before .if2 .left) ∙ unknown .unknown-place .ensures)
+    λ st l. finished-known l (a .graph-rows .now) (a .graph-names .now) (a .scratch .now) (not-false _ (unknown .before .if1 .left))
+    (sym (known .before .before .before .before .if2 .left) ∙ unknown .unknown-place .ensures)
     (λ g o. rw (← z .0, ← z .1, ← s) (known .lower-known .ensures g o))
 
 pub lower-finished-spec : {M : Type 1} → statement M

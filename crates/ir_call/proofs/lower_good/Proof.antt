@@ -32,13 +32,18 @@ finished-end-requires c κs =
     rw (ap (λ (z : Row0). z .rowsUsed) (c .before .row0-at .ensures)) (bare-used rows names (good-bare (sheet rows names) (start .pre .0)) .1)
 
 -- the finished items end where the call says
-ends : (c : tie.After-finished-end) → let a = c .before .before .before .before .before .before .before .before .args in c .finished-end .result ≡ 2 + length (itemsRows (stateOf (sheet (a .rows .now) (a .names .now)) .reader .schema .items))
+ends : (c : tie.After-finished-end)
+    → let a = c .before .before .before .before .before .before .before .before .args in c .finished-end .result
+    ≡ 2 + length (itemsRows (stateOf (sheet (a .rows .now) (a .names .now)) .reader .schema .items))
 ends c =
     let start = c .before .before .before .before .before .before .before .before in
-    c .finished-end .ensures .0 ∙ good-end (start .args .rows .now) (start .args .names .now) (start .pre .0) (c .finished-end .ensures .1) (asRow0 (c .before .before .row0-at .result)) (c .before .before .row0-at .ensures)
+    c .finished-end .ensures .0 ∙ good-end (start .args .rows .now) (start .args .names .now) (start .pre .0) (c .finished-end .ensures .1)
+    (asRow0 (c .before .before .row0-at .result)) (c .before .before .row0-at .ensures)
 
 -- the rows up to there are theirs, and the count is right for them
-finished : (c : tie.After-finished-end) → let a = c .before .before .before .before .before .before .before .before .args in Stands (stateOf (sheet (a .rows .now) (a .names .now))) (a .rows .now) (a .names .now) (c .finished-end .result)
+finished : (c : tie.After-finished-end)
+    → let a = c .before .before .before .before .before .before .before .before .args in Stands (stateOf (sheet (a .rows .now) (a .names .now))) (a .rows .now)
+    (a .names .now) (c .finished-end .result)
 finished c =
     let start = c .before .before .before .before .before .before .before .before in
     good-stands (start .args .rows .now) (start .args .names .now) (start .pre .0) (c .finished-end .ensures .1) (ends c)
@@ -79,7 +84,8 @@ returns-2 c =
     let a = start .args in
     let w = end .finished-end .ensures .1 in
     let root = good-root (a .rows .now) (a .names .now) (start .pre .0) w (asRow0 (z .row0-at .result)) (z .row0-at .ensures) in
-    state-enough (finished end) (a .graph-rows .now) (a .graph-names .now) (a .scratch .now) (count .count-types .ensures (a .names .now)) (left .if1 .left) (done .lower-finished .ensures _ (lowers-held (finished end) root))
+    state-enough (finished end) (a .graph-rows .now) (a .graph-names .now) (a .scratch .now) (count .count-types .ensures (a .names .now)) (left .if1 .left)
+    (done .lower-finished .ensures _ (lowers-held (finished end) root))
 
 pub lower-good-spec : {M : Type 1} → statement M
 lower-good-spec =

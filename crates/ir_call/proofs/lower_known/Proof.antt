@@ -28,7 +28,8 @@ returns c =
     let index = indexAt (told .before .before) in
     let a = atEntry index .args in
     let w = all-of _ _ _ _ (index .index-types .result) (index .index-types .ensures) _ (told .indexed .given .1) in
-    λ g o. known-once (a .graph-rows .now) (a .graph-names .now) (a .scratch .now) (index .index-types .last .1 .1 .1 .0) _ g (w .once) (index .index-types .kept .1 .1 .1 .0) (low .lower-distinct .ensures g o)
+    λ g o. known-once (a .graph-rows .now) (a .graph-names .now) (a .scratch .now) (index .index-types .last .1 .1 .1 .0) _ g (w .once)
+    (index .index-types .kept .1 .1 .1 .0) (low .lower-distinct .ensures g o)
 
 returns-2 : tie.Need-returns-2
 returns-2 c =

@@ -25,7 +25,8 @@ returns c =
     let put = c .before .before .before .before .before .before in
     let start = atEntry put in
     let a = start .args in
-    λ g o. graph-short g (start .pre .1) (ap (graphRows (a .rows .now) (a .names .now) (a .end)) (start .pre .2) ∙ o .rowsAre) (short-of _ _ _ _ _ _ _ (put .put-graph .ensures) (c .enum-told .given .1))
+    λ g o. graph-short g (start .pre .1) (ap (graphRows (a .rows .now) (a .names .now) (a .end)) (start .pre .2) ∙ o .rowsAre)
+    (short-of _ _ _ _ _ _ _ (put .put-graph .ensures) (c .enum-told .given .1))
 
 row0-of-requires : tie.Need-row0-of-requires
 row0-of-requires c κs =
@@ -52,7 +53,8 @@ returns-2 c =
     let put = roots .before .before .before .before .before .before .before .before in
     let start = atEntry put in
     let a = start .args in
-    λ g o. graph-stands g (start .pre .1) (ap (graphRows (a .rows .now) (a .names .now) (a .end)) (start .pre .2) ∙ o .rowsAre) (grown-of _ _ _ _ _ _ _ (put .put-graph .ensures) (roots .before .before .grown .given .1))
+    λ g o. graph-stands g (start .pre .1) (ap (graphRows (a .rows .now) (a .names .now) (a .end)) (start .pre .2) ∙ o .rowsAre)
+    (grown-of _ _ _ _ _ _ _ (put .put-graph .ensures) (roots .before .before .grown .given .1))
     (roots .count-roots .ensures (a .names .now) ∙ o .roots) (entries-count (a .entries .now) _ (start .pre .2) ∙ o .types) (set .before .before .row0-of .ensures) (set .put-row0 .ensures)
 
 pub write-graph-spec : {M : Type 1} → statement M

@@ -32,7 +32,8 @@ module _ (name : ℕ → Text) (t : Text) (n : ℕ) (scratch : List ℕ) (k : �
   unfolding among
   same-hit h i e = rw (places-cons n scratch k h i) (rw e)
 
-  pub same-on : k < n → n ≤ length scratch → same (name (getD scratch k 0 % 65536)) t ≡ false → among t (map name (drop k (placesIn n scratch))) ≡ among t (map name (drop (suc k) (placesIn n scratch)))
+  pub same-on : k < n → n ≤ length scratch → same (name (getD scratch k 0 % 65536)) t ≡ false
+      → among t (map name (drop k (placesIn n scratch))) ≡ among t (map name (drop (suc k) (placesIn n scratch)))
   unfolding among
   same-on h i e = rw (places-cons n scratch k h i) (rw e)
 
@@ -59,7 +60,9 @@ module _ (rows names : List ℕ) (p : ℕ) (scratch : List ℕ) (n : ℕ) where
       let i : k < n = omega (arith, places-length n scratch (w .inside)) in
       rw (places-at n scratch k i) (prints-differ _ _ (λ e. h k i (w .each k i .print ∙ e))))
 
-  pub flag-none : (flags : List ℕ) → Known rows names scratch n flags → ltb (fingerprint (nameAt rows names p)) (length flags) && eqb (getD flags (fingerprint (nameAt rows names p)) 0) 0 ≡ true → among (nameAt rows names p) (namesIn rows names n scratch) ≡ false
+  pub flag-none : (flags : List ℕ) → Known rows names scratch n flags
+      → ltb (fingerprint (nameAt rows names p)) (length flags) && eqb (getD flags (fingerprint (nameAt rows names p)) 0) 0 ≡ true
+      → among (nameAt rows names p) (namesIn rows names n scratch) ≡ false
   flag-none flags w e =
       let both = two _ _ e in
       same-none

@@ -35,7 +35,9 @@ module _ (h : ℕ) (up : Bool) (name : Text) (i : ℕ) where
   pub print-passed : i < length name → getD name i 0 ≡ code "_" → printFrom h (segments (code "_") false up (drop i name)) ≡ printFrom h (segments (code "_") false true (drop (suc i) name))
   print-passed k e = rw (segments-passed (code "_") false up name i k e)
 
-  pub print-kept : i < length name → (getD name i 0 ≡ code "_" → ⊥) → printFrom h (segments (code "_") false up (drop i name)) ≡ printFrom (mixed h (casedByte up false (getD name i 0))) (segments (code "_") false false (drop (suc i) name))
+  pub print-kept : i < length name → (getD name i 0 ≡ code "_" → ⊥)
+      → printFrom h (segments (code "_") false up (drop i name))
+      ≡ printFrom (mixed h (casedByte up false (getD name i 0))) (segments (code "_") false false (drop (suc i) name))
   unfolding printFrom
   print-kept k e = rw (segments-kept (code "_") false up name i k e)
 

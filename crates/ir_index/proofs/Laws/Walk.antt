@@ -39,12 +39,14 @@ module _ (rows names : List ℕ) (p : ℕ) (seen : List Text) (ps : List ℕ) wh
   unfolding firstRepeated headAt
   head-new e = rw e
 
-module _ {rows names : List ℕ} {end : ℕ} {complex : Bool} {before : List ℕ} {n : ℕ} {scratch : List ℕ} {count : ℕ} {flags : List ℕ} {p : ℕ} (w : Walking rows names end complex before n scratch count flags p) where
+module _ {rows names : List ℕ} {end : ℕ} {complex : Bool} {before : List ℕ} {n : ℕ} {scratch : List ℕ} {count : ℕ} {flags : List ℕ} {p : ℕ}
+    (w : Walking rows names end complex before n scratch count flags p) where
   -- there is room for the type at p
   pub walk-room : p < end → isKind complex (getD rows (10 * p) 0) ≡ true → count + 1 ≤ n + length (kindPlaces rows names end complex 2)
   walk-room h e = omega (arith, w .room, ap length (kind-hit rows names end complex p h e))
 
-  pub walk-in : p < end → isKind complex (getD rows (10 * p) 0) ≡ true → {after set : List ℕ} → Added rows names scratch count p after set → Walking rows names end complex before n after (count + 1) set (p + 1)
+  pub walk-in : p < end → isKind complex (getD rows (10 * p) 0) ≡ true → {after set : List ℕ} → Added rows names scratch count p after set
+      → Walking rows names end complex before n after (count + 1) set (p + 1)
   walk-in h e g =
       let hit = kind-hit rows names end complex p h e in
       record {
@@ -61,7 +63,8 @@ module _ {rows names : List ℕ} {end : ℕ} {complex : Bool} {before : List ℕ
       let on = kind-on rows names end complex p h e in
       record { known = w .known; places = rw on at (w .places); first = rw on at (w .first); room = rw on at (w .room) }
 
-  pub walk-came : p < end → isKind complex (getD rows (10 * p) 0) ≡ true → among (nameAt rows names p) (namesIn rows names count scratch) ≡ true → repeatedKind rows names end complex before n 2 ≡ some p
+  pub walk-came : p < end → isKind complex (getD rows (10 * p) 0) ≡ true → among (nameAt rows names p) (namesIn rows names count scratch) ≡ true
+      → repeatedKind rows names end complex before n 2 ≡ some p
   walk-came h e a =
       sym (rw (kind-hit rows names end complex p h e) at (w .first)) ∙ head-came rows names p (namesIn rows names count scratch) (kindPlaces rows names end complex (p + 1)) a
 

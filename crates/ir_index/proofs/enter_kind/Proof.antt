@@ -35,13 +35,22 @@ enter-requires c κs =
     let at = c .before .before .before .before .before .before in
     let start = at .before .before .before .before .before in
     let w = at .loop .inv .2 in
-    let e : isKind (start .args .complex) (getD (start .args .rows .now) (10 * at .loop .place) 0) ≡ true = sym (c .before .before .before .is-kind .ensures ∙ ap (isKind (start .args .complex)) (c .before .before .before .before .row-tag .ensures)) ∙ c .before .before .if1 .taken in
+    let e : isKind (start .args .complex) (getD (start .args .rows .now) (10 * at .loop .place) 0)
+    ≡ true = sym (c .before .before .before .is-kind .ensures ∙ ap (isKind (start .args .complex)) (c .before .before .before .before .row-tag .ensures))
+    ∙ c .before .before .if1 .taken in
     let room = walk-room w (c .before .before .before .before .before .loop-test .taken) e in
-    let head : HeadAt (start .args .rows .now) (at .loop .place) = record { inside = omega (arith, start .pre .1 .0, c .before .before .before .before .before .loop-test .taken); isHead = kind-type (start .args .complex) _ e } in
+    let head : HeadAt (start .args .rows .now)
+    (at .loop .place) = record {
+      inside = omega (arith, start .pre .1 .0, c .before .before .before .before .before .loop-test .taken);
+      isHead = kind-type
+          (start .args .complex) _ e;
+    } in
     (w .known, (head, (start .pre .1 .1, omega (arith, room, start .pre .1 .2, at .loop .inv .0))))
 
 -- the row at hand is a head of the kind
-is-kind-at : (c : tie.Then1 Inv-loop μ-loop) → let at = c .before .before .before .before in isKind (at .before .before .before .before .before .args .complex) (getD (at .before .before .before .before .before .args .rows .now) (10 * at .loop .place) 0) ≡ true
+is-kind-at : (c : tie.Then1 Inv-loop μ-loop)
+    → let at = c .before .before .before .before in isKind (at .before .before .before .before .before .args .complex)
+    (getD (at .before .before .before .before .before .args .rows .now) (10 * at .loop .place) 0) ≡ true
 is-kind-at c = sym (c .before .is-kind .ensures ∙ ap (isKind _) (c .before .before .row-tag .ensures)) ∙ c .if1 .taken
 
 -- the call of `enter`, from behind it
@@ -61,7 +70,8 @@ returns : tie.Need-returns Inv-loop μ-loop
 returns c =
     let kind = kindAt (c .before) in
     let at = kind .before .before .before .before in
-    walk-came (at .loop .inv .2) (kind .before .before .before .loop-test .taken) (is-kind-at kind) (came-of _ _ _ _ _ _ _ (entered (c .before) .enter .result) (entered (c .before) .enter .ensures) (not-true _ (c .if2 .taken)))
+    walk-came (at .loop .inv .2) (kind .before .before .before .loop-test .taken) (is-kind-at kind)
+    (came-of _ _ _ _ _ _ _ (entered (c .before) .enter .result) (entered (c .before) .enter .ensures) (not-true _ (c .if2 .taken)))
 
 add-count : tie.Need-add-count Inv-loop μ-loop
 add-count c =
@@ -81,8 +91,12 @@ loop-again c =
     let at = c .before .before .before .before in
     let w = at .loop .inv .2 in
     ⊎-elim
-    (λ v. rw (v .9, v .10, v .11)
-    (v .3 .kept .1 .1 .1 .0 ∙ at .loop .inv .0, v .3 .kept .1 .1 .1 .1 .1 .0 ∙ at .loop .inv .1, walk-in w (omega arith) (sym (c .before .is-kind .ensures ∙ ap (isKind _) (c .before .before .row-tag .ensures)) ∙ v .0 .taken) (added-of _ _ _ _ _ _ _ (v .3 .result) (v .3 .ensures) (not-false _ (v .8 .left)))))
+    (λ v. rw (v .9, v .10, v .11) (
+      v .3 .kept .1 .1 .1 .0 ∙ at .loop .inv .0,
+      v .3 .kept .1 .1 .1 .1 .1 .0 ∙ at .loop .inv .1,
+      walk-in w (omega arith) (sym (c .before .is-kind .ensures ∙ ap (isKind _) (c .before .before .row-tag .ensures)) ∙ v .0 .taken)
+          (added-of _ _ _ _ _ _ _ (v .3 .result) (v .3 .ensures) (not-false _ (v .8 .left))),
+    ))
     (λ v. rw (v .1, v .2, v .3) (at .loop .inv .0, at .loop .inv .1, walk-on w (omega arith) (sym (c .before .is-kind .ensures ∙ ap (isKind _) (c .before .before .row-tag .ensures)) ∙ v .0 .left)))
     (c .if1 .came)
 

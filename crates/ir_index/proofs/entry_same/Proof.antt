@@ -24,7 +24,8 @@ returns-2 c =
     let place : c .before .before .before .wide .result ≡ start .args .entry % 65536 = c .before .before .before .wide .ensures in
     let held : c .before .before .name-at .result .now ≡ headName rows names (start .args .entry % 65536) = c .before .before .name-at .ensures ∙ rw place in
     let asked : c .before .name-at2 .result .now ≡ headName rows names (start .args .place) = c .before .name-at2 .ensures in
-    let compared : same (normalizeTypeName (c .before .before .name-at .result .now)) (normalizeTypeName (c .before .name-at2 .result .now)) ≡ same (nameAt rows names (start .args .entry % 65536)) (nameAt rows names (start .args .place)) =
+    let compared : same (normalizeTypeName (c .before .before .name-at .result .now)) (normalizeTypeName (c .before .name-at2 .result .now))
+    ≡ same (nameAt rows names (start .args .entry % 65536)) (nameAt rows names (start .args .place)) =
     rw (name-at rows names (start .args .entry % 65536) (start .pre .0 .head .isHead), name-at rows names (start .args .place) (start .pre .1 .0 .isHead), held, asked) in
     c .same-normalized .ensures ∙ compared
 

@@ -41,7 +41,8 @@ returns c =
     let at = c .before .before .before .before in
     let start = at .before .before .before .before in
     let a = start .args in
-    let z = same-hit (nameAt (a .rows .now) (a .names .now)) (nameAt (a .rows .now) (a .names .now) (a .place)) (a .n) (a .scratch .now) (at .loop .k) (omega arith) (start .pre .0 .inside) (sym (c .before .entry-same .ensures) ∙ c .if1 .taken) in
+    let z = same-hit (nameAt (a .rows .now) (a .names .now)) (nameAt (a .rows .now) (a .names .now) (a .place)) (a .n) (a .scratch .now) (at .loop .k) (omega arith)
+    (start .pre .0 .inside) (sym (c .before .entry-same .ensures) ∙ c .if1 .taken) in
     sym z ∙ at .loop .inv .1
 
 add-k : tie.Need-add-k Inv-loop μ-loop
@@ -55,7 +56,8 @@ loop-again c =
     let at = c .before .before .before .before in
     let start = at .before .before .before .before in
     let a = start .args in
-    let z = same-on (nameAt (a .rows .now) (a .names .now)) (nameAt (a .rows .now) (a .names .now) (a .place)) (a .n) (a .scratch .now) (at .loop .k) (omega arith) (start .pre .0 .inside) (sym (c .before .entry-same .ensures) ∙ c .if1 .left) in
+    let z = same-on (nameAt (a .rows .now) (a .names .now)) (nameAt (a .rows .now) (a .names .now) (a .place)) (a .n) (a .scratch .now) (at .loop .k) (omega arith)
+    (start .pre .0 .inside) (sym (c .before .entry-same .ensures) ∙ c .if1 .left) in
     (omega arith, rw add-one (sym z ∙ at .loop .inv .1))
 
 returns-2 : tie.Need-returns-2 Inv-loop μ-loop

@@ -27,7 +27,8 @@ returns c =
     let told = second .before .before .before .before in
     let first = told .before .before .before .before .before .before in
     let start = first .before .before .before .before .before .before .before in
-    index-both (start .args .end) (kind-in-of _ _ _ _ _ _ _ _ (first .enter-kind .result) (first .enter-kind .ensures) _ (told .simple .given .1)) _ _ (second .enter-kind2 .result) (second .enter-kind2 .ensures)
+    index-both (start .args .end) (kind-in-of _ _ _ _ _ _ _ _ (first .enter-kind .result) (first .enter-kind .ensures) _ (told .simple .given .1)) _ _
+    (second .enter-kind2 .result) (second .enter-kind2 .ensures)
 
 returns-2 : tie.Need-returns-2
 returns-2 c =

@@ -26,7 +26,8 @@ returns-2 : tie.Need-returns-2
 returns-2 c =
     let start = c .before .before .before .before .before .before .before .before .before .before in
     let a = start .args in
-    sym (print-none (a .rows .now) (a .names .now) (a .place) (a .scratch .now) (a .n) (start .pre .0 .entries) (rw (start .pre .1 .1) at (sym (c .before .has-print .ensures) ∙ not-true (c .before .has-print .result) (c .if2 .taken))))
+    sym (print-none (a .rows .now) (a .names .now) (a .place) (a .scratch .now) (a .n) (start .pre .0 .entries)
+    (rw (start .pre .1 .1) at (sym (c .before .has-print .ensures) ∙ not-true (c .before .has-print .result) (c .if2 .taken))))
 
 pub name-came-spec : {M : Type 1} → statement M
 name-came-spec =

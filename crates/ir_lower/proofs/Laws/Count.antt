@@ -50,7 +50,8 @@ outcome-thirteen s graph scratch l (Outcome.tight a b g c q f e) k r =
 outcome-thirteen s graph scratch l (Outcome.fitting a b g c q f e) k r =
     (λ n. let z : l .answer .number ≡ 0 = ap (λ (y : Lowered). y .answer .number) e in absurd (omega arith), λ n. absurd (lowered-none s g c n))
 
-pub thirteen-exactly : (x graph : Sheet) (scratch : List ℕ) → goodLengths (lengthsOf x) && goodLengths (lengthsOf graph) ≡ true → good x ≡ true → stateOf x .reader .rootSeen ≡ true → finishedTypes (stateOf x .reader .schema) ≤ length scratch
+pub thirteen-exactly : (x graph : Sheet) (scratch : List ℕ) → goodLengths (lengthsOf x) && goodLengths (lengthsOf graph) ≡ true → good x ≡ true
+    → stateOf x .reader .rootSeen ≡ true → finishedTypes (stateOf x .reader .schema) ≤ length scratch
     → (lowering x graph scratch .answer .number ≡ 13) ↔ (0 < countIn x)
 thirteen-exactly x graph scratch h g r k =
     let e = lowering-state x graph scratch h g in

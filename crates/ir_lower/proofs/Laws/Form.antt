@@ -49,7 +49,8 @@ proper-small s h =
     let few = leb-true (s .events) 1000000 (and-true-left (leb (s .events) 1000000) (leb (s .openTags) 255) (p .0)) in
     passing-parts smallEvent (s .reader) (heads-weaken (λ v n. eventNumberOk (s .events) n) smallEvent (λ v n. number-small (s .events) n few) (s .reader) (p .4)) .0
 
-outcome-form : (s : State) (graph : Sheet) (scratch : List ℕ) (l : Lowered) → schemaOk (s .reader .schema) ≡ true → every (itemPasses smallEvent) (s .reader .schema .items) ≡ true → Outcome s graph scratch l → l .answer .number ≡ 0 → graphForm (l .graph) ≡ true
+outcome-form : (s : State) (graph : Sheet) (scratch : List ℕ) (l : Lowered) → schemaOk (s .reader .schema) ≡ true
+    → every (itemPasses smallEvent) (s .reader .schema .items) ≡ true → Outcome s graph scratch l → l .answer .number ≡ 0 → graphForm (l .graph) ≡ true
 outcome-form s graph scratch l h w (Outcome.short a e) z = let n = unchanged-number 14 graph scratch l e in absurd (omega arith)
 outcome-form s graph scratch l h w (Outcome.rootless a b e) z = let n = cleared-number 12 0 graph scratch l e in absurd (omega arith)
 outcome-form s graph scratch l h w (Outcome.unknown a b c e) z = let n = cleared-number 13 _ graph scratch l e in absurd (omega arith)
@@ -58,11 +59,13 @@ outcome-form s graph scratch l h w (Outcome.tight a b g c r f e) z = let n = cle
 outcome-form s graph scratch l h w (Outcome.fitting a b g c r f e) z =
     rw e (graph-form g (length (graph .rows)) (length (graph .names)) (lower-ok (s .reader .schema) g h w c) f)
 
-pub state-form : (s : State) (graph : Sheet) (scratch : List ℕ) → schemaOk (s .reader .schema) ≡ true → every (itemPasses smallEvent) (s .reader .schema .items) ≡ true → lowerState s graph scratch .answer .number ≡ 0
+pub state-form : (s : State) (graph : Sheet) (scratch : List ℕ) → schemaOk (s .reader .schema) ≡ true → every (itemPasses smallEvent) (s .reader .schema .items) ≡ true
+    → lowerState s graph scratch .answer .number ≡ 0
     → graphForm (lowerState s graph scratch .graph) ≡ true
 state-form s graph scratch h w z = outcome-form s graph scratch (lowerState s graph scratch) h w (outcome s graph scratch) z
 
-good-form : (x graph : Sheet) (scratch : List ℕ) → goodLengths (lengthsOf x) && goodLengths (lengthsOf graph) ≡ true → good x ≡ true → proper (stateOf x) ≡ true → lowering x graph scratch .answer .number ≡ 0
+good-form : (x graph : Sheet) (scratch : List ℕ) → goodLengths (lengthsOf x) && goodLengths (lengthsOf graph) ≡ true → good x ≡ true → proper (stateOf x) ≡ true
+    → lowering x graph scratch .answer .number ≡ 0
     → graphForm (lowering x graph scratch .graph) ≡ true
 good-form x graph scratch k g h z =
     let e = lowering-state x graph scratch k g in
@@ -77,9 +80,11 @@ lowering-form x graph scratch w z =
     (test-cases (goodLengths (lengthsOf x) && goodLengths (lengthsOf graph)))
 
 -- and its texts and numbers have the widths by which a graph sheet can be read back
-pub lowering-ok : (x graph : Sheet) (scratch : List ℕ) → words (x .rows) ≡ true → lowering x graph scratch .answer .number ≡ 0 → (g : TypeGraph) → lower (stateOf x .reader .schema) ≡ some g → graphOk g ≡ true
+pub lowering-ok : (x graph : Sheet) (scratch : List ℕ) → words (x .rows) ≡ true → lowering x graph scratch .answer .number ≡ 0 → (g : TypeGraph)
+    → lower (stateOf x .reader .schema) ≡ some g → graphOk g ≡ true
 lowering-ok x graph scratch w z g c =
     ⊎-elim
-    (λ k. ⊎-elim (λ e. let h = proper-stateOf x w e in lower-ok (stateOf x .reader .schema) g (proper-schema (stateOf x) h) (proper-small (stateOf x) h) c) (λ e. absurd (not-zero 2 graph scratch _ (omega arith) (lowering-2 x graph scratch k e) z)) (test-cases (good x)))
+    (λ k. ⊎-elim (λ e. let h = proper-stateOf x w e in lower-ok (stateOf x .reader .schema) g (proper-schema (stateOf x) h) (proper-small (stateOf x) h) c)
+    (λ e. absurd (not-zero 2 graph scratch _ (omega arith) (lowering-2 x graph scratch k e) z)) (test-cases (good x)))
     (λ k. absurd (not-zero 1 graph scratch _ (omega arith) (lowering-1 x graph scratch k) z))
     (test-cases (goodLengths (lengthsOf x) && goodLengths (lengthsOf graph)))

@@ -15,7 +15,8 @@ use Rattle.xsd_types.specs.State.{elementOk, facetOk, maxOccursOk, sequenceElem
 use Rattle.ir_types.specs.Types.{TypeDef, TypeGraph}
 use Rattle.ir_types.specs.Ok.{isSmall, refOk, cardinalityOk, fieldOk, variantOk, constraintOk, codeOk, attrOk, typeOk, rootOk, graphOk}
 use Rattle.xsd_types.specs.Refused.{allEnums}
-use Rattle.ir_lower.specs.Lower.{resolved, resolveTypeRef, codes, constraints, lowerNewtype, lowerSimpleType, lowerCardinality, lowerField, lowerVariant, lowerAttribute, lowerContent, lowerComplexType, withDefinition, simpleDefinitions, finishedDefinitions, rootOf, graphOf, lower}
+use Rattle.ir_lower.specs.Lower.{resolved, resolveTypeRef, codes, constraints, lowerNewtype, lowerSimpleType, lowerCardinality, lowerField, lowerVariant}
+use Rattle.ir_lower.specs.Lower.{lowerAttribute, lowerContent, lowerComplexType, withDefinition, simpleDefinitions, finishedDefinitions, rootOf, graphOf, lower}
 use Rattle.ir_lower.proofs.Laws.Types.{lower-some}
 use Rattle.text.proofs.Laws.Tests.{and-true-left, and-true-right, keep-left, test-cases, and-true}
 use Rattle.text.proofs.Laws.Every.{every-append-true, every-map, every-both}
@@ -176,9 +177,12 @@ finished-ok s h =
 pub lower-ok : (s : Schema) (g : TypeGraph) → schemaOk s ≡ true → every (itemPasses smallEvent) (s .items) ≡ true → lower s ≡ some g → graphOk g ≡ true
 unfolding schemaOk graphOk every graphOf itemFine
 lower-ok s g h w e =
-    let k : every itemFine (s .items) ≡ true = every-both (itemPasses smallEvent) itemOk itemFine (λ i x y. and-true x y) (s .items) w (and-true-right (isText (s .targetNamespace)) (every itemOk (s .items)) h) in
+    let k : every itemFine (s .items)
+    ≡ true = every-both (itemPasses smallEvent) itemOk itemFine (λ i x y. and-true x y) (s .items) w
+    (and-true-right (isText (s .targetNamespace)) (every itemOk (s .items)) h) in
     let p = lower-some s g e in
     let a : isText (g .namespace) ≡ true = rw (← p .1) (and-true-left (isText (s .targetNamespace)) (every itemOk (s .items)) h) in
-    let b : every rootOk (g .rootElements) ≡ true = rw (← p .1) (every-map (λ (x : Element). itemFine (Item.element x)) rootOk rootOf root-ok (elements (s .items)) (elements-each itemFine (s .items) k)) in
+    let b : every rootOk (g .rootElements)
+    ≡ true = rw (← p .1) (every-map (λ (x : Element). itemFine (Item.element x)) rootOk rootOf root-ok (elements (s .items)) (elements-each itemFine (s .items) k)) in
     let c : every typeOk (g .types) ≡ true = rw (← p .1) (finished-ok s k) in
     rw (a, b, c)

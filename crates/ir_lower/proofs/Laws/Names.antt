@@ -37,7 +37,8 @@ judged n x graph scratch a b e =
 
 -- ---- 0
 
-accepted-types : (s : Schema) (graph : Sheet) (l : Lowered) (g : TypeGraph) → lower s ≡ some g → repeatedRow s ≡ none → l .graph ≡ graphSheet g (length (graph .rows)) (length (graph .names)) → Accepted s graph l
+accepted-types : (s : Schema) (graph : Sheet) (l : Lowered) (g : TypeGraph) → lower s ≡ some g → repeatedRow s ≡ none
+    → l .graph ≡ graphSheet g (length (graph .rows)) (length (graph .names)) → Accepted s graph l
 unfolding distinct
 accepted-types s graph l g e r q =
     record { lowered = g; from = e; types = lower-types s g e; names = lower-names s g e; once = rw (lower-names s g e) (repeated-none s .0 r); sheet = q }
@@ -57,7 +58,8 @@ lowering-accepted x graph scratch z =
     rw e (outcome-accepted (stateOf x) graph scratch (lowerState (stateOf x) graph scratch) (outcome (stateOf x) graph scratch) (rw e at z))
 
 -- paper 01's rule changes nothing there
-pub lowering-last : (x graph : Sheet) (scratch : List ℕ) → lowering x graph scratch .answer .number ≡ 0 → insertAll (finishedDefinitions (stateOf x .reader .schema)) [] ≡ finishedDefinitions (stateOf x .reader .schema)
+pub lowering-last : (x graph : Sheet) (scratch : List ℕ) → lowering x graph scratch .answer .number ≡ 0
+    → insertAll (finishedDefinitions (stateOf x .reader .schema)) [] ≡ finishedDefinitions (stateOf x .reader .schema)
 lowering-last x graph scratch z =
     let a = lowering-accepted x graph scratch z in
     last-distinct (finishedDefinitions (stateOf x .reader .schema)) (rw (a .types) at (a .once))
@@ -65,7 +67,8 @@ lowering-last x graph scratch z =
 -- ---- 20
 
 outcome-twice : (s : State) (graph : Sheet) (scratch : List ℕ) (l : Lowered) → Outcome s graph scratch l → l .answer .number ≡ 20
-    → (finishedTypes (s .reader .schema) ≤ length scratch) × (s .reader .rootSeen ≡ true) × (anyUnknown (simpleTypes (s .reader .schema .items)) ≡ false) × (repeatedRow (s .reader .schema) ≡ some (l .answer .place))
+    → (finishedTypes (s .reader .schema) ≤ length scratch) × (s .reader .rootSeen ≡ true) × (anyUnknown (simpleTypes (s .reader .schema .items)) ≡ false)
+    × (repeatedRow (s .reader .schema) ≡ some (l .answer .place))
 unfolding cleared
 outcome-twice s graph scratch l (Outcome.short a e) z = let n = unchanged-number 14 graph scratch l e in absurd (omega arith)
 outcome-twice s graph scratch l (Outcome.rootless a b e) z = let n = cleared-number 12 0 graph scratch l e in absurd (omega arith)

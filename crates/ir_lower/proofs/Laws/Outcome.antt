@@ -39,7 +39,8 @@ pub lowering-2 : (x graph : Sheet) (scratch : List ℕ) → goodLengths (lengths
 unfolding lowering
 lowering-2 x graph scratch h k = rw (h, k)
 
-pub lowering-state : (x graph : Sheet) (scratch : List ℕ) → goodLengths (lengthsOf x) && goodLengths (lengthsOf graph) ≡ true → good x ≡ true → lowering x graph scratch ≡ lowerState (stateOf x) graph scratch
+pub lowering-state : (x graph : Sheet) (scratch : List ℕ) → goodLengths (lengthsOf x) && goodLengths (lengthsOf graph) ≡ true → good x ≡ true
+    → lowering x graph scratch ≡ lowerState (stateOf x) graph scratch
 unfolding lowering
 lowering-state x graph scratch h k = rw (h, k)
 

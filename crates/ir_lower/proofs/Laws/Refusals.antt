@@ -24,7 +24,8 @@ pub refused-base : (t : SimpleType) → isNone (lowerSimpleType t) ≡ refusedBa
 unfolding refusedBase lowerSimpleType lowerNewtype isNone
 refused-base t =
     elim (allEnums (t .facets))
-    as (λ b. isNone (if b then some (TypeDef.codeEnum (t .event) (normalizeTypeName (t .name)) (codes (t .facets))) else lowerNewtype t (mapBuiltin (t .base))) ≡ (not b && isNone (mapBuiltin (t .base))))
+    as (λ b. isNone (if b then some (TypeDef.codeEnum (t .event) (normalizeTypeName (t .name)) (codes (t .facets))) else lowerNewtype t (mapBuiltin (t .base)))
+    ≡ (not b && isNone (mapBuiltin (t .base))))
     [ true ↦ refl | false ↦ elim (mapBuiltin (t .base)) as (λ o. isNone (lowerNewtype t o) ≡ isNone o) [ none ↦ refl | some r ↦ refl ] ]
 
 isNone-none : {A : Type 0} (o : Option A) → isNone o ≡ true → o ≡ none

@@ -100,7 +100,8 @@ outcome-labels s graph scratch words l m (Outcome.fitting a b g c r f e) h =
 
 tenth : (graph : Sheet) → goodLengths (lengthsOf graph) ≡ true → length (graph .rows) % 10 ≡ 0
 unfolding goodLengths lengthsOf sheetLengths
-tenth graph h = eqb-true (length (graph .rows) % 10) 0 (four (eqb (length (graph .rows) % 10) 0) (leb 20 (length (graph .rows))) (leb (length (graph .rows)) 40960) (leb (length (graph .names)) 65536) h .0)
+tenth graph h = eqb-true (length (graph .rows) % 10) 0
+    (four (eqb (length (graph .rows) % 10) 0) (leb 20 (length (graph .rows))) (leb (length (graph .rows)) 40960) (leb (length (graph .names)) 65536) h .0)
 
 pub lowering-labels : (x graph : Sheet) (scratch words : List ℕ) → lowering x graph scratch .answer .number ≡ 0
     → LoweredLabels (stateOf x .reader .schema) (lowering x graph scratch .graph) words

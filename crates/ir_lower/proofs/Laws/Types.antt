@@ -48,7 +48,8 @@ simple-name : (t : SimpleType) (d : TypeDef) → lowerSimpleType t ≡ some d �
 unfolding lowerSimpleType simpleName nameOf
 simple-name t d e =
     (elim (allEnums (t .facets))
-    as (λ b. (if b then some (TypeDef.codeEnum (t .event) (normalizeTypeName (t .name)) (codes (t .facets))) else lowerNewtype t (mapBuiltin (t .base))) ≡ some d → nameOf d ≡ normalizeTypeName (t .name)) [
+    as (λ b. (if b then some (TypeDef.codeEnum (t .event) (normalizeTypeName (t .name)) (codes (t .facets))) else lowerNewtype t (mapBuiltin (t .base))) ≡ some d
+    → nameOf d ≡ normalizeTypeName (t .name)) [
       | true ↦ λ k. let q = Option·some-injective _ _ k in rw (← q)
       | false ↦ λ k. newtype-name t (mapBuiltin (t .base)) d k
     ]) e

@@ -16,7 +16,8 @@ use Rattle.xsd_types.proofs.Laws.Unnumbered.{item-cleared}
 use Rattle.ir_types.specs.Types.{TypeDef, RootElement}
 use Rattle.ir_types.specs.Unnumbered.{unnumberedRoot, unnumberedType, unnumberedGraph}
 use Rattle.xsd_types.specs.Refused.{allEnums, refusedBase, refusedItem}
-use Rattle.ir_lower.specs.Lower.{lowerNewtype, lowerSimpleType, lowerContent, lowerComplexType, anyUnknown, withDefinition, simpleDefinitions, finishedDefinitions, rootOf, graphOf, lower, unknownRow}
+use Rattle.ir_lower.specs.Lower.{lowerNewtype, lowerSimpleType, lowerContent, lowerComplexType, anyUnknown, withDefinition, simpleDefinitions, finishedDefinitions}
+use Rattle.ir_lower.specs.Lower.{rootOf, graphOf, lower, unknownRow}
 use Rattle.ir_lower.specs.Finished.{simpleName, complexName}
 use Rattle.ir_lower.specs.Repeated.{Head, simpleHead, complexHead, headsOf, heads, repeatedRow}
 use Rattle.ir_lower.specs.Unnumbered.{unnumberedLowered}

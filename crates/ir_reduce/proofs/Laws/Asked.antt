@@ -108,7 +108,8 @@ number-at : (rows : List ℕ) (p i k : ℕ) → 10 * p + i ≡ k → getD (drop 
 number-at rows p i k e = getD-drop (10 * p) rows i 0 ∙ ap (λ (j : ℕ). getD rows j 0) e
 
 by-tests : (names : List ℕ) (b₁ b₂ b₃ : Bool) (textOf : ℕ → Text) (tag a : ℕ) → eqb tag 2 ≡ b₁ → eqb tag 7 && eqb a 0 ≡ b₂ → (between 9 10 tag || eqb tag 19) && eqb a 0 ≡ b₃
-    → (if b₁ then normalizeTypeName (textOf 3) ∷ [] else if b₂ then textOf 3 ∷ [] else if b₃ then textOf 5 ∷ [] else []) ≡ (if eqb (askedPair tag a) 0 then [] else spelled (eqb tag rootTag) (textOf (askedPair tag a)) ∷ [])
+    → (if b₁ then normalizeTypeName (textOf 3) ∷ [] else if b₂ then textOf 3 ∷ [] else if b₃ then textOf 5 ∷ [] else [])
+    ≡ (if eqb (askedPair tag a) 0 then [] else spelled (eqb tag rootTag) (textOf (askedPair tag a)) ∷ [])
 unfolding askedPair spelled
 by-tests names true b₂ b₃ textOf tag a e g h = rw e
 by-tests names false true b₃ textOf tag a e g h = rw (e, g)
@@ -128,7 +129,20 @@ module _ (rows names : List ℕ) (p : ℕ) where
   row-is : (b c : ℕ) → b ≡ getD rows (10 * p + 8) 0 → c ≡ getD rows (10 * p + 9) 0 → rowAt rows names p ≡ row tagAt (take (usedPairs tagAt aAt) (textOf 1 ∷ textOf 3 ∷ textOf 5 ∷ [])) aAt b c
   unfolding rowAt unpackRow ten row
   row-is b c e f =
-      rw (number-at rows p 0 (10 * p) (omega arith), number-at rows p 1 (10 * p + 1) refl, number-at rows p 2 (10 * p + 1 + 1) (omega arith), number-at rows p 3 (10 * p + 3) refl, number-at rows p 4 (10 * p + 3 + 1) (omega arith), number-at rows p 5 (10 * p + 5) refl, number-at rows p 6 (10 * p + 5 + 1) (omega arith), number-at rows p 7 (10 * p + 7) refl, number-at rows p 8 (10 * p + 8) refl, number-at rows p 9 (10 * p + 9) refl, e, f)
+      rw (
+        number-at rows p 0 (10 * p) (omega arith),
+        number-at rows p 1 (10 * p + 1) refl,
+        number-at rows p 2 (10 * p + 1 + 1) (omega arith),
+        number-at rows p 3 (10 * p + 3) refl,
+        number-at rows p 4 (10 * p + 3 + 1) (omega arith),
+        number-at rows p 5 (10 * p + 5) refl,
+        number-at rows p 6 (10 * p + 5 + 1) (omega arith),
+        number-at rows p 7 (10 * p + 7) refl,
+        number-at rows p 8 (10 * p + 8) refl,
+        number-at rows p 9 (10 * p + 9) refl,
+        e,
+        f,
+      )
 
   abbrev askedText : Text
   askedText = spelled (eqb tagAt rootTag) (textOf (askedPair tagAt aAt))
@@ -165,7 +179,8 @@ module _ (rows names to : List ℕ) (end : ℕ) (put : TargetsPut rows names end
         found = λ row q a b c d k i. found-by row q a b c d k (asks row) refl i;
       }
     where
-      hit-at : (row : ℕ) → asks row ≡ false → 0 < placeOf (nameOf rows names false) (askedText rows names row) (headPlaces rows end) → (r : ℕ) → placeOf (nameOf rows names false) (askedText rows names row) (headPlaces rows end) ≡ r
+      hit-at : (row : ℕ) → asks row ≡ false → 0 < placeOf (nameOf rows names false) (askedText rows names row) (headPlaces rows end) → (r : ℕ)
+          → placeOf (nameOf rows names false) (askedText rows names row) (headPlaces rows end) ≡ r
           → (r < end) × (isHead (rowAt rows names) r ≡ true) × In (text 0 (rowAt rows names r)) (asked (rowAt rows names row))
       hit-at row e h r s =
           let w = found-in (nameOf rows names false) (askedText rows names row) (headPlaces rows end) h in
@@ -181,12 +196,14 @@ module _ (rows names to : List ℕ) (end : ℕ) (put : TargetsPut rows names end
           let t = put .put row a l ∙ target-some rows names (headPlaces rows end) row refl (eqb-false _ 0 e) in
           hit-at row e (rw t at h) (getD to row 0) (sym t)
 
-      found-by : (row q : ℕ) → 0 < row → row < end → 0 < q → q < end → isHead (rowAt rows names) q ≡ true → (b : Bool) → asks row ≡ b → In (text 0 (rowAt rows names q)) (asked (rowAt rows names row)) → getD to row 0 ≡ q
+      found-by : (row q : ℕ) → 0 < row → row < end → 0 < q → q < end → isHead (rowAt rows names) q ≡ true → (b : Bool) → asks row ≡ b
+          → In (text 0 (rowAt rows names q)) (asked (rowAt rows names row)) → getD to row 0 ≡ q
       found-by row q a l c d k true e i = in-none (rw (asked-at rows names row, e) at i)
       found-by row q a l c d k false e i =
           let head : headAt rows q ≡ true = sym (head-is rows names q) ∙ k in
           let name : nameOf rows names false q ≡ askedText rows names row = sym (name-at rows names q head) ∙ in-one (rw (asked-at rows names row, e) at i) in
-          put .put row a l ∙ target-some rows names (headPlaces rows end) row refl (eqb-false _ 0 e) ∙ place-found (nameOf rows names false) (askedText rows names row) q (headPlaces rows end) (in-heads rows (end - 1) 1 q c (omega arith) head) name distinct
+          put .put row a l ∙ target-some rows names (headPlaces rows end) row refl (eqb-false _ 0 e)
+          ∙ place-found (nameOf rows names false) (askedText rows names row) q (headPlaces rows end) (in-heads rows (end - 1) 1 q c (omega arith) head) name distinct
 
 -- ---- the names of the types
 type-name : (rows names : List ℕ) (end p : ℕ) → headAt rows p ≡ true → typeName (typeAt (rowAt rows names) end p) ≡ nameOf rows names false p
@@ -200,5 +217,6 @@ type-names rows names (suc m) p end e = by-head (headAt rows p) refl (type-names
   where
     by-head : (b : Bool) → headAt rows p ≡ b → map typeName (parted (rowsFrom (rowAt rows names) (suc p) m) .types) ≡ headNames rows names (headsFrom rows (suc p) m)
         → map typeName (parted (rowsFrom (rowAt rows names) p (suc m)) .types) ≡ headNames rows names (placeIf b p ++ headsFrom rows (suc p) m)
-    by-head true h again = rw (head-first (rowAt rows names) end p m e (head-is rows names p ∙ h), again) (ap (λ (t : Text). t ∷ headNames rows names (headsFrom rows (suc p) m)) (type-name rows names end p h))
+    by-head true h again = rw (head-first (rowAt rows names) end p m e (head-is rows names p ∙ h), again)
+        (ap (λ (t : Text). t ∷ headNames rows names (headsFrom rows (suc p) m)) (type-name rows names end p h))
     by-head false h again = rw (plain-first (rowAt rows names) end p m (head-is rows names p ∙ h)) again

@@ -52,14 +52,16 @@ marking-first {rows} {names} {end} g to m =
 pub first-marked : {marks queue : List ℕ} {n : ℕ} → Marked (replicate 4096 0) (replicate 4096 0) 0 1 marks queue n → 0 < getD marks 1 0
 first-marked m = rw (m .flag) (omega arith)
 
-targets-below : {rows names to : List ℕ} {end : ℕ} → Graph rows names end → distinctTexts (headNames rows names (headPlaces rows end)) ≡ true → TargetsPut rows names end end to → (i : ℕ) → getD to i 0 < end
+targets-below : {rows names to : List ℕ} {end : ℕ} → Graph rows names end → distinctTexts (headNames rows names (headPlaces rows end)) ≡ true
+    → TargetsPut rows names end end to → (i : ℕ) → getD to i 0 < end
 targets-below {rows} {names} {to} {end} g distinct put i = by-place (eqb (getD to i 0) 0) refl (eqb i 0) refl (leb end i) refl
   where
     by-place : (a : Bool) → eqb (getD to i 0) 0 ≡ a → (b : Bool) → eqb i 0 ≡ b → (c : Bool) → leb end i ≡ c → getD to i 0 < end
     by-place true e b f c h = omega (arith, eqb-true (getD to i 0) 0 e, at-least g)
     by-place false e true f c h = absurd (eqb-false (getD to i 0) 0 e (rw (eqb-true i 0 f) (put .first)))
     by-place false e false f true h = absurd (eqb-false (getD to i 0) 0 e (put .rest i (leb-true end i h)))
-    by-place false e false f false h = targets-are rows names to end put distinct .hit i (omega (arith, eqb-false i 0 f)) (omega (arith, leb-false end i h)) (omega (arith, eqb-false (getD to i 0) 0 e)) .0
+    by-place false e false f false h = targets-are rows names to end put distinct .hit i (omega (arith, eqb-false i 0 f)) (omega (arith, leb-false end i h))
+        (omega (arith, eqb-false (getD to i 0) 0 e)) .0
 
 pub room-first : {rows names to : List ℕ} {end : ℕ} (g : Graph rows names end) → distinctTexts (headNames rows names (headPlaces rows end)) ≡ true → TargetsPut rows names end end to → length to ≡ 4096
     → {marks queue : List ℕ} {n : ℕ} → Marked (replicate 4096 0) (replicate 4096 0) 0 1 marks queue n → length marks ≡ 4096 → Room (headFlags rows end) to marks queue n
@@ -74,7 +76,8 @@ room-first {rows} {names} {to} {end} g d put l m k =
       few = omega arith;
     }
 
-pub marks-done : {rows names to : List ℕ} {end : ℕ} (g : Graph rows names end) → TargetsPut rows names end end to → {m q m′ q′ : List ℕ} {n n′ : ℕ} → Marked (replicate 4096 0) (replicate 4096 0) 0 1 m q n
+pub marks-done : {rows names to : List ℕ} {end : ℕ} (g : Graph rows names end) → TargetsPut rows names end end to → {m q m′ q′ : List ℕ} {n n′ : ℕ}
+    → Marked (replicate 4096 0) (replicate 4096 0) 0 1 m q n
     → (Marking (headFlags rows end) to m q n → AllDone (headFlags rows end) to m q n m′ q′ n′ n′) → MarksDone rows names end m′
 marks-done {to = to} g put m all =
     let w = all (marking-first g to m) in
@@ -83,7 +86,8 @@ marks-done {to = to} g put m all =
 pub all-of : (rows names : List ℕ) (end : ℕ) (table : List ℕ) (r : Indexed) {n : ℕ} → IndexedIs rows names end table r → r ≡ Indexed.All n → AllIndexed rows names end table n
 all-of rows names end table r w e = subst (λ (r : Indexed). IndexedIs rows names end table r) e w
 
-pub repeated-of : (rows names : List ℕ) (end : ℕ) (table : List ℕ) (r : Indexed) → IndexedIs rows names end table r → r ≡ Indexed.Repeated → distinctTexts (headNames rows names (headPlaces rows end)) ≡ false
+pub repeated-of : (rows names : List ℕ) (end : ℕ) (table : List ℕ) (r : Indexed) → IndexedIs rows names end table r → r ≡ Indexed.Repeated
+    → distinctTexts (headNames rows names (headPlaces rows end)) ≡ false
 repeated-of rows names end table r w e = subst (λ (r : Indexed). IndexedIs rows names end table r) e w
 
 -- the lengths of the source

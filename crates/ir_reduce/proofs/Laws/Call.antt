@@ -101,7 +101,8 @@ type-tag : (x : ℕ) → between 3 8 x ≡ isTypeTag x
 unfolding isTypeTag
 type-tag x = refl
 
-row0-is : (rs : List Row) (used : Used) (roots types : ℕ) → used .rows ≡ 1 + length rs → used .names ≡ length (namesOf rs) → roots ≡ count (between 2 2) (tagged rs) → types ≡ count (between 3 8) (tagged rs)
+row0-is : (rs : List Row) (used : Used) (roots types : ℕ) → used .rows ≡ 1 + length rs → used .names ≡ length (namesOf rs) → roots ≡ count (between 2 2) (tagged rs)
+    → types ≡ count (between 3 8) (tagged rs)
     → row0Numbers used roots types ≡ numbers (graphRow0Ten (row0Of rs) ∷ [])
 unfolding row0Of numbers
 row0-is rs used roots types a b c d =
@@ -116,9 +117,11 @@ written-to {rows} {names} {rows₁} {names₁} {rows₂} {z} {rs} {used} {roots}
     let packs = put .packs names₁ (replicate 10 0) rs (h .packs) in
     let whole = packs-sheet (graphRow0Ten (row0Of rs)) (subst (λ (l : List ℕ). Packs rows₂ names₁ l rs) set packs) in
     record {
-      fits = and-true (le-leb (10 * (1 + length rs)) (length rows) (omega (arith, grown .rowsInside, grown .rowsLength, h .rowsUsed))) (le-leb (length (namesOf rs)) (length names) (omega (arith, grown .namesInside, grown .namesLength, h .namesUsed)));
+      fits = and-true (le-leb (10 * (1 + length rs)) (length rows) (omega (arith, grown .rowsInside, grown .rowsLength, h .rowsUsed)))
+          (le-leb (length (namesOf rs)) (length names) (omega (arith, grown .namesInside, grown .namesLength, h .namesUsed)));
       place = h .rowsUsed;
-      graph = whole ∙ ap (λ (n : ℕ). sheetOfRows (graphRow0Ten (row0Of rs)) rs n (length names₁)) (put .rowsLength ∙ grown .rowsLength) ∙ ap (sheetOfRows (graphRow0Ten (row0Of rs)) rs (length rows)) (grown .namesLength);
+      graph = whole ∙ ap (λ (n : ℕ). sheetOfRows (graphRow0Ten (row0Of rs)) rs n (length names₁)) (put .rowsLength ∙ grown .rowsLength)
+          ∙ ap (sheetOfRows (graphRow0Ten (row0Of rs)) rs (length rows)) (grown .namesLength);
     }
 
 pub written-of : (rs : List Row) (rows names rows′ names′ : List ℕ) (r : Grown) {used : Used} → WrittenIs rs rows names rows′ names′ r → r ≡ Grown.To used → Written rs rows names rows′ names′ used
@@ -132,7 +135,8 @@ pub record ReducedRows (p : Parted) (rs : List Row) : Type 0 where
   pub reduced : Reduced p graph
   pub rowsAre : rs ≡ rowsOf graph
 
-placed-reduction : {x target y : Sheet} {p : Parted} {rs : List Row} {a : Answer} → graphIn x ≡ p → inForm x ≡ true → lengthsFit x target ≡ true → ReducedRows p rs → Placed rs target a y → Reduction x target a y
+placed-reduction : {x target y : Sheet} {p : Parted} {rs : List Row} {a : Answer} → graphIn x ≡ p → inForm x ≡ true → lengthsFit x target ≡ true → ReducedRows p rs
+    → Placed rs target a y → Reduction x target a y
 placed-reduction {x} {target} e f l w (Placed.tight h) = Reduction.tight l f (w .graph) (rw e (w .reduced)) (rw (w .rowsAre) at h)
 placed-reduction {x} {target} e f l w (Placed.fitting h) = rw (w .rowsAre) (Reduction.fitting l f (w .graph) (rw e (w .reduced)) (rw (w .rowsAre) at h))
 
@@ -157,7 +161,8 @@ module _ {rows names : List ℕ} {end : ℕ} (g : Graph rows names end) (distinc
         rowsAre = rows-reduced (rowAt rows names) (end - 1) end whole (headFlags rows end) (d .to) marks (d .queue) (d .count) (rows-ordered g) flagged targets (d .marking) (d .done) (d .first);
       }
 
-  pub reduction-of : {marks : List ℕ} {target y : Sheet} {a : Answer} → MarksDone rows names end marks → lengthsFit (sheet rows names) target ≡ true → Placed (keptRows (rowAt rows names) marks true 1 (end - 1)) target a y → Reduction (sheet rows names) target a y
+  pub reduction-of : {marks : List ℕ} {target y : Sheet} {a : Answer} → MarksDone rows names end marks → lengthsFit (sheet rows names) target ≡ true
+      → Placed (keptRows (rowAt rows names) marks true 1 (end - 1)) target a y → Reduction (sheet rows names) target a y
   reduction-of d l p = placed-reduction (graph-is g) in-form l (reduced-of d) p
 
 -- "two types of one name"

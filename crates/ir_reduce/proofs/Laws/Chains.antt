@@ -214,7 +214,8 @@ module _ (f : ℕ → Row) (m end : ℕ) (whole : 1 + m ≡ end) (tags to : List
       let named : In (text 0 (f q)) (asked (f (w .at))) = rw (asked-root (f (w .at)) tag, name) In.here in
       Reached.onward 1 q Reached.start (leads-to 1 (w .at) q g (omega arith) b c h named)
 
-  onward-reached : (t u : GraphType) (q : ℕ) (p : PlaceOf f end 1 t) → Reached tags to (p .at) → In (typeName u) (references t) → 0 < q → q < end → isHead f q ≡ true → u ≡ typeAt f end q → Reached tags to q
+  onward-reached : (t u : GraphType) (q : ℕ) (p : PlaceOf f end 1 t) → Reached tags to (p .at) → In (typeName u) (references t) → 0 < q → q < end → isHead f q ≡ true
+      → u ≡ typeAt f end q → Reached tags to q
   unfolding typeName typeAt references
   onward-reached t u q p reached n b c h s =
       let w = reference-row (text 0 (f q)) (f (p .at) ∷ typeAt f end (p .at) .children) (rw (s, p .is) at n) in

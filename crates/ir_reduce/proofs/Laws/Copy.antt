@@ -21,7 +21,15 @@ use Rattle.ir_reduce.specs.Copy.{bytesOf, Stands, movedNumbers}
 
 -- texts that stand elsewhere
 moved-pairs : (k at : ℕ) (ts : List Text) → length ts ≤ 3 → let p = pairs k ts in
-    pairs at ts ≡ record { at0 = if leb 1 (length ts) then at else 0; len0 = p .len0; at1 = if leb 2 (length ts) then at + p .len0 else 0; len1 = p .len1; at2 = if leb 3 (length ts) then at + p .len0 + p .len1 else 0; len2 = p .len2 }
+    pairs at ts ≡ record {
+      at0 = if leb 1 (length ts) then at else 0;
+      len0 = p .len0;
+      at1 = if leb 2 (length ts) then at + p .len0 else 0;
+      len1 = p .len1;
+      at2 = if leb 3
+          (length ts) then at + p .len0 + p .len1 else 0;
+      len2 = p .len2;
+    }
 unfolding pairs
 moved-pairs k at [] h = refl
 moved-pairs k at (t ∷ []) h = refl
@@ -61,7 +69,8 @@ module _ (rows names : List ℕ) (p : ℕ) (s : Stands rows names p) where
   pub bytes-length : length (join (rowAt rows names p .texts)) ≡ bytesOf numbersAt
   unfolding endOf
   bytes-length =
-      let e : endOf (s .from) (packRow (s .from) (rowAt rows names p)) ≡ s .from + length (join (rowAt rows names p .texts)) = endOf-pack (s .from) (rowAt rows names p) (counted-small usedPairs (rowAt rows names p) counted-at) in
+      let e : endOf (s .from) (packRow (s .from) (rowAt rows names p))
+      ≡ s .from + length (join (rowAt rows names p .texts)) = endOf-pack (s .from) (rowAt rows names p) (counted-small usedPairs (rowAt rows names p) counted-at) in
       omega (arith, ap (endOf (s .from)) (sym again) ∙ e)
 
   pub moved-numbers : (at : ℕ) → movedNumbers numbersAt (usedPairs (numbersAt .tag) (numbersAt .a)) at ≡ numbersOf at (rowAt rows names p)

@@ -75,7 +75,8 @@ module _ {rows names : List ℕ} {end : ℕ} (g : Graph rows names end) where
   parts-of =
       let x = sheet rows names in
       let z = graphRow0In x in
-      let a = usedParts x in let b = row0Form z in let c = rowsForm z (tensOf x) in let d = namesForm (z .namesUsed) (tensOf x) in let e = zerosBehind x in let f = isText (take (z .namesUsed) names) in
+      let a = usedParts x in let b = row0Form z in let c = rowsForm z (tensOf x) in let d = namesForm (z .namesUsed)
+      (tensOf x) in let e = zerosBehind x in let f = isText (take (z .namesUsed) names) in
       let s = and-true-left (a && b && c && d) e (and-true-left (a && b && c && d && e) f (g .form)) in
       let r = and-true-left (a && b && c) d s in
       record { parts = and-true-left a b (and-true-left (a && b) c r); rowsOk = and-true-right (a && b) c r; namesOk = and-true-right (a && b && c) d s }
@@ -110,7 +111,9 @@ module _ {rows names : List ℕ} {end : ℕ} (g : Graph rows names end) where
   unfolding namesForm every
   rows-stand p a b =
       let ts = tens (end - 1) (drop (10 * 1) rows) in
-      let few : every few-row ts ≡ true = rw tens-split (and-true {a = few-row (ten (drop (10 * 1) rows))} (first-few (ten (drop (10 * 1) rows)) (rows-checked .first)) (every-weaken tenForm few-row form-few (tens (end - 2) (drop (10 * 2) rows)) (rows-checked .forms))) in
+      let few : every few-row ts ≡ true = rw tens-split
+      (and-true {a = few-row (ten (drop (10 * 1) rows))} (first-few (ten (drop (10 * 1) rows)) (rows-checked .first))
+      (every-weaken tenForm few-row form-few (tens (end - 2) (drop (10 * 2) rows)) (rows-checked .forms))) in
       let both = two (covers usedPairs 0 ts) (eqb (covered 0 ts) (getD rows 2 0)) (rw tens-are at (parts-of .namesOk)) in
       stands-from rows names (end - 1) 1 0 few (both .0) (omega (arith, eqb-true (covered 0 ts) (getD rows 2 0) (both .1), used-room .1 .1)) p a (omega arith)
 
@@ -146,18 +149,26 @@ module _ {rows names : List ℕ} {end : ℕ} (g : Graph rows names end) where
   root-no-head row h e = false≢true (rw e at h)
 
   pub rows-ordered : Ordered (rowAt rows names) end
-  rows-ordered = record { first = plain-first-row; roots = λ row l k plain t i. root-at row l k plain t i (eqb row 1) refl; children = λ p row a l k h e. child-at p row a l k h e (eqb p row) refl (eqb p 1) refl }
+  rows-ordered = record {
+    first = plain-first-row;
+    roots = λ row l k plain t i. root-at row l k plain t i
+        (eqb row 1) refl;
+    children = λ p row a l k h e. child-at p row a l k h e (eqb p row) refl (eqb p 1) refl;
+  }
     where
       tag-at : (q : ℕ) → rowAt rows names q .tag ≡ getD rows (10 * q) 0
       tag-at q = row-tag-at rows names q
 
-      root-at : (row : ℕ) → 1 ≤ row → row < end → ((i : ℕ) → 1 ≤ i → i ≤ row → isHead (rowAt rows names) i ≡ false) → (t : Text) → In t (asked (rowAt rows names row)) → (b : Bool) → eqb row 1 ≡ b → rowAt rows names row .tag ≡ rootTag
+      root-at : (row : ℕ) → 1 ≤ row → row < end → ((i : ℕ) → 1 ≤ i → i ≤ row → isHead (rowAt rows names) i ≡ false) → (t : Text) → In t (asked (rowAt rows names row))
+          → (b : Bool) → eqb row 1 ≡ b → rowAt rows names row .tag ≡ rootTag
       root-at row l k plain t i true e = in-none (rw (eqb-true row 1 e, asks-nothing) at i)
       root-at row l k plain t i false e =
-          tag-at row ∙ front-roots (λ q. getD rows (10 * q) 0) (end - 2) 2 1 refl tags-in-order row (omega (arith, eqb-false row 1 e)) (omega arith) (λ j a b. ap isTypeTag (sym (tag-at j)) ∙ head-plain j (plain j (omega arith) b))
+          tag-at row ∙ front-roots (λ q. getD rows (10 * q) 0) (end - 2) 2 1 refl tags-in-order row (omega (arith, eqb-false row 1 e)) (omega arith)
+          (λ j a b. ap isTypeTag (sym (tag-at j)) ∙ head-plain j (plain j (omega arith) b))
 
       child-at : (p row : ℕ) → 0 < p → p ≤ row → row < end → isHead (rowAt rows names) p ≡ true → rowAt rows names row .tag ≡ rootTag → (b : Bool) → eqb p row ≡ b → (c : Bool) → eqb p 1 ≡ c → ⊥
       child-at p row a l k h e true s c r = root-no-head row (rw (eqb-true p row s) at h) e
       child-at p row a l k h e false s true r = false≢true (sym plain-first-row ∙ rw (eqb-true p 1 r) at h)
       child-at p row a l k h e false s false r =
-          under-types (λ q. getD rows (10 * q) 0) (end - 2) 2 1 tags-in-order p row (omega (arith, eqb-false p 1 r)) (omega (arith, eqb-false p row s)) (omega arith) (ap isTypeTag (sym (tag-at p)) ∙ head-of p h) (sym (tag-at row) ∙ e)
+          under-types (λ q. getD rows (10 * q) 0) (end - 2) 2 1 tags-in-order p row (omega (arith, eqb-false p 1 r)) (omega (arith, eqb-false p row s)) (omega arith)
+          (ap isTypeTag (sym (tag-at p)) ∙ head-of p h) (sym (tag-at row) ∙ e)

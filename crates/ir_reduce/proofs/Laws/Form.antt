@@ -69,7 +69,8 @@ used-few tag a h =
 abbrev pub few-row : Ten → Bool
 few-row t = leb (usedPairs (t .tag) (t .a)) 3
 
-pub stands-from : (rows names : List ℕ) (m p k : ℕ) → every few-row (tens m (drop (10 * p) rows)) ≡ true → covers usedPairs k (tens m (drop (10 * p) rows)) ≡ true → covered k (tens m (drop (10 * p) rows)) ≤ length names
+pub stands-from : (rows names : List ℕ) (m p k : ℕ) → every few-row (tens m (drop (10 * p) rows)) ≡ true → covers usedPairs k (tens m (drop (10 * p) rows)) ≡ true
+    → covered k (tens m (drop (10 * p) rows)) ≤ length names
     → (q : ℕ) → p ≤ q → q < p + m → Stands rows names q
 unfolding tens covers covered
 stands-from rows names zero p k f e n q a b = absurd (let no : ⊥ = omega arith in no)
@@ -78,7 +79,8 @@ stands-from rows names (suc m) p k f e n q a b =
     let ts = tens m (drop 10 (drop (10 * p) rows)) in
     let next = ap (tens m) (ten-next rows p) in
     by-place (eqb q p) refl
-    (λ o. stands-from rows names m (suc p) (endOf k t) (rw next at (every-tail few-row t ts f)) (rw next at (and-true-right (rowCovers usedPairs k t) (covers usedPairs (endOf k t) ts) e)) (rw next at n) q (omega arith) (omega arith))
+    (λ o. stands-from rows names m (suc p) (endOf k t) (rw next at (every-tail few-row t ts f))
+    (rw next at (and-true-right (rowCovers usedPairs k t) (covers usedPairs (endOf k t) ts) e)) (rw next at n) q (omega arith) (omega arith))
   where
     by-place : (b : Bool) → eqb q p ≡ b → (p < q → Stands rows names q) → Stands rows names q
     by-place true g again =

@@ -145,7 +145,8 @@ more-distinct : (rows names ps : List ℕ) (p : ℕ) (b : Bool) → distinctText
 more-distinct rows names ps p true d h = rw (map-append (nameOf rows names false) ps (p ∷ [])) (distinct-snoc (nameOf rows names false p) (headNames rows names ps) d (h refl))
 more-distinct rows names ps p false d h = rw (append-nil ps) d
 
-pub entering-step : {rows names : List ℕ} {end : ℕ} {table after : List ℕ} {n m p : ℕ} → Entering rows names end table n p → p < end → NewHead rows names table n p after m → Entering rows names end after m (p + 1)
+pub entering-step : {rows names : List ℕ} {end : ℕ} {table after : List ℕ} {n m p : ℕ} → Entering rows names end table n p → p < end
+    → NewHead rows names table n p after m → Entering rows names end after m (p + 1)
 entering-step {rows} {names} {end} {table} {after} {n} {m} {p} w h e =
     record {
       index = e .index;
@@ -156,7 +157,8 @@ entering-step {rows} {names} {end} {table} {after} {n} {m} {p} w h e =
 
 pub entering-end : {rows names : List ℕ} {end : ℕ} {table : List ℕ} {n p : ℕ} → Entering rows names end table n p → end ≤ p → AllIndexed rows names end table n
 entering-end {rows} {names} {end} {table} {n} {p} w h =
-    let all : placesIn buckets n table ≡ headPlaces rows end = sym (append-nil (placesIn buckets n table)) ∙ ap (λ (l : List ℕ). placesIn buckets n table ++ l) (sym (heads-none rows p end h)) ∙ w .places in
+    let all : placesIn buckets n table ≡ headPlaces rows end = sym (append-nil (placesIn buckets n table))
+    ∙ ap (λ (l : List ℕ). placesIn buckets n table ++ l) (sym (heads-none rows p end h)) ∙ w .places in
     record { index = w .index; places = all; distinct = rw (← all) (w .distinct) }
 
 pub entering-repeated : {rows names : List ℕ} {end : ℕ} {table : List ℕ} {n p : ℕ} → Entering rows names end table n p → p < end → OldHead rows names table n p
@@ -165,7 +167,8 @@ entering-repeated {rows} {names} {end} {table} {n} {p} w h o =
     let ps = placesIn buckets n table in
     let rest = headsFrom rows (p + 1) (end - (p + 1)) in
     let all : headPlaces rows end ≡ ps ++ (p ∷ rest) = sym (w .places) ∙ ap (λ (l : List ℕ). ps ++ l) (heads-next rows p end h ∙ rw (o .head)) in
-    let names-all : headNames rows names (headPlaces rows end) ≡ headNames rows names ps ++ (nameOf rows names false p ∷ headNames rows names rest) = ap (headNames rows names) all ∙ map-append (nameOf rows names false) ps (p ∷ rest) in
+    let names-all : headNames rows names (headPlaces rows end) ≡ headNames rows names ps
+    ++ (nameOf rows names false p ∷ headNames rows names rest) = ap (headNames rows names) all ∙ map-append (nameOf rows names false) ps (p ∷ rest) in
     not-true-false _ (λ d. false≢true (sym (distinct-before (nameOf rows names false p) (headNames rows names ps) (headNames rows names rest) (rw names-all at d)) ∙ o .old))
 
 -- ---- what a row leads to
@@ -201,7 +204,8 @@ target-inside {rows} {names} {table} {n} w p = by-test (eqb (askedPair (getD row
     by-test false e = rw (target-some rows names (placesIn buckets n table) p refl (eqb-false _ 0 e)) (found _)
 
 -- ---- the targets stored
-pub targets-step : {rows names to : List ℕ} {end k : ℕ} {v : ℕ} → TargetsPut rows names end k to → 0 < k → k < length to → v ≡ targetOf rows names (headPlaces rows end) k → TargetsPut rows names end (k + 1) (set to k v)
+pub targets-step : {rows names to : List ℕ} {end k : ℕ} {v : ℕ} → TargetsPut rows names end k to → 0 < k → k < length to
+    → v ≡ targetOf rows names (headPlaces rows end) k → TargetsPut rows names end (k + 1) (set to k v)
 targets-step {rows} {names} {to} {end} {k} {v} w a h e =
     record {
       first = getD-set-other to k 0 v 0 (λ x. omega arith) ∙ w .first;

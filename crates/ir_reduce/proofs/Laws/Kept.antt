@@ -81,7 +81,8 @@ count-bound false n p h e = omega arith
 
 module _ (names rows marks : List ℕ) (low high n : ℕ) (before : Bool) (p end : ℕ) (h : p < end) where
   pub count-rest : {now : Bool} {k : ℕ} → now ≡ keeps before (getD rows (10 * p) 0) (getD marks p 0) → k ≡ (if now && between low high (getD rows (10 * p) 0) then n + 1 else n)
-      → k + count (between low high) (tagged (keptRows (rowAt rows names) marks now (p + 1) (end - (p + 1)))) ≡ n + count (between low high) (tagged (keptRows (rowAt rows names) marks before p (end - p)))
+      → k + count (between low high) (tagged (keptRows (rowAt rows names) marks now (p + 1) (end - (p + 1))))
+      ≡ n + count (between low high) (tagged (keptRows (rowAt rows names) marks before p (end - p)))
   count-rest {now} {k} e f =
       let next = count-next (between low high) n now (rowAt rows names p) (keptRows (rowAt rows names) marks now (p + 1) (end - (p + 1))) in
       let tag = row-tag-at rows names p in

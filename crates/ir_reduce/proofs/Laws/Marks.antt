@@ -56,8 +56,11 @@ marking-step {tags} {to} {marks} {queue} {n} {place} true e w r h =
     let hq : n < length queue = omega (arith, w .count, ones-less marks place hm z, w .long, w .room) in
     record {
       each = λ q k. cases q (eqb q place) refl (λ e′. rw (eqb-true q place e′) r) (λ e′. w .each q (rw (getD-set-other marks place q 1 0 (eqb-false q place e′)) at k));
-      queued = λ q k. cases q (eqb q place) refl (λ e′. record { at = n; before = omega arith; holds = getD-set-same queue n place 0 hq ∙ sym (eqb-true q place e′) }) (λ e′. later q (w .queued q (rw (getD-set-other marks place q 1 0 (eqb-false q place e′)) at k)));
-      held = λ i l. cases-at i (eqb i n) refl (λ e′. rw (eqb-true i n e′, getD-set-same queue n place 0 hq) (h, rw (getD-set-same marks place 1 0 hm) (omega arith))) (λ e′. let o : i < n = omega (arith, eqb-false i n e′) in rw (getD-set-other queue n i place 0 (eqb-false i n e′)) (w .held i o .0, set-kept marks place hm (getD queue i 0) (w .held i o .1)));
+      queued = λ q k. cases q (eqb q place) refl (λ e′. record { at = n; before = omega arith; holds = getD-set-same queue n place 0 hq ∙ sym (eqb-true q place e′) })
+          (λ e′. later q (w .queued q (rw (getD-set-other marks place q 1 0 (eqb-false q place e′)) at k)));
+      held = λ i l. cases-at i (eqb i n) refl (λ e′. rw (eqb-true i n e′, getD-set-same queue n place 0 hq) (h, rw (getD-set-same marks place 1 0 hm) (omega arith)))
+          (λ e′. let o : i < n = omega (arith, eqb-false i n e′) in rw (getD-set-other queue n i place 0 (eqb-false i n e′))
+          (w .held i o .0, set-kept marks place hm (getD queue i 0) (w .held i o .1)));
       count = rw (ones-set marks place hm z) (omega (arith, w .count));
       long = rw (length-set marks place 1) (w .long);
       room = rw (length-set queue n place, length-set marks place 1) (w .room);
@@ -74,7 +77,8 @@ marking-step {tags} {to} {marks} {queue} {n} {place} true e w r h =
     later : (q : ℕ) → Queued queue n q → Queued (set queue n place) (n + 1) q
     later q u = record { at = u .at; before = omega (arith, u .before); holds = getD-set-other queue n (u .at) place 0 (λ x. omega (arith, u .before)) ∙ u .holds }
 
-pub marking-more : {tags to marks queue marks′ queue′ : List ℕ} {n n′ place : ℕ} → Marked marks queue n place marks′ queue′ n′ → Marking tags to marks queue n → Reached tags to place → place < length tags → Marking tags to marks′ queue′ n′
+pub marking-more : {tags to marks queue marks′ queue′ : List ℕ} {n n′ place : ℕ} → Marked marks queue n place marks′ queue′ n′ → Marking tags to marks queue n
+    → Reached tags to place → place < length tags → Marking tags to marks′ queue′ n′
 marking-more {tags} {to} {marks} {queue} {marks′} {queue′} {n} {n′} {place} m w r h = rw (m .flag, m .entry, m .count) (marking-step (eqb (getD marks place 0) 0) refl w r h)
 
 -- ---- at the end: what is reached is marked
@@ -114,7 +118,8 @@ pub record Target (tags to marks queue : List ℕ) (n q : ℕ) (marks′ queue�
   pub grown : Grown marks queue n marks′ queue′ n′
   pub there : 0 < q → 0 < getD marks′ q 0
 
-pub target-more : {tags to marks queue marks′ queue′ : List ℕ} {n n′ q : ℕ} (b : Bool) → eqb q 0 ≡ b → Targeted b marks queue n q marks′ queue′ n′ → Marking tags to marks queue n → (0 < q → Reached tags to q) → q < length tags → Target tags to marks queue n q marks′ queue′ n′
+pub target-more : {tags to marks queue marks′ queue′ : List ℕ} {n n′ q : ℕ} (b : Bool) → eqb q 0 ≡ b → Targeted b marks queue n q marks′ queue′ n′
+    → Marking tags to marks queue n → (0 < q → Reached tags to q) → q < length tags → Target tags to marks queue n q marks′ queue′ n′
 target-more {tags} {to} {marks} {queue} {marks′} {queue′} {n} {n′} {q} true e m w r h =
     let z = eqb-true q 0 e in
     rw (m .0, m .1, m .2) (record { marking = w; grown = record { kept = λ j k. k; prefix = λ i l. refl; more = omega arith }; there = λ l. absurd (omega arith) })
@@ -168,10 +173,12 @@ pub grouping-start : {tags to m q : List ℕ} {p n : ℕ} → Marking tags to m 
 grouping-start {tags} {to} {m} {q} {p} {n} w =
     record { marking = w; grown = grown-same m q n; led = record { led = λ i a b k. absurd (omega arith); plain = λ i a b. absurd (omega arith) } }
 
-pub grouping-more : {tags to m₀ q₀ m q m′ q′ : List ℕ} {p row n₀ n n′ : ℕ} → Grouping tags to p row m₀ q₀ n₀ m q n → Reached tags to p → p ≤ row → row < length tags → getD to row 0 < length tags → (p < row → getD tags row 0 ≡ 0)
+pub grouping-more : {tags to m₀ q₀ m q m′ q′ : List ℕ} {p row n₀ n n′ : ℕ} → Grouping tags to p row m₀ q₀ n₀ m q n → Reached tags to p → p ≤ row → row < length tags
+    → getD to row 0 < length tags → (p < row → getD tags row 0 ≡ 0)
     → Targeted (eqb (getD to row 0) 0) m q n (getD to row 0) m′ q′ n′ → Grouping tags to p (row + 1) m₀ q₀ n₀ m′ q′ n′
 grouping-more {tags} {to} {m₀} {q₀} {m} {q} {m′} {q′} {p} {row} {n₀} {n} {n′} g r a b h plain t =
-    let leads : 0 < getD to row 0 → Reached tags to (getD to row 0) = λ k. Reached.onward p (getD to row 0) r (record { row = row; inGroup = record { from = a; inside = b; children = λ i l k′. child i l k′ (eqb i row) refl }; target = refl; some = k }) in
+    let leads : 0 < getD to row 0 → Reached tags to (getD to row 0) = λ k. Reached.onward p (getD to row 0) r
+    (record { row = row; inGroup = record { from = a; inside = b; children = λ i l k′. child i l k′ (eqb i row) refl }; target = refl; some = k }) in
     let w = target-more (eqb (getD to row 0) 0) refl t (g .marking) leads h in
     record { marking = w .marking; grown = grown-on (g .grown) (w .grown); led = led-more (g .led) w plain }
   where
@@ -179,7 +186,8 @@ grouping-more {tags} {to} {m₀} {q₀} {m} {q} {m′} {q′} {p} {row} {n₀} {
     child i l k true e = rw (eqb-true i row e) (plain (omega (arith, eqb-true i row e)))
     child i l k false e = g .led .plain i l (omega (arith, eqb-false i row e))
 
-pub grouping-end : {tags to m₀ q₀ m q : List ℕ} {p row n₀ n : ℕ} → Grouping tags to p row m₀ q₀ n₀ m q n → (length tags ≤ row) ⊎ ((p < row) × (getD tags row 0 ≡ 0 → ⊥)) → GroupDone tags to p m₀ q₀ n₀ m q n
+pub grouping-end : {tags to m₀ q₀ m q : List ℕ} {p row n₀ n : ℕ} → Grouping tags to p row m₀ q₀ n₀ m q n → (length tags ≤ row) ⊎ ((p < row) × (getD tags row 0 ≡ 0 → ⊥))
+    → GroupDone tags to p m₀ q₀ n₀ m q n
 grouping-end g stop = record { marking = g .marking; grown = g .grown; all = led-all (g .led) stop }
 
 -- the room after a target

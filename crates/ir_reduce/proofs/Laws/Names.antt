@@ -31,7 +31,8 @@ name-of r cs =
     (pick-name (eqb (r .tag) codeEnumTag) _ _ (text 0 r) refl
     (pick-name (eqb (r .tag) valueWithAttributesTag) _ _ (text 0 r) refl refl))))
 
-names-added : (r : Row) (p : Parted) (b : Behind) (c : Bool) → isTypeTag (r .tag) ≡ c → map typeName (p .types) ≡ map nameOf (b .types) → map typeName (addRow r p .types) ≡ map nameOf (withRow r b .types)
+names-added : (r : Row) (p : Parted) (b : Behind) (c : Bool) → isTypeTag (r .tag) ≡ c → map typeName (p .types) ≡ map nameOf (b .types)
+    → map typeName (addRow r p .types) ≡ map nameOf (withRow r b .types)
 unfolding addRow withRow isTypeTag typeName
 names-added r p b true e h = rw e (λ i. sym (name-of r (b .children)) i ∷ h i)
 names-added r p b false e h = rw e h

@@ -46,7 +46,12 @@ unfolding rowsOfTypes every typeShaped parted addRow
 parted-types [] h = refl
 parted-types (t ∷ ts) h =
     let s = and-true-left (isTypeTag (t .head .tag) && every isChildRow (t .children)) (every typeShaped ts) h in
-    rw (front-on (t .children) (rowsOfTypes ts) (and-true-right (isTypeTag (t .head .tag)) (every isChildRow (t .children)) s), parted-types ts (and-true-right (isTypeTag (t .head .tag) && every isChildRow (t .children)) (every typeShaped ts) h), and-true-left (isTypeTag (t .head .tag)) (every isChildRow (t .children)) s, append-nil (t .children))
+    rw (
+      front-on (t .children) (rowsOfTypes ts) (and-true-right (isTypeTag (t .head .tag)) (every isChildRow (t .children)) s),
+      parted-types ts (and-true-right (isTypeTag (t .head .tag) && every isChildRow (t .children)) (every typeShaped ts) h),
+      and-true-left (isTypeTag (t .head .tag)) (every isChildRow (t .children)) s,
+      append-nil (t .children),
+    )
 
 pub parted-rows : (p : Parted) → shaped p ≡ true → parted (rowsOf p) ≡ p
 unfolding shaped rowsOf
@@ -77,7 +82,9 @@ pub reduced-parted : (rs : List Row) {q : Parted} → Reduced (parted rs) q → 
 unfolding shaped
 reduced-parted rs {q} w =
     let s = shaped-parted rs in
-    parted-rows q (and-true {a = every isChildRow (q .front)} (rw (w .front) (and-true-left (every isChildRow (parted rs .front)) (every typeShaped (parted rs .types)) s)) (kept-shaped (w .types) (and-true-right (every isChildRow (parted rs .front)) (every typeShaped (parted rs .types)) s)))
+    parted-rows q (and-true {a = every isChildRow (q .front)}
+    (rw (w .front) (and-true-left (every isChildRow (parted rs .front)) (every typeShaped (parted rs .types)) s))
+    (kept-shaped (w .types) (and-true-right (every isChildRow (parted rs .front)) (every typeShaped (parted rs .types)) s)))
 
 twice-of : {p q q′ r : Parted} → Reduced p q → q′ ≡ q → Reduced q′ r → r ≡ q
 twice-of w e v = reduced-twice w (rw (sym e) v)

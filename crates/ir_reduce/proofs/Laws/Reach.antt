@@ -30,11 +30,13 @@ marked m [] = []
 marked m (t ∷ ts) = if m t then t ∷ marked m ts else marked m ts
 
 -- so keeping the marked ones is reducing
-kept-step : (P : GraphType → Type 0) (m : GraphType → Bool) (t : GraphType) (ts us : List GraphType) (b : Bool) → m t ≡ b → (m t ≡ true → P t) → (P t → m t ≡ true) → Kept P ts us → Kept P (t ∷ ts) (if b then t ∷ us else us)
+kept-step : (P : GraphType → Type 0) (m : GraphType → Bool) (t : GraphType) (ts us : List GraphType) (b : Bool) → m t ≡ b → (m t ≡ true → P t) → (P t → m t ≡ true)
+    → Kept P ts us → Kept P (t ∷ ts) (if b then t ∷ us else us)
 kept-step P m t ts us true e f g k = Kept.keep (f e) k
 kept-step P m t ts us false e f g k = Kept.leave (λ c. absurd (false≢true (sym e ∙ g c))) k
 
-pub kept-marked : (P : GraphType → Type 0) (m : GraphType → Bool) (ts : List GraphType) → ((t : GraphType) → In t ts → m t ≡ true → P t) → ((t : GraphType) → P t → m t ≡ true) → Kept P ts (marked m ts)
+pub kept-marked : (P : GraphType → Type 0) (m : GraphType → Bool) (ts : List GraphType) → ((t : GraphType) → In t ts → m t ≡ true → P t)
+    → ((t : GraphType) → P t → m t ≡ true) → Kept P ts (marked m ts)
 unfolding marked
 kept-marked P m [] f g = Kept.end
 kept-marked P m (t ∷ ts) f g = kept-step P m t ts (marked m ts) (m t) refl (f t In.here) (g t) (kept-marked P m ts (λ u i. f u (In.there i)) g)
@@ -80,4 +82,5 @@ reduced-again {p} {q} w = record { front = refl; types = kept-all (q .types) (λ
 
 -- "reducing twice equals reducing once"
 pub reduced-twice : {p q r : Parted} → Reduced p q → Reduced q r → r ≡ q
-reduced-twice {p} {q} {r} w v = ap (λ (ts : List GraphType). record { front = r .front; types = ts }) (kept-once (v .types) (reduced-again w .types)) ∙ ap (λ (f : List Row). record { front = f; types = q .types }) (v .front)
+reduced-twice {p} {q} {r} w v = ap (λ (ts : List GraphType). record { front = r .front; types = ts }) (kept-once (v .types) (reduced-again w .types))
+    ∙ ap (λ (f : List Row). record { front = f; types = q .types }) (v .front)

@@ -31,7 +31,8 @@ lowers-only {e} {tag} q o p f =
     }
 
 -- a row's recipe with the texts that were read
-pub lowers-read : {e : Bool} {tag a b c n : ℕ} {r : Recipe} {first second t u : Text} → Lowers e tag a b c n r → hasRecipe e tag ≡ true → (refers tag ≡ true → n ≡ reference (mapBuiltin second)) → first ≡ t → second ≡ u
+pub lowers-read : {e : Bool} {tag a b c n : ℕ} {r : Recipe} {first second t u : Text} → Lowers e tag a b c n r → hasRecipe e tag ≡ true
+    → (refers tag ≡ true → n ≡ reference (mapBuiltin second)) → first ≡ t → second ≡ u
     → loweredAs e tag a b c t u ≡ recipeRow r first second ∷ []
 lowers-read {first = first} {second = second} l h w p q = rw (← p, ← q) (l .lowers first second h w)
 
@@ -124,7 +125,8 @@ module _ (e : Bool) (a b c n : ℕ) where
   lowers-15 =
       record { inOrder = order-two (namespaceSpelling a) 8 a c; lowers = λ t u h q. ap one (opaque-row a c t u) }
 
-  pub lowers-17 : {x y : ℕ} → x ≡ cardinalityB (lowerCardinality a (MaxOccurs.bounded b)) → y ≡ cardinalityC (lowerCardinality a (MaxOccurs.bounded b)) → Lowers e 17 a b c n (childRecipe 9 n x y Spelling.FirstSnake)
+  pub lowers-17 : {x y : ℕ} → x ≡ cardinalityB (lowerCardinality a (MaxOccurs.bounded b)) → y ≡ cardinalityC (lowerCardinality a (MaxOccurs.bounded b))
+      → Lowers e 17 a b c n (childRecipe 9 n x y Spelling.FirstSnake)
   unfolding loweredAs fieldRow refers between orderly
   lowers-17 p r =
       record {

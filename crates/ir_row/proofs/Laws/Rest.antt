@@ -38,7 +38,26 @@ lowered-none e tag a b c t u other h =
     let no7 = ne-eqb tag 7 (λ q. other (inr (inl q))) in
     let no10 = ne-eqb tag 10 (λ q. other (inr (inr (inl q)))) in
     let no11 = ne-eqb tag 11 (λ q. other (inr (inr (inr q)))) in
-    rw (no 1 refl, no 2 refl, no 3 refl, no 5 refl, no6, no7, no 8 refl, no 9 refl, no10, no11, no 12 refl, no 13 refl, no 14 refl, no 15 refl, no 17 refl, no 18 refl, no 19 refl, no 20 refl) (codes-or-none e tag t h)
+    rw (
+      no 1 refl,
+      no 2 refl,
+      no 3 refl,
+      no 5 refl,
+      no6,
+      no7,
+      no 8 refl,
+      no 9 refl,
+      no10,
+      no11,
+      no 12 refl,
+      no 13 refl,
+      no 14 refl,
+      no 15 refl,
+      no 17 refl,
+      no 18 refl,
+      no 19 refl,
+      no 20 refl,
+    ) (codes-or-none e tag t h)
 
 -- a tag that is none of the counts'
 pub not-count : {tag : ℕ} → (tag ≡ 6 → ⊥) → (tag ≡ 7 → ⊥) → (tag ≡ 10 → ⊥) → (tag ≡ 11 → ⊥) → isCount tag → ⊥
@@ -50,7 +69,8 @@ module _ (e : Bool) (rows names : List ℕ) (place : ℕ) (t : Numbers) (read : 
   unfolding rowAt tenRows
   lowered-read = rw (← read) (lowered-at names (asTen t) e)
 
-  pub characters-read : {tag : ℕ} (n : ℕ) → ((t .tag ≡ 6) × (tag ≡ 12)) ⊎ ((t .tag ≡ 7) × (tag ≡ 13)) → (n % 2 ^ 32 ≡ t .a) × (n / 2 ^ 32 ≡ t .b) → loweredRow e (rowAt rows names place) ≡ row tag [] (n % 2 ^ 32) (n / 2 ^ 32) 0 ∷ []
+  pub characters-read : {tag : ℕ} (n : ℕ) → ((t .tag ≡ 6) × (tag ≡ 12)) ⊎ ((t .tag ≡ 7) × (tag ≡ 13)) → (n % 2 ^ 32 ≡ t .a) × (n / 2 ^ 32 ≡ t .b)
+      → loweredRow e (rowAt rows names place) ≡ row tag [] (n % 2 ^ 32) (n / 2 ^ 32) 0 ∷ []
   unfolding tenRows loweredAs
   characters-read n w p =
       lowered-read

@@ -17,7 +17,8 @@ returns-3 : tie.Need-returns-3
 returns-3 c =
     let start = c .before .before in
     let rest = c .before .match .rest in
-    λ a b. lowers-only (c .with-texts2 .ensures) (lowers-1 false 0 0 0 0 .inOrder) (tag-1 (start .args .tag) (start .pre) (rest .0 .1) (rest .1)) (λ h. lowers-1 (start .args .codes) a b (start .args .event) (start .args .reference))
+    λ a b. lowers-only (c .with-texts2 .ensures) (lowers-1 false 0 0 0 0 .inOrder) (tag-1 (start .args .tag) (start .pre) (rest .0 .1) (rest .1))
+    (λ h. lowers-1 (start .args .codes) a b (start .args .event) (start .args .reference))
 
 pub first-recipe-spec : {M : Type 1} → statement M
 first-recipe-spec =

@@ -17,28 +17,32 @@ returns c =
     let called = c .before .before .before .before in
     let arm = called .before .before .before .before in
     let args = arm .before .before .before .before .before .before .args in
-    rw (characters-read (args .codes) (args .rows .now) (args .names .now) (args .place) (arm .before .ten-at .result) (arm .before .ten-at .ensures) (called .before .count-of .result .0) (inl (arm .match .keys1, refl)) (called .before .count-of .ensures)) (called .grow-characters .ensures)
+    rw (characters-read (args .codes) (args .rows .now) (args .names .now) (args .place) (arm .before .ten-at .result) (arm .before .ten-at .ensures)
+    (called .before .count-of .result .0) (inl (arm .match .keys1, refl)) (called .before .count-of .ensures)) (called .grow-characters .ensures)
 
 returns-2 : tie.Need-returns-2
 returns-2 c =
     let called = c .before .before .before .before in
     let arm = called .before .before .before .before in
     let args = arm .before .before .before .before .before .before .args in
-    rw (characters-read (args .codes) (args .rows .now) (args .names .now) (args .place) (arm .before .ten-at .result) (arm .before .ten-at .ensures) (called .before .count-of2 .result .0) (inr (arm .match .keys2, refl)) (called .before .count-of2 .ensures)) (called .grow-characters2 .ensures)
+    rw (characters-read (args .codes) (args .rows .now) (args .names .now) (args .place) (arm .before .ten-at .result) (arm .before .ten-at .ensures)
+    (called .before .count-of2 .result .0) (inr (arm .match .keys2, refl)) (called .before .count-of2 .ensures)) (called .grow-characters2 .ensures)
 
 returns-3 : tie.Need-returns-3
 returns-3 c =
     let called = c .before .before .before .before in
     let arm = called .before .before .before in
     let args = arm .before .before .before .before .before .before .args in
-    rw (digits-read (args .codes) (args .rows .now) (args .names .now) (args .place) (arm .before .ten-at .result) (arm .before .ten-at .ensures) (inl (arm .match .keys3, refl))) (called .grow-digits .ensures)
+    rw (digits-read (args .codes) (args .rows .now) (args .names .now) (args .place) (arm .before .ten-at .result) (arm .before .ten-at .ensures)
+    (inl (arm .match .keys3, refl))) (called .grow-digits .ensures)
 
 returns-4 : tie.Need-returns-4
 returns-4 c =
     let called = c .before .before .before .before in
     let arm = called .before .before .before in
     let args = arm .before .before .before .before .before .before .args in
-    rw (digits-read (args .codes) (args .rows .now) (args .names .now) (args .place) (arm .before .ten-at .result) (arm .before .ten-at .ensures) (inr (arm .match .keys4, refl))) (called .grow-digits2 .ensures)
+    rw (digits-read (args .codes) (args .rows .now) (args .names .now) (args .place) (arm .before .ten-at .result) (arm .before .ten-at .ensures)
+    (inr (arm .match .keys4, refl))) (called .grow-digits2 .ensures)
 
 returns-5 : tie.Need-returns-5
 returns-5 c =

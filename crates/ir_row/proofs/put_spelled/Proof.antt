@@ -15,7 +15,9 @@ unfolding tenRows
 returns c =
     let start = c .before .before .before .before .before in
     let args = start .args in
-    let none = lowered-none (args .codes) (args .t .tag) (args .t .a) (args .t .b) (args .t .c) (textAt (args .names .now) (args .t .at0) (args .t .len0)) (textAt (args .names .now) (args .t .at1) (args .t .len1)) (start .pre .1) (sym (c .before .has-recipe .ensures) ∙ not-true (c .before .has-recipe .result) (c .if1 .taken)) in
+    let none = lowered-none (args .codes) (args .t .tag) (args .t .a) (args .t .b) (args .t .c) (textAt (args .names .now) (args .t .at0) (args .t .len0))
+    (textAt (args .names .now) (args .t .at1) (args .t .len1)) (start .pre .1)
+    (sym (c .before .has-recipe .ensures) ∙ not-true (c .before .has-recipe .result) (c .if1 .taken)) in
     rw none (grows-none (start .pre .0))
 
 returns-2 : tie.Need-returns-2
@@ -29,7 +31,8 @@ returns-2 c =
     let names = judged .before .before .before .before .before .args .names .now in
     let first = firsts .part-of .ensures ∙ textAt-read names (firsts .before .before .wide .ensures) (firsts .before .wide2 .ensures) in
     let second = seconds .part-of2 .ensures ∙ textAt-read names (seconds .before .before .wide3 .ensures) (seconds .before .wide4 .ensures) in
-    let rows = lowers-read (recipe .recipe-of .ensures) (sym (judged .before .has-recipe .ensures) ∙ not-false (judged .before .has-recipe .result) (judged .if1 .left)) (recipe .before .row-reference .ensures) first second in
+    let rows = lowers-read (recipe .recipe-of .ensures) (sym (judged .before .has-recipe .ensures) ∙ not-false (judged .before .has-recipe .result) (judged .if1 .left))
+    (recipe .before .row-reference .ensures) first second in
     rw rows (called .append-spelled .ensures)
 
 pub put-spelled-spec : {M : Type 1} → statement M

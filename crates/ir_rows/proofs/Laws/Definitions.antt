@@ -22,7 +22,8 @@ use Rattle.xsd_types.proofs.Laws.Items.{name-back}
 use Rattle.ir_types.specs.Types.{TypeDef}
 use Rattle.ir_types.specs.Rows.{refA, refText, variantRow, constraintRow, codeRow, attrRow, typeRows, fieldRow as graphField}
 use Rattle.xsd_types.specs.Refused.{isEnumeration, allEnums, isCodeEnum}
-use Rattle.ir_lower.specs.Lower.{resolved, resolveTypeRef, codes, constraints, lowerNewtype, lowerSimpleType, lowerCardinality, lowerField, lowerVariant, lowerAttribute, lowerContent, lowerComplexType}
+use Rattle.ir_lower.specs.Lower.{resolved, resolveTypeRef, codes, constraints, lowerNewtype, lowerSimpleType, lowerCardinality, lowerField, lowerVariant, lowerAttribute}
+use Rattle.ir_lower.specs.Lower.{lowerContent, lowerComplexType}
 use Rattle.ir_lower.specs.Finished.{simpleName, complexName}
 use Rattle.ir_rows.specs.Lowered.{referenceTexts, valueRow, opaqueRow, fieldRow, simpleRow, codeRows, loweredAs, loweredRow, childRows, typeRowsOf}
 use Rattle.xsd_types.proofs.Laws.Refused.{headFirst, isCodeEnum-facets}
@@ -60,7 +61,8 @@ childRows-more codeEnum [] h = refl
 childRows-more codeEnum (r ∷ rs) h = rw h
 
 -- children that are each lowered to a row
-module _ {A B : Type 0} (codeEnum : Bool) (f : A → Row) (lowered : A → B) (g : B → Row) (child : (x : A) → isHead (f x .tag) ≡ false) (each : (x : A) → loweredRow codeEnum (f x) ≡ g (lowered x) ∷ []) where
+module _ {A B : Type 0} (codeEnum : Bool) (f : A → Row) (lowered : A → B) (g : B → Row) (child : (x : A) → isHead (f x .tag) ≡ false)
+    (each : (x : A) → loweredRow codeEnum (f x) ≡ g (lowered x) ∷ []) where
   pub childRows-map : (xs : List A) (more : List Row) → headFirst more ≡ true → childRows codeEnum (map f xs ++ more) ≡ map g (map lowered xs)
   unfolding childRows
   childRows-map [] more h = childRows-more codeEnum more h
@@ -104,7 +106,8 @@ module _ (codeEnum : Bool) where
 
 -- ---- complex types
 
-content-rows : (event : ℕ) (name : Text) (c : ComplexContent) (more : List Row) → headFirst more ≡ true → typeRowsOf (complexTypeRows event name (started c) ++ more) ≡ typeRows (lowerContent event (normalizeTypeName name) c)
+content-rows : (event : ℕ) (name : Text) (c : ComplexContent) (more : List Row) → headFirst more ≡ true
+    → typeRowsOf (complexTypeRows event name (started c) ++ more) ≡ typeRows (lowerContent event (normalizeTypeName name) c)
 unfolding typeRowsOf complexTypeRows started typeRows lowerContent loweredRow loweredAs row text0 text1 valueRow opaqueRow
 content-rows event name (ComplexContent.sequence es) more h = rw (childRows-map (isCodeEnum (map elementRow es ++ more)) elementRow lowerField graphField element-child (field-row _) es more h)
 content-rows event name (ComplexContent.choice vs) more h = rw (childRows-map (isCodeEnum (map choiceRow vs ++ more)) choiceRow lowerVariant variantRow variant-child (variant-row _) vs more h)
@@ -152,7 +155,8 @@ module _ (t : SimpleType) (more : List Row) (h : headFirst more ≡ true) where
   unfolding typeRows simpleRow allEnums
   code-enum e = simple-as true e ∙ rw (codes-rows (t .facets) more (and-true-right (not (isEmpty (t .facets))) _ e) h)
 
-  newtype-rows : (o : Option RustType) (d : TypeDef) → mapBuiltin (t .base) ≡ o → allEnums (t .facets) ≡ false → lowerNewtype t o ≡ some d → typeRowsOf (itemRows (Item.simpleType t) ++ more) ≡ typeRows d
+  newtype-rows : (o : Option RustType) (d : TypeDef) → mapBuiltin (t .base) ≡ o → allEnums (t .facets) ≡ false → lowerNewtype t o ≡ some d
+      → typeRowsOf (itemRows (Item.simpleType t) ++ more) ≡ typeRows d
   unfolding lowerNewtype typeRows simpleRow
   newtype-rows none d q e k = let z : _≡_ {A = ℕ} 0 1 = cc in absurd (omega arith)
   newtype-rows (some inner) d q e k =
@@ -163,7 +167,9 @@ module _ (t : SimpleType) (more : List Row) (h : headFirst more ≡ true) where
   unfolding lowerSimpleType
   simple-rows d k =
       (elim (allEnums (t .facets))
-      as (λ b. allEnums (t .facets) ≡ b → (if b then some (TypeDef.codeEnum (t .event) (normalizeTypeName (t .name)) (codes (t .facets))) else lowerNewtype t (mapBuiltin (t .base))) ≡ some d → typeRowsOf (itemRows (Item.simpleType t) ++ more) ≡ typeRows d) [
+      as (λ b. allEnums (t .facets) ≡ b
+      → (if b then some (TypeDef.codeEnum (t .event) (normalizeTypeName (t .name)) (codes (t .facets))) else lowerNewtype t (mapBuiltin (t .base))) ≡ some d
+      → typeRowsOf (itemRows (Item.simpleType t) ++ more) ≡ typeRows d) [
         | true ↦ λ e w. code-enum e ∙ ap typeRows (Option·some-injective _ _ w)
         | false ↦ λ e w. newtype-rows (mapBuiltin (t .base)) d refl e w
       ]) refl k

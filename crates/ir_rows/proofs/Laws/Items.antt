@@ -40,7 +40,8 @@ content-tag event name (ComplexContent.simpleContent base xs) = refl
 content-tag event name (ComplexContent.any none) = refl
 content-tag event name (ComplexContent.any (some n)) = refl
 
-content-others : (event : ℕ) (name : Text) (c : ComplexContent) → (eqb (headTag (complexTypeRows event name (started c))) 2 ≡ false) × (eqb (headTag (complexTypeRows event name (started c))) 3 ≡ false)
+content-others : (event : ℕ) (name : Text) (c : ComplexContent) → (eqb (headTag (complexTypeRows event name (started c))) 2 ≡ false)
+    × (eqb (headTag (complexTypeRows event name (started c))) 3 ≡ false)
 unfolding complexTypeRows started headTag row
 content-others event name (ComplexContent.sequence es) = (refl, refl)
 content-others event name (ComplexContent.choice vs) = (refl, refl)

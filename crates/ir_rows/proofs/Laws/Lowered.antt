@@ -69,6 +69,8 @@ module _ (codeEnum : Bool) (tag a b c : ℕ) (p q x y : Text) (one : 1 ≤ usedP
 
 module _ (names : List ℕ) (t : Ten) where
   -- the graph's rows for a row of numbers
-  pub lowered-at : (codeEnum : Bool) → loweredRow codeEnum (unpackRow usedPairs names t) ≡ loweredAs codeEnum (t .tag) (t .a) (t .b) (t .c) (textAt names (t .at0) (t .len0)) (textAt names (t .at1) (t .len1))
+  pub lowered-at : (codeEnum : Bool)
+      → loweredRow codeEnum (unpackRow usedPairs names t)
+      ≡ loweredAs codeEnum (t .tag) (t .a) (t .b) (t .c) (textAt names (t .at0) (t .len0)) (textAt names (t .at1) (t .len1))
   unfolding loweredRow unpackRow
   lowered-at codeEnum = loweredAs-same codeEnum (t .tag) (t .a) (t .b) (t .c) _ _ (textAt names (t .at0) (t .len0)) (textAt names (t .at1) (t .len1)) (text0-at names t) (text1-at names t)

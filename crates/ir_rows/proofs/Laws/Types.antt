@@ -54,14 +54,16 @@ module _ (rows names : List ℕ) (end : ℕ) where
   -- ---- the places of a schema's types stand for their definitions
 
   -- a simple type that is not refused has a definition
-  matched-known : (k : ℕ) (t : SimpleType) (ps : List ℕ) (ds : List TypeDef) → ((d : TypeDef) → lowerSimpleType t ≡ some d → typeRowsOf (rowsFrom rows names k end) ≡ typeRows d) → refusedBase t ≡ false
+  matched-known : (k : ℕ) (t : SimpleType) (ps : List ℕ) (ds : List TypeDef)
+      → ((d : TypeDef) → lowerSimpleType t ≡ some d → typeRowsOf (rowsFrom rows names k end) ≡ typeRows d) → refusedBase t ≡ false
       → Matched rows names end ps ds → Matched rows names end (k ∷ ps) (withDefinition (lowerSimpleType t) ds)
   unfolding isNone withDefinition
   matched-known k t ps ds stands u m =
       (elim (lowerSimpleType t) as (λ o. lowerSimpleType t ≡ o → isNone o ≡ false → Matched rows names end (k ∷ ps) (withDefinition o ds))
       [ none ↦ λ q w. absurd (true≢false w) | some d ↦ λ q w. both (stands d q) m ]) refl (refused-base t ∙ u)
 
-  simple-matched : (k : ℕ) (is : List Item) → rowsFrom rows names k end ≡ itemsRows is → anyUnknown (simpleTypes is) ≡ false → Matched rows names end (placesOf isSimple k (itemsRows is)) (simpleDefinitions (simpleTypes is))
+  simple-matched : (k : ℕ) (is : List Item) → rowsFrom rows names k end ≡ itemsRows is → anyUnknown (simpleTypes is) ≡ false
+      → Matched rows names end (placesOf isSimple k (itemsRows is)) (simpleDefinitions (simpleTypes is))
   unfolding itemsRows simpleTypes simpleItem placesOf anyUnknown simpleDefinitions
   simple-matched k [] e u = nothing
   simple-matched k (Item.element x ∷ is) e u =

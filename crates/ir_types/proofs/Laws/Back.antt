@@ -17,7 +17,8 @@ use Rattle.ir_types.specs.Rows.{refA, refText, cardinalityB, cardinality
 use Rattle.ir_types.specs.Sheet.{graphSheet}
 use Rattle.ir_types.specs.Form.{usedPairs}
 use Rattle.ir_types.specs.Ok.{graphOk}
-use Rattle.ir_types.specs.Back.{text, rustTypeOf, refOf, cardinalityOf, fieldOf, variantOf, codeOf, attrOf, constraintOf, typeOf, Behind, withRow, typesBack, rootOf, rootsBack, graphOfRows, graphBack}
+use Rattle.ir_types.specs.Back.{text, rustTypeOf, refOf, cardinalityOf, fieldOf, variantOf, codeOf, attrOf, constraintOf, typeOf, Behind, withRow, typesBack}
+use Rattle.ir_types.specs.Back.{rootOf, rootsBack, graphOfRows, graphBack}
 use Rattle.ir_types.proofs.Laws.GraphForm.{sheet-tens, rows-use}
 
 -- ---- children

@@ -186,29 +186,34 @@ value-head event n (TypeRef.builtin RustType.date) s h k = and-true s (one-text 
 value-head event n (TypeRef.builtin RustType.dateTime) s h k = and-true s (one-text n h)
 
 -- a head of one text whose a is unused
-plain-head : (tag event : ℕ) (n : Text) → (let r = row tag (n ∷ []) 0 0 event in counted usedPairs r && rowForm r ≡ true) → isSmall tag ≡ true → isSmall event ≡ true → isText n ≡ true → rowOk (row tag (n ∷ []) 0 0 event) ≡ true
+plain-head : (tag event : ℕ) (n : Text) → (let r = row tag (n ∷ []) 0 0 event in counted usedPairs r && rowForm r ≡ true) → isSmall tag ≡ true → isSmall event ≡ true
+    → isText n ≡ true → rowOk (row tag (n ∷ []) 0 0 event) ≡ true
 unfolding rowOk rowSmall row
 plain-head tag event n h t s k = and-true (and-true h (rw (t, small 0 (omega arith), s))) (one-text n k)
 
 -- a head with its children behind it
-children-ok : {A : Type 0} (head : Row) (p : A → Bool) (f : A → Row) → ((x : A) → p x ≡ true → rowOk (f x) ≡ true) → (xs : List A) → rowOk head ≡ true → every p xs ≡ true → every rowOk (head ∷ map f xs) ≡ true
+children-ok : {A : Type 0} (head : Row) (p : A → Bool) (f : A → Row) → ((x : A) → p x ≡ true → rowOk (f x) ≡ true) → (xs : List A) → rowOk head ≡ true
+    → every p xs ≡ true → every rowOk (head ∷ map f xs) ≡ true
 unfolding every
 children-ok head p f g xs h k = and-true h (every-map p rowOk f g xs k)
 
 plain-children : {A : Type 0} (tag event : ℕ) (n : Text) (p : A → Bool) (f : A → Row) → ((x : A) → p x ≡ true → rowOk (f x) ≡ true) → (xs : List A)
-    → (let r = row tag (n ∷ []) 0 0 event in counted usedPairs r && rowForm r ≡ true) → isSmall tag ≡ true → isSmall event && (isText n && every p xs) ≡ true → every rowOk (row tag (n ∷ []) 0 0 event ∷ map f xs) ≡ true
+    → (let r = row tag (n ∷ []) 0 0 event in counted usedPairs r && rowForm r ≡ true) → isSmall tag ≡ true → isSmall event && (isText n && every p xs) ≡ true
+    → every rowOk (row tag (n ∷ []) 0 0 event ∷ map f xs) ≡ true
 plain-children tag event n p f g xs k t h =
     let w = two (isSmall event) (isText n && every p xs) h in
     let v = two (isText n) (every p xs) (w .1) in
     children-ok _ p f g xs (plain-head tag event n k t (w .0) (v .0)) (v .1)
 
-newtype-rows : (event : ℕ) (n : Text) (i : RustType) (cs : List Constraint) → isSmall event && (isText n && every constraintOk cs) ≡ true → every rowOk (row 5 (n ∷ []) (rustTypeNumber i) 0 event ∷ map constraintRow cs) ≡ true
+newtype-rows : (event : ℕ) (n : Text) (i : RustType) (cs : List Constraint) → isSmall event && (isText n && every constraintOk cs) ≡ true
+    → every rowOk (row 5 (n ∷ []) (rustTypeNumber i) 0 event ∷ map constraintRow cs) ≡ true
 newtype-rows event n i cs h =
     let w = two (isSmall event) (isText n && every constraintOk cs) h in
     let v = two (isText n) (every constraintOk cs) (w .1) in
     children-ok _ constraintOk constraintRow constraint-ok cs (newtype-head event n i (w .0) (v .0)) (v .1)
 
-value-rows : (event : ℕ) (n : Text) (v : TypeRef) (xs : List AttrDef) → isSmall event && (isText n && refOk v && every attrOk xs) ≡ true → every rowOk (row 7 (n ∷ refText v) (refA v) 0 event ∷ map attrRow xs) ≡ true
+value-rows : (event : ℕ) (n : Text) (v : TypeRef) (xs : List AttrDef) → isSmall event && (isText n && refOk v && every attrOk xs) ≡ true
+    → every rowOk (row 7 (n ∷ refText v) (refA v) 0 event ∷ map attrRow xs) ≡ true
 value-rows event n v xs h =
     let w = two (isSmall event) (isText n && refOk v && every attrOk xs) h in
     let t = three (isText n) (refOk v) (every attrOk xs) (w .1) in

@@ -36,7 +36,14 @@ pairs-small k (t ∷ u ∷ []) h b =
     rw (zero-small, small k (omega arith), small (length t) (omega arith), small (k + length t) (omega arith), small (length u) (omega arith))
 pairs-small k (t ∷ u ∷ v ∷ []) h b =
     let l = simp (append-nil, length-append) at b in
-    rw (small k (omega arith), small (length t) (omega arith), small (k + length t) (omega arith), small (length u) (omega arith), small (k + length t + length u) (omega arith), small (length v) (omega arith))
+    rw (
+      small k (omega arith),
+      small (length t) (omega arith),
+      small (k + length t) (omega arith),
+      small (length u) (omega arith),
+      small (k + length t + length u) (omega arith),
+      small (length v) (omega arith),
+    )
 pairs-small k (t ∷ u ∷ v ∷ w ∷ ts) h b = absurd (omega arith)
 
 six-tests : (p q u v w x rest : Bool) → p && q && u && v && w && x ≡ true → rest ≡ true → p && (q && (u && (v && (w && (x && rest))))) ≡ true

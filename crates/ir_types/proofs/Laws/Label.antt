@@ -64,7 +64,8 @@ told rows names words k =
 pub label-number : (rows names words : List ℕ) (k : ℕ) → (label rows names words k .number ≡ 0) ⊎ (label rows names words k .number ≡ 16)
 label-number rows names words k = told rows names words k .numbered
 
-pub label-refused : (rows names words : List ℕ) (k : ℕ) → label rows names words k .number ≡ 16 → (label rows names words k .inWords ≡ false) × (label rows names words k .at ≡ 0) × (label rows names words k .text ≡ [])
+pub label-refused : (rows names words : List ℕ) (k : ℕ) → label rows names words k .number ≡ 16 → (label rows names words k .inWords ≡ false)
+    × (label rows names words k .at ≡ 0) × (label rows names words k .text ≡ [])
 label-refused rows names words k e = told rows names words k .refused e
 
 pub label-part : (rows names words : List ℕ) (k : ℕ) → label rows names words k .number ≡ 0 → label rows names words k .inWords ≡ false

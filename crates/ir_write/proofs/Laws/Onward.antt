@@ -12,7 +12,8 @@ use Rattle.ir_write.specs.Onward.{Onward}
 pub onward-start : {rows names : List ℕ} {used : Used} (all : List Row) → Room rows names used → Onward rows names used all rows names used all
 onward-start all room = record { room = room; on = λ rows₁ names₁ r g. g }
 
-pub onward-step : {rows₀ names₀ rows names rows′ names′ : List ℕ} {used₀ used used′ : Used} {all rest : List Row} (xs ys : List Row) → Onward rows₀ names₀ used₀ all rows names used rest → rest ≡ xs ++ ys
+pub onward-step : {rows₀ names₀ rows names rows′ names′ : List ℕ} {used₀ used used′ : Used} {all rest : List Row} (xs ys : List Row)
+    → Onward rows₀ names₀ used₀ all rows names used rest → rest ≡ xs ++ ys
     → GrownTo rows names used xs rows′ names′ used′ → Onward rows₀ names₀ used₀ all rows′ names′ used′ ys
 onward-step xs ys o e g =
     record {
@@ -20,7 +21,8 @@ onward-step xs ys o e g =
       on = λ rows₁ names₁ r k. o .on rows₁ names₁ r (rw e (grows-then ys rows₁ names₁ r g k));
     }
 
-pub onward-end : {rows₀ names₀ rows names : List ℕ} {used₀ used : Used} {all rest : List Row} → Onward rows₀ names₀ used₀ all rows names used rest → rest ≡ [] → GrownTo rows₀ names₀ used₀ all rows names used
+pub onward-end : {rows₀ names₀ rows names : List ℕ} {used₀ used : Used} {all rest : List Row} → Onward rows₀ names₀ used₀ all rows names used rest → rest ≡ []
+    → GrownTo rows₀ names₀ used₀ all rows names used
 onward-end {rows = rows} {names} {used = used} o e = o .on rows names (Grown.To used) (rw e (grows-none (o .room)))
 
 pub onward-full : {rows₀ names₀ rows names rows′ names′ : List ℕ} {used₀ used : Used} {all rest : List Row} (xs ys : List Row) → Onward rows₀ names₀ used₀ all rows names used rest → rest ≡ xs ++ ys

@@ -16,7 +16,9 @@ use Rattle.ir_write.proofs.put_children.Tie as tie
 
 abbrev Inv-loop : tie.InvT-loop
 Inv-loop graph-rows₀ graph-names₀ rows names children used₀ place₀ graph-rows graph-names used place =
-    Onward graph-rows₀ graph-names₀ used₀ (childRows (children .«code_enum») (rowsFrom rows names (children .first) (children .end))) graph-rows graph-names used (childRows (children .«code_enum») (rowsFrom rows names place (children .end))) × (length graph-rows ≡ length graph-rows₀) × (length graph-names ≡ length graph-names₀)
+    Onward graph-rows₀ graph-names₀ used₀ (childRows (children .«code_enum») (rowsFrom rows names (children .first) (children .end))) graph-rows graph-names used
+    (childRows (children .«code_enum») (rowsFrom rows names place (children .end))) × (length graph-rows ≡ length graph-rows₀)
+    × (length graph-names ≡ length graph-names₀)
 
 abbrev μ-loop : tie.MeasureT-loop
 μ-loop graph-rows₀ graph-names₀ rows names children used₀ place₀ graph-rows graph-names used place = children .end - place
@@ -40,7 +42,8 @@ returns : tie.Need-returns Inv-loop μ-loop
 returns c =
     let at = c .before .before .before .before .before in
     let a = at .before .before .before .before .before .args in
-    onward-end (at .loop .inv .0) (children-head (a .rows .now) (a .names .now) (a .children .«code_enum») (at .loop .place) (a .children .end) (c .before .before .before .if1 .taken) (sym (c .before .is-head .ensures ∙ ap isHead (c .before .before .row-tag .ensures)) ∙ c .if2 .taken))
+    onward-end (at .loop .inv .0) (children-head (a .rows .now) (a .names .now) (a .children .«code_enum») (at .loop .place) (a .children .end)
+    (c .before .before .before .if1 .taken) (sym (c .before .is-head .ensures ∙ ap isHead (c .before .before .row-tag .ensures)) ∙ c .if2 .taken))
 
 put-lowered-requires : tie.Need-put-lowered-requires Inv-loop μ-loop
 put-lowered-requires c κs =
@@ -61,11 +64,14 @@ same-length-4 c = search needs
 
 -- the rest is the row at hand, which is no head, and what is behind it
 on : (c : tie.Else2 Inv-loop μ-loop) → let at = c .before .before .before .before .before in let a = at .before .before .before .before .before .args in
-    childRows (a .children .«code_enum») (rowsFrom (a .rows .now) (a .names .now) (at .loop .place) (a .children .end)) ≡ loweredRow (a .children .«code_enum») (rowAt (a .rows .now) (a .names .now) (at .loop .place)) ++ childRows (a .children .«code_enum») (rowsFrom (a .rows .now) (a .names .now) (at .loop .place + 1) (a .children .end))
+    childRows (a .children .«code_enum») (rowsFrom (a .rows .now) (a .names .now) (at .loop .place) (a .children .end))
+    ≡ loweredRow (a .children .«code_enum») (rowAt (a .rows .now) (a .names .now) (at .loop .place))
+    ++ childRows (a .children .«code_enum») (rowsFrom (a .rows .now) (a .names .now) (at .loop .place + 1) (a .children .end))
 on c =
     let at = c .before .before .before .before .before in
     let a = at .before .before .before .before .before .args in
-    children-on (a .rows .now) (a .names .now) (a .children .«code_enum») (at .loop .place) (a .children .end) (c .before .before .before .if1 .taken) (sym (c .before .is-head .ensures ∙ ap isHead (c .before .before .row-tag .ensures)) ∙ c .if2 .left)
+    children-on (a .rows .now) (a .names .now) (a .children .«code_enum») (at .loop .place) (a .children .end) (c .before .before .before .if1 .taken)
+    (sym (c .before .is-head .ensures ∙ ap isHead (c .before .before .row-tag .ensures)) ∙ c .if2 .left)
 
 returns-2 : tie.Need-returns-2 Inv-loop μ-loop
 returns-2 c =
@@ -73,7 +79,8 @@ returns-2 c =
     let no-head = put .before .before .before in
     let at = no-head .before .before .before .before .before in
     let a = at .before .before .before .before .before .args in
-    onward-full (loweredRow (a .children .«code_enum») (rowAt (a .rows .now) (a .names .now) (at .loop .place))) (childRows (a .children .«code_enum») (rowsFrom (a .rows .now) (a .names .now) (at .loop .place + 1) (a .children .end)))
+    onward-full (loweredRow (a .children .«code_enum») (rowAt (a .rows .now) (a .names .now) (at .loop .place)))
+    (childRows (a .children .«code_enum») (rowsFrom (a .rows .now) (a .names .now) (at .loop .place + 1) (a .children .end)))
     (at .loop .inv .0) (on no-head) (short-of _ _ _ _ _ _ _ (put .put-lowered .ensures) (c .enum-told .given .1))
 
 add-place : tie.Need-add-place Inv-loop μ-loop
@@ -88,7 +95,8 @@ loop-again c =
     let no-head = put .before .before .before in
     let at = no-head .before .before .before .before .before in
     let a = at .before .before .before .before .before .args in (
-      onward-step (loweredRow (a .children .«code_enum») (rowAt (a .rows .now) (a .names .now) (at .loop .place))) (childRows (a .children .«code_enum») (rowsFrom (a .rows .now) (a .names .now) (at .loop .place + 1) (a .children .end)))
+      onward-step (loweredRow (a .children .«code_enum») (rowAt (a .rows .now) (a .names .now) (at .loop .place)))
+          (childRows (a .children .«code_enum») (rowsFrom (a .rows .now) (a .names .now) (at .loop .place + 1) (a .children .end)))
           (at .loop .inv .0) (on no-head) (grown-of _ _ _ _ _ _ _ (put .put-lowered .ensures) (c .before .grown .given .1)),
       search needs,
       search needs,

@@ -20,7 +20,8 @@ returns c =
     let ns = loweredRow false (rowAt (a .rows .now) (a .names .now) 1) in
     let rs = rootRows (rowsFrom (a .rows .now) (a .names .now) 2 (a .end)) in
     let ts = typesRows (a .rows .now) (a .names .now) (a .end) (entryPlaces (a .entries .now)) in
-    onward-full ns (rs ++ ts) (onward-start _ (start .pre .0 .0)) (graph-on (a .rows .now) (a .names .now) (a .end) (entryPlaces (a .entries .now))) (short-of _ _ _ _ _ _ _ (put .put-lowered .ensures) (c .enum-told .given .1))
+    onward-full ns (rs ++ ts) (onward-start _ (start .pre .0 .0)) (graph-on (a .rows .now) (a .names .now) (a .end) (entryPlaces (a .entries .now)))
+    (short-of _ _ _ _ _ _ _ (put .put-lowered .ensures) (c .enum-told .given .1))
 
 put-roots-requires : tie.Need-put-roots-requires
 put-roots-requires c κs =
@@ -37,7 +38,8 @@ returns-2 c =
     let ns = loweredRow false (rowAt (a .rows .now) (a .names .now) 1) in
     let rs = rootRows (rowsFrom (a .rows .now) (a .names .now) 2 (a .end)) in
     let ts = typesRows (a .rows .now) (a .names .now) (a .end) (entryPlaces (a .entries .now)) in
-    let o = onward-step ns (rs ++ ts) (onward-start _ (start .pre .0 .0)) (graph-on (a .rows .now) (a .names .now) (a .end) (entryPlaces (a .entries .now))) (grown-of _ _ _ _ _ _ _ (put .put-lowered .ensures) (roots .before .before .before .before .namespace .given .1)) in
+    let o = onward-step ns (rs ++ ts) (onward-start _ (start .pre .0 .0)) (graph-on (a .rows .now) (a .names .now) (a .end) (entryPlaces (a .entries .now)))
+    (grown-of _ _ _ _ _ _ _ (put .put-lowered .ensures) (roots .before .before .before .before .namespace .given .1)) in
     onward-full rs ts o refl (short-of _ _ _ _ _ _ _ (roots .put-roots .ensures) (c .enum-told2 .given .1))
 
 put-types-requires : tie.Need-put-types-requires
@@ -58,7 +60,8 @@ returns-3 c =
     let ns = loweredRow false (rowAt (a .rows .now) (a .names .now) 1) in
     let rs = rootRows (rowsFrom (a .rows .now) (a .names .now) 2 (a .end)) in
     let ts = typesRows (a .rows .now) (a .names .now) (a .end) (entryPlaces (a .entries .now)) in
-    let o = onward-step ns (rs ++ ts) (onward-start _ (start .pre .0 .0)) (graph-on (a .rows .now) (a .names .now) (a .end) (entryPlaces (a .entries .now))) (grown-of _ _ _ _ _ _ _ (put .put-lowered .ensures) (roots .before .before .before .before .namespace .given .1)) in
+    let o = onward-step ns (rs ++ ts) (onward-start _ (start .pre .0 .0)) (graph-on (a .rows .now) (a .names .now) (a .end) (entryPlaces (a .entries .now)))
+    (grown-of _ _ _ _ _ _ _ (put .put-lowered .ensures) (roots .before .before .before .before .namespace .given .1)) in
     let o₂ = onward-step rs ts o refl (grown-of _ _ _ _ _ _ _ (roots .put-roots .ensures) (types .before .before .before .before .roots .given .1)) in
     let last = types .put-types in
     o₂ .on (last .last .0) (last .last .1 .0) (last .result) (last .ensures)

@@ -16,7 +16,8 @@ use Rattle.ir_write.proofs.put_roots.Tie as tie
 
 abbrev Inv-loop : tie.InvT-loop
 Inv-loop graph-rows₀ graph-names₀ rows names end used₀ place₀ graph-rows graph-names used place =
-    Onward graph-rows₀ graph-names₀ used₀ (rootRows (rowsFrom rows names 2 end)) graph-rows graph-names used (rootRows (rowsFrom rows names place end)) × (length graph-rows ≡ length graph-rows₀) × (length graph-names ≡ length graph-names₀)
+    Onward graph-rows₀ graph-names₀ used₀ (rootRows (rowsFrom rows names 2 end)) graph-rows graph-names used (rootRows (rowsFrom rows names place end))
+    × (length graph-rows ≡ length graph-rows₀) × (length graph-names ≡ length graph-names₀)
 
 abbrev μ-loop : tie.MeasureT-loop
 μ-loop graph-rows₀ graph-names₀ rows names end used₀ place₀ graph-rows graph-names used place = end - place
@@ -62,7 +63,8 @@ loop-again c =
     let at = on .before in
     let a = at .before .before .before .before .before .args in (
       onward-step (rootRows (rowAt (a .rows .now) (a .names .now) (at .loop .place) ∷ [])) (rootRows (rowsFrom (a .rows .now) (a .names .now) (at .loop .place + 1) (a .end)))
-          (at .loop .inv .0) (roots-on (a .rows .now) (a .names .now) false (at .loop .place) (a .end) (on .loop-test .taken)) (grown-of _ _ _ _ _ _ _ (put .put-root .ensures) (c .before .grown .given .1)),
+          (at .loop .inv .0) (roots-on (a .rows .now) (a .names .now) false (at .loop .place) (a .end) (on .loop-test .taken))
+          (grown-of _ _ _ _ _ _ _ (put .put-root .ensures) (c .before .grown .given .1)),
       search needs,
       search needs,
     )

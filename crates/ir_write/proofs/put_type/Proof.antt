@@ -17,7 +17,8 @@ returns c =
     let a = start .args in
     let e = enum .is-code-enum .result in
     onward-full (loweredRow e (rowAt (a .rows .now) (a .names .now) (a .place))) (childRows e (rowsFrom (a .rows .now) (a .names .now) (a .place + 1) (a .end)))
-    (onward-start _ (start .pre .0)) (type-on (a .rows .now) (a .names .now) e (a .place) (a .end) (start .pre .2) (enum .is-code-enum .ensures (a .names .now))) (short-of _ _ _ _ _ _ _ (put .put-lowered .ensures) (c .enum-told .given .1))
+    (onward-start _ (start .pre .0)) (type-on (a .rows .now) (a .names .now) e (a .place) (a .end) (start .pre .2) (enum .is-code-enum .ensures (a .names .now)))
+    (short-of _ _ _ _ _ _ _ (put .put-lowered .ensures) (c .enum-told .given .1))
 
 add-children : tie.Need-add-t12
 add-children c = search needs
@@ -36,7 +37,8 @@ returns-2 c =
     let a = start .args in
     let e = enum .is-code-enum .result in
     let o = onward-step (loweredRow e (rowAt (a .rows .now) (a .names .now) (a .place))) (childRows e (rowsFrom (a .rows .now) (a .names .now) (a .place + 1) (a .end)))
-    (onward-start _ (start .pre .0)) (type-on (a .rows .now) (a .names .now) e (a .place) (a .end) (start .pre .2) (enum .is-code-enum .ensures (a .names .now))) (grown-of _ _ _ _ _ _ _ (put .put-lowered .ensures) (c .before .before .before .before .before .before .before .before .head .given .1)) in
+    (onward-start _ (start .pre .0)) (type-on (a .rows .now) (a .names .now) e (a .place) (a .end) (start .pre .2) (enum .is-code-enum .ensures (a .names .now)))
+    (grown-of _ _ _ _ _ _ _ (put .put-lowered .ensures) (c .before .before .before .before .before .before .before .before .head .given .1)) in
     let last = c .before .before .before .before .put-children in
     o .on (last .last .0) (last .last .1 .0) (last .result) (last .ensures)
 

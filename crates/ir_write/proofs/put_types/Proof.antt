@@ -22,7 +22,8 @@ use Rattle.ir_write.proofs.put_types.Tie as tie
 
 abbrev Inv-loop : tie.InvT-loop
 Inv-loop graph-rows₀ graph-names₀ rows names end entries used₀ k₀ graph-rows graph-names used k =
-    Onward graph-rows₀ graph-names₀ used₀ (typesRows rows names end (entryPlaces entries)) graph-rows graph-names used (typesRows rows names end (entryPlaces (drop k entries))) × (length graph-rows ≡ length graph-rows₀) × (length graph-names ≡ length graph-names₀)
+    Onward graph-rows₀ graph-names₀ used₀ (typesRows rows names end (entryPlaces entries)) graph-rows graph-names used
+    (typesRows rows names end (entryPlaces (drop k entries))) × (length graph-rows ≡ length graph-rows₀) × (length graph-names ≡ length graph-names₀)
     × (every (λ (p : ℕ). ltb p end) (entryPlaces (drop k entries)) ≡ true)
 
 abbrev μ-loop : tie.MeasureT-loop
@@ -86,7 +87,8 @@ returns c =
     let on = found .before .before in
     let at = on .before in
     let a = at .before .before .before .before .before .before .args in
-    onward-full (typeRowsOf (rowsFrom (a .rows .now) (a .names .now) (found .place-of .result) (a .end))) (typesRows (a .rows .now) (a .names .now) (a .end) (entryPlaces (drop (at .loop .k + 1) (a .entries .now))))
+    onward-full (typeRowsOf (rowsFrom (a .rows .now) (a .names .now) (found .place-of .result) (a .end)))
+    (typesRows (a .rows .now) (a .names .now) (a .end) (entryPlaces (drop (at .loop .k + 1) (a .entries .now))))
     (at .loop .inv .0) (rest found) (short-of _ _ _ _ _ _ _ (put .put-type .ensures) (c .enum-told .given .1))
 
 add-k : tie.Need-add-k Inv-loop μ-loop
@@ -102,7 +104,8 @@ loop-again c =
     let on = found .before .before in
     let at = on .before in
     let a = at .before .before .before .before .before .before .args in (
-      onward-step (typeRowsOf (rowsFrom (a .rows .now) (a .names .now) (found .place-of .result) (a .end))) (typesRows (a .rows .now) (a .names .now) (a .end) (entryPlaces (drop (at .loop .k + 1) (a .entries .now))))
+      onward-step (typeRowsOf (rowsFrom (a .rows .now) (a .names .now) (found .place-of .result) (a .end)))
+          (typesRows (a .rows .now) (a .names .now) (a .end) (entryPlaces (drop (at .loop .k + 1) (a .entries .now))))
           (at .loop .inv .0) (rest found) (grown-of _ _ _ _ _ _ _ (put .put-type .ensures) (c .before .grown .given .1)),
       search needs,
       search needs,
@@ -119,7 +122,8 @@ returns-2 : tie.Need-returns-2 Inv-loop μ-loop
 returns-2 c =
     let at = c .before in
     let a = at .before .before .before .before .before .before .args in
-    onward-end (at .loop .inv .0) (ap (typesRows (a .rows .now) (a .names .now) (a .end)) (entries-end (a .entries .now) (at .loop .k) (c .loop-test .left)) ∙ types-end (a .rows .now) (a .names .now) (a .end))
+    onward-end (at .loop .inv .0) (ap (typesRows (a .rows .now) (a .names .now) (a .end)) (entries-end (a .entries .now) (at .loop .k) (c .loop-test .left))
+    ∙ types-end (a .rows .now) (a .names .now) (a .end))
 
 pub put-types-spec : {M : Type 1} → statement M
 put-types-spec =

@@ -27,7 +27,8 @@ pub segments-passed : (c : ℕ) (lowers up : Bool) (s : Text) (i : ℕ) → i < 
 unfolding segments
 segments-passed c lowers up s i h e = rw (drop-cons s i 0 h, eq-eqb (getD s i 0) c e)
 
-pub segments-kept : (c : ℕ) (lowers up : Bool) (s : Text) (i : ℕ) → i < length s → (getD s i 0 ≡ c → ⊥) → segments c lowers up (drop i s) ≡ casedByte up lowers (getD s i 0) ∷ segments c lowers false (drop (suc i) s)
+pub segments-kept : (c : ℕ) (lowers up : Bool) (s : Text) (i : ℕ) → i < length s → (getD s i 0 ≡ c → ⊥)
+    → segments c lowers up (drop i s) ≡ casedByte up lowers (getD s i 0) ∷ segments c lowers false (drop (suc i) s)
 unfolding segments
 segments-kept c lowers up s i h e = rw (drop-cons s i 0 h, ne-eqb (getD s i 0) c e)
 

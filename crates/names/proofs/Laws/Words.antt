@@ -10,11 +10,13 @@ use Rattle.text.specs.Text.{Text, isUpper, isLower, lower, first}
 use Rattle.names.specs.Names.{startsWord, snakeFrom}
 
 -- an underscore stands before the byte at place i where a word starts there
-pub snake-marked : (prev : ℕ) (s : Text) (i : ℕ) → i < length s → startsWord prev (getD s i 0) (first (drop (suc i) s)) ≡ true → snakeFrom prev (drop i s) ≡ code "_" ∷ lower (getD s i 0) ∷ snakeFrom (getD s i 0) (drop (suc i) s)
+pub snake-marked : (prev : ℕ) (s : Text) (i : ℕ) → i < length s → startsWord prev (getD s i 0) (first (drop (suc i) s)) ≡ true
+    → snakeFrom prev (drop i s) ≡ code "_" ∷ lower (getD s i 0) ∷ snakeFrom (getD s i 0) (drop (suc i) s)
 unfolding snakeFrom
 snake-marked prev s i h e = rw (drop-cons s i 0 h, e)
 
-pub snake-plain : (prev : ℕ) (s : Text) (i : ℕ) → i < length s → startsWord prev (getD s i 0) (first (drop (suc i) s)) ≡ false → snakeFrom prev (drop i s) ≡ lower (getD s i 0) ∷ snakeFrom (getD s i 0) (drop (suc i) s)
+pub snake-plain : (prev : ℕ) (s : Text) (i : ℕ) → i < length s → startsWord prev (getD s i 0) (first (drop (suc i) s)) ≡ false
+    → snakeFrom prev (drop i s) ≡ lower (getD s i 0) ∷ snakeFrom (getD s i 0) (drop (suc i) s)
 unfolding snakeFrom
 snake-plain prev s i h e = rw (drop-cons s i 0 h, e)
 

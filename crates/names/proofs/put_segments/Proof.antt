@@ -61,7 +61,8 @@ loop-again c =
     let w = at .loop .inv .1 in
     ⊎-elim
     (λ v. rw (v .1, v .2, v .3, add-one i) (omega arith, writing-as w (segments-passed (a .separator) (a .lowers) up (a .s .now) i (omega arith) (v .0 .taken))))
-    (λ v. rw (v .3, v .4, v .5, v .2 .ensures, add-one i) (omega arith, writing-more (writing-as w (segments-kept (a .separator) (a .lowers) up (a .s .now) i (omega arith) (v .0 .left))) (omega (arith, writing-length w))))
+    (λ v. rw (v .3, v .4, v .5, v .2 .ensures, add-one i)
+    (omega arith, writing-more (writing-as w (segments-kept (a .separator) (a .lowers) up (a .s .now) i (omega arith) (v .0 .left))) (omega (arith, writing-length w))))
     (c .if1 .came)
 
 same-length-2 : tie.Need-same-length-2 Inv-loop μ-loop

@@ -10,8 +10,10 @@ use Rattle.text.specs.Text.{Text, bytes, contains, between, isDigit, first}
 use Rattle.text.proofs.Laws.Tests.{or-left, or-right, and-true, and-true-left}
 use Rattle.text.proofs.Laws.Every.{EachFrom, between-each}
 use Rattle.xml.specs.Classes.{isChar}
-use Rattle.pattern.specs.Grammar.{charBut, isNormal, isXmlChar, isInClass, isMark, isSingle, isMulti, QuantExact, digit, digits, Quantity, range, least, exact, Quantifier, mark, counted, SingleCharEsc, single}
-use Rattle.pattern.specs.Grammar.{CharClassEsc, singleEsc, multiEsc, CharOrEsc, xmlChar, charEsc, CharRange, seRange, charIncDash, GroupItem, rangeItem, escItem, PosCharGroup, item, items, CharGroup, positive, negative, CharClass, classEsc, classExpr, wildcard}
+use Rattle.pattern.specs.Grammar.{charBut, isNormal, isXmlChar, isInClass, isMark, isSingle, isMulti, QuantExact, digit, digits, Quantity, range, least, exact}
+use Rattle.pattern.specs.Grammar.{Quantifier, mark, counted, SingleCharEsc, single}
+use Rattle.pattern.specs.Grammar.{CharClassEsc, singleEsc, multiEsc, CharOrEsc, xmlChar, charEsc, CharRange, seRange, charIncDash, GroupItem, rangeItem, escItem}
+use Rattle.pattern.specs.Grammar.{PosCharGroup, item, items, CharGroup, positive, negative, CharClass, classEsc, classExpr, wildcard}
 use Rattle.pattern.specs.Grammar.{Symbol, regExp, branch, piece, Derives, one, or, none, more, once, times, char, class, group}
 use Rattle.pattern.specs.Scan.{Mode, start, atom, State, go, isEscaped, leave, isPlain, fresh, inside, step, final, scan}
 

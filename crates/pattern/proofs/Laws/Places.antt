@@ -70,7 +70,8 @@ pub byte-to : (q : State) {q′ : State} (s : Text) (i c : ℕ) → i < length s
 byte-to q s i c h e k = to-at q s i h (ap (step q) e ∙ k)
 
 -- a step before a part
-pub before : (s : Text) (m n : Mode) (at next : ℕ) (l : Mode) (least : ℕ) (P : ℕ → Bool) → ((d : ℕ) → scan (go d m) (drop at s) ≡ scan (go d n) (drop next s)) → (r : End) → Ends s n next l least P r → Ends s m at l least P r
+pub before : (s : Text) (m n : Mode) (at next : ℕ) (l : Mode) (least : ℕ) (P : ℕ → Bool) → ((d : ℕ) → scan (go d m) (drop at s) ≡ scan (go d n) (drop next s))
+    → (r : End) → Ends s n next l least P r → Ends s m at l least P r
 before s m n at next l least P e (End.At x) g = record { onward = g .onward; within = g .within; stops = g .stops; reads = λ d. e d ∙ g .reads d }
 before s m n at next l least P e End.Bad g = λ d. e d ∙ g d
 
@@ -130,7 +131,13 @@ module _ (s : Text) (at : ℕ) (h : at < length s) (n : isBracket (getD s at 0) 
   unfolding step final
   item-escaped e x =
       let two : at + 1 + 1 ≡ at + 2 = omega arith in
-      record { onward = omega arith; within = omega (arith, escaped-inside s (at + 1) x); stops = λ _. refl; reads = λ d. item-slash e d ∙ escaped-on Mode.classEscape Mode.class (λ d b. refl) (λ d. refl) s (at + 1) x d ∙ ap (λ (k : ℕ). scan (go d Mode.class) (drop k s)) two }
+      record {
+        onward = omega arith;
+        within = omega (arith, escaped-inside s (at + 1) x);
+        stops = λ _. refl;
+        reads = λ d. item-slash e d
+            ∙ escaped-on Mode.classEscape Mode.class (λ d b. refl) (λ d. refl) s (at + 1) x d ∙ ap (λ (k : ℕ). scan (go d Mode.class) (drop k s)) two;
+      }
 
   pub item-bad : getD s at 0 ≡ 92 → isEscaped (first (drop (at + 1) s)) ≡ false → (d : ℕ) → scan (go d Mode.class) (drop at s) ≡ false
   unfolding step final

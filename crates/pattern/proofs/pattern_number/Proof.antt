@@ -25,12 +25,14 @@ returns-3 c = leftAside (omega arith) (sym (c .before .before .before .is-text .
 
 returns-4 : tie.Need-returns-4
 returns-4 c =
-    derived (omega arith) (sym (c .before .before .before .before .before .is-text .ensures) ∙ not-false _ (c .before .before .before .before .if2 .left)) (sym (c .before .before .before .is-aside .ensures) ∙ c .before .before .if3 .left)
+    derived (omega arith) (sym (c .before .before .before .before .before .is-text .ensures) ∙ not-false _ (c .before .before .before .before .if2 .left))
+    (sym (c .before .before .before .is-aside .ensures) ∙ c .before .before .if3 .left)
     (judged-true _ (c .before .is-expression .ensures) (c .if4 .taken))
 
 returns-5 : tie.Need-returns-5
 returns-5 c =
-    underivable (omega arith) (sym (c .before .before .before .before .before .is-text .ensures) ∙ not-false _ (c .before .before .before .before .if2 .left)) (sym (c .before .before .before .is-aside .ensures) ∙ c .before .before .if3 .left)
+    underivable (omega arith) (sym (c .before .before .before .before .before .is-text .ensures) ∙ not-false _ (c .before .before .before .before .if2 .left))
+    (sym (c .before .before .before .is-aside .ensures) ∙ c .before .before .if3 .left)
     (judged-false _ (c .before .is-expression .ensures) (c .if4 .left))
 
 pub pattern-number-spec : {M : Type 1} → statement M

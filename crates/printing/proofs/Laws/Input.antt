@@ -29,5 +29,6 @@ unfolding inputOf
 tape-inside s t m =
     if-cases (λ (i : Input). Input.Tape t m ≡ i → 8 + t ≤ length s) (tooLong s) (λ l e. let z : _≡_ {A = ℕ} 0 1 = cc in omega arith)
     (λ l. if-cases (λ (i : Input). Input.Tape t m ≡ i → 8 + t ≤ length s) (leb 8 (length s) && leb (8 + numberAt 0 s + 4 * numberAt 4 s) (length s))
-    (λ h e. let k : t ≡ numberAt 0 s = cc in omega (arith, leb-true (8 + numberAt 0 s + 4 * numberAt 4 s) (length s) (and-true-right (leb 8 (length s)) (leb (8 + numberAt 0 s + 4 * numberAt 4 s) (length s)) h)))
+    (λ h e. let k : t ≡ numberAt 0 s = cc in omega
+    (arith, leb-true (8 + numberAt 0 s + 4 * numberAt 4 s) (length s) (and-true-right (leb 8 (length s)) (leb (8 + numberAt 0 s + 4 * numberAt 4 s) (length s)) h)))
     (λ h e. let z : _≡_ {A = ℕ} 0 1 = cc in omega arith))

@@ -11,12 +11,16 @@ returns c = input-long (c .before .before .before .args .input .now) (sym (c .be
 returns-2 : tie.Need-returns-2
 returns-2 c =
     let s = c .before .before .before .before .before .before .before .before .args .input .now in
-    input-tape s _ _ (sym (c .before .before .before .before .before .before .too-long .ensures) ∙ c .before .before .before .before .before .if1 .left) (c .before .before .before .wide .ensures ∙ c .before .before .before .before .number-at .ensures) (c .before .wide2 .ensures ∙ c .before .before .number-at2 .ensures) (c .if2 .taken)
+    input-tape s _ _ (sym (c .before .before .before .before .before .before .too-long .ensures) ∙ c .before .before .before .before .before .if1 .left)
+    (c .before .before .before .wide .ensures ∙ c .before .before .before .before .number-at .ensures)
+    (c .before .wide2 .ensures ∙ c .before .before .number-at2 .ensures) (c .if2 .taken)
 
 returns-3 : tie.Need-returns-3
 returns-3 c =
     let s = c .before .before .before .before .before .before .before .before .args .input .now in
-    input-short s _ _ (sym (c .before .before .before .before .before .before .too-long .ensures) ∙ c .before .before .before .before .before .if1 .left) (c .before .before .before .wide .ensures ∙ c .before .before .before .before .number-at .ensures) (c .before .wide2 .ensures ∙ c .before .before .number-at2 .ensures) (c .if2 .left)
+    input-short s _ _ (sym (c .before .before .before .before .before .before .too-long .ensures) ∙ c .before .before .before .before .before .if1 .left)
+    (c .before .before .before .wide .ensures ∙ c .before .before .before .before .number-at .ensures)
+    (c .before .wide2 .ensures ∙ c .before .before .number-at2 .ensures) (c .if2 .left)
 
 pub input-of-spec : {M : Type 1} → statement M
 input-of-spec =

@@ -22,7 +22,8 @@ use Rattle.printing.proofs.work.Statement.{statement}
 use Rattle.printing.proofs.work.Tie as tie
 
 -- a clearing, a reading and a lowering, one after the other, are the work
-work-is : (x graph : Sheet) (text : Text) (marks scratch : List ℕ) {x₁ x₂ : Sheet} {first read : Answer} {lowered : Lowered} → ClearIs 0 x first x₁ → ReadIs x₁ text marks read x₂ → LowerIs x₂ graph scratch lowered → words (x₁ .rows) ≡ true → WorkIs x text marks graph scratch read lowered x₂
+work-is : (x graph : Sheet) (text : Text) (marks scratch : List ℕ) {x₁ x₂ : Sheet} {first read : Answer} {lowered : Lowered} → ClearIs 0 x first x₁
+    → ReadIs x₁ text marks read x₂ → LowerIs x₂ graph scratch lowered → words (x₁ .rows) ≡ true → WorkIs x text marks graph scratch read lowered x₂
 work-is x graph text marks scratch {x₁} {x₂} {first} {read} {lowered} cleared is is′ w =
     subst (λ (y : Sheet). _≡_ {A = Ran} (record { answers = readAnswered y read ∷ Answered.loweredAs lowered ∷ []; last = x₂ }) (run y (workCalls text marks graph scratch)))
     (ap (λ (k : Cleared). k .sheet) cleared) (runs w (Trace.readNext is (Trace.lowerNext is′ Trace.done)))
@@ -33,7 +34,10 @@ returns c =
     let read = c .before .before .before .before .before .before .before .before .before .before .before .before .before .before .before .before .read .ensures in
     let lowered = c .before .before .before .before .before .before .lower .ensures in
     let a = c .before .before .before .before .before .before .before .before .before .before .before .before .before .before .before .before .before .before .before .before .before .before .before .before .before .before .before .before .before .before .before .before .before .args in
-    work-is (sheet (a .rows .now) (a .names .now)) (sheet (a .graph-rows .now) (a .graph-names .now)) (a .text .now) (a .marks .now) (a .scratch .now) cleared read lowered (words-each _ (λ i. c .before .before .before .before .before .before .before .before .before .before .before .before .before .before .before .before .before .before .before .before .before .slice-known6 .given i .fits))
+    work-is (sheet (a .rows .now) (a .names .now)) (sheet (a .graph-rows .now) (a .graph-names .now)) (a .text .now) (a .marks .now)
+    (a .scratch .now) cleared read lowered
+    (words-each _ (λ i. c .before .before .before .before .before .before .before .before .before .before .before .before .before .before .before .before .before .before .before .before .before .slice-known6 .given i .fits))
 
 pub work-spec : {M : Type 1} → statement M
-work-spec = tie.close (tie.spec (λ c κs. search needs) (λ c κs. search needs) (λ c κs. search needs) (λ c. search needs) (λ c. search needs) (λ c. search needs) (λ c. search needs) (λ c. search needs) returns)
+work-spec = tie.close (tie.spec (λ c κs. search needs) (λ c κs. search needs) (λ c κs. search needs) (λ c. search needs) (λ c. search needs) (λ c. search needs)
+    (λ c. search needs) (λ c. search needs) returns)

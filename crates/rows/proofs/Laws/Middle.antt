@@ -23,10 +23,13 @@ pack-first k r us = refl
 
 -- a row of a packing, with what stands around it
 pub filled-around : (n : ℕ) (z : List ℕ) (rs us : List Row) (r : Row) → length z ≡ 10
-    → filled n (z ++ numbers (pack 0 (rs ++ r ∷ us))) ≡ z ++ numbers (pack 0 rs) ++ (numbersOf (length (namesOf rs)) r ++ numbers (pack (length (namesOf rs) + length (join (r .texts))) us)) ++ zeros (n - 10 * (1 + length (rs ++ r ∷ us)))
+    → filled n (z ++ numbers (pack 0 (rs ++ r ∷ us))) ≡ z ++ numbers (pack 0 rs)
+    ++ (numbersOf (length (namesOf rs)) r ++ numbers (pack (length (namesOf rs) + length (join (r .texts))) us)) ++ zeros (n - 10 * (1 + length (rs ++ r ∷ us)))
 unfolding filled
 filled-around n z rs us r ten =
-    rw (used-length z (rs ++ r ∷ us) ten) (ap (λ (l : List ℕ). l ++ zeros (n - 10 * (1 + length (rs ++ r ∷ us)))) (used-append z rs (r ∷ us) ∙ ap (λ (l : List ℕ). z ++ numbers (pack 0 rs) ++ l) (pack-first (length (namesOf rs)) r us)))
+    rw (used-length z (rs ++ r ∷ us) ten)
+    (ap (λ (l : List ℕ). l ++ zeros (n - 10 * (1 + length (rs ++ r ∷ us))))
+    (used-append z rs (r ∷ us) ∙ ap (λ (l : List ℕ). z ++ numbers (pack 0 rs) ++ l) (pack-first (length (namesOf rs)) r us)))
 
 -- a number of a row of the sheet
 pub number-at : {rows names z : List ℕ} (rs us : List Row) (r : Row) (i n : ℕ) → Packs rows names z (rs ++ r ∷ us) → n ≡ 10 * (1 + length rs) + i → i < 10
@@ -34,7 +37,8 @@ pub number-at : {rows names z : List ℕ} (rs us : List Row) (r : Row) (i n : �
 number-at {rows} {names} {z} rs us r i n p e h =
     let k = length (namesOf rs) in
     ap (λ (l : List ℕ). getD l n 0) (p .rowsAre ∙ filled-around (length rows) z rs us r (p .ten))
-    ∙ getD-middle (z ++ numbers (pack 0 rs)) (numbersOf k r) (numbers (pack (k + length (join (r .texts))) us)) (zeros (length rows - 10 * (1 + length (rs ++ r ∷ us)))) i n (rw (used-length z rs (p .ten)) e) (rw (length-numbersOf k r) h)
+    ∙ getD-middle (z ++ numbers (pack 0 rs)) (numbersOf k r) (numbers (pack (k + length (join (r .texts))) us))
+    (zeros (length rows - 10 * (1 + length (rs ++ r ∷ us)))) i n (rw (used-length z rs (p .ten)) e) (rw (length-numbersOf k r) h)
 
 -- what the sheet holds fits into it
 pub rows-fit : {rows names z : List ℕ} {rs : List Row} → Packs rows names z rs → 10 * (1 + length rs) ≤ length rows

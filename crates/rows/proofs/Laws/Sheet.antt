@@ -12,6 +12,7 @@ pub packs-sheet : {rows names : List ℕ} {rs : List Row} (row0 : Ten) → Packs
 unfolding sheetOfRows numbers
 packs-sheet row0 p = λ i. record { rows = p .rowsAre i; names = p .namesAre i }
 
-pub sheet-packs : (x : Sheet) (row0 : Ten) (rs : List Row) (n m : ℕ) → 10 * (1 + length rs) ≤ n → length (namesOf rs) ≤ m → x ≡ sheetOfRows row0 rs n m → Packs (x .rows) (x .names) (numbers (row0 ∷ [])) rs
+pub sheet-packs : (x : Sheet) (row0 : Ten) (rs : List Row) (n m : ℕ) → 10 * (1 + length rs) ≤ n → length (namesOf rs) ≤ m → x ≡ sheetOfRows row0 rs n m
+    → Packs (x .rows) (x .names) (numbers (row0 ∷ [])) rs
 unfolding sheetOfRows numbers
 sheet-packs x row0 rs n m fitsRows fitsNames e = packs-of n m refl fitsRows fitsNames (ap (λ (y : Sheet). y .rows) e) (ap (λ (y : Sheet). y .names) e)

@@ -52,6 +52,7 @@ module _ (d t u : List ℕ) (at : ℕ) where
   unfolding join
   store-one p h = rw (p, append-nil) h
 
-  pub store-two : {n : ℕ} {e f : List ℕ} → n ≡ 2 → at + (length t + length u) ≤ length d → e ≡ paste d at t (length t) → f ≡ paste e (at + length t) u (length u) → f ≡ paste d at (join (usedTexts n t u)) (usedLength n (length t) (length u))
+  pub store-two : {n : ℕ} {e f : List ℕ} → n ≡ 2 → at + (length t + length u) ≤ length d → e ≡ paste d at t (length t) → f ≡ paste e (at + length t) u (length u)
+      → f ≡ paste d at (join (usedTexts n t u)) (usedLength n (length t) (length u))
   unfolding join
   store-two p room h k = rw (p, append-nil) (k ∙ ap (λ (l : List ℕ). paste l (at + length t) u (length u)) h ∙ paste-paste d t u at room)

@@ -40,7 +40,18 @@ length-numbers (t ∷ ts) = rw (length-numbers ts) (omega arith)
 pub numbers-ten : (r : List ℕ) → 10 ≤ length r → numbers (ten r ∷ []) ++ drop 10 r ≡ r
 unfolding ten numbers
 numbers-ten r h =
-    rw (← drop-cons r 9 0 (omega arith), ← drop-cons r 8 0 (omega arith), ← drop-cons r 7 0 (omega arith), ← drop-cons r 6 0 (omega arith), ← drop-cons r 5 0 (omega arith), ← drop-cons r 4 0 (omega arith), ← drop-cons r 3 0 (omega arith), ← drop-cons r 2 0 (omega arith), ← drop-cons r 1 0 (omega arith), ← drop-cons r 0 0 (omega arith))
+    rw (
+      ← drop-cons r 9 0 (omega arith),
+      ← drop-cons r 8 0 (omega arith),
+      ← drop-cons r 7 0 (omega arith),
+      ← drop-cons r 6 0 (omega arith),
+      ← drop-cons r 5 0 (omega arith),
+      ← drop-cons r 4 0 (omega arith),
+      ← drop-cons r 3 0 (omega arith),
+      ← drop-cons r 2 0 (omega arith),
+      ← drop-cons r 1 0 (omega arith),
+      ← drop-cons r 0 0 (omega arith),
+    )
 
 pub numbers-tens : (n : ℕ) (r : List ℕ) → 10 * n ≤ length r → numbers (tens n r) ++ drop (10 * n) r ≡ r
 unfolding tens numbers

@@ -69,7 +69,9 @@ module _ (used : ℕ → ℕ → ℕ) where
       let rest = rows-back names (k + length (join (r .texts))) rs post (every-tail (counted used) r rs h) (text-next names k (join (r .texts)) _ e₀) in
       rw (first, rest)
 
-pub pairs-cover : (k : ℕ) (ts : List Text) → length ts ≤ 3 → let p = pairs k ts in pairForm (leb 1 (length ts)) k (p .at0) (p .len0) && pairForm (leb 2 (length ts)) (k + p .len0) (p .at1) (p .len1) && pairForm (leb 3 (length ts)) (k + p .len0 + p .len1) (p .at2) (p .len2) ≡ true
+pub pairs-cover : (k : ℕ) (ts : List Text) → length ts ≤ 3
+    → let p = pairs k ts in pairForm (leb 1 (length ts)) k (p .at0) (p .len0) && pairForm (leb 2 (length ts)) (k + p .len0) (p .at1) (p .len1)
+    && pairForm (leb 3 (length ts)) (k + p .len0 + p .len1) (p .at2) (p .len2) ≡ true
 unfolding pairs pairForm
 pairs-cover k [] h = refl
 pairs-cover k (t ∷ []) h = rw (eq-eqb k k refl)

@@ -53,7 +53,8 @@ module _ (used : ℕ → ℕ → ℕ) (x : Sheet) (u : ℕ) (few-pairs : every (
   pub names-read : namesOf (map (unpackRow used (x .names)) (tens u (drop 10 (x .rows)))) ++ drop (covered 0 (tens u (drop 10 (x .rows)))) (x .names) ≡ x .names
   names-read = sym (names-again used (x .names) 0 (tens u (drop 10 (x .rows))) few-pairs cover)
 
-  pub length-read : covered 0 (tens u (drop 10 (x .rows))) ≤ length (x .names) → length (namesOf (map (unpackRow used (x .names)) (tens u (drop 10 (x .rows))))) ≡ covered 0 (tens u (drop 10 (x .rows)))
+  pub length-read : covered 0 (tens u (drop 10 (x .rows))) ≤ length (x .names)
+      → length (namesOf (map (unpackRow used (x .names)) (tens u (drop 10 (x .rows))))) ≡ covered 0 (tens u (drop 10 (x .rows)))
   length-read h = omega (arith, simp (length-append, length-drop) at (ap length names-read))
 
   pub rows-whole : 10 * (1 + u) ≤ length (x .rows) → allZero (drop (10 * (1 + u)) (x .rows)) ≡ true → filled (length (x .rows)) (numbers (ten (x .rows) ∷ tens u (drop 10 (x .rows)))) ≡ x .rows

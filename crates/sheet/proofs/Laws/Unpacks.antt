@@ -46,7 +46,8 @@ unfolding pairForm
 pair-unused k at len e = (eqb-true at 0 (and-true-left (eqb at 0) (eqb len 0) e), eqb-true len 0 (and-true-right (eqb at 0) (eqb len 0) e))
 
 module _ (u k : ℕ) (p : Pairs) (e : pairsCover u k p ≡ true) where
-  pub cover-parts : (pairForm (leb 1 u) k (p .at0) (p .len0) ≡ true) × (pairForm (leb 2 u) (k + p .len0) (p .at1) (p .len1) ≡ true) × (pairForm (leb 3 u) (k + p .len0 + p .len1) (p .at2) (p .len2) ≡ true)
+  pub cover-parts : (pairForm (leb 1 u) k (p .at0) (p .len0) ≡ true) × (pairForm (leb 2 u) (k + p .len0) (p .at1) (p .len1) ≡ true)
+      × (pairForm (leb 3 u) (k + p .len0 + p .len1) (p .at2) (p .len2) ≡ true)
   unfolding pairsCover
   cover-parts = three (pairForm (leb 1 u) k (p .at0) (p .len0)) (pairForm (leb 2 u) (k + p .len0) (p .at1) (p .len1)) (pairForm (leb 3 u) (k + p .len0 + p .len1) (p .at2) (p .len2)) e
 
@@ -87,7 +88,9 @@ module _ (names : List ℕ) (k : ℕ) (p : Pairs) where
       let t₁ = text-then names (k + p .len0) (p .at1) (p .len1) (k + p .len0 + p .len1 + p .len2) (c .1) (omega arith) in
       text-then names k (p .at0) (p .len0) (k + p .len0) (c .0) refl ∙ ap (λ (l : List ℕ). textAt names (p .at0) (p .len0) ++ l) t₁
 
-  cover-three : pairsCover 3 k p ≡ true → drop k names ≡ textAt names (p .at0) (p .len0) ++ (textAt names (p .at1) (p .len1) ++ (textAt names (p .at2) (p .len2) ++ drop (k + p .len0 + p .len1 + p .len2) names))
+  cover-three : pairsCover 3 k p ≡ true
+      → drop k names ≡ textAt names (p .at0) (p .len0)
+      ++ (textAt names (p .at1) (p .len1) ++ (textAt names (p .at2) (p .len2) ++ drop (k + p .len0 + p .len1 + p .len2) names))
   cover-three e =
       let c = used-three k p e in
       let t₁ = text-then names (k + p .len0) (p .at1) (p .len1) (k + p .len0 + p .len1) (c .1) refl in
@@ -164,19 +167,22 @@ module _ (used : ℕ → ℕ → ℕ) where
   unfolding unpackRow textsAt pairsOf endOf
   names-row names k t f e = texts-cover names k (pairsOf t) (used (t .tag) (t .a)) (few-used t f) (rowCovers-pairs k t e)
 
-  pub names-again : (names : List ℕ) (k : ℕ) (ts : List Ten) → every (few used) ts ≡ true → covers used k ts ≡ true → drop k names ≡ namesOf (map (unpackRow used names) ts) ++ drop (covered k ts) names
+  pub names-again : (names : List ℕ) (k : ℕ) (ts : List Ten) → every (few used) ts ≡ true → covers used k ts ≡ true
+      → drop k names ≡ namesOf (map (unpackRow used names) ts) ++ drop (covered k ts) names
   unfolding covers covered namesOf
   names-again names k [] f e = refl
   names-again names k (t ∷ ts) f e =
       let first = names-row names k t (every-head (few used) t ts f) (and-true-left (rowCovers used k t) (covers used (endOf k t) ts) e) in
       let rest = names-again names (endOf k t) ts (every-tail (few used) t ts f) (and-true-right (rowCovers used k t) (covers used (endOf k t) ts) e) in
-      first ∙ ap (λ (l : List ℕ). join (unpackRow used names t .texts) ++ l) rest ∙ sym (append-assoc (join (unpackRow used names t .texts)) (namesOf (map (unpackRow used names) ts)) (drop (covered (endOf k t) ts) names))
+      first ∙ ap (λ (l : List ℕ). join (unpackRow used names t .texts) ++ l) rest
+      ∙ sym (append-assoc (join (unpackRow used names t .texts)) (namesOf (map (unpackRow used names) ts)) (drop (covered (endOf k t) ts) names))
 
   pub counted-unpack : (names : List ℕ) (t : Ten) → few used t ≡ true → counted used (unpackRow used names t) ≡ true
   unfolding counted unpackRow few
   counted-unpack names t f =
       let some = few-used t f in
-      let l : length (take (used (t .tag) (t .a)) (textAt names (t .at0) (t .len0) ∷ textAt names (t .at1) (t .len1) ∷ textAt names (t .at2) (t .len2) ∷ [])) ≡ used (t .tag) (t .a) = simp length-take (omega arith) in
+      let l : length (take (used (t .tag) (t .a)) (textAt names (t .at0) (t .len0) ∷ textAt names (t .at1) (t .len1) ∷ textAt names (t .at2) (t .len2) ∷ []))
+      ≡ used (t .tag) (t .a) = simp length-take (omega arith) in
       rw l (and-true (eq-eqb (used (t .tag) (t .a)) (used (t .tag) (t .a)) refl) f)
 
   pub rows-again : (names : List ℕ) (k : ℕ) (ts : List Ten) → every (few used) ts ≡ true → covers used k ts ≡ true → covered k ts ≤ length names → pack k (map (unpackRow used names) ts) ≡ ts

@@ -49,7 +49,8 @@ tag-attributes text marks pairs count =
 abbrev attrAt : Text → List ℕ → ℕ → Attr
 attrAt text marks at = record { key = pairText text (pairAt marks at); value = pairText text (pairAt marks (at + 2)) }
 
-pub attrs-step : (text : Text) (marks : List ℕ) (at n : ℕ) → at + 4 ≤ length marks → 0 < n → attrsOf text (pairsOf (2 * n) (drop at marks)) ≡ attrAt text marks at ∷ attrsOf text (pairsOf (2 * (n - 1)) (drop (at + 4) marks))
+pub attrs-step : (text : Text) (marks : List ℕ) (at n : ℕ) → at + 4 ≤ length marks → 0 < n
+    → attrsOf text (pairsOf (2 * n) (drop at marks)) ≡ attrAt text marks at ∷ attrsOf text (pairsOf (2 * (n - 1)) (drop (at + 4) marks))
 unfolding attrsOf
 attrs-step text marks at n h p =
     let two : 2 * n ≡ suc (suc (2 * (n - 1))) = omega arith in
@@ -62,7 +63,8 @@ module _ (text : Text) (marks : List ℕ) (at n : ℕ) (word : Text) (h : at + 4
   unfolding lookupText
   lookup-hit e = rw (attrs-step text marks at n h p, e)
 
-  pub lookup-on : same (localName (pairText text (pairAt marks at))) word ≡ false → lookupText (attrsOf text (pairsOf (2 * n) (drop at marks))) word ≡ lookupText (attrsOf text (pairsOf (2 * (n - 1)) (drop (at + 4) marks))) word
+  pub lookup-on : same (localName (pairText text (pairAt marks at))) word ≡ false
+      → lookupText (attrsOf text (pairsOf (2 * n) (drop at marks))) word ≡ lookupText (attrsOf text (pairsOf (2 * (n - 1)) (drop (at + 4) marks))) word
   unfolding lookupText
   lookup-on e = rw (attrs-step text marks at n h p, e)
 

@@ -44,7 +44,8 @@ pair-past text marks at h =
     ap (λ (n : ℕ). take n (drop (getD marks at 0) text)) (List·getD-eq-default marks 0 {n = at + 1} (omega arith))
 
 -- the key of an attribute of a tag that was judged: so many attributes are left from it on
-pub key-inside : (text : Text) (marks : List ℕ) (pairs count at left : ℕ) → TagInside text marks pairs count → at + 4 * left ≡ pairs + 2 * pairCount count → left ≤ count → 0 < left → PairInside text marks at
+pub key-inside : (text : Text) (marks : List ℕ) (pairs count at left : ℕ) → TagInside text marks pairs count → at + 4 * left ≡ pairs + 2 * pairCount count → left ≤ count
+    → 0 < left → PairInside text marks at
 unfolding pairsInside pairCount
 key-inside text marks pairs count at left inside e few some =
     let place : at ≡ pairs + 2 * (1 + 2 * (count - left)) = omega arith in

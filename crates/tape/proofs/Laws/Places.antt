@@ -41,7 +41,8 @@ kept-value text marks zero h x y = absurd (h refl)
 kept-value text marks (suc n) h x y = refl
 
 -- one attribute: its key's place is kept where the key has none yet
-module _ (text : Text) (marks places : List ℕ) (at n k key : ℕ) (h : at + 4 ≤ length marks) (p : 0 < n) (l : k < 9) (e : length places ≡ 9) (is : key ≡ keyOf (localName (pairText text (pairAt marks at)))) where
+module _ (text : Text) (marks places : List ℕ) (at n k key : ℕ) (h : at + 4 ≤ length marks) (p : 0 < n) (l : k < 9) (e : length places ≡ 9)
+    (is : key ≡ keyOf (localName (pairText text (pairAt marks at)))) where
   abbrev word : Text
   word = getD keyWords k []
 
@@ -56,7 +57,8 @@ module _ (text : Text) (marks places : List ℕ) (at n k key : ℕ) (h : at + 4 
   unfolding keptFirst
   other-key differs = bool-cases (ltb key 9 && eqb (getD places key 0) 0) (λ t. rw t (getD-set-other places key k (at + 2) 0 (λ q. differs (sym q)))) (λ t. rw t)
 
-  pub places-step : orElse (valueAt text marks (getD (keptFirst places key (at + 2)) k 0)) rest ≡ orElse (valueAt text marks (getD places k 0)) (lookupText (attrsOf text (pairsOf (2 * n) (drop at marks))) word)
+  pub places-step : orElse (valueAt text marks (getD (keptFirst places key (at + 2)) k 0)) rest
+      ≡ orElse (valueAt text marks (getD places k 0)) (lookupText (attrsOf text (pairsOf (2 * n) (drop at marks))) word)
   unfolding orElse keptFirst valueAt
   places-step =
       bool-cases (eqb key k)
@@ -70,7 +72,8 @@ module _ (text : Text) (marks places : List ℕ) (at n k key : ℕ) (h : at + 4 
       sym-none = refl
 
 -- behind the last attribute
-pub places-end : (text : Text) (marks places l : List ℕ) (n k : ℕ) → n ≤ 0 → valueAt text marks (getD places k 0) ≡ orElse (valueAt text marks (getD places k 0)) (lookupText (attrsOf text (pairsOf (2 * n) l)) (getD keyWords k []))
+pub places-end : (text : Text) (marks places l : List ℕ) (n k : ℕ) → n ≤ 0
+    → valueAt text marks (getD places k 0) ≡ orElse (valueAt text marks (getD places k 0)) (lookupText (attrsOf text (pairsOf (2 * n) l)) (getD keyWords k []))
 unfolding orElse
 places-end text marks places l n k h = rw (lookup-end text l n (getD keyWords k []) h) (or-none (valueAt text marks (getD places k 0)))
   where
@@ -79,5 +82,6 @@ places-end text marks places l n k h = rw (lookup-end text l n (getD keyWords k 
     or-none (some v) = refl
 
 -- a lookup's own place
-pub place-value : {text : Text} {marks places : List ℕ} (t : Tag) (word : String) → PlacesOf text marks (t .attributes) places → (k : ℕ) → k < 9 → getD keyWords k [] ≡ bytes word → valueAt text marks (getD places k 0) ≡ attrValue t word
+pub place-value : {text : Text} {marks places : List ℕ} (t : Tag) (word : String) → PlacesOf text marks (t .attributes) places → (k : ℕ) → k < 9
+    → getD keyWords k [] ≡ bytes word → valueAt text marks (getD places k 0) ≡ attrValue t word
 place-value t word p k h e = p .values k h ∙ ap (lookupText (t .attributes)) e ∙ sym (attrValue-bytes t word)

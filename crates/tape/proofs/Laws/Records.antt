@@ -40,7 +40,8 @@ module _ (text : Text) (marks : List ℕ) (at kind count : ℕ) (h : at + 2 ≤ 
   unfolding record1
   record-close f e = two ∙ rw (room, f, eq-eqb kind 3 e)
 
-  pub record-tag : formTest kind count (length marks - at - 2) ≡ true → (kind ≡ 3 → ⊥) → record1 text (drop at marks) ≡ tagRecord text kind (pairsOf (pairCount count) (drop (at + 2) marks)) (drop (at + 2 + 2 * pairCount count) marks)
+  pub record-tag : formTest kind count (length marks - at - 2) ≡ true → (kind ≡ 3 → ⊥)
+      → record1 text (drop at marks) ≡ tagRecord text kind (pairsOf (pairCount count) (drop (at + 2) marks)) (drop (at + 2 + 2 * pairCount count) marks)
   unfolding record1
   record-tag f e = two ∙ rw (room, f, ne-eqb kind 3 e, drop-drop)
 
@@ -58,6 +59,7 @@ module _ (text : Text) (kind : ℕ) (ps : List Pair) (rest : List ℕ) where
   tag-good i a = rw (i, a)
 
 -- a record that is no close stands for its tag's event
-pub record-event : (text : Text) (marks : List ℕ) (t : TagRecord) → (t .kind ≡ 3 → ⊥) → recorded text marks (Record.Event t) ≡ Recorded.next (eventOf (t .kind) (tagAt text marks (t .pairs) (t .count))) (drop (t .next) marks)
+pub record-event : (text : Text) (marks : List ℕ) (t : TagRecord) → (t .kind ≡ 3 → ⊥)
+    → recorded text marks (Record.Event t) ≡ Recorded.next (eventOf (t .kind) (tagAt text marks (t .pairs) (t .count))) (drop (t .next) marks)
 unfolding recorded recordEvent
 record-event text marks t n = rw (ne-eqb (t .kind) 3 n)

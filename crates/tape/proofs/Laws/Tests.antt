@@ -26,7 +26,8 @@ module _ (marks : List ℕ) (at n : ℕ) (h : at + 2 ≤ length marks) (p : 0 < 
   unfolding allInside pairAt
   inside-past limit end l k = rw (pairs-left marks at n h p, le-leb end (getD marks at 0) l, lt-leb (getD marks at 0 + getD marks (at + 1) 0) limit k)
 
-  pub inside-on : (limit end : ℕ) → end ≤ getD marks at 0 → getD marks at 0 + getD marks (at + 1) 0 ≤ limit → allInside limit end (pairsOf n (drop at marks)) ≡ allInside limit (getD marks at 0 + getD marks (at + 1) 0) (pairsOf (n - 1) (drop (at + 2) marks))
+  pub inside-on : (limit end : ℕ) → end ≤ getD marks at 0 → getD marks at 0 + getD marks (at + 1) 0 ≤ limit
+      → allInside limit end (pairsOf n (drop at marks)) ≡ allInside limit (getD marks at 0 + getD marks (at + 1) 0) (pairsOf (n - 1) (drop (at + 2) marks))
   unfolding allInside pairAt
   inside-on limit end l k = rw (pairs-left marks at n h p, le-leb end (getD marks at 0) l, le-leb (getD marks at 0 + getD marks (at + 1) 0) limit k)
 
@@ -61,20 +62,23 @@ ascii-whole text e [] = refl
 ascii-whole text e (p ∷ ps) = and-true (pair-ascii text p e) (ascii-whole text e ps)
 
 -- what pairs that were judged inside say one by one
-inside-head : (limit end : ℕ) (marks : List ℕ) (from n : ℕ) → from + 2 ≤ length marks → allInside limit end (pairsOf (suc n) (drop from marks)) ≡ true → pairAt marks from .offset + pairAt marks from .size ≤ limit
+inside-head : (limit end : ℕ) (marks : List ℕ) (from n : ℕ) → from + 2 ≤ length marks → allInside limit end (pairsOf (suc n) (drop from marks)) ≡ true
+    → pairAt marks from .offset + pairAt marks from .size ≤ limit
 unfolding allInside
 inside-head limit end marks from n h e =
     let p = pairAt marks from in
     let both = and-true-left (leb end (p .offset) && leb (p .offset + p .size) limit) _ (rw (pairs-step marks from n h) at e) in
     leb-true (p .offset + p .size) limit (and-true-right (leb end (p .offset)) _ both)
 
-inside-tail : (limit end : ℕ) (marks : List ℕ) (from n : ℕ) → from + 2 ≤ length marks → allInside limit end (pairsOf (suc n) (drop from marks)) ≡ true → allInside limit (pairAt marks from .offset + pairAt marks from .size) (pairsOf n (drop (from + 2) marks)) ≡ true
+inside-tail : (limit end : ℕ) (marks : List ℕ) (from n : ℕ) → from + 2 ≤ length marks → allInside limit end (pairsOf (suc n) (drop from marks)) ≡ true
+    → allInside limit (pairAt marks from .offset + pairAt marks from .size) (pairsOf n (drop (from + 2) marks)) ≡ true
 unfolding allInside
 inside-tail limit end marks from n h e =
     let p = pairAt marks from in
     and-true-right (leb end (p .offset) && leb (p .offset + p .size) limit) _ (rw (pairs-step marks from n h) at e)
 
-inside-at : (limit end : ℕ) (marks : List ℕ) (from n i : ℕ) → from + 2 * n ≤ length marks → allInside limit end (pairsOf n (drop from marks)) ≡ true → i < n → pairAt marks (from + 2 * i) .offset + pairAt marks (from + 2 * i) .size ≤ limit
+inside-at : (limit end : ℕ) (marks : List ℕ) (from n i : ℕ) → from + 2 * n ≤ length marks → allInside limit end (pairsOf n (drop from marks)) ≡ true → i < n
+    → pairAt marks (from + 2 * i) .offset + pairAt marks (from + 2 * i) .size ≤ limit
 inside-at limit end marks from zero i h e l = absurd (not-suc-le-zero l)
 inside-at limit end marks from (suc n) zero h e l = rw (add-zero from) (inside-head limit end marks from n (omega arith) e)
 inside-at limit end marks from (suc n) (suc i) h e l =

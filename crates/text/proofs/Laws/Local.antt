@@ -72,7 +72,8 @@ unfolding afterLast
 afterLast-behind c kept [] = inl refl
 afterLast-behind c kept (b ∷ s) = go (eqb b c) (eqb-true b c) (afterLast-behind c (if eqb b c then s else kept) s)
   where
-    go : (t : Bool) → (t ≡ true → b ≡ c) → (afterLast c (if t then s else kept) s ≡ (if t then s else kept)) ⊎ Behind c s (afterLast c (if t then s else kept) s) → (afterLast c (if t then s else kept) s ≡ kept) ⊎ Behind c (b ∷ s) (afterLast c (if t then s else kept) s)
+    go : (t : Bool) → (t ≡ true → b ≡ c) → (afterLast c (if t then s else kept) s ≡ (if t then s else kept)) ⊎ Behind c s (afterLast c (if t then s else kept) s)
+        → (afterLast c (if t then s else kept) s ≡ kept) ⊎ Behind c (b ∷ s) (afterLast c (if t then s else kept) s)
     go true h (inl e) = let g : b ≡ c = h refl in inr ([], cc)
     go false h (inl e) = inl e
     go t h (inr (p, e)) = inr (b ∷ p, ap (λ (l : Text). b ∷ l) e)

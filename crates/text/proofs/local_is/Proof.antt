@@ -15,7 +15,8 @@ use Rattle.text.proofs.local_is.Statement.{statement}
 use Rattle.text.proofs.local_is.Tie as tie
 
 -- the comparison of the end of the part
-compared : (part word : Text) {r b : Bool} → r ≡ same (take (length part - (length part - length word)) (drop (length part - length word) part)) word → r ≡ b → same (drop (length part - length word) part) word ≡ b
+compared : (part word : Text) {r b : Bool} → r ≡ same (take (length part - (length part - length word)) (drop (length part - length word) part)) word → r ≡ b
+    → same (drop (length part - length word) part) word ≡ b
 compared part word e h = ap (λ (l : Text). same l word) (sym (part-from part (length part - length word))) ∙ sym e ∙ h
 
 returns : tie.Need-returns

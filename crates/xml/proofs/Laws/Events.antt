@@ -12,7 +12,8 @@ use Rattle.xml.specs.Values.{charData}
 use Rattle.xml.specs.Prolog.{misc, prolog}
 use Rattle.xml.specs.Tape.{TapeEvent}
 use Rattle.xml.specs.Tags.{Tagged, untagged, tagged, tag}
-use Rattle.xml.specs.Root.{Piece, wrong, passed, ending, starting, passedBy, endingBy, closeBehind, close, markup, markupBehind, piece, Level, stop, on, opened, levelOfTag, levelOfClose, levelOf, turn, Rooted, unrooted, rooted, addEvents, onLevel, inside, insideAll, root}
+use Rattle.xml.specs.Root.{Piece, wrong, passed, ending, starting, passedBy, endingBy, closeBehind, close, markup, markupBehind, piece, Level, stop, on, opened}
+use Rattle.xml.specs.Root.{levelOfTag, levelOfClose, levelOf, turn, Rooted, unrooted, rooted, addEvents, onLevel, inside, insideAll, root}
 use Rattle.xml.specs.Document.{Document, withDoctype, notWellFormed, wellFormed, toEnd, rootBehind, documentFrom, prologBehind, document}
 use Rattle.xml.specs.Accepted.{EventsAt, Closes}
 use Rattle.xml.proofs.Laws.Here.{Here, three-keeps, literal-keeps, name-keeps, spaces-keeps, comment-keeps, section-keeps, instruction-keeps, char-data-keeps, prolog-keeps}

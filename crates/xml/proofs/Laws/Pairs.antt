@@ -19,7 +19,8 @@ use Rattle.xml.specs.Steps.{Step, bad, behind, startsWith, literal, oneT
 use Rattle.xml.specs.Values.{isQuote, value}
 use Rattle.xml.specs.Prolog.{eq}
 use Rattle.xml.specs.Tape.{AttributePairs, TapeEvent}
-use Rattle.xml.specs.Tags.{Part, wrong, last, more, span, attributeBehind, valueBehind, eqBehind, attribute, partBehind, partOf, Ended, unended, ended, onPart, attributesFrom, attributes, Tagged, untagged, tagged, taggedBy, attributesBehind, nameBehind, tag}
+use Rattle.xml.specs.Tags.{Part, wrong, last, more, span, attributeBehind, valueBehind, eqBehind, attribute, partBehind, partOf, Ended, unended, ended, onPart}
+use Rattle.xml.specs.Tags.{attributesFrom, attributes, Tagged, untagged, tagged, taggedBy, attributesBehind, nameBehind, tag}
 use Rattle.xml.specs.Grammar.{isAmong}
 use Rattle.xml.specs.Accepted.{endOf, NameAt, ValueAt, AttributesAt, EventAt}
 use Rattle.xml.proofs.Laws.Names.{behind-at, bad-not, name-part}

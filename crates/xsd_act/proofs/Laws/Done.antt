@@ -40,12 +40,14 @@ module _ {rows names : List ℕ} {used : Used} {head : ℕ} {rows′ names′ : 
 
   pub done-root : (n : Text) → TextReplaced rows names used 1 0 n rows′ names′ used′ → Done rows names used head (ok (Action.root n)) rows′ names′ used′
   done-root n h =
-      done-ok (Action.root n) (h .rowsLength) (h .namesLength) (λ z namespace done last g k. subst (λ (l : List Row). Holds rows′ names′ used′ z l) (sym (after-root namespace done last z n)) (h .holds _ (ready-root g)))
+      done-ok (Action.root n) (h .rowsLength) (h .namesLength)
+      (λ z namespace done last g k. subst (λ (l : List Row). Holds rows′ names′ used′ z l) (sym (after-root namespace done last z n)) (h .holds _ (ready-root g)))
 
   pub done-base : (v : Text) → TextReplaced rows names used head 1 v rows′ names′ used′ → Done rows names used head (ok (Action.base v)) rows′ names′ used′
   unfolding Fitting
   done-base v h =
-      done-ok (Action.base v) (h .rowsLength) (h .namesLength) (λ z namespace done last g k. subst (λ (l : List Row). Holds rows′ names′ used′ z l) (sym (after-base namespace done last z v k)) (h .holds _ (ready-base g k)))
+      done-ok (Action.base v) (h .rowsLength) (h .namesLength)
+      (λ z namespace done last g k. subst (λ (l : List Row). Holds rows′ names′ used′ z l) (sym (after-base namespace done last z v k)) (h .holds _ (ready-base g k)))
 
   pub done-content : (n : RowNumbers) (more : List Text) (pairs : ℕ) (second : Text) → n .b ≡ 0 → n .c ≡ getD rows (10 * head + 9) 0 → ((name : Text) → name ∷ more ≡ usedTexts pairs name second)
       → HeadReplaced rows names used head n pairs second rows′ names′ used′ → Done rows names used head (ok (Action.content (n .tag) more (n .a))) rows′ names′ used′

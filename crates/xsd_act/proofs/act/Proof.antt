@@ -24,7 +24,8 @@ use Rattle.xsd_act.proofs.act.Statement.{statement}
 use Rattle.xsd_act.proofs.act.Tie as tie
 
 -- the room and what is left to show, the decision as its arm found it
-room-as : (c : tie.Start) (x : Decision) (a : Action) → c .args .d ≡ x → decision (c .args .text .now) (c .args .marks .now) x ≡ ok a → RoomFor (c .args .rows .now) (c .args .names .now) (c .args .used) (c .args .head) a
+room-as : (c : tie.Start) (x : Decision) (a : Action) → c .args .d ≡ x → decision (c .args .text .now) (c .args .marks .now) x ≡ ok a
+    → RoomFor (c .args .rows .now) (c .args .names .now) (c .args .used) (c .args .head) a
 room-as c x a e f = room-for (c .pre .0) a (ap (decision (c .args .text .now) (c .args .marks .now)) e ∙ f)
 
 done-as : (c : tie.Start) (x : Decision) (rows′ names′ : List ℕ) (r : Used) → c .args .d ≡ x
@@ -116,7 +117,8 @@ same-length-2 c = c .before .before .before .before .put-text .kept .1 .0
 
 returns-3 : tie.Need-returns-3
 unfolding decision
-returns-3 c = done-as (c .before .before .before .before .before .before .before .before .before .before .before .before .before .before) _ _ _ _ (c .before .before .before .before .before .before .before .before .d .given .1) (done-root _ (c .before .before .before .before .put-text .ensures))
+returns-3 c = done-as (c .before .before .before .before .before .before .before .before .before .before .before .before .before .before) _ _ _ _
+    (c .before .before .before .before .before .before .before .before .d .given .1) (done-root _ (c .before .before .before .before .put-text .ensures))
 
 same-length-3 : tie.Need-same-length-3
 same-length-3 c = c .before .before .before .before .open-type .kept .0
@@ -126,7 +128,9 @@ same-length-4 c = c .before .before .before .before .open-type .kept .1 .0
 
 returns-4 : tie.Need-returns-4
 unfolding decision openSimpleRow rowsAfterAll namespaceAfter rowsAfter
-returns-4 c = done-as (c .before .before .before .before .before .before .before .before .before .before .before .before .before .before) _ _ _ _ (c .before .before .before .before .before .before .before .before .d2 .given .1) (done-more (Action.openSimple _ _) (openSimpleRow _ _) (λ namespace done last. refl) (c .before .before .before .before .open-type .ensures))
+returns-4 c = done-as (c .before .before .before .before .before .before .before .before .before .before .before .before .before .before) _ _ _ _
+    (c .before .before .before .before .before .before .before .before .d2 .given .1)
+    (done-more (Action.openSimple _ _) (openSimpleRow _ _) (λ namespace done last. refl) (c .before .before .before .before .open-type .ensures))
 
 same-length-5 : tie.Need-same-length-5
 same-length-5 c = c .before .before .before .before .open-type2 .kept .0
@@ -136,7 +140,9 @@ same-length-6 c = c .before .before .before .before .open-type2 .kept .1 .0
 
 returns-5 : tie.Need-returns-5
 unfolding decision openComplexRow rowsAfterAll namespaceAfter rowsAfter
-returns-5 c = done-as (c .before .before .before .before .before .before .before .before .before .before .before .before .before .before) _ _ _ _ (c .before .before .before .before .before .before .before .before .d3 .given .1) (done-more (Action.openComplex _ _) (openComplexRow _ _) (λ namespace done last. refl) (c .before .before .before .before .open-type2 .ensures))
+returns-5 c = done-as (c .before .before .before .before .before .before .before .before .before .before .before .before .before .before) _ _ _ _
+    (c .before .before .before .before .before .before .before .before .d3 .given .1)
+    (done-more (Action.openComplex _ _) (openComplexRow _ _) (λ namespace done last. refl) (c .before .before .before .before .open-type2 .ensures))
 
 same-length-7 : tie.Need-same-length-7
 same-length-7 c = c .before .before .before .before .add-row .kept .0
@@ -146,7 +152,9 @@ same-length-8 c = c .before .before .before .before .add-row .kept .1 .0
 
 returns-6 : tie.Need-returns-6
 unfolding decision rowsAfterAll namespaceAfter rowsAfter
-returns-6 c = done-as (c .before .before .before .before .before .before .before .before .before .before .before .before .before .before) _ _ _ _ (c .before .before .before .before .before .before .before .before .d4 .given .1) (done-more (Action.add _) _ (λ namespace done last. refl) (c .before .before .before .before .add-row .ensures))
+returns-6 c = done-as (c .before .before .before .before .before .before .before .before .before .before .before .before .before .before) _ _ _ _
+    (c .before .before .before .before .before .before .before .before .d4 .given .1)
+    (done-more (Action.add _) _ (λ namespace done last. refl) (c .before .before .before .before .add-row .ensures))
 
 same-length-9 : tie.Need-same-length-9
 same-length-9 c = c .before .before .before .before .append-characters .kept .0
@@ -156,7 +164,9 @@ same-length-10 c = c .before .before .before .before .append-characters .kept .1
 
 returns-7 : tie.Need-returns-7
 unfolding decision rowsAfterAll namespaceAfter rowsAfter
-returns-7 c = done-as (c .before .before .before .before .before .before .before .before .before .before .before .before .before .before) _ _ _ _ (c .before .before .before .before .before .before .before .before .d5 .given .1) (done-more (Action.add _) _ (λ namespace done last. refl) (c .before .before .before .before .append-characters .ensures))
+returns-7 c = done-as (c .before .before .before .before .before .before .before .before .before .before .before .before .before .before) _ _ _ _
+    (c .before .before .before .before .before .before .before .before .d5 .given .1)
+    (done-more (Action.add _) _ (λ namespace done last. refl) (c .before .before .before .before .append-characters .ensures))
 
 same-length-11 : tie.Need-same-length-11
 same-length-11 c = c .before .before .before .before .append-digits .kept .0
@@ -166,7 +176,9 @@ same-length-12 c = c .before .before .before .before .append-digits .kept .1 .0
 
 returns-8 : tie.Need-returns-8
 unfolding decision rowsAfterAll namespaceAfter rowsAfter
-returns-8 c = done-as (c .before .before .before .before .before .before .before .before .before .before .before .before .before .before) _ _ _ _ (c .before .before .before .before .before .before .before .before .d6 .given .1) (done-more (Action.add _) _ (λ namespace done last. refl) (c .before .before .before .before .append-digits .ensures))
+returns-8 c = done-as (c .before .before .before .before .before .before .before .before .before .before .before .before .before .before) _ _ _ _
+    (c .before .before .before .before .before .before .before .before .d6 .given .1)
+    (done-more (Action.add _) _ (λ namespace done last. refl) (c .before .before .before .before .append-digits .ensures))
 
 same-length-13 : tie.Need-same-length-13
 same-length-13 c = c .before .before .before .before .put-content .kept .0
@@ -191,7 +203,8 @@ same-length-16 c = c .before .before .before .before .put-text2 .kept .1 .0
 
 returns-10 : tie.Need-returns-10
 unfolding decision
-returns-10 c = done-as (c .before .before .before .before .before .before .before .before .before .before .before .before .before .before) _ _ _ _ (c .before .before .before .before .before .before .before .before .d8 .given .1) (done-base _ (c .before .before .before .before .put-text2 .ensures))
+returns-10 c = done-as (c .before .before .before .before .before .before .before .before .before .before .before .before .before .before) _ _ _ _
+    (c .before .before .before .before .before .before .before .before .d8 .given .1) (done-base _ (c .before .before .before .before .put-text2 .ensures))
 
 pub act-spec : {M : Type 1} → statement M
 act-spec =

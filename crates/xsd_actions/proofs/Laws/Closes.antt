@@ -72,7 +72,8 @@ module _ (byStandard : Bool) (r : Reader) where
   pub finished-acted : (event : ℕ) (name : Text) (c : ComplexContentBuilder)
       → Acted byStandard Event.close (inContext (complexOf event name c 0) r) (decidedClose (modeOf (inContext (complexOf event name c 0) r)) (contentTag c))
       (closeComplexType (record { name = name; content = c; nestingDepth = 0; event = event }) 0 (inContext (complexOf event name c 0) r))
-  unfolding closeComplexType decidedClose contentTag started finish inContext itemRows contextRows contextNumber nesting extensionFlag modeOf closeMode rowsAfter Fitting complexTypeRows headWith firstText row
+  unfolding closeComplexType decidedClose contentTag started finish inContext itemRows contextRows contextNumber nesting extensionFlag modeOf closeMode rowsAfter Fitting
+      complexTypeRows headWith firstText row
   finished-acted event name ComplexContentBuilder.empty = close-finished _ _ Inner.content refl (λ done. refl) (head-named event name ComplexContentBuilder.empty)
   finished-acted event name (ComplexContentBuilder.sequence es) = close-finished _ _ Inner.keep refl (λ done. refl) tt
   finished-acted event name (ComplexContentBuilder.choice vs) = close-finished _ _ Inner.keep refl (λ done. refl) tt

@@ -13,7 +13,8 @@ use Rattle.xsd_types.specs.Rows.{elementRow, variantRow, attributeRow, complexT
 use Rattle.xsd_parser.specs.declared.words.Word.{Word}
 use Rattle.xsd_parser.specs.Event.{orEmpty}
 use Rattle.xsd_parser.specs.Seen.{Seen, tagIs}
-use Rattle.xsd_parser.specs.Handlers.{onParsed, parseMinOccurs, parseMaxOccurs, sequenceElement, choiceVariant, onElementInsideComplex, isRequired, attributeAdded, onAttributeInsideComplex, onExtension, contentStarted, contentAtTwo, onStartInComplexType, onEmptyInComplexType}
+use Rattle.xsd_parser.specs.Handlers.{onParsed, parseMinOccurs, parseMaxOccurs, sequenceElement, choiceVariant, onElementInsideComplex, isRequired, attributeAdded}
+use Rattle.xsd_parser.specs.Handlers.{onAttributeInsideComplex, onExtension, contentStarted, contentAtTwo, onStartInComplexType, onEmptyInComplexType}
 use Rattle.xsd_actions.specs.Actions.{contentTag}
 use Rattle.xsd_actions.specs.Decided.{typed, named, baseSet, occursAdded, elementInside, attributeInside, contentStart, extended, startAtTwo, startInComplexType, anyContent, emptyInComplexType}
 use Rattle.xsd_actions.proofs.Laws.Agree.{Agree, values, if-both, agree-if, agree-step}

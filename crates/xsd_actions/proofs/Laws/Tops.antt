@@ -14,7 +14,8 @@ use Rattle.xsd_parser.specs.Event.{Tag, Event, orEmpty}
 use Rattle.xsd_parser.specs.Seen.{Seen, seen}
 use Rattle.xsd_parser.specs.Handlers.{inContext, withItem, foundRoot, keptElement, onTopLevelElement, openSimpleType, openComplexType, belowSchema}
 use Rattle.xsd_parser.proofs.Laws.CloseRoom.{items-one-more}
-use Rattle.xsd_actions.specs.Actions.{Action, modeOf, behind, contextAfter, rootAfter, flagAfter, opensType, raises, tagMode, modeAfter, namespaceAfter, openSimpleRow, openComplexRow, rowsAfter, Fitting, Acted}
+use Rattle.xsd_actions.specs.Actions.{Action, modeOf, behind, contextAfter, rootAfter, flagAfter, opensType, raises, tagMode, modeAfter, namespaceAfter}
+use Rattle.xsd_actions.specs.Actions.{openSimpleRow, openComplexRow, rowsAfter, Fitting, Acted}
 use Rattle.xsd_actions.specs.Decided.{typed, named, topElement}
 use Rattle.xsd_actions.proofs.Laws.Changes.{changed-keep, changed-start}
 
@@ -104,9 +105,11 @@ module _ (byStandard : Bool) (t : Tag) (r : Reader) where
 
   -- a type opened
   pub simple-opened : (m : ℕ) (name : Text) → Acted byStandard (Event.start t) (top 0 r) (Action.openSimple m name) (inContext (openSimpleType m name) (top 0 r))
-  unfolding inContext openSimpleType openSimpleRow modeOf modeAfter tagMode raises opensType contextAfter rootAfter flagAfter behind contextRows simpleTypeRows contextNumber nesting extensionFlag namespaceAfter rowsAfter Fitting
+  unfolding inContext openSimpleType openSimpleRow modeOf modeAfter tagMode raises opensType contextAfter rootAfter flagAfter behind contextRows simpleTypeRows
+      contextNumber nesting extensionFlag namespaceAfter rowsAfter Fitting
   simple-opened m name = record { mode = refl; namespace = refl; rows = row-behind (itemsRows (r .schema .items)) (openSimpleRow m name); items = λ h. refl; fitting = tt }
 
   pub complex-opened : (m : ℕ) (name : Text) → Acted byStandard (Event.start t) (top 0 r) (Action.openComplex m name) (inContext (openComplexType m name) (top 0 r))
-  unfolding inContext openComplexType openComplexRow modeOf modeAfter tagMode raises opensType contextAfter rootAfter flagAfter behind contextRows complexTypeRows contextNumber nesting extensionFlag contentFlag namespaceAfter rowsAfter Fitting
+  unfolding inContext openComplexType openComplexRow modeOf modeAfter tagMode raises opensType contextAfter rootAfter flagAfter behind contextRows complexTypeRows
+      contextNumber nesting extensionFlag contentFlag namespaceAfter rowsAfter Fitting
   complex-opened m name = record { mode = refl; namespace = refl; rows = row-behind (itemsRows (r .schema .items)) (openComplexRow m name); items = λ h. refl; fitting = tt }

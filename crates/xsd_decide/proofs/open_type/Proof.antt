@@ -16,7 +16,8 @@ unfolding decision seenAt
 returns c =
     let called = c .before .before in
     let a = called .before .args in
-    λ text marks. sym (requireName-none (seenAt text marks (a .t)) (openedAs (a .event) (a .simple)) (value-none text marks (a .t .name) (called .place-found .ensures text marks) (c .enum-told .given .1)))
+    λ text marks. sym (requireName-none (seenAt text marks (a .t)) (openedAs (a .event) (a .simple))
+    (value-none text marks (a .t .name) (called .place-found .ensures text marks) (c .enum-told .given .1)))
 
 returns-2 : tie.Need-returns-2
 unfolding decision openedAs seenAt

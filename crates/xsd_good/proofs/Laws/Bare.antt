@@ -36,7 +36,9 @@ bareRows rows = set rows 17 0
 row1-number : (rows : List ℕ) (k : ℕ) → (k ≡ 7 → ⊥) → getD (drop 10 (bareRows rows)) k 0 ≡ getD (drop 10 rows) k 0
 row1-number rows k h = ap (λ (l : List ℕ). getD l k 0) (drop-set-add 10 rows 7 0) ∙ getD-set-other (drop 10 rows) 7 k 0 0 h
 
-pub row1-bare : (rows : List ℕ) (t : Ten) → 17 < length rows → t ≡ ten (drop 10 rows) → record { tag = t .tag; at0 = t .at0; len0 = t .len0; at1 = t .at1; len1 = t .len1; at2 = t .at2; len2 = t .len2; a = 0; b = t .b; c = t .c } ≡ ten (drop 10 (bareRows rows))
+pub row1-bare : (rows : List ℕ) (t : Ten) → 17 < length rows → t ≡ ten (drop 10 rows)
+    → record { tag = t .tag; at0 = t .at0; len0 = t .len0; at1 = t .at1; len1 = t .len1; at2 = t .at2; len2 = t .len2; a = 0; b = t .b; c = t .c }
+    ≡ ten (drop 10 (bareRows rows))
 unfolding ten
 row1-bare rows t h e =
     let same : (k : ℕ) → (k ≡ 7 → ⊥) → getD (drop 10 rows) k 0 ≡ getD (drop 10 (bareRows rows)) k 0 = λ k n. sym (row1-number rows k n) in
@@ -78,8 +80,11 @@ module _ (rows names : List ℕ) where
   bare-outside z e f = not-inside (bareRows rows) names (subst (λ (y : Row0). partsFit y (length (bareRows rows)) (length names) ≡ false) (row0-bare e) (fit-bare z false f))
 
   -- of the results that the code's calls give
-  pub bare-tests : (z : Row0) (s : Scan) {f b n l r g k x v : Bool} {w : ℕ} → f ≡ row0Form z → w ≡ z .namesUsed → b ≡ (allZero (drop (10 * z .rowsUsed) rows) && allZero (drop (z .namesUsed) names)) → n ≡ isText (take (z .namesUsed) names) → l ≡ limits z → r ≡ rootTest z → g ≡ nestingTest z → k ≡ contextTest (z .context) (s .head) → x ≡ extensionTest z (s .head) → v ≡ eventsTest (z .events) (tens (z .rowsUsed - 1) (drop 10 rows))
-      → z ≡ row0From (ten rows) → partsFit z (length rows) (length names) ≡ true → s ≡ scannedSheet (z .namesUsed) (tens (z .rowsUsed - 1) (drop 10 (bareRows rows))) → f && s .ok && eqb (s .end) w && b && n && l && r && g && k && x && v ≡ bareGood (bare (sheet rows names))
+  pub bare-tests : (z : Row0) (s : Scan) {f b n l r g k x v : Bool} {w : ℕ} → f ≡ row0Form z → w ≡ z .namesUsed
+      → b ≡ (allZero (drop (10 * z .rowsUsed) rows) && allZero (drop (z .namesUsed) names)) → n ≡ isText (take (z .namesUsed) names) → l ≡ limits z → r ≡ rootTest z
+      → g ≡ nestingTest z → k ≡ contextTest (z .context) (s .head) → x ≡ extensionTest z (s .head) → v ≡ eventsTest (z .events) (tens (z .rowsUsed - 1) (drop 10 rows))
+      → z ≡ row0From (ten rows) → partsFit z (length rows) (length names) ≡ true → s ≡ scannedSheet (z .namesUsed) (tens (z .rowsUsed - 1) (drop 10 (bareRows rows)))
+      → f && s .ok && eqb (s .end) w && b && n && l && r && g && k && x && v ≡ bareGood (bare (sheet rows names))
   unfolding bare withCount
   bare-tests z s f w b n l r g k x v e h d =
       let behind = drop-count rows 0 (10 * z .rowsUsed) (omega (arith, parts-in z (length rows) (length names) h)) in

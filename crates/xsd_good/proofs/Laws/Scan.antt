@@ -31,11 +31,13 @@ abbrev pub ends : ℕ → (ℕ → Bool) → Scan → Bool
 ends limit p s = s .ok && (eqb (s .end) limit && p (s .head))
 
 -- a test of the results that the code's calls give comes out as the definition's test does
-pub first-passes : (limit : ℕ) (t : Ten) {v b : Bool} {e l : ℕ} → v ≡ rowCovers usedPairs 0 t → e ≡ endOf 0 t → l ≡ limit → eqb (t .tag) 1 && eqb (t .a) 0 && eqb (t .b) 0 && eqb (t .c) 0 && v && leb e l ≡ b → firstPasses limit t ≡ b
+pub first-passes : (limit : ℕ) (t : Ten) {v b : Bool} {e l : ℕ} → v ≡ rowCovers usedPairs 0 t → e ≡ endOf 0 t → l ≡ limit
+    → eqb (t .tag) 1 && eqb (t .a) 0 && eqb (t .b) 0 && eqb (t .c) 0 && v && leb e l ≡ b → firstPasses limit t ≡ b
 unfolding firstPasses
 first-passes limit t v e l test = rw (v, e, l) at test
 
-pub next-passes : (limit : ℕ) (s : Scan) (t : Ten) {f m v b : Bool} {e l : ℕ} → f ≡ tenForm t → m ≡ mayFollow (s .head) (t .tag) → v ≡ rowCovers usedPairs (s .end) t → e ≡ endOf (s .end) t → l ≡ limit → s .ok && f && m && v && leb e l ≡ b → nextPasses limit s t ≡ b
+pub next-passes : (limit : ℕ) (s : Scan) (t : Ten) {f m v b : Bool} {e l : ℕ} → f ≡ tenForm t → m ≡ mayFollow (s .head) (t .tag) → v ≡ rowCovers usedPairs (s .end) t
+    → e ≡ endOf (s .end) t → l ≡ limit → s .ok && f && m && v && leb e l ≡ b → nextPasses limit s t ≡ b
 unfolding nextPasses
 next-passes limit s t f m v e l test = rw (f, m, v, e, l) at test
 
@@ -68,11 +70,14 @@ first-tests-apart true true false e i c false r s h k = rw (and-false c, and-fal
 first-tests-apart true true false e i c true r s h k = absurd (false≢true (h refl))
 first-tests-apart true true true e i c q r s h k = rw (k refl) (simp and-assoc)
 
-pub scanned-ends : (limit : ℕ) (p : ℕ → Bool) (k head : ℕ) (ts : List Ten) → ends limit p (scanned limit (record { ok = true; end = k; head = head }) ts) ≡ every tenForm ts && (inOrder head (tags ts) && (covers usedPairs k ts && (eqb (covered k ts) limit && p (lastHead head (tags ts)))))
+pub scanned-ends : (limit : ℕ) (p : ℕ → Bool) (k head : ℕ) (ts : List Ten)
+    → ends limit p (scanned limit (record { ok = true; end = k; head = head }) ts) ≡ every tenForm ts
+    && (inOrder head (tags ts) && (covers usedPairs k ts && (eqb (covered k ts) limit && p (lastHead head (tags ts)))))
 unfolding scanned nextRow nextPasses every inOrder covers covered lastHead failed
 scanned-ends limit p k head [] = refl
 scanned-ends limit p k head (t ∷ ts) =
-    if-in (λ (s : Scan). ends limit p (scanned limit s ts)) (tenForm t && mayFollow head (t .tag) && rowCovers usedPairs k t && leb (endOf k t) limit) (scanned-ends limit p (endOf k t) (headAfter head (t .tag)) ts) (ap (ends limit p) (scanned-failed limit ts))
+    if-in (λ (s : Scan). ends limit p (scanned limit s ts)) (tenForm t && mayFollow head (t .tag) && rowCovers usedPairs k t && leb (endOf k t) limit)
+    (scanned-ends limit p (endOf k t) (headAfter head (t .tag)) ts) (ap (ends limit p) (scanned-failed limit ts))
     ∙ tests-apart (tenForm t) (mayFollow head (t .tag)) (rowCovers usedPairs k t) _ _ _ _ _ _ (end-within limit (endOf k t) ts)
 
 -- behind the namespace's row, which is no head, the order is that behind no row
@@ -103,7 +108,8 @@ sheet-ends limit p (t ∷ ts) =
     (first-tests-apart w (rowCovers usedPairs 0 t) _ _ _ _ _ _ _ (end-within limit (endOf 0 t) ts) (λ e. ap p (head-first t (tags ts) e)))
 
 -- one turn of the pass over numbers, and its end
-pub scan-step : (limit : ℕ) (s : Scan) (left at : ℕ) (rows : List ℕ) (t : Ten) → 0 < left → t ≡ ten (drop at rows) → scanned limit (nextRow limit s t) (tens (left - 1) (drop (at + 10) rows)) ≡ scanned limit s (tens left (drop at rows))
+pub scan-step : (limit : ℕ) (s : Scan) (left at : ℕ) (rows : List ℕ) (t : Ten) → 0 < left → t ≡ ten (drop at rows)
+    → scanned limit (nextRow limit s t) (tens (left - 1) (drop (at + 10) rows)) ≡ scanned limit s (tens left (drop at rows))
 unfolding scanned
 scan-step limit s left at rows t h e = rw (tens-more left at rows h, e)
 
@@ -122,6 +128,7 @@ unfolding scanned
 scan-stops limit s left rows h = rw (tens-none left rows h)
 
 -- row 1 is looked at with 0 for the count, which stands before the others
-pub scan-starts : (limit n : ℕ) (rows : List ℕ) (t : Ten) → 2 ≤ n → t ≡ ten (drop 10 (set rows 17 0)) → scanned limit (firstRow limit t) (tens (n - 2) (take (length rows - 20) (drop 20 rows))) ≡ scannedSheet limit (tens (n - 1) (drop 10 (set rows 17 0)))
+pub scan-starts : (limit n : ℕ) (rows : List ℕ) (t : Ten) → 2 ≤ n → t ≡ ten (drop 10 (set rows 17 0))
+    → scanned limit (firstRow limit t) (tens (n - 2) (take (length rows - 20) (drop 20 rows))) ≡ scannedSheet limit (tens (n - 1) (drop 10 (set rows 17 0)))
 unfolding scannedSheet
 scan-starts limit n rows t h e = rw (tens-two n (set rows 17 0) h, drop-count rows 0 20 (omega arith), part-from rows 20, e)

@@ -24,10 +24,13 @@ returns-2 c =
     sym (bare-outside (a .rows .now) (a .names .now) (asRow0 (c .before .before .row0-at .result)) (c .before .before .row0-at .ensures) f)
 
 -- behind the second test the used parts lie inside the buffers
-fits : (p : tie.Else2) → partsFit (asRow0 (p .before .before .row0-at .result)) (length (p .before .before .before .before .before .before .args .rows .now)) (length (p .before .before .before .before .before .before .args .names .now)) ≡ true
+fits : (p : tie.Else2) → partsFit (asRow0 (p .before .before .row0-at .result)) (length (p .before .before .before .before .before .before .args .rows .now))
+    (length (p .before .before .before .before .before .before .args .names .now)) ≡ true
 fits p = sym (p .before .used-parts .ensures) ∙ not-false _ (p .if2 .left)
 
-inside : (p : tie.Else2) → (2 ≤ p .before .before .row0-at .result .«rows_used») × (10 * p .before .before .row0-at .result .«rows_used» ≤ length (p .before .before .before .before .before .before .args .rows .now)) × (p .before .before .row0-at .result .«names_used» ≤ length (p .before .before .before .before .before .before .args .names .now))
+inside : (p : tie.Else2) → (2 ≤ p .before .before .row0-at .result .«rows_used»)
+    × (10 * p .before .before .row0-at .result .«rows_used» ≤ length (p .before .before .before .before .before .before .args .rows .now))
+    × (p .before .before .row0-at .result .«names_used» ≤ length (p .before .before .before .before .before .before .args .names .now))
 inside p =
     let a = p .before .before .before .before .before .before .args in
     parts-in (asRow0 (p .before .before .row0-at .result)) (length (a .rows .now)) (length (a .names .now)) (fits p)
@@ -58,7 +61,10 @@ returns-3 c =
     let p = q .before .before .before .before in
     let a = p .before .before .before .before .before .before .args in
     let z = asRow0 (p .before .before .row0-at .result) in
-    bare-tests (a .rows .now) (a .names .now) z (q .before .scan-sheet .result) (q .row0-form .ensures) refl (r .before .zeros-behind .ensures) (r .names-test .ensures) (d .before .before .before .before .limits .ensures) (d .before .before .before .root-test .ensures) (d .before .before .nesting-test .ensures) (d .before .context-test .ensures) (d .extension-test .ensures) (c .events-test .ensures) (p .before .before .row0-at .ensures) (fits p) (q .before .scan-sheet .ensures)
+    bare-tests (a .rows .now) (a .names .now) z (q .before .scan-sheet .result) (q .row0-form .ensures) refl (r .before .zeros-behind .ensures) (r .names-test .ensures)
+    (d .before .before .before .before .limits .ensures) (d .before .before .before .root-test .ensures) (d .before .before .nesting-test .ensures)
+    (d .before .context-test .ensures) (d .extension-test .ensures) (c .events-test .ensures) (p .before .before .row0-at .ensures) (fits p)
+    (q .before .scan-sheet .ensures)
 
 pub is-bare-good-spec : {M : Type 1} → statement M
 is-bare-good-spec =

@@ -16,7 +16,10 @@ use Rattle.xsd_parser.specs.declared.words.Word.{Word}
 use Rattle.xsd_parser.specs.Words.{facetWord}
 use Rattle.xsd_parser.specs.Event.{Tag, Event}
 use Rattle.xsd_parser.specs.Seen.{Seen, seen, tagIs}
-use Rattle.xsd_parser.specs.Handlers.{inContext, withItem, foundRoot, keptElement, onTopLevelElement, withBase, withFacet, withContent, openSimpleType, openComplexType, belowSchema, onDirectChild, onStartInSchema, raisedSimple, onStartInSimpleType, raisedComplex, onStartInComplexType, onStart, facetValue, facetOf, onEmptyInSimpleType, onEmptyInComplexType, onEmpty, closeSimpleType, closeComplexType, closeInSchema, onEnd}
+use Rattle.xsd_parser.specs.Handlers.{inContext, withItem, foundRoot, keptElement, onTopLevelElement, withBase, withFacet, withContent, openSimpleType}
+use Rattle.xsd_parser.specs.Handlers.{openComplexType, belowSchema, onDirectChild, onStartInSchema, raisedSimple, onStartInSimpleType, raisedComplex}
+use Rattle.xsd_parser.specs.Handlers.{onStartInComplexType, onStart, facetValue, facetOf, onEmptyInSimpleType, onEmptyInComplexType, onEmpty, closeSimpleType}
+use Rattle.xsd_parser.specs.Handlers.{closeComplexType, closeInSchema, onEnd}
 use Rattle.xsd_parser.specs.Step.{handled}
 use Rattle.xsd_parser.specs.Children.{Head, depthAfter, namedHead, elementHead, childHead, headAt, itemHead, openHead, heads}
 use Rattle.xsd_parser.proofs.Laws.Outcomes.{Gives, value, Any, gives-if, gives-andThen, gives-name, gives-facet, gives-any}
@@ -67,7 +70,9 @@ at s root x = record { schema = s; rootSeen = root; context = x }
 module _ (m : ℕ) (s : Schema) (root : Bool) where
   -- ---- a start
 
-  pub startOutside-walked : (t : Tag) → Walked (Event.start t) (at s root Context.noContext) (if tagIs (seen t) Word.Schema then inContext (Context.inSchema 0) (foundRoot (seen t) (at s root Context.noContext)) else at s root Context.noContext)
+  pub startOutside-walked : (t : Tag)
+      → Walked (Event.start t) (at s root Context.noContext)
+      (if tagIs (seen t) Word.Schema then inContext (Context.inSchema 0) (foundRoot (seen t) (at s root Context.noContext)) else at s root Context.noContext)
   unfolding inContext foundRoot depthAfter headAt heads openHead
   startOutside-walked t =
       if-cases (Walked (Event.start t) (at s root Context.noContext)) (tagIs (seen t) Word.Schema)
@@ -95,15 +100,18 @@ module _ (m : ℕ) (s : Schema) (root : Bool) where
 
   pub started-simple : (t : Tag) (b : SimpleTypeBuilder) → (onStartInSimpleType (seen t) b .nestingDepth ≡ b .nestingDepth) × (onStartInSimpleType (seen t) b .name ≡ b .name)
   unfolding onStartInSimpleType withBase
-  started-simple t b = if-either (λ (x : SimpleTypeBuilder). (x .nestingDepth ≡ b .nestingDepth) × (x .name ≡ b .name)) (eqb (b .nestingDepth) 1 && tagIs (seen t) Word.Restriction) (refl, refl) (refl, refl)
+  started-simple t b = if-either (λ (x : SimpleTypeBuilder). (x .nestingDepth ≡ b .nestingDepth) × (x .name ≡ b .name))
+      (eqb (b .nestingDepth) 1 && tagIs (seen t) Word.Restriction) (refl, refl) (refl, refl)
 
-  pub startInSimple-walked : (t : Tag) (b : SimpleTypeBuilder) → Walked (Event.start t) (at s root (Context.inSimpleType b)) (at s root (Context.inSimpleType (onStartInSimpleType (seen t) (raisedSimple b))))
+  pub startInSimple-walked : (t : Tag) (b : SimpleTypeBuilder)
+      → Walked (Event.start t) (at s root (Context.inSimpleType b)) (at s root (Context.inSimpleType (onStartInSimpleType (seen t) (raisedSimple b))))
   unfolding raisedSimple depthAfter heads openHead
   startInSimple-walked t b =
       let k = started-simple t (raisedSimple b) in
       record { depth = ap (λ n. suc (suc n)) (k .0); headsAre = rw (k .1) (same-heads _ _ (deeper-none (b .nestingDepth) (Event.start t))) }
 
-  pub startInComplex-walked : (t : Tag) (b : ComplexTypeBuilder) → Gives (Walked (Event.start t) (at s root (Context.inComplexType b))) Any (onStart true m (seen t) (at s root (Context.inComplexType b)) (Context.inComplexType b))
+  pub startInComplex-walked : (t : Tag) (b : ComplexTypeBuilder)
+      → Gives (Walked (Event.start t) (at s root (Context.inComplexType b))) Any (onStart true m (seen t) (at s root (Context.inComplexType b)) (Context.inComplexType b))
   unfolding onStart inContext raisedComplex withContent depthAfter heads openHead
   startInComplex-walked t b =
       gives-andThen (gives-any (onStartInComplexType (seen t) (raisedComplex b))) λ content q.
@@ -118,12 +126,18 @@ module _ (m : ℕ) (s : Schema) (root : Bool) where
 
   -- ---- an empty tag
 
-  pub emptyInSchema-walked : (t : Tag) (n : ℕ) → Walked (Event.empty t) (at s root (Context.inSchema n)) (if eqb n 0 && tagIs (seen t) Word.Element then onTopLevelElement m (seen t) (at s root (Context.inSchema n)) else at s root (Context.inSchema n))
+  pub emptyInSchema-walked : (t : Tag) (n : ℕ)
+      → Walked (Event.empty t) (at s root (Context.inSchema n))
+      (if eqb n 0 && tagIs (seen t) Word.Element then onTopLevelElement m (seen t) (at s root (Context.inSchema n)) else at s root (Context.inSchema n))
   unfolding onTopLevelElement depthAfter headAt childHead heads openHead
   emptyInSchema-walked t zero =
       let r = at s root (Context.inSchema 0) in
       if-cases (Walked (Event.empty t) r) (tagIs (seen t) Word.Element)
-      (λ e. record { depth = ap depthIn (kept-context m (seen t .name) (seen t .typeName) r); headsAre = rw (e, kept-context m (seen t .name) (seen t .typeName) r) (rw (append-nil (map itemHead (s .items)), kept-head m (seen t .name) (seen t .typeName) r) (append-nil _)) })
+      (λ e. record {
+        depth = ap depthIn (kept-context m (seen t .name) (seen t .typeName) r);
+        headsAre = rw (e, kept-context m (seen t .name) (seen t .typeName) r)
+            (rw (append-nil (map itemHead (s .items)), kept-head m (seen t .name) (seen t .typeName) r) (append-nil _));
+      })
       (λ e. record { depth = refl; headsAre = rw e (same-heads _ [] refl) })
   emptyInSchema-walked t (suc n) = rw (eqb·suc-zero n) (record { depth = refl; headsAre = same-heads _ _ (deeper-none n (Event.empty t)) })
 
@@ -161,7 +175,8 @@ module _ (m : ℕ) (s : Schema) (root : Bool) where
       }
   closeSimple-walked b (suc d) q = record { depth = ap suc (sym q); headsAre = same-heads _ _ (close-none (suc (suc (b .nestingDepth)))) }
 
-  pub closeComplex-walked : (b : ComplexTypeBuilder) (d : ℕ) → b .nestingDepth ≡ d → Walked Event.close (at s root (Context.inComplexType b)) (closeComplexType b d (at s root (Context.inComplexType b)))
+  pub closeComplex-walked : (b : ComplexTypeBuilder) (d : ℕ) → b .nestingDepth ≡ d
+      → Walked Event.close (at s root (Context.inComplexType b)) (closeComplexType b d (at s root (Context.inComplexType b)))
   unfolding closeComplexType inContext withItem depthAfter heads itemHead openHead
   closeComplex-walked b zero q =
       record {

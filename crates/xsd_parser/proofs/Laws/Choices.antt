@@ -20,7 +20,9 @@ use Rattle.xsd_parser.specs.declared.words.Word.{Word}
 use Rattle.xsd_parser.specs.Event.{Event}
 use Rattle.xsd_parser.specs.Seen.{Seen, seen, tagIs}
 use Rattle.xsd_parser.specs.Tape.{records}
-use Rattle.xsd_parser.specs.Handlers.{Outcome, ok, refuse, _andThen_, inContext, foundRoot, onTopLevelElement, openSimpleType, openComplexType, belowSchema, onDirectChild, onStartInSchema, raisedComplex, onStartInComplexType, onStart, onEmptyInSimpleType, onEmptyInComplexType, onEmpty, closeSimpleType, closeComplexType, closeInSchema, onEnd}
+use Rattle.xsd_parser.specs.Handlers.{Outcome, ok, refuse, _andThen_, inContext, foundRoot, onTopLevelElement, openSimpleType, openComplexType, belowSchema}
+use Rattle.xsd_parser.specs.Handlers.{onDirectChild, onStartInSchema, raisedComplex, onStartInComplexType, onStart, onEmptyInSimpleType, onEmptyInComplexType}
+use Rattle.xsd_parser.specs.Handlers.{onEmpty, closeSimpleType, closeComplexType, closeInSchema, onEnd}
 use Rattle.xsd_parser.specs.Step.{handled, tagsAfter, counted, roomFor, step}
 use Rattle.xsd_parser.specs.Read.{Reading, readState}
 use Rattle.xsd_parser.specs.Children.{startsNoOther}
@@ -53,7 +55,8 @@ unfolding onDirectChild
 child-same m t r e =
     bool-cases (tagIs t Word.SimpleType) (λ h. rw h) (λ h. let c : tagIs t Word.ComplexType ≡ true = rw h at e in rw (h, c))
 
-pub start-same : (m : ℕ) (t : Seen) (r : Reader) (x : Context) → Flat x → (not (eqb (depthIn x) 1) || (tagIs t Word.SimpleType || tagIs t Word.ComplexType) ≡ true) → onStart true m t r x ≡ onStart false m t r x
+pub start-same : (m : ℕ) (t : Seen) (r : Reader) (x : Context) → Flat x → (not (eqb (depthIn x) 1) || (tagIs t Word.SimpleType || tagIs t Word.ComplexType) ≡ true)
+    → onStart true m t r x ≡ onStart false m t r x
 unfolding onStart onStartInSchema startsNoOther
 start-same m t r Context.noContext f c = refl
 start-same m t r (Context.inSchema zero) f c = child-same m t r c

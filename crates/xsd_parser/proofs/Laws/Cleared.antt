@@ -22,7 +22,10 @@ use Rattle.xsd_parser.specs.Words.{facetWord}
 use Rattle.xsd_parser.specs.Event.{Event}
 use Rattle.xsd_parser.specs.Seen.{Seen, seen, tagIs}
 use Rattle.xsd_parser.specs.Tape.{Judged, event, refused, records}
-use Rattle.xsd_parser.specs.Handlers.{Outcome, ok, refuse, _andThen_, inContext, withItem, foundRoot, keptElement, onTopLevelElement, requireName, withBase, withFacet, withContent, openSimpleType, openComplexType, belowSchema, onDirectChild, onStartInSchema, raisedSimple, onStartInSimpleType, raisedComplex, onStartInComplexType, onStart, facetValue, facetOf, onFacet, onEmptyInSimpleType, onEmptyInComplexType, onEmpty, closeSimpleType, closeComplexType, closeInSchema, onEnd}
+use Rattle.xsd_parser.specs.Handlers.{Outcome, ok, refuse, _andThen_, inContext, withItem, foundRoot, keptElement, onTopLevelElement, requireName, withBase}
+use Rattle.xsd_parser.specs.Handlers.{withFacet, withContent, openSimpleType, openComplexType, belowSchema, onDirectChild, onStartInSchema, raisedSimple}
+use Rattle.xsd_parser.specs.Handlers.{onStartInSimpleType, raisedComplex, onStartInComplexType, onStart, facetValue, facetOf, onFacet, onEmptyInSimpleType}
+use Rattle.xsd_parser.specs.Handlers.{onEmptyInComplexType, onEmpty, closeSimpleType, closeComplexType, closeInSchema, onEnd}
 use Rattle.xsd_parser.specs.Step.{handled, tagsAfter, counted, roomFor, step}
 use Rattle.xsd_parser.specs.Read.{readRecords, readState}
 use Rattle.xsd_parser.specs.Numbered.{stepBy, readRecordsBy, readStateBy, unknownNumber, unnumberedReading}
@@ -58,7 +61,12 @@ changed-facet f (some w) v g x = changed-then f (facetOf w v) (λ y. ok (g y))
 item-unnumbered : (i : Item) (r : Reader) → unnumberedReader (withItem i r) ≡ withItem (unnumberedItem i) (unnumberedReader r)
 unfolding unnumberedReader unnumberedSchema withItem
 item-unnumbered i r =
-    ap (λ (is : List Item). record { schema = record { targetNamespace = r .schema .targetNamespace; items = is }; rootSeen = r .rootSeen; context = unnumberedContext (r .context) }) (map-append unnumberedItem (r .schema .items) (i ∷ []))
+    ap (λ (is : List Item). record {
+      schema = record { targetNamespace = r .schema .targetNamespace; items = is };
+      rootSeen = r .rootSeen;
+      context = unnumberedContext
+          (r .context);
+    }) (map-append unnumberedItem (r .schema .items) (i ∷ []))
 
 kept-unnumbered : (n : ℕ) (name typeName : Option Text) (r : Reader) → unnumberedReader (keptElement n name typeName r) ≡ keptElement 0 name typeName (unnumberedReader r)
 unfolding keptElement unnumberedItem
@@ -83,7 +91,8 @@ module _ (n : ℕ) (t : Seen) where
       (if-in (changed unnumberedReader) (tagIs t Word.ComplexType) (changed-name unnumberedReader t _)
       (if-in (changed unnumberedReader) (tagIs t Word.Element) (ap ok (below-unnumbered b 0 (onTopLevelElement n t r) ∙ ap (belowSchema b 0) (top-unnumbered r))) (ap ok (below-unnumbered b 0 r))))
 
-  startInSchema-unnumbered : (byStandard : Bool) (depth : ℕ) (r : Reader) → changed unnumberedReader (onStartInSchema byStandard n t depth r) ≡ onStartInSchema byStandard 0 t depth (unnumberedReader r)
+  startInSchema-unnumbered : (byStandard : Bool) (depth : ℕ) (r : Reader)
+      → changed unnumberedReader (onStartInSchema byStandard n t depth r) ≡ onStartInSchema byStandard 0 t depth (unnumberedReader r)
   unfolding onStartInSchema changed
   startInSchema-unnumbered b depth r = if-in (changed unnumberedReader) (eqb depth 0) (directChild-unnumbered b r) (ap ok (below-unnumbered b depth r))
 
@@ -163,7 +172,8 @@ step-unnumbered lent s e =
     refl
 
 -- a reading
-readBy-ok : (number : ℕ → ℕ) (lent : Lengths) (n : ℕ) (s s′ : State) (e : Event) (js : List Judged) → stepBy number lent s e ≡ ok s′ → readRecordsBy number lent n s (event e ∷ js) ≡ readRecordsBy number lent (suc n) s′ js
+readBy-ok : (number : ℕ → ℕ) (lent : Lengths) (n : ℕ) (s s′ : State) (e : Event) (js : List Judged) → stepBy number lent s e ≡ ok s′
+    → readRecordsBy number lent n s (event e ∷ js) ≡ readRecordsBy number lent (suc n) s′ js
 unfolding readRecordsBy
 readBy-ok number lent n s s′ e js q = rw (q, readRecordsBy)
 

@@ -5,7 +5,8 @@ use Prim.Native.Nat.{ℕ, zero, suc}
 use native.Mathlib.Omega.{arith}
 use Rattle.xsd_types.specs.State.{SimpleTypeBuilder, ComplexTypeBuilder, Context, Reader, contextOk, itemOk, isNoContext}
 use Rattle.xsd_parser.specs.Handlers.{withItem, closeSimpleType, closeComplexType, closeInSchema, onEnd}
-use Rattle.xsd_parser.proofs.Laws.Readers.{ReaderOk, root-seen, context-set, item-added, SimpleOk, simple-parts, simple-whole, ComplexOk, complex-parts, complex-whole, SchemaOk, schema-parts, schema-whole, schema-first, nested-less, finish-kept}
+use Rattle.xsd_parser.proofs.Laws.Readers.{ReaderOk, root-seen, context-set, item-added, SimpleOk, simple-parts, simple-whole, ComplexOk, complex-parts}
+use Rattle.xsd_parser.proofs.Laws.Readers.{complex-whole, SchemaOk, schema-parts, schema-whole, schema-first, nested-less, finish-kept}
 use Rattle.text.proofs.Laws.Tests.{and-true}
 
 module _ (byStandard : Bool) where

@@ -12,7 +12,9 @@ use Rattle.xsd_types.specs.Types.{MaxOccurs, SequenceElement, ChoiceVariant, At
 use Rattle.xsd_types.specs.State.{ComplexContentBuilder, ComplexTypeBuilder, maxOccursOk, sequenceElementOk, choiceVariantOk, attributeOk, namespaceOk, contentOk}
 use Rattle.xsd_parser.specs.declared.words.Word.{Word}
 use Rattle.xsd_parser.specs.Seen.{Seen, tagIs}
-use Rattle.xsd_parser.specs.Handlers.{onParsed, parseMinOccurs, parseMaxOccurs, isUnbounded, sequenceElement, choiceVariant, onElementInsideComplex, attributeAdded, onAttributeInsideComplex, onExtension, contentStarted, contentAtTwo, onStartInComplexType, onEmptyInComplexType}
+use Rattle.xsd_parser.specs.Handlers.{onParsed, parseMinOccurs, parseMaxOccurs, isUnbounded, sequenceElement, choiceVariant, onElementInsideComplex}
+use Rattle.xsd_parser.specs.Handlers.{attributeAdded, onAttributeInsideComplex, onExtension, contentStarted, contentAtTwo, onStartInComplexType}
+use Rattle.xsd_parser.specs.Handlers.{onEmptyInComplexType}
 use Rattle.number.proofs.Laws.Numbers.{number-bound}
 use Rattle.xsd_parser.proofs.Laws.SeenTexts.{SeenText, or-empty-text}
 use Rattle.xsd_parser.proofs.Laws.Outcomes.{Gives, value, Any, Kept, gives-if, gives-andThen, gives-parsed}

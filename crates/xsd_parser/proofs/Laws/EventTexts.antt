@@ -8,7 +8,8 @@ use lib.ListN.{length, drop}
 use Rattle.text.specs.Text.{Text, every, isText}
 use Rattle.xsd_parser.specs.Event.{Event}
 use Rattle.xsd_parser.specs.EventText.{attrOk, tagOk, eventOk, judgedOk}
-use Rattle.xsd_parser.specs.Tape.{Pair, pairText, allInside, allAscii, attrsOf, tagOf, Recorded, finished, bad, next, eventOf, formTest, pairCount, pairsOf, tagRecord, record1, recordsFrom, records}
+use Rattle.xsd_parser.specs.Tape.{Pair, pairText, allInside, allAscii, attrsOf, tagOf, Recorded, finished, bad, next, eventOf, formTest, pairCount, pairsOf}
+use Rattle.xsd_parser.specs.Tape.{tagRecord, record1, recordsFrom, records}
 use Rattle.xsd_parser.proofs.Laws.Records.{record-cases, records-finished, records-bad, records-next}
 use Rattle.text.proofs.Laws.Tests.{and-true, two, if-keeps}
 

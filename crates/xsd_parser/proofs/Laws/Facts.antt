@@ -38,7 +38,8 @@ pub start-unknown : (lent : Lengths) (s s′ : State) (t : Tag) → s .reader .c
     → step lent s (Event.start t) ≡ ok s′ → s′ .reader ≡ s .reader
 unfolding handled onStart
 start-unknown lent s s′ t c u h =
-    let p : onStart (s .byStandard) (s .events) (seen t) (s .reader) Context.noContext ≡ ok (s′ .reader) = sym (ap (onStart (s .byStandard) (s .events) (seen t) (s .reader)) c) ∙ step-reader lent s (Event.start t) s′ h in
+    let p : onStart (s .byStandard) (s .events) (seen t) (s .reader) Context.noContext
+    ≡ ok (s′ .reader) = sym (ap (onStart (s .byStandard) (s .events) (seen t) (s .reader)) c) ∙ step-reader lent s (Event.start t) s′ h in
     let q : ok (s .reader) ≡ ok (s′ .reader) = rw u at p in
     cc
 

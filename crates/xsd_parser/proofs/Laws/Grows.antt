@@ -14,7 +14,9 @@ use Rattle.xsd_parser.specs.declared.words.Word.{Word}
 use Rattle.xsd_parser.specs.Event.{Event}
 use Rattle.xsd_parser.specs.Seen.{Seen, seen, tagIs}
 use Rattle.xsd_parser.specs.Tape.{records}
-use Rattle.xsd_parser.specs.Handlers.{inContext, withItem, foundRoot, keptElement, onTopLevelElement, belowSchema, onDirectChild, onStartInSchema, raisedComplex, onStartInComplexType, onStart, onEmptyInSimpleType, onEmptyInComplexType, onEmpty, closeSimpleType, closeComplexType, closeInSchema, onEnd}
+use Rattle.xsd_parser.specs.Handlers.{inContext, withItem, foundRoot, keptElement, onTopLevelElement, belowSchema, onDirectChild, onStartInSchema, raisedComplex}
+use Rattle.xsd_parser.specs.Handlers.{onStartInComplexType, onStart, onEmptyInSimpleType, onEmptyInComplexType, onEmpty, closeSimpleType, closeComplexType}
+use Rattle.xsd_parser.specs.Handlers.{closeInSchema, onEnd}
 use Rattle.xsd_parser.specs.Step.{handled}
 use Rattle.xsd_parser.specs.Read.{readState}
 use Rattle.xsd_parser.proofs.Laws.EventTexts.{events-are-text}
@@ -105,5 +107,7 @@ pub items-grow : (lent : Lengths) (s : State) (text : Text) (marks : List ℕ) �
 unfolding readState
 items-grow lent s text marks =
     let is = s .reader .schema .items in
-    reads-keep (λ (x : State). Grown is (x .reader)) lent (λ x e y k h q. gives-value (handled-grows is (x .byStandard) (x .events) e (x .reader) h) (step-reader lent x e y q)) 0 s (records text marks) (events-are-text text marks)
+    reads-keep (λ (x : State). Grown is (x .reader)) lent
+    (λ x e y k h q. gives-value (handled-grows is (x .byStandard) (x .events) e (x .reader) h) (step-reader lent x e y q)) 0 s (records text marks)
+    (events-are-text text marks)
     ([], sym (append-nil is))

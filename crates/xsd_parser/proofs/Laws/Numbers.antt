@@ -15,7 +15,10 @@ use Rattle.xsd_parser.specs.declared.words.Word.{Word}
 use Rattle.xsd_parser.specs.Words.{facetWord}
 use Rattle.xsd_parser.specs.Event.{Event, eventName}
 use Rattle.xsd_parser.specs.Seen.{Seen, seen, tagIs}
-use Rattle.xsd_parser.specs.Handlers.{ok, inContext, withItem, foundRoot, keptElement, onTopLevelElement, withBase, withFacet, withContent, openSimpleType, openComplexType, belowSchema, onDirectChild, onStartInSchema, raisedSimple, onStartInSimpleType, raisedComplex, onStartInComplexType, onStart, facetValue, facetOf, onEmptyInSimpleType, onEmptyInComplexType, onEmpty, closeSimpleType, closeComplexType, closeInSchema, onEnd}
+use Rattle.xsd_parser.specs.Handlers.{ok, inContext, withItem, foundRoot, keptElement, onTopLevelElement, withBase, withFacet, withContent, openSimpleType}
+use Rattle.xsd_parser.specs.Handlers.{openComplexType, belowSchema, onDirectChild, onStartInSchema, raisedSimple, onStartInSimpleType, raisedComplex}
+use Rattle.xsd_parser.specs.Handlers.{onStartInComplexType, onStart, facetValue, facetOf, onEmptyInSimpleType, onEmptyInComplexType, onEmpty, closeSimpleType}
+use Rattle.xsd_parser.specs.Handlers.{closeComplexType, closeInSchema, onEnd}
 use Rattle.xsd_parser.specs.Step.{handled}
 use Rattle.xsd_parser.specs.Numbered.{makesHead}
 use Rattle.xsd_parser.proofs.Laws.Outcomes.{Gives, value, Any, gives-if, gives-andThen, gives-name, gives-facet, gives-value, gives-any}

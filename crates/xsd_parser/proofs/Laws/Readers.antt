@@ -8,7 +8,8 @@ use lib.Dec.{leb, eqb·suc-zero}
 use borrow.Author.Tests.{leb-true, le-leb}
 use Rattle.text.specs.Text.{every, isText}
 use Rattle.xsd_types.specs.Types.{Item}
-use Rattle.xsd_types.specs.State.{SimpleTypeBuilder, ComplexContentBuilder, ComplexTypeBuilder, Context, Reader, facetOk, contentOk, namespaceOk, itemOk, schemaOk, schemaNestingOk, contextOk, isNoContext, isEmpty, rootOk, started, finish}
+use Rattle.xsd_types.specs.State.{SimpleTypeBuilder, ComplexContentBuilder, ComplexTypeBuilder, Context, Reader, facetOk, contentOk, namespaceOk, itemOk, schemaOk}
+use Rattle.xsd_types.specs.State.{schemaNestingOk, contextOk, isNoContext, isEmpty, rootOk, started, finish}
 use Rattle.xsd_parser.specs.Handlers.{inContext, withItem}
 use Rattle.text.proofs.Laws.Tests.{and-true, two, three, four, or-right, or-true-left}
 use Rattle.text.proofs.Laws.Every.{every-one-more}

@@ -21,7 +21,9 @@ use Rattle.xsd_parser.specs.Words.{facetWord}
 use Rattle.xsd_parser.specs.Event.{Event}
 use Rattle.xsd_parser.specs.Seen.{Seen, seen, tagIs}
 use Rattle.xsd_parser.specs.Tape.{Pair, allInside, allAscii, Recorded, finished, bad, formTest, pairCount, pairsOf, tagRecord, record1}
-use Rattle.xsd_parser.specs.Handlers.{Outcome, refuse, onParsed, parseMinOccurs, parseMaxOccurs, isUnbounded, sequenceElement, onElementInsideComplex, contentAtTwo, onDirectChild, onStartInSchema, onStartInComplexType, raisedComplex, onStart, facetValue, withFacet, facetOf, onEmptyInSimpleType, onEmptyInComplexType, onEmpty}
+use Rattle.xsd_parser.specs.Handlers.{Outcome, refuse, onParsed, parseMinOccurs, parseMaxOccurs, isUnbounded, sequenceElement, onElementInsideComplex}
+use Rattle.xsd_parser.specs.Handlers.{contentAtTwo, onDirectChild, onStartInSchema, onStartInComplexType, raisedComplex, onStart, facetValue, withFacet, facetOf}
+use Rattle.xsd_parser.specs.Handlers.{onEmptyInSimpleType, onEmptyInComplexType, onEmpty}
 use Rattle.xsd_parser.specs.Step.{handled, closed, tagsAfter, counted, roomFor, step}
 use Rattle.xsd_parser.proofs.Laws.Outcomes.{Gives, value, refusal, Any, gives-if, gives-andThen, gives-parsed, gives-name, gives-facet, gives-refusal, gives-wider}
 use Rattle.text.proofs.Laws.Tests.{if-either}

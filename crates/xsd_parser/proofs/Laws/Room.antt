@@ -20,11 +20,13 @@ pub rows-parts : (s : State) → rowsUsed s ≡ 2 + length (itemsRows (s .reader
 unfolding rowsUsed rowsOf
 rows-parts s = simp length-append (omega arith)
 
-pub names-parts : (s : State) → namesUsed s ≡ length (s .reader .schema .targetNamespace) + length (namesOf (itemsRows (s .reader .schema .items))) + length (namesOf (contextRows (s .reader .context)))
+pub names-parts : (s : State) → namesUsed s
+    ≡ length (s .reader .schema .targetNamespace) + length (namesOf (itemsRows (s .reader .schema .items))) + length (namesOf (contextRows (s .reader .context)))
 unfolding namesUsed rowsOf namesOf namespaceRow row join
 names-parts s = simp (append-nil, namesOf-append, length-append) (omega arith)
 
 -- an event that the counters and the handlers accept is refused by 11 exactly where the state after it has no room
-pub step-room : (lent : Lengths) (s : State) (e : Event) (n : ℕ) (r : Reader) → s .events < 1000000 → tagsAfter e (s .openTags) ≡ ok n → handled (s .byStandard) (s .events) e (s .reader) ≡ ok r → step lent s e ≡ roomFor lent (counted s n r)
+pub step-room : (lent : Lengths) (s : State) (e : Event) (n : ℕ) (r : Reader) → s .events < 1000000 → tagsAfter e (s .openTags) ≡ ok n
+    → handled (s .byStandard) (s .events) e (s .reader) ≡ ok r → step lent s e ≡ roomFor lent (counted s n r)
 unfolding step _andThen_
 step-room lent s e n r h t k = rw (lt-ltb (s .events) 1000000 h, t, k)

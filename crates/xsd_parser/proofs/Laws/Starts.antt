@@ -7,14 +7,17 @@ use native.Mathlib.Omega.{arith}
 use lib.Dec.{eqb}
 use Rattle.text.specs.Text.{Text, every, isText}
 use Rattle.xsd_types.specs.Types.{Item}
-use Rattle.xsd_types.specs.State.{SimpleTypeBuilder, ComplexContentBuilder, ComplexTypeBuilder, Context, Reader, contentOk, namespaceOk, elementOk, itemOk, schemaOk, schemaNestingOk, contextOk, isNoContext}
+use Rattle.xsd_types.specs.State.{SimpleTypeBuilder, ComplexContentBuilder, ComplexTypeBuilder, Context, Reader, contentOk, namespaceOk, elementOk, itemOk, schemaOk}
+use Rattle.xsd_types.specs.State.{schemaNestingOk, contextOk, isNoContext}
 use Rattle.xsd_parser.specs.declared.words.Word.{Word}
 use Rattle.xsd_parser.specs.Seen.{Seen, tagIs}
-use Rattle.xsd_parser.specs.Handlers.{withItem, foundRoot, keptElement, onTopLevelElement, withBase, withContent, openSimpleType, openComplexType, belowSchema, onDirectChild, onStartInSchema, raisedSimple, onStartInSimpleType, raisedComplex, onStart}
+use Rattle.xsd_parser.specs.Handlers.{withItem, foundRoot, keptElement, onTopLevelElement, withBase, withContent, openSimpleType, openComplexType, belowSchema}
+use Rattle.xsd_parser.specs.Handlers.{onDirectChild, onStartInSchema, raisedSimple, onStartInSimpleType, raisedComplex, onStart}
 use Rattle.xsd_parser.proofs.Laws.SeenTexts.{SeenText, or-empty-text}
 use Rattle.xsd_parser.proofs.Laws.Outcomes.{Gives, value, Any, gives-if, gives-andThen, gives-name}
 use Rattle.xsd_parser.proofs.Laws.Contents.{startInComplex-kept}
-use Rattle.xsd_parser.proofs.Laws.Readers.{ReaderOk, root-seen, seen-root, context-set, item-added, SimpleOk, simple-parts, simple-whole, ComplexOk, complex-parts, complex-whole, schema-parts, schema-whole, schema-first, one-tag-more}
+use Rattle.xsd_parser.proofs.Laws.Readers.{ReaderOk, root-seen, seen-root, context-set, item-added, SimpleOk, simple-parts, simple-whole, ComplexOk}
+use Rattle.xsd_parser.proofs.Laws.Readers.{complex-parts, complex-whole, schema-parts, schema-whole, schema-first, one-tag-more}
 use Rattle.text.proofs.Laws.Tests.{and-true, two, if-either}
 
 -- the namespace set anew
@@ -126,7 +129,8 @@ module _ (byStandard : Bool) where
       gives-andThen (startInComplex-kept t (raisedComplex b) e (o .content)) λ c q.
       value (context-set byStandard r _ (suc n) h (complex-whole byStandard _ (suc n) (content-set _ c (suc n) o q)) k)
 
-  pub start-kept : (m : ℕ) (t : Seen) (r : Reader) (n : ℕ) (x : Context) → r .context ≡ x → SeenText t → ReaderOk byStandard r n → Gives (λ x. ReaderOk byStandard x (suc n)) Any (onStart byStandard m t r x)
+  pub start-kept : (m : ℕ) (t : Seen) (r : Reader) (n : ℕ) (x : Context) → r .context ≡ x → SeenText t → ReaderOk byStandard r n
+      → Gives (λ x. ReaderOk byStandard x (suc n)) Any (onStart byStandard m t r x)
   unfolding onStart isNoContext
   start-kept m t r n Context.noContext q e o = startOutside-kept m t r n e o
   start-kept m t r n (Context.inSchema depth) q e o =

@@ -120,7 +120,8 @@ proper-parts s e =
 pub proper-whole : (s : State) → ProperParts s → proper s ≡ true
 unfolding proper countersOk
 proper-whole s p =
-    and-true (and-true (and-true (and-true (and-true (le-leb (s .events) 1000000 (p .events)) (le-leb (s .openTags) 255 (p .tags))) (p .reader .root)) (p .reader .context)) (p .reader .schema)) (p .numbers)
+    and-true (and-true (and-true (and-true (and-true (le-leb (s .events) 1000000 (p .events)) (le-leb (s .openTags) 255 (p .tags))) (p .reader .root))
+    (p .reader .context)) (p .reader .schema)) (p .numbers)
 
 pub counted-proper : (s : State) (n : ℕ) (r : Reader) → s .events < 1000000 → n ≤ 255 → ReaderOk (s .byStandard) r n → eventsOk r (suc (s .events)) ≡ true → proper (counted s n r) ≡ true
 unfolding counted

@@ -42,7 +42,8 @@ mode-tag {byStandard} {kind} {d} {m} {m′} k f = record { is = λ t text marks 
 abbrev beside : Mode → Mode → Mode
 beside x y = record { context = y .context; nesting = y .nesting; «root_seen» = x .«root_seen»; extension = y .extension }
 
-close-beside : (o : OpenTags) (seen : Bool) (b c : Bool) → leb (o .context) 1 ≡ b → eqb (o .nesting) 0 ≡ c → beside (closeMode (modeWith seen o)) (closeMode (modeWith false o)) ≡ closeMode (modeWith seen o)
+close-beside : (o : OpenTags) (seen : Bool) (b c : Bool) → leb (o .context) 1 ≡ b → eqb (o .nesting) 0 ≡ c
+    → beside (closeMode (modeWith seen o)) (closeMode (modeWith false o)) ≡ closeMode (modeWith seen o)
 unfolding closeMode modeWith
 close-beside o seen true true e f = rw (f, e)
 close-beside o seen false true e f = rw (f, e)
@@ -61,7 +62,8 @@ unfolding modeWith
 changed {x} {o} {m} g =
     record {
       opened = refl;
-      modeIs = λ seen t text marks a q. let e = eventAs (x .kind) t in ap (beside (modeAfter (x .«by_standard») e a (modeWith seen o))) (g .is t text marks a q) ∙ mode-beside (x .«by_standard») e a o seen;
+      modeIs = λ seen t text marks a q. let e = eventAs (x .kind) t in ap (beside (modeAfter (x .«by_standard») e a (modeWith seen o))) (g .is t text marks a q)
+          ∙ mode-beside (x .«by_standard») e a o seen;
     }
 
 -- a close leaves root seen
@@ -78,11 +80,15 @@ seen-close {kind} {d} {seen} k =
 pub seen-tag : {kind : ℕ} {d : Decision} {seen seen′ : Bool} → (kind ≡ 3 → ⊥) → seen′ ≡ rootOf d seen → SeenAfter kind d seen seen′
 unfolding decidedMode
 seen-tag {kind} {d} {seen} {seen′} k f =
-    record { is = λ t text marks a q b m s. f ∙ ap (rootOf d) (sym s) ∙ ap (λ (x : Mode). x .«root_seen») (decided-mode b (eqb kind 1) m text marks d a q ∙ sym (after-tag b kind t a m (eqb kind 1) refl k)) }
+    record {
+      is = λ t text marks a q b m s. f ∙ ap (rootOf d) (sym s)
+          ∙ ap (λ (x : Mode). x .«root_seen») (decided-mode b (eqb kind 1) m text marks d a q ∙ sym (after-tag b kind t a m (eqb kind 1) refl k));
+    }
 
 -- the record and root seen together
 pub event-after : {x : Arrival} {m : Mode} {n : ℕ} {next : OpenTags} {seen : Bool} {m′ : Mode}
-    → Changed x (record { context = m .context; nesting = m .nesting; «open_tags» = n; extension = m .extension }) next → SeenAfter (x .kind) (x .decision) (m .«root_seen») seen → m′ ≡ modeWith seen next
+    → Changed x (record { context = m .context; nesting = m .nesting; «open_tags» = n; extension = m .extension }) next
+    → SeenAfter (x .kind) (x .decision) (m .«root_seen») seen → m′ ≡ modeWith seen next
     → EventAfter x m (record { mode = m′; «open_tags» = next .«open_tags» })
 unfolding modeWith
 event-after {x} {m} {n} {next} {seen} {m′} c s f =

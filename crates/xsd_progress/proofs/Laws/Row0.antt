@@ -20,7 +20,8 @@ use Rattle.xsd_good.proofs.Laws.Held.{held-good, row0-held}
 use Rattle.xsd_progress.specs.Progress.{progressOf, progressIn, At}
 
 -- the numbers that row 0 of a state gives stand for the state
-pub at-state : (rows names : List ℕ) (s : State) → Packs rows names (numbers (row0Ten (row0 s) ∷ [])) (rowsOf s) → proper s ≡ true → At s rows names (progressOf (row0 s) (headRow rows (row0 s .rowsUsed)))
+pub at-state : (rows names : List ℕ) (s : State) → Packs rows names (numbers (row0Ten (row0 s) ∷ [])) (rowsOf s) → proper s ≡ true
+    → At s rows names (progressOf (row0 s) (headRow rows (row0 s .rowsUsed)))
 unfolding progressOf row0 modeOf rowsUsed namesUsed
 at-state rows names s p k =
     let h : Holds rows names (record { rows = rowsUsed s; names = namesUsed s }) (numbers (row0Ten (row0 s) ∷ [])) (rowsOf s) = record { packs = p; rowsUsed = refl; namesUsed = refl } in

@@ -71,7 +71,8 @@ module _ {rows names : List ℕ} {text : Text} (c : CountedSheet rows names text
       reached : (a ≡ reading .answer) × (sheet rows′ names′ ≡ bareSheetOf (reading .state) (length rows) (length names))
       unfolding stateOf bare withCount
       reached =
-          subst (λ (n : ℕ). let r = readState (record { rows = n; names = length names }) (bareStateOf (sheet (set rows 17 0) names)) text marks in (a ≡ r .answer) × (sheet rows′ names′ ≡ bareSheetOf (r .state) n (length names)))
+          subst (λ (n : ℕ). let r = readState (record { rows = n; names = length names }) (bareStateOf (sheet (set rows 17 0) names)) text marks in (a ≡ r .answer)
+          × (sheet rows′ names′ ≡ bareSheetOf (r .state) n (length names)))
           (length-set rows 17 0) (read .answers, read .leaves)
 
       proper-after : proper (reading .state) ≡ true

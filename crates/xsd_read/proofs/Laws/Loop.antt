@@ -106,14 +106,25 @@ pub reads-end : {rows₀ names₀ marks rows names : List ℕ} {text : Text} {p�
     → RecordsRead rows₀ names₀ text marks p₀ (record { number = 0; place = place; progress = p }) rows names
 unfolding recorded
 reads-end {marks = marks} {rows = rows} {names = names} {text = text} {at = at} w x q =
-    reads-stopped 0 w refl refl (λ s a. record { rowsKept = refl; namesKept = refl; reads = λ n. reads-none (lentTo rows names) n s text (drop at marks) (sym (x .judged) ∙ ap (recorded text marks) q) })
+    reads-stopped 0 w refl refl (λ s a. record {
+      rowsKept = refl;
+      namesKept = refl;
+      reads = λ n. reads-none (lentTo rows names) n s text (drop at marks)
+          (sym (x .judged) ∙ ap (recorded text marks) q);
+    })
 
 pub reads-form : {rows₀ names₀ marks rows names : List ℕ} {text : Text} {p₀ p : Progress} {place at : ℕ} {r : Record} (k : Refusal)
     → Reads rows₀ names₀ text marks p₀ rows names p place at → RecordAt text marks at r → r ≡ Record.Bad k
     → RecordsRead rows₀ names₀ text marks p₀ (stoppedAt k place p) rows names
 unfolding recorded
 reads-form {marks = marks} {rows = rows} {names = names} {text = text} {at = at} k w x q =
-    reads-stopped (refusalNumber k) w refl refl (λ s a. record { rowsKept = refl; namesKept = refl; reads = λ n. reads-bad (lentTo rows names) n s text (drop at marks) (refusalNumber k) (sym (x .judged) ∙ ap (recorded text marks) q) })
+    reads-stopped (refusalNumber k) w refl refl
+    (λ s a. record {
+      rowsKept = refl;
+      namesKept = refl;
+      reads = λ n. reads-bad (lentTo rows names) n s text (drop at marks) (refusalNumber k)
+          (sym (x .judged) ∙ ap (recorded text marks) q);
+    })
 
 pub record Followed (text : Text) (marks : List ℕ) (at : ℕ) (t : TagRecord) : Type 0 where
   pub is : record1 text (drop at marks) ≡ next (recordEvent text marks t) (drop (t .next) marks)
@@ -139,7 +150,12 @@ reads-refuse {marks = marks} {rows} {names} {rows′} {names′} {text} {at = at
     reads-stopped (refusalNumber k) w (x .rowsLength) (x .namesLength) (λ s a.
     let e = recordEvent text marks t in
     let h = subst (Ended (step (lentTo rows names) s e) rows names rows′ names′) q (x .ended s a (followed-text f)) in
-    record { rowsKept = h .rowsKept; namesKept = h .namesKept; reads = λ n. reads-refused (lentTo rows names) n s text (drop at marks) e (drop (t .next) marks) (refusalNumber k) (f .is) (h .refused) })
+    record {
+      rowsKept = h .rowsKept;
+      namesKept = h .namesKept;
+      reads = λ n. reads-refused (lentTo rows names) n s text (drop at marks) e (drop (t .next) marks)
+          (refusalNumber k) (f .is) (h .refused);
+    })
 
 -- it is done, and the reading goes on behind it
 pub here-next : {rows₀ names₀ marks rows names rows′ names′ : List ℕ} {text : Text} {p₀ p : Progress} {place at : ℕ} {t : TagRecord} {y : Step} (p′ : Progress)
@@ -152,7 +168,8 @@ here-next {rows₀} {names₀} {marks} {rows} {names} {rows′} {names′} {text
     let go = subst (Ended (step (lentTo rows names) (h .s) e) rows names rows′ names′) q (x .ended (h .s) (h .stands) (followed-text f)) in
     let lent = lent-same rows names rows₀ names₀ (w .rowsLength) (w .namesLength) in
     let step-on = reads-on (lentTo rows names) place (h .s) (go .s′) text (drop at marks) e (drop (t .next) marks) (f .is) (go .accepted) in
-    let on = ap (λ (l : Lengths). readFrom l (suc place) (go .s′) text (drop (t .next) marks)) (sym lent) ∙ sym step-on ∙ ap (λ (l : Lengths). readFrom l place (h .s) text (drop at marks)) lent ∙ h .leads in
+    let on = ap (λ (l : Lengths). readFrom l (suc place) (go .s′) text (drop (t .next) marks)) (sym lent) ∙ sym step-on
+    ∙ ap (λ (l : Lengths). readFrom l place (h .s) text (drop at marks)) lent ∙ h .leads in
     record { s = go .s′; stands = go .stands; leads = rw (add-one place) on }
 
 pub reads-next : {rows₀ names₀ marks rows names rows′ names′ : List ℕ} {text : Text} {p₀ p : Progress} {place at : ℕ} {t : TagRecord} {y : Step} (p′ : Progress)

@@ -78,7 +78,8 @@ taken-decided r w q = taken-refused r (λ s at. arrives-on w at ∙ rw (told-ref
 
 -- every other event is due
 pub due-at : {rows names : List ℕ} {text : Text} {marks : List ℕ} {p : Progress} {e : Event} {x : Arrival} {s : State} {a : Action}
-    → Arrives rows text marks p e x → decision text marks (x .decision) ≡ ok a → At s rows names p → eventOk e ≡ true → (done : Handled (s .byStandard) (s .events) e (s .reader) a) → Due rows names text marks p x s e (done .r′)
+    → Arrives rows text marks p e x → decision text marks (x .decision) ≡ ok a → At s rows names p → eventOk e ≡ true
+    → (done : Handled (s .byStandard) (s .events) e (s .reader) a) → Due rows names text marks p x s e (done .r′)
 due-at {e = e} {x = x} {s = s} {a = a} w q at k done =
     let o = proper-parts s (at .proper) in
     let tagged = ap (tagsAfter e) (sym (at .tags)) ∙ w .tagged in
@@ -91,17 +92,21 @@ due-at {e = e} {x = x} {s = s} {a = a} w q at k done =
       decided = q;
       choice = w .choice ∙ at .choice;
       acted = done .acted;
-      properAfter = counted-proper s n (done .r′) (omega (arith, w .more, at .events)) (tags-kept e (s .openTags) n tagged (o .tags)) (reader-kept (s .byStandard) (s .events) e (s .reader) (done .r′) (s .openTags) n tagged (done .handles) k (o .reader)) (numbers-kept (s .byStandard) (s .events) e (s .reader) (done .r′) (o .numbers) (done .handles));
+      properAfter = counted-proper s n (done .r′) (omega (arith, w .more, at .events)) (tags-kept e (s .openTags) n tagged (o .tags))
+          (reader-kept (s .byStandard) (s .events) e (s .reader) (done .r′) (s .openTags) n tagged (done .handles) k (o .reader))
+          (numbers-kept (s .byStandard) (s .events) e (s .reader) (done .r′) (o .numbers) (done .handles));
     }
 
-pub due-room : {rows names : List ℕ} {text : Text} {marks : List ℕ} {p : Progress} {e : Event} {x : Arrival} → EventRoom rows names text p e → Arrives rows text marks p e x → Accepted (decision text marks (x .decision))
+pub due-room : {rows names : List ℕ} {text : Text} {marks : List ℕ} {p : Progress} {e : Event} {x : Arrival} → EventRoom rows names text p e
+    → Arrives rows text marks p e x → Accepted (decision text marks (x .decision))
     → DueRoom rows names text marks p x
 due-room {e = e} room w o =
     let st = room .standing in
     let done = told-accepted (o .0) (w .told) (st .at) (o .1) in
     record { s = st .s; e = e; r = done .r′; due = due-at w (o .1) (st .at) (room .texts) done; lent = st .lent }
 
-pub taken-done : {rows names rows′ names′ : List ℕ} {text : Text} {marks : List ℕ} {p : Progress} {e : Event} {x : Arrival} {y : Step} → Arrives rows text marks p e x → Accepted (decision text marks (x .decision))
+pub taken-done : {rows names rows′ names′ : List ℕ} {text : Text} {marks : List ℕ} {p : Progress} {e : Event} {x : Arrival} {y : Step} → Arrives rows text marks p e x
+    → Accepted (decision text marks (x .decision))
     → Stepped rows names text marks p x y rows′ names′ → EventTaken rows names p e y rows′ names′
 unfolding _andThen_
 taken-done {rows} {names} {rows′} {names′} {e = e} {y = y} w o step =

@@ -15,16 +15,21 @@ returns c =
     read-one (a .rows .now) (a .names .now) (a .text .now) (a .marks .now) (c .refused .ensures) (sym (c .before .before .read-lengths .ensures) ∙ not-true _ (c .before .if1 .taken))
 
 -- behind the tests the lengths are as the paper has them, and the sheet is good
-lengths-pass : (p : tie.Else1) → lengthsPass (p .before .before .before .before .before .before .args .rows .now) (p .before .before .before .before .before .before .args .names .now) (p .before .before .before .before .before .before .args .text .now) (p .before .before .before .before .before .before .args .marks .now) ≡ true
+lengths-pass : (p : tie.Else1)
+    → lengthsPass (p .before .before .before .before .before .before .args .rows .now) (p .before .before .before .before .before .before .args .names .now)
+    (p .before .before .before .before .before .before .args .text .now) (p .before .before .before .before .before .before .args .marks .now) ≡ true
 lengths-pass p = sym (p .before .read-lengths .ensures) ∙ not-false _ (p .if1 .left)
 
-sheet-good : (p : tie.Else2) → good (sheet (p .before .before .before .before .before .before .before .before .before .before .args .rows .now) (p .before .before .before .before .before .before .before .before .before .before .args .names .now)) ≡ true
+sheet-good : (p : tie.Else2) → good
+    (sheet (p .before .before .before .before .before .before .before .before .before .before .args .rows .now)
+    (p .before .before .before .before .before .before .before .before .before .before .args .names .now)) ≡ true
 sheet-good p = sym (p .before .is-good .ensures) ∙ not-false _ (p .if2 .left)
 
 returns-2 : tie.Need-returns-2
 returns-2 c =
     let a = c .before .before .before .before .before .before .before .before .before .before .before .args in
-    read-two (a .rows .now) (a .names .now) (a .text .now) (a .marks .now) (c .refused2 .ensures) (lengths-pass (c .before .before .before .before .before)) (sym (c .before .before .is-good .ensures) ∙ not-true _ (c .before .if2 .taken))
+    read-two (a .rows .now) (a .names .now) (a .text .now) (a .marks .now) (c .refused2 .ensures) (lengths-pass (c .before .before .before .before .before))
+    (sym (c .before .before .is-good .ensures) ∙ not-true _ (c .before .if2 .taken))
 
 read-counted-requires : tie.Need-read-counted-requires
 read-counted-requires c κs =
@@ -34,7 +39,10 @@ read-counted-requires c κs =
 returns-3 : tie.Need-returns-3
 returns-3 c =
     let a = c .before .before .before .before .before .before .before .before .before .before .before .before .before .before .before .before .before .args in
-    read-through (a .rows .now) (a .names .now) (a .text .now) (a .marks .now) (lengths-pass (c .before .before .before .before .before .before .before .before .before .before .before)) (sheet-good (c .before .before .before .before .before .before .before)) (c .before .before .before .before .read-counted .ensures)
+    read-through (a .rows .now) (a .names .now) (a .text .now) (a .marks .now)
+    (lengths-pass (c .before .before .before .before .before .before .before .before .before .before .before))
+    (sheet-good (c .before .before .before .before .before .before .before)) (c .before .before .before .before .read-counted .ensures)
 
 pub read-spec : {M : Type 1} → statement M
-read-spec = tie.close (tie.spec (λ c κs. search needs) (λ c κs. search needs) returns (λ c κs. search needs) (λ c κs. search needs) (λ c. search needs) (λ c. search needs) returns-2 read-counted-requires (λ c. search needs) (λ c. search needs) returns-3)
+read-spec = tie.close (tie.spec (λ c κs. search needs) (λ c κs. search needs) returns (λ c κs. search needs) (λ c κs. search needs) (λ c. search needs)
+    (λ c. search needs) returns-2 read-counted-requires (λ c. search needs) (λ c. search needs) returns-3)

@@ -52,7 +52,9 @@ abbrev readAt : tie.After-finished-place2 → tie.After-read-good
 readAt p = p .before .before .before .before .before .before
 
 end-is : (p : tie.After-finished-place2) → let a = atEntry (readAt p) .args in
-    p .finished-place2 .result ≡ 2 + length (itemsRows (readState (lentTo (a .rows .now) (a .names .now)) (stateOf (sheet (a .rows .now) (a .names .now))) (a .text .now) (a .marks .now) .state .reader .schema .items))
+    p .finished-place2 .result ≡ 2 + length
+    (itemsRows (readState (lentTo (a .rows .now) (a .names .now)) (stateOf (sheet (a .rows .now) (a .names .now))) (a .text .now)
+    (a .marks .now) .state .reader .schema .items))
 end-is p =
     let r = readAt p in
     p .finished-place2 .ensures .0 ∙ place-after (atEntry r .pre) (words-before r) (r .read-good .ensures) (p .finished-place2 .ensures .1)
@@ -63,11 +65,14 @@ count-refused-requires c κs =
     let r = readAt p in
     room-after (atEntry r .pre) (words-before r) (r .read-good .ensures) (p .finished-place2 .ensures .1) (from-is r) (end-is p)
 
-few : (c : tie.After-count-refused) → let r = readAt (c .before .before .before) in (r .before .before .before .before .before .count-in .result) + c .count-refused .result ≤ length (atEntry r .args .rows .now)
+few : (c : tie.After-count-refused)
+    → let r = readAt (c .before .before .before) in (r .before .before .before .before .before .count-in .result) + c .count-refused .result ≤ length
+    (atEntry r .args .rows .now)
 few c =
     let p = c .before .before .before in
     let r = readAt p in
-    count-small (atEntry r .pre) (words-before r) (r .read-good .ensures) (p .finished-place2 .ensures .1) (from-is r) (end-is p) (r .before .before .before .before .before .count-in .ensures) (c .count-refused .ensures)
+    count-small (atEntry r .pre) (words-before r) (r .read-good .ensures) (p .finished-place2 .ensures .1) (from-is r) (end-is p)
+    (r .before .before .before .before .before .count-in .ensures) (c .count-refused .ensures)
 
 add-rows : tie.Need-add-rows
 add-rows c = omega (arith, few c, atEntry (readAt (c .before .before .before)) .pre .lent .fewRows)
@@ -89,7 +94,8 @@ returns : tie.Need-returns
 returns c =
     let p = c .before .before .before in
     let r = readAt p in
-    read-through-count (atEntry r .pre) (words-before r) (r .read-good .ensures) (p .finished-place2 .ensures .1) (from-is r) (end-is p) (r .before .before .before .before .before .count-in .ensures) (c .count-refused .ensures)
+    read-through-count (atEntry r .pre) (words-before r) (r .read-good .ensures) (p .finished-place2 .ensures .1) (from-is r) (end-is p)
+    (r .before .before .before .before .before .count-in .ensures) (c .count-refused .ensures)
 
 pub read-counted-spec : {M : Type 1} → statement M
 read-counted-spec =

@@ -17,7 +17,8 @@ read-records-requires c κs =
 row0-of-requires : tie.Need-row0-of-requires
 row0-of-requires c κs =
     let from = c .before .before .before .before .before .before .before .progress-of .ensures in
-    reached-small (c .before .before .before .before .before .before .before .before .before .before .before .before .before .pre) (from .1) (from .0) (c .before .before .before .before .read-records .ensures)
+    reached-small (c .before .before .before .before .before .before .before .before .before .before .before .before .before .pre) (from .1) (from .0)
+    (c .before .before .before .before .read-records .ensures)
 
 put-row0-requires : tie.Need-put-row0-requires
 put-row0-requires c κs =
@@ -27,7 +28,9 @@ put-row0-requires c κs =
 returns : tie.Need-returns
 returns c =
     let from = c .before .before .before .before .before .before .before .before .before .before .before .before .progress-of .ensures in
-    good-read (c .before .before .before .before .before .before .before .before .before .before .before .before .before .before .before .before .before .before .pre) (from .1) (from .0) (c .before .before .before .before .before .before .before .before .before .read-records .ensures) (c .before .before .before .before .row0-of .ensures) (c .before .before .put-row0 .ensures)
+    good-read (c .before .before .before .before .before .before .before .before .before .before .before .before .before .before .before .before .before .before .pre)
+    (from .1) (from .0) (c .before .before .before .before .before .before .before .before .before .read-records .ensures)
+    (c .before .before .before .before .row0-of .ensures) (c .before .before .put-row0 .ensures)
 
 pub read-good-spec : {M : Type 1} → statement M
 read-good-spec = tie.close (tie.spec progress-of-requires read-records-requires row0-of-requires put-row0-requires (λ c. search needs) (λ c. search needs) returns)

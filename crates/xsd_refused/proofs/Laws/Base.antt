@@ -17,4 +17,5 @@ use Rattle.xsd_types.proofs.Laws.Places.{text1-at}
 pub rowAt-base : (rows names : List ℕ) (p : ℕ) → getD rows (10 * p) 0 ≡ 3 → text1 (rowAt rows names p) ≡ textAt names (getD rows (10 * p + 3) 0) (getD rows (10 * p + 3 + 1) 0)
 unfolding rowAt ten usedPairs between
 rowAt-base rows names p e =
-    text1-at names (ten (drop (10 * p) rows)) (rw (getD-drop (10 * p) rows 0 0 ∙ ap (λ (n : ℕ). getD rows n 0) (add-zero (10 * p)) ∙ e) (omega arith)) ∙ ap₂ (textAt names) (getD-drop (10 * p) rows 3 0) (getD-drop (10 * p) rows 4 0 ∙ ap (λ (n : ℕ). getD rows n 0) (omega arith))
+    text1-at names (ten (drop (10 * p) rows)) (rw (getD-drop (10 * p) rows 0 0 ∙ ap (λ (n : ℕ). getD rows n 0) (add-zero (10 * p)) ∙ e) (omega arith))
+    ∙ ap₂ (textAt names) (getD-drop (10 * p) rows 3 0) (getD-drop (10 * p) rows 4 0 ∙ ap (λ (n : ℕ). getD rows n 0) (omega arith))

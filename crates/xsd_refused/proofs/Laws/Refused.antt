@@ -33,7 +33,8 @@ module _ (rows names : List ℕ) (p : ℕ) (rs : List Row) where
   unfolding refusedRow
   kept-code-enum e f = rw (rowAt-tag rows names p, e, f)
 
-  pub refused-by-base : {base : Text} {n : ℕ} → getD rows (10 * p) 0 ≡ 3 → isCodeEnum rs ≡ false → base ≡ textAt names (getD rows (10 * p + 3) 0) (getD rows (10 * p + 3 + 1) 0) → n ≡ reference (mapBuiltin base) → eqb n 0 ≡ refusedRow (rowAt rows names p) rs
+  pub refused-by-base : {base : Text} {n : ℕ} → getD rows (10 * p) 0 ≡ 3 → isCodeEnum rs ≡ false
+      → base ≡ textAt names (getD rows (10 * p + 3) 0) (getD rows (10 * p + 3 + 1) 0) → n ≡ reference (mapBuiltin base) → eqb n 0 ≡ refusedRow (rowAt rows names p) rs
   unfolding refusedRow
   refused-by-base {base} e f b r =
       rw (rowAt-base rows names p e, rowAt-tag rows names p, e, f, ← b, r) (reference-none (mapBuiltin base))
@@ -47,6 +48,7 @@ module _ (rows names : List ℕ) (p end : ℕ) where
   unfolding refusedPlace
   refused-at h e = rw (rowsFrom-cons rows names p end h, e)
 
-  pub refused-not-at : p < end → refusedRow (rowAt rows names p) (rowsFrom rows names (p + 1) end) ≡ false → refusedPlace (p + 1) (rowsFrom rows names (p + 1) end) ≡ refusedPlace p (rowsFrom rows names p end)
+  pub refused-not-at : p < end → refusedRow (rowAt rows names p) (rowsFrom rows names (p + 1) end) ≡ false
+      → refusedPlace (p + 1) (rowsFrom rows names (p + 1) end) ≡ refusedPlace p (rowsFrom rows names p end)
   unfolding refusedPlace
   refused-not-at h e = rw (rowsFrom-cons rows names p end h, e)

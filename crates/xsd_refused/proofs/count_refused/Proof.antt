@@ -41,8 +41,12 @@ loop-again c =
     let args = at .before .before .before .args in
     let told = c .before .is-refused .ensures in
     let counted = count-at (args .rows .now) (args .names .now) (at .loop .p) (args .end) (omega arith) in
-    let passed = count-not-at (args .rows .now) (args .names .now) (at .loop .p) (args .end) (omega arith) in
-    (omega arith, omega arith, ⊎-elim (λ w. omega (arith, at .loop .inv, counted (sym told ∙ w .0 .taken), w .1)) (λ w. omega (arith, at .loop .inv, passed (sym told ∙ w .0 .left), w .1)) (c .if1 .came))
+    let passed = count-not-at (args .rows .now) (args .names .now) (at .loop .p) (args .end) (omega arith) in (
+      omega arith,
+      omega arith,
+      ⊎-elim (λ w. omega (arith, at .loop .inv, counted (sym told ∙ w .0 .taken), w .1))
+          (λ w. omega (arith, at .loop .inv, passed (sym told ∙ w .0 .left), w .1)) (c .if1 .came),
+    )
 
 returns : tie.Need-returns Inv-loop μ-loop
 returns c =

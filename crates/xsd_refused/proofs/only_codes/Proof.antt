@@ -33,7 +33,8 @@ returns c =
     let at = c .before .before .before .before in
     let args = at .before .before .args in
     let tag = c .before .before .row-tag .ensures in
-    λ names. ap not (c .in-range .ensures ∙ ap (between 5 11) tag) ∙ codes-not-at (args .rows .now) names (at .loop .p) (args .end) (omega arith) (λ e. c .before .if1 .taken (tag ∙ e)) ∙ at .loop .inv names
+    λ names. ap not (c .in-range .ensures ∙ ap (between 5 11) tag)
+    ∙ codes-not-at (args .rows .now) names (at .loop .p) (args .end) (omega arith) (λ e. c .before .if1 .taken (tag ∙ e)) ∙ at .loop .inv names
 
 add-p : tie.Need-add-p Inv-loop μ-loop
 add-p c = omega arith

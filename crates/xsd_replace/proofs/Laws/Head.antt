@@ -93,7 +93,8 @@ module _ {rows names z : List ℕ} {used : Used} {place : ℕ} {rs : List Row} {
       f ∙ rows-more rows₁ z rs r place (length rows) (h .holds .packs .ten) (head-freed-rows (10 * (used .rows - place)) refl e) (h .here) (omega (arith, head-numbers h))
 
   -- the names behind the head's first text are freed
-  head-freed-names : {names₁ : List ℕ} (end m : ℕ) → length (namesOf rs ++ name) ≡ end → m ≡ used .names - end → names₁ ≡ paste names end (zeros m) m → names₁ ≡ filled (length names) (namesOf rs ++ name)
+  head-freed-names : {names₁ : List ℕ} (end m : ℕ) → length (namesOf rs ++ name) ≡ end → m ≡ used .names - end → names₁ ≡ paste names end (zeros m) m
+      → names₁ ≡ filled (length names) (namesOf rs ++ name)
   head-freed-names end m at size e =
       let more = join (h .more) ++ namesOf (h .kids) in
       let whole = names-head rs (h .kids) (h .tag) name (h .more) (h .a) (h .b) (h .c) in

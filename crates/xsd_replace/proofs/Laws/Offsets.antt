@@ -148,7 +148,9 @@ module _ {rows goal : List ℕ} {i end at total : ℕ} (x : First rows i end at 
         behind = x .behind;
         ts = x .ts;
         us = x .us;
-        rowsAre = e ∙ ap (λ (l : List ℕ). paste l (10 * i) new 10) whole ∙ paste-at (x .before) (numbers (x .t ∷ [])) rest new (10 * i) 10 (x .place) refl (length-numbersOf at (x .r)) ∙ sym (append-assoc (x .before ++ new) (numbers (x .ts)) (x .behind));
+        rowsAre = e ∙ ap (λ (l : List ℕ). paste l (10 * i) new 10) whole
+            ∙ paste-at (x .before) (numbers (x .t ∷ [])) rest new (10 * i) 10 (x .place) refl (length-numbersOf at (x .r))
+            ∙ sym (append-assoc (x .before ++ new) (numbers (x .ts)) (x .behind));
         like = x .like;
         place = length-append (x .before) new ∙ omega (arith, x .place, length-numbersOf at (x .r));
         count = x .count;

@@ -72,7 +72,8 @@ module _ (k tag : ℕ) (old : Text) (a b c : ℕ) where
   changed-ten new front = refl
   changed-ten new back = refl
 
-  pub changed-like : {before behind : List Text} (new : Text) → Stands before behind → RightPairs (row tag (before ++ new ∷ behind) a b c) → LikeRow (ten (changed before behind new)) (row tag (before ++ new ∷ behind) a b c)
+  pub changed-like : {before behind : List Text} (new : Text) → Stands before behind → RightPairs (row tag (before ++ new ∷ behind) a b c)
+      → LikeRow (ten (changed before behind new)) (row tag (before ++ new ∷ behind) a b c)
   unfolding numbersOf numbers packRow pairs row ten
   changed-like new alone h = record { right = h; tag = refl; len0 = refl; len1 = refl; a = refl; b = refl; c = refl }
   changed-like new front h = record { right = h; tag = refl; len0 = refl; len1 = refl; a = refl; b = refl; c = refl }
@@ -139,8 +140,10 @@ spot-numbers {rows} {names} {used} {place} {pair} {x} h =
     let few : pair ≤ 1 = omega (arith, h .there, h .right .few) in
     record {
       first = number-at (x .rs) (x .us) r 1 (10 * place + 1) p (omega (arith, h .here)) (omega arith) ∙ row-start k (x .tag) (x .old) (x .a) (x .b) (x .c) s;
-      start = number-at (x .rs) (x .us) r (2 * length (x .before) + 1) (10 * place + 2 * pair + 1) p (omega (arith, h .here, h .there)) (omega (arith, h .there)) ∙ pair-start k (x .tag) (x .old) (x .a) (x .b) (x .c) s;
-      long = number-at (x .rs) (x .us) r (2 * length (x .before) + 1 + 1) (10 * place + 2 * pair + 1 + 1) p (omega (arith, h .here, h .there)) (omega (arith, h .there)) ∙ pair-long k (x .tag) (x .old) (x .a) (x .b) (x .c) s;
+      start = number-at (x .rs) (x .us) r (2 * length (x .before) + 1) (10 * place + 2 * pair + 1) p (omega (arith, h .here, h .there)) (omega (arith, h .there))
+          ∙ pair-start k (x .tag) (x .old) (x .a) (x .b) (x .c) s;
+      long = number-at (x .rs) (x .us) r (2 * length (x .before) + 1 + 1) (10 * place + 2 * pair + 1 + 1) p (omega (arith, h .here, h .there)) (omega (arith, h .there))
+          ∙ pair-long k (x .tag) (x .old) (x .a) (x .b) (x .c) s;
       bytes = h .holds .namesUsed ∙ simp length-append all;
       namesRoom = rw (h .holds .namesUsed) (names-fit p);
       inside = omega (arith, h .here, h .holds .rowsUsed);
@@ -164,7 +167,8 @@ module _ {rows names : List ℕ} {used : Used} {place pair : ℕ} {x : Spot} (h 
       let p = h .holds .packs in
       let g = spot-numbers h in
       ap (λ (l : List ℕ). set l (10 * place + 2 * pair + 1 + 1) (length new)) (p .rowsAre ∙ filled-around (length rows) (x .z) (x .rs) (x .us) r (p .ten))
-      ∙ rw (← h .holds .rowsUsed) (set-middle (x .z ++ numbers (pack 0 (x .rs))) (numbersOf k r) (numbers (pack (k + length (join (r .texts))) (x .us))) (zeros (length rows - 10 * used .rows)) (2 * length (x .before) + 1 + 1) (10 * place + 2 * pair + 1 + 1) (length new)
+      ∙ rw (← h .holds .rowsUsed) (set-middle (x .z ++ numbers (pack 0 (x .rs))) (numbersOf k r) (numbers (pack (k + length (join (r .texts))) (x .us)))
+      (zeros (length rows - 10 * used .rows)) (2 * length (x .before) + 1 + 1) (10 * place + 2 * pair + 1 + 1) (length new)
       (rw (used-length (x .z) (x .rs) (p .ten)) (omega (arith, h .here, h .there))) (rw (length-numbersOf k r) (omega (arith, g .few, h .there))))
 
   -- all rows with the new text
@@ -176,7 +180,8 @@ module _ {rows names : List ℕ} {used : Used} {place pair : ℕ} {x : Spot} (h 
       ∙ rw (count, pack-first (length (namesOf (x .rs))) (spotRow x new) (x .us))
 
   spot-here : length (namesOf (spotRows x new)) ≤ 65536
-      → Offsets (set rows (10 * place + 2 * pair + 1 + 1) (length new)) place (used .rows) (length (namesOf (x .rs))) (filled (length rows) (x .z ++ numbers (pack 0 (spotRows x new)))) (length (namesOf (spotRows x new)))
+      → Offsets (set rows (10 * place + 2 * pair + 1 + 1) (length new)) place (used .rows) (length (namesOf (x .rs)))
+      (filled (length rows) (x .z ++ numbers (pack 0 (spotRows x new)))) (length (namesOf (spotRows x new)))
   unfolding numbers row
   spot-here room =
       let k = length (namesOf (x .rs)) in

@@ -37,7 +37,9 @@ unfolding itemsRows itemGroup
 grouped-body [] c = grouped-context c
 grouped-body (i ∷ is) c =
     let rest = grouped-body is c in
-    ap grouped (append-assoc (itemRows i) (itemsRows is) (contextRows c)) ∙ grouped-group (itemRows i) (itemsRows is ++ contextRows c) (group-item i) (ap (λ (g : Grouped). g .loose) rest) ∙ ap (λ (g : Grouped). record { loose = []; groups = asGroup (itemRows i) ∷ g .groups }) rest
+    ap grouped (append-assoc (itemRows i) (itemsRows is) (contextRows c))
+    ∙ grouped-group (itemRows i) (itemsRows is ++ contextRows c) (group-item i) (ap (λ (g : Grouped). g .loose) rest)
+    ∙ ap (λ (g : Grouped). record { loose = []; groups = asGroup (itemRows i) ∷ g .groups }) rest
 
 pub closed-back : (is : List Item) → itemsOf false (map itemGroup is ++ []) ≡ is
 unfolding itemsOf itemGroup
@@ -79,13 +81,20 @@ openComplex flag g n = Context.inComplexType (record { name = text0 (g .head); c
 
 pub simple-open : (t : SimpleTypeBuilder) → openSimple (asGroup (simpleTypeRows (t .event) (t .name) (t .base) (t .facets))) (t .nestingDepth) ≡ Context.inSimpleType t
 unfolding openSimple asGroup simpleTypeRows row text0 text1
-simple-open t = ap (λ (fs : List Facet). Context.inSimpleType (record { name = t .name; base = t .base; facets = fs; nestingDepth = t .nestingDepth; event = t .event })) (map-back facetRow facetOf facet-back (t .facets))
+simple-open t = ap (λ (fs : List Facet). Context.inSimpleType (record { name = t .name; base = t .base; facets = fs; nestingDepth = t .nestingDepth; event = t .event }))
+    (map-back facetRow facetOf facet-back (t .facets))
 
 pub complex-open : (t : ComplexTypeBuilder) → openComplex (eqb (contentFlag (t .content)) 1) (asGroup (complexTypeRows (t .event) (t .name) (t .content))) (t .nestingDepth) ≡ Context.inComplexType t
 unfolding openComplex
 complex-open t =
     let content = ap (λ (b : Bool). contentOf b (asGroup (complexTypeRows (t .event) (t .name) (t .content)))) (flag-back (t .content)) ∙ content-back (t .event) (t .name) (t .content) in
-    λ i. Context.inComplexType (record { name = name-back (t .event) (t .name) (t .content) i; content = content i; nestingDepth = t .nestingDepth; event = event-back (t .event) (t .name) (t .content) i })
+    λ i. Context.inComplexType (record {
+      name = name-back (t .event) (t .name) (t .content) i;
+      content = content i;
+      nestingDepth = t .nestingDepth;
+      event = event-back
+          (t .event) (t .name) (t .content) i;
+    })
 
 pub context-back : (s : State) (is : List Item) (c : Context) → s .reader .context ≡ c → contextOf (row0 s) (map itemGroup is ++ openGroups c) ≡ c
 unfolding contextOf row0 openGroups contextNumber nesting extensionFlag openSimple openComplex
@@ -101,4 +110,14 @@ state-back s =
     let c = s .reader .context in
     let items = ap (λ (g : Grouped). itemsOf (leb 2 (contextNumber c)) (g .groups)) (grouped-body is c) ∙ items-back is c in
     let context = ap (λ (g : Grouped). contextOf (row0 s) (g .groups)) (grouped-body is c) ∙ context-back s is c refl in
-    λ i. record { reader = record { schema = record { targetNamespace = s .reader .schema .targetNamespace; items = items i }; rootSeen = bit-back (s .reader .rootSeen) i; context = context i }; events = s .events; openTags = s .openTags; byStandard = bit-back (s .byStandard) i }
+    λ i. record {
+      reader = record {
+        schema = record { targetNamespace = s .reader .schema .targetNamespace; items = items i };
+        rootSeen = bit-back
+            (s .reader .rootSeen) i;
+        context = context i;
+      };
+      events = s .events;
+      openTags = s .openTags;
+      byStandard = bit-back (s .byStandard) i;
+    }

@@ -62,8 +62,10 @@ unfolding paperGood paperForm
 paper-choice x g =
     let z = row0In x in
     let ts = tensOf x in
-    let before = usedParts x && paperForm z && rowsForm ts && namesForm (z .namesUsed) ts && zerosBehind x && namesTest x && limits z && rootTest z && paperNesting z && contextTest (z .context) (headOf ts) && extensionTest z (headOf ts) in
-    let e = eleven (usedParts x) (paperForm z) (rowsForm ts) (namesForm (z .namesUsed) ts) (zerosBehind x) (namesTest x) (limits z) (rootTest z) (paperNesting z) (contextTest (z .context) (headOf ts)) (extensionTest z (headOf ts)) (and-true-left before (noNumbers ts) g) in
+    let before = usedParts x && paperForm z && rowsForm ts && namesForm (z .namesUsed) ts && zerosBehind x && namesTest x && limits z && rootTest z && paperNesting z
+    && contextTest (z .context) (headOf ts) && extensionTest z (headOf ts) in
+    let e = eleven (usedParts x) (paperForm z) (rowsForm ts) (namesForm (z .namesUsed) ts) (zerosBehind x) (namesTest x) (limits z) (rootTest z) (paperNesting z)
+    (contextTest (z .context) (headOf ts)) (extensionTest z (headOf ts)) (and-true-left before (noNumbers ts) g) in
     eqb-true (z .choice) 0 (and-true-right (eqb (z .first) 0 && leb (z .context) 3 && isFlag (z .rootSeen) && isFlag (z .extension)) _ (e .1))
 
 pub paper-none : (x : Sheet) → paperGood x ≡ true → noNumbers (tensOf x) ≡ true
@@ -71,7 +73,8 @@ unfolding paperGood
 paper-none x g =
     let z = row0In x in
     let ts = tensOf x in
-    let before = usedParts x && paperForm z && rowsForm ts && namesForm (z .namesUsed) ts && zerosBehind x && namesTest x && limits z && rootTest z && paperNesting z && contextTest (z .context) (headOf ts) && extensionTest z (headOf ts) in
+    let before = usedParts x && paperForm z && rowsForm ts && namesForm (z .namesUsed) ts && zerosBehind x && namesTest x && limits z && rootTest z && paperNesting z
+    && contextTest (z .context) (headOf ts) && extensionTest z (headOf ts) in
     and-true-right before (noNumbers ts) g
 
 -- every sheet that paper 01 calls good is good now, and these are all with choice 0 and no numbers

@@ -135,7 +135,9 @@ module _ (s : State) (r n : ℕ) where
       (set-set (bareSheetOf s r n .rows) 17 (countOf s) 0 ∙ ap (set (bareSheetOf s r n .rows) 17) (sym zero-there) ∙ set-getD (bareSheetOf s r n .rows) 17 0)
 
   -- "Keep that count in row 1 under a": the sheet is the packing of the state's rows with the count there
-  pub sheetOf-rows : sheetOf s r n ≡ sheetOfRows (row0Ten (row0 s)) (row 1 (s .reader .schema .targetNamespace ∷ []) (countOf s) 0 0 ∷ (itemsRows (s .reader .schema .items) ++ contextRows (s .reader .context))) r n
+  pub sheetOf-rows : sheetOf s r n
+      ≡ sheetOfRows (row0Ten (row0 s))
+      (row 1 (s .reader .schema .targetNamespace ∷ []) (countOf s) 0 0 ∷ (itemsRows (s .reader .schema .items) ++ contextRows (s .reader .context))) r n
   unfolding sheetOf withCount bareSheetOf sheetOfRows filled numbers rowsOf pack packRow namesOf namespaceRow namespaceA row
   sheetOf-rows = refl
 

@@ -81,7 +81,13 @@ module _ (events : ℕ) where
   unfolding itemsRows every
   body-events [] c = context-events c
   body-events (i ∷ is) c =
-      rw (append-assoc (itemRows i) (itemsRows is) (contextRows c), every-append (eventRow events) (itemRows i) (itemsRows is ++ contextRows c), item-events i, body-events is c, and-assoc (itemPasses (numbered events) i) (every (itemPasses (numbered events)) is) (openPasses (numbered events) c))
+      rw (
+        append-assoc (itemRows i) (itemsRows is) (contextRows c),
+        every-append (eventRow events) (itemRows i) (itemsRows is ++ contextRows c),
+        item-events i,
+        body-events is c,
+        and-assoc (itemPasses (numbered events) i) (every (itemPasses (numbered events)) is) (openPasses (numbered events) c),
+      )
 
   -- packing and reading keep c
   pub events-pack : (k : ℕ) (rs : List Row) → eventsTest events (pack k rs) ≡ every (eventRow events) rs

@@ -118,39 +118,47 @@ module _ (r : Row) (ls : List Row) (s : soundRow r ≡ true) (w : wordRow r ≡ 
   pub headed-any : r .tag ≡ 15 → every (looseRow 15) ls ≡ true → (a : ℕ) → r .a ≡ a → isFlag a ≡ true → Headed r ls
   unfolding itemOk itemRows complexTypeRows started contentOk namespaceOk usesB usedPairs between isChild isFlag
   headed-any t e zero f g =
-      Headed.item (Item.complexType (record { name = text0 r; content = ComplexContent.any none; event = r .c })) (and-true (text0-ok r s) refl) (rw (no-loose 15 (λ n. refl) ls e) (ap (λ (x : Row). x ∷ []) (shape r 15 t s (text0 r ∷ []) 0 0 (r .c) (one-used r 15 t s (rw f)) f (zero-b r 15 t s refl) refl)))
+      Headed.item (Item.complexType (record { name = text0 r; content = ComplexContent.any none; event = r .c })) (and-true (text0-ok r s) refl)
+      (rw (no-loose 15 (λ n. refl) ls e) (ap (λ (x : Row). x ∷ []) (shape r 15 t s (text0 r ∷ []) 0 0 (r .c) (one-used r 15 t s (rw f)) f (zero-b r 15 t s refl) refl)))
   headed-any t e (suc zero) f g =
-      Headed.item (Item.complexType (record { name = text0 r; content = ComplexContent.any (some (text1 r)); event = r .c })) (and-true (text0-ok r s) (text1-ok r s)) (rw (no-loose 15 (λ n. refl) ls e) (ap (λ (x : Row). x ∷ []) (shape r 15 t s (text0 r ∷ text1 r ∷ []) 1 0 (r .c) (two-used r 15 t s (rw f)) f (zero-b r 15 t s refl) refl)))
+      Headed.item (Item.complexType (record { name = text0 r; content = ComplexContent.any (some (text1 r)); event = r .c })) (and-true (text0-ok r s) (text1-ok r s))
+      (rw (no-loose 15 (λ n. refl) ls e)
+      (ap (λ (x : Row). x ∷ []) (shape r 15 t s (text0 r ∷ text1 r ∷ []) 1 0 (r .c) (two-used r 15 t s (rw f)) f (zero-b r 15 t s refl) refl)))
   headed-any t e (suc (suc a)) f g = absurd (omega (arith, leb-true (suc (suc a)) 1 g))
 
   pub headed-element : r .tag ≡ 2 → every (looseRow 2) ls ≡ true → Headed r ls
   unfolding itemOk elementOk itemRows usesA usesB usedPairs between isChild
   headed-element t e =
-      Headed.item (Item.element (record { name = text0 r; typeName = text1 r; event = r .c })) (and-true (text0-ok r s) (text1-ok r s)) (rw (no-loose 2 (λ n. refl) ls e) (ap (λ (x : Row). x ∷ []) (plain-two r s w 2 (r .c) t refl refl refl refl)))
+      Headed.item (Item.element (record { name = text0 r; typeName = text1 r; event = r .c })) (and-true (text0-ok r s) (text1-ok r s))
+      (rw (no-loose 2 (λ n. refl) ls e) (ap (λ (x : Row). x ∷ []) (plain-two r s w 2 (r .c) t refl refl refl refl)))
 
   pub headed-simple : r .tag ≡ 3 → every (looseRow 3) ls ≡ true → Headed r ls
   unfolding itemOk itemRows simpleTypeRows usesA usesB usedPairs between
   headed-simple t e =
       let cs = rows-of facetOk facetRow (looseRow 3) loose-facet ls e in
-      Headed.item (Item.simpleType (record { name = text0 r; base = text1 r; facets = cs .values; event = r .c })) (and-true (and-true (text0-ok r s) (text1-ok r s)) (cs .valuesOk)) (λ i. plain-two r s w 3 (r .c) t refl refl refl refl i ∷ cs .same i)
+      Headed.item (Item.simpleType (record { name = text0 r; base = text1 r; facets = cs .values; event = r .c }))
+      (and-true (and-true (text0-ok r s) (text1-ok r s)) (cs .valuesOk)) (λ i. plain-two r s w 3 (r .c) t refl refl refl refl i ∷ cs .same i)
 
   pub headed-sequence : r .tag ≡ 12 → every (looseRow 12) ls ≡ true → Headed r ls
   unfolding itemOk itemRows complexTypeRows started contentOk usesA usesB usedPairs between
   headed-sequence t e =
       let cs = rows-of sequenceElementOk elementRow (looseRow 12) loose-element ls e in
-      Headed.item (Item.complexType (record { name = text0 r; content = ComplexContent.sequence (cs .values); event = r .c })) (and-true (text0-ok r s) (cs .valuesOk)) (λ i. plain-one r s w 12 (r .c) t refl refl refl refl i ∷ cs .same i)
+      Headed.item (Item.complexType (record { name = text0 r; content = ComplexContent.sequence (cs .values); event = r .c })) (and-true (text0-ok r s) (cs .valuesOk))
+      (λ i. plain-one r s w 12 (r .c) t refl refl refl refl i ∷ cs .same i)
 
   pub headed-choice : r .tag ≡ 13 → every (looseRow 13) ls ≡ true → Headed r ls
   unfolding itemOk itemRows complexTypeRows started contentOk usesA usesB usedPairs between
   headed-choice t e =
       let cs = rows-of choiceVariantOk variantRow (looseRow 13) loose-variant ls e in
-      Headed.item (Item.complexType (record { name = text0 r; content = ComplexContent.choice (cs .values); event = r .c })) (and-true (text0-ok r s) (cs .valuesOk)) (λ i. plain-one r s w 13 (r .c) t refl refl refl refl i ∷ cs .same i)
+      Headed.item (Item.complexType (record { name = text0 r; content = ComplexContent.choice (cs .values); event = r .c })) (and-true (text0-ok r s) (cs .valuesOk))
+      (λ i. plain-one r s w 13 (r .c) t refl refl refl refl i ∷ cs .same i)
 
   pub headed-content : r .tag ≡ 14 → every (looseRow 14) ls ≡ true → Headed r ls
   unfolding itemOk itemRows complexTypeRows started contentOk usesA usesB usedPairs between
   headed-content t e =
       let cs = rows-of attributeOk attributeRow (looseRow 14) loose-attribute ls e in
-      Headed.item (Item.complexType (record { name = text0 r; content = ComplexContent.simpleContent (text1 r) (cs .values); event = r .c })) (and-true (text0-ok r s) (and-true (text1-ok r s) (cs .valuesOk))) (λ i. plain-two r s w 14 (r .c) t refl refl refl refl i ∷ cs .same i)
+      Headed.item (Item.complexType (record { name = text0 r; content = ComplexContent.simpleContent (text1 r) (cs .values); event = r .c }))
+      (and-true (text0-ok r s) (and-true (text1-ok r s) (cs .valuesOk))) (λ i. plain-two r s w 14 (r .c) t refl refl refl refl i ∷ cs .same i)
 
   pub headed-absent : r .tag ≡ 16 → Headed r ls
   unfolding complexTypeRows usesA usesB usedPairs between

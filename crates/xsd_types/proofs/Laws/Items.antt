@@ -127,7 +127,8 @@ unfolding contentOf flagIn asGroup complexTypeRows row text1
 content-back event name ComplexContentBuilder.empty = refl
 content-back event name (ComplexContentBuilder.sequence es) = ap ComplexContentBuilder.sequence (map-back elementRow elementOf element-back es)
 content-back event name (ComplexContentBuilder.choice vs) = ap ComplexContentBuilder.choice (map-back variantRow variantOf variant-back vs)
-content-back event name (ComplexContentBuilder.simpleContent base xs flag) = ap (λ (l : List Attribute). ComplexContentBuilder.simpleContent base l flag) (map-back attributeRow attributeOf attribute-back xs)
+content-back event name (ComplexContentBuilder.simpleContent base xs flag) = ap (λ (l : List Attribute). ComplexContentBuilder.simpleContent base l flag)
+    (map-back attributeRow attributeOf attribute-back xs)
 content-back event name (ComplexContentBuilder.any none) = refl
 content-back event name (ComplexContentBuilder.any (some n)) = refl
 

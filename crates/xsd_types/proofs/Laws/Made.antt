@@ -11,7 +11,8 @@ use Rattle.sheet.specs.Rows.{Ten, Row, row, bit, packRow, pack, namesOf}
 use Rattle.sheet.specs.Form.{isFlag}
 use Rattle.xsd_types.specs.Types.{Item}
 use Rattle.xsd_types.specs.State.{ComplexContentBuilder, facetOk, contentOk, Context, State, contextOk, isNoContext, isEmpty}
-use Rattle.xsd_types.specs.Rows.{namespaceRow, simpleTypeRows, complexTypeRows, itemRows, itemsRows, contextRows, rowsOf, contextNumber, nesting, contentFlag, extensionFlag, rowsUsed, namesUsed, row0}
+use Rattle.xsd_types.specs.Rows.{namespaceRow, simpleTypeRows, complexTypeRows, itemRows, itemsRows, contextRows, rowsOf, contextNumber, nesting, contentFlag}
+use Rattle.xsd_types.specs.Rows.{extensionFlag, rowsUsed, namesUsed, row0}
 use Rattle.xsd_types.specs.Good.{inOrder, lastHead, tenForm, rootTest, contextTest}
 use Rattle.xsd_types.proofs.Laws.Row0.{nestedOk}
 use Rattle.xsd_types.proofs.Laws.Order.{tags, tags-append, inOrder-append, lastHead-append}
@@ -37,7 +38,13 @@ order-items n [] o = o
 order-items n (i ∷ is) o =
     let h = headTag (itemRows i) in
     let l : lastHead n (tags (itemRows i)) ≡ h = lastHead-group n (itemRows i) (group-item i) in
-    rw (tags-append (itemRows i) (itemsRows is), inOrder-append n (tags (itemRows i)) (tags (itemsRows is)), lastHead-append n (tags (itemRows i)) (tags (itemsRows is)), l, inOrder-group n (itemRows i) o (group-item i)) (order-items h is (head-item i))
+    rw (
+      tags-append (itemRows i) (itemsRows is),
+      inOrder-append n (tags (itemRows i)) (tags (itemsRows is)),
+      lastHead-append n (tags (itemRows i)) (tags (itemsRows is)),
+      l,
+      inOrder-group n (itemRows i) o (group-item i),
+    ) (order-items h is (head-item i))
 
 pub order-context : (n : ℕ) (c : Context) → not (eqb n 16) ≡ true → inOrder n (tags (contextRows c)) ≡ true
 unfolding contextRows inOrder
@@ -74,7 +81,9 @@ unfolding contextTest contextNumber contextRows headTag simpleTypeRows row
 test-context n is Context.noContext o = rw (append-nil (itemsRows is)) (and-true-right (inOrder n (tags (itemsRows is))) _ (order-items n is o))
 test-context n is (Context.inSchema depth) o = rw (append-nil (itemsRows is)) (and-true-right (inOrder n (tags (itemsRows is))) _ (order-items n is o))
 test-context n is (Context.inSimpleType t) o = rw (head-behind n (itemsRows is) (simpleTypeRows (t .event) (t .name) (t .base) (t .facets)) (group-simple (t .event) (t .name) (t .base) (t .facets)))
-test-context n is (Context.inComplexType t) o = rw (head-behind n (itemsRows is) (complexTypeRows (t .event) (t .name) (t .content)) (group-complex (t .event) (t .name) (t .content))) (head-complex (t .event) (t .name) (t .content))
+test-context n is (Context.inComplexType t) o = rw
+    (head-behind n (itemsRows is) (complexTypeRows (t .event) (t .name) (t .content)) (group-complex (t .event) (t .name) (t .content)))
+    (head-complex (t .event) (t .name) (t .content))
 
 pub flag-complex : (event : ℕ) (name : Text) (c : ComplexContentBuilder) → eqb (contentFlag c) 0 || eqb (headTag (complexTypeRows event name c)) 14 ≡ true
 unfolding headTag complexTypeRows row contentFlag
@@ -89,7 +98,9 @@ unfolding extensionFlag contextNumber contextRows
 test-extension n is Context.noContext = refl
 test-extension n is (Context.inSchema depth) = refl
 test-extension n is (Context.inSimpleType t) = refl
-test-extension n is (Context.inComplexType t) = rw (head-behind n (itemsRows is) (complexTypeRows (t .event) (t .name) (t .content)) (group-complex (t .event) (t .name) (t .content))) (flag-complex (t .event) (t .name) (t .content))
+test-extension n is (Context.inComplexType t) = rw
+    (head-behind n (itemsRows is) (complexTypeRows (t .event) (t .name) (t .content)) (group-complex (t .event) (t .name) (t .content)))
+    (flag-complex (t .event) (t .name) (t .content))
 
 pub test-nesting : (byStandard : Bool) (c : Context) (openTags : ℕ) → contextOk byStandard c openTags ≡ true → nestedOk byStandard (contextNumber c) (nesting c) openTags ≡ true
 unfolding contextOk contextNumber nesting nestedOk

@@ -78,7 +78,8 @@ flagged-ok (ComplexContent.any n) f = refl
 pub zero-flag : (b : ℕ) → eqb b 0 || false ≡ true → 0 ≡ b
 zero-flag b e = sym (eqb-true b 0 (rw (or-false (eqb b 0)) at e))
 
-pub flagged-flag : (event : ℕ) (name : Text) (c : ComplexContent) (b : ℕ) → isFlag b ≡ true → eqb b 0 || eqb (headTag (complexTypeRows event name (started c))) 14 ≡ true → contentFlag (flagged c (eqb b 1)) ≡ b
+pub flagged-flag : (event : ℕ) (name : Text) (c : ComplexContent) (b : ℕ) → isFlag b ≡ true → eqb b 0 || eqb (headTag (complexTypeRows event name (started c))) 14 ≡ true
+    → contentFlag (flagged c (eqb b 1)) ≡ b
 unfolding complexTypeRows started flagged contentFlag headTag row
 flagged-flag event name (ComplexContent.sequence es) b f e = zero-flag b e
 flagged-flag event name (ComplexContent.choice vs) b f e = zero-flag b e
@@ -109,14 +110,16 @@ module _ (byStandard : Bool) (depth openTags flag : ℕ) (rs : List Row) (is : L
   unfolding contextRows contextOk contextNumber nesting extensionFlag
   open-schema e f l = record { items = is; context = Context.inSchema depth; same = e; itemsOk = ok; contextIsOk = l; numberIs = refl; depthIs = refl; flagIs = f }
 
-  pub open-simpleType : (t : SimpleType) → itemOk (Item.simpleType t) ≡ true → leb (depth + 2) openTags ≡ true → 0 ≡ flag → rs ≡ itemsRows is ++ itemRows (Item.simpleType t) → Opened byStandard 2 depth openTags flag rs
+  pub open-simpleType : (t : SimpleType) → itemOk (Item.simpleType t) ≡ true → leb (depth + 2) openTags ≡ true → 0 ≡ flag
+      → rs ≡ itemsRows is ++ itemRows (Item.simpleType t) → Opened byStandard 2 depth openTags flag rs
   unfolding itemRows contextRows contextOk contextNumber nesting extensionFlag itemOk
   open-simpleType t o l f e =
       let v = three (isText (t .name)) (isText (t .base)) (every facetOk (t .facets)) o in
       let c = Context.inSimpleType (record { name = t .name; base = t .base; facets = t .facets; nestingDepth = depth; event = t .event }) in
       record { items = is; context = c; same = e; itemsOk = ok; contextIsOk = and-true (and-true (and-true l (v .0)) (v .1)) (v .2); numberIs = refl; depthIs = refl; flagIs = f }
 
-  pub open-simple : (i : Item) → itemOk i ≡ true → eqb (headTag (itemRows i)) 3 ≡ true → leb (depth + 2) openTags ≡ true → 0 ≡ flag → rs ≡ itemsRows is ++ itemRows i → Opened byStandard 2 depth openTags flag rs
+  pub open-simple : (i : Item) → itemOk i ≡ true → eqb (headTag (itemRows i)) 3 ≡ true → leb (depth + 2) openTags ≡ true → 0 ≡ flag → rs ≡ itemsRows is ++ itemRows i
+      → Opened byStandard 2 depth openTags flag rs
   unfolding itemRows headTag row
   open-simple (Item.element t) o h l f e = absurd (false≢true h)
   open-simple (Item.simpleType t) o h l f e = open-simpleType t o l f e
@@ -124,17 +127,20 @@ module _ (byStandard : Bool) (depth openTags flag : ℕ) (rs : List Row) (is : L
       let k = headTag (complexTypeRows (t .event) (t .name) (started (t .content))) in
       absurd (omega (arith, eqb-true k 3 h, between-low 12 16 k (head-complex (t .event) (t .name) (started (t .content)))))
 
-  pub open-content : (event : ℕ) (name : Text) (c : ComplexContentBuilder) → isText name ≡ true → contentOk c ≡ true → leb (depth + 2) openTags ≡ true → contentFlag c ≡ flag → rs ≡ itemsRows is ++ complexTypeRows event name c → Opened byStandard 3 depth openTags flag rs
+  pub open-content : (event : ℕ) (name : Text) (c : ComplexContentBuilder) → isText name ≡ true → contentOk c ≡ true → leb (depth + 2) openTags ≡ true
+      → contentFlag c ≡ flag → rs ≡ itemsRows is ++ complexTypeRows event name c → Opened byStandard 3 depth openTags flag rs
   unfolding contextRows contextOk contextNumber nesting extensionFlag
   open-content event name c o p l f e =
       let d = Context.inComplexType (record { name = name; content = c; nestingDepth = depth; event = event }) in
       record { items = is; context = d; same = e; itemsOk = ok; contextIsOk = and-true (and-true l o) p; numberIs = refl; depthIs = refl; flagIs = f }
 
-  pub open-empty : (event : ℕ) (name : Text) → isText name ≡ true → leb (depth + 2) openTags ≡ true → 0 ≡ flag → rs ≡ itemsRows is ++ complexTypeRows event name ComplexContentBuilder.empty → Opened byStandard 3 depth openTags flag rs
+  pub open-empty : (event : ℕ) (name : Text) → isText name ≡ true → leb (depth + 2) openTags ≡ true → 0 ≡ flag
+      → rs ≡ itemsRows is ++ complexTypeRows event name ComplexContentBuilder.empty → Opened byStandard 3 depth openTags flag rs
   unfolding contentOk contentFlag
   open-empty event name o l f e = open-content event name ComplexContentBuilder.empty o refl l f e
 
-  pub open-complex : (i : Item) → itemOk i ≡ true → between 12 16 (headTag (itemRows i)) ≡ true → leb (depth + 2) openTags ≡ true → isFlag flag ≡ true → eqb flag 0 || eqb (headTag (itemRows i)) 14 ≡ true → rs ≡ itemsRows is ++ itemRows i → Opened byStandard 3 depth openTags flag rs
+  pub open-complex : (i : Item) → itemOk i ≡ true → between 12 16 (headTag (itemRows i)) ≡ true → leb (depth + 2) openTags ≡ true → isFlag flag ≡ true
+      → eqb flag 0 || eqb (headTag (itemRows i)) 14 ≡ true → rs ≡ itemsRows is ++ itemRows i → Opened byStandard 3 depth openTags flag rs
   unfolding itemRows simpleTypeRows headTag row between itemOk
   open-complex (Item.element t) o h l f x e = absurd (false≢true h)
   open-complex (Item.simpleType t) o h l f x e = absurd (false≢true h)
@@ -147,7 +153,8 @@ module _ (byStandard : Bool) (depth openTags flag : ℕ) (rs : List Row) (is : L
 pub data Ends (rs : List Row) : Type 0 where
   nowhere : lastHead 0 (tags rs) ≡ 0 → Ends rs
   finished : (is : List Item) (i : Item) → every itemOk is ≡ true → itemOk i ≡ true → rs ≡ itemsRows is ++ itemRows i → lastHead 0 (tags rs) ≡ headTag (itemRows i) → Ends rs
-  absent : (is : List Item) (event : ℕ) (name : Text) → every itemOk is ≡ true → isText name ≡ true → rs ≡ itemsRows is ++ complexTypeRows event name ComplexContentBuilder.empty → lastHead 0 (tags rs) ≡ 16 → Ends rs
+  absent : (is : List Item) (event : ℕ) (name : Text) → every itemOk is ≡ true → isText name ≡ true
+      → rs ≡ itemsRows is ++ complexTypeRows event name ComplexContentBuilder.empty → lastHead 0 (tags rs) ≡ 16 → Ends rs
 
 module _ (rs : List Row) where
   pub ends-items : {is : List Item} → Ended is → every itemOk is ≡ true → rs ≡ itemsRows is ++ [] → Ends rs
@@ -177,7 +184,8 @@ module _ (byStandard : Bool) (depth openTags flag : ℕ) (rs : List Row) (l : le
   open-three (absent is event name ok o e n) h f x = open-empty byStandard depth openTags flag rs is ok event name o l (zero-flag flag (rw n at x)) e
 
 -- the tests of row 0
-module _ (byStandard : Bool) (depth openTags flag : ℕ) (rs : List Row) (is : List Item) (ok : every itemOk is ≡ true) (event : ℕ) (st : Option Text) (stOk : namespaceOk st ≡ true) (same : rs ≡ itemsRows is ++ stillRows event st) (f : isFlag flag ≡ true) where
+module _ (byStandard : Bool) (depth openTags flag : ℕ) (rs : List Row) (is : List Item) (ok : every itemOk is ≡ true) (event : ℕ) (st : Option Text)
+    (stOk : namespaceOk st ≡ true) (same : rs ≡ itemsRows is ++ stillRows event st) (f : isFlag flag ≡ true) where
   pub shut : not (eqb (lastHead 0 (tags rs)) 16) ≡ true → rs ≡ itemsRows is ++ []
   shut c = same ∙ ap (λ (l : List Row). itemsRows is ++ l) (none-open is event st (rw same at c))
 

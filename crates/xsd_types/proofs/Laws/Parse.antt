@@ -53,7 +53,8 @@ module _ (h : ℕ) (r : Row) (rs : List Row) (full : fullRow r ≡ true) where
       let same = ap (λ (l : List Row). r ∷ l) (p .same) ∙ ap (λ (l : List Row). l ++ rest) e ∙ sym (append-assoc (itemRows i) (itemsRows (p .items)) (stillRows (p .event) (p .still))) in
       record { loose = []; items = i ∷ p .items; event = p .event; still = p .still; same = same; looseOk = refl; itemsOk = and-true ok (p .itemsOk); stillOk = p .stillOk }
 
-  pub parse-still : inOrder (r .tag) (tags rs) ≡ true → (event : ℕ) (name : Text) → isText name ≡ true → r .tag ≡ 16 → r ∷ [] ≡ complexTypeRows event name ComplexContentBuilder.empty → Parsed h (r ∷ rs)
+  pub parse-still : inOrder (r .tag) (tags rs) ≡ true → (event : ℕ) (name : Text) → isText name ≡ true → r .tag ≡ 16
+      → r ∷ [] ≡ complexTypeRows event name ComplexContentBuilder.empty → Parsed h (r ∷ rs)
   unfolding every itemsRows stillRows namespaceOk
   parse-still o event name ok t e =
       let same = ap (λ (l : List Row). r ∷ l) (nothing-behind rs (rw t at o)) ∙ e in
@@ -64,7 +65,8 @@ module _ (h : ℕ) (r : Row) (rs : List Row) (full : fullRow r ≡ true) where
   parse-head o p (Headed.still event name ok t e) = parse-still o event name ok t e
 
   -- the row decides which
-  pub parse-row : mayFollow h (r .tag) ≡ true → inOrder (headAfter h (r .tag)) (tags rs) ≡ true → Parsed (headAfter h (r .tag)) rs → (isHead (r .tag) ≡ true) ⊎ (isHead (r .tag) ≡ false) → Parsed h (r ∷ rs)
+  pub parse-row : mayFollow h (r .tag) ≡ true → inOrder (headAfter h (r .tag)) (tags rs) ≡ true → Parsed (headAfter h (r .tag)) rs
+      → (isHead (r .tag) ≡ true) ⊎ (isHead (r .tag) ≡ false) → Parsed h (r ∷ rs)
   unfolding mayFollow
   parse-row m o p (inl e) =
       let q : Parsed (r .tag) rs = rw (after-head h (r .tag) e) at p in

@@ -14,7 +14,8 @@ use Rattle.sheet.specs.Form.{isFlag, covers, covered, rowsUsedOf, namesUsedOf, 
 use Rattle.sheet.specs.Lengths.{fits}
 use Rattle.sheet.proofs.Laws.Unpacks.{few}
 use Rattle.xsd_types.specs.Row0.{Row0, row0In}
-use Rattle.xsd_types.specs.Good.{usedPairs, rowForm, inOrder, row0Form, tenForm, rowsForm, namesForm, namesTest, limits, rootTest, nestingTest, contextTest, extensionTest, headOf, eventsTest, bareGood}
+use Rattle.xsd_types.specs.Good.{usedPairs, rowForm, inOrder, row0Form, tenForm, rowsForm, namesForm, namesTest, limits, rootTest, nestingTest, contextTest}
+use Rattle.xsd_types.specs.Good.{extensionTest, headOf, eventsTest, bareGood}
 use Rattle.xsd_types.proofs.Laws.Shapes.{form-parts}
 use Rattle.xsd_types.proofs.Laws.Rows.{flag-of}
 use Rattle.text.proofs.Laws.Every.{every-weaken}
@@ -39,9 +40,11 @@ unfolding bareGood
 parts-of x g =
     let z = row0In x in
     let ts = tensOf x in
-    let before = usedParts x && row0Form z && rowsForm ts && namesForm (z .namesUsed) ts && zerosBehind x && namesTest x && limits z && rootTest z && nestingTest z && contextTest (z .context) (headOf ts) && extensionTest z (headOf ts) in
+    let before = usedParts x && row0Form z && rowsForm ts && namesForm (z .namesUsed) ts && zerosBehind x && namesTest x && limits z && rootTest z && nestingTest z
+    && contextTest (z .context) (headOf ts) && extensionTest z (headOf ts) in
     let both = two before (eventsTest (z .events) ts) g in
-    let e = eleven (usedParts x) (row0Form z) (rowsForm ts) (namesForm (z .namesUsed) ts) (zerosBehind x) (namesTest x) (limits z) (rootTest z) (nestingTest z) (contextTest (z .context) (headOf ts)) (extensionTest z (headOf ts)) (both .0) in
+    let e = eleven (usedParts x) (row0Form z) (rowsForm ts) (namesForm (z .namesUsed) ts) (zerosBehind x) (namesTest x) (limits z) (rootTest z) (nestingTest z)
+    (contextTest (z .context) (headOf ts)) (extensionTest z (headOf ts)) (both .0) in
     record { parts = e .0; row0 = e .1; rows = e .2; names = e .3; zeros = e .4; text = e .5; limit = e .6; root = e .7; nest = e .8; context = e .9; extension = e .10; events = both .1 }
 
 -- row 1 and the rows behind it
@@ -61,7 +64,18 @@ unfolding rowsForm
 behind [] e = absurd (false≢true e)
 behind (n ∷ ts) e =
     let w = six (eqb (n .tag) 1) (eqb (n .a) 0) (eqb (n .b) 0) (eqb (n .c) 0) (every tenForm ts) (inOrder 1 (map (λ (t : Ten). t .tag) ts)) e in
-    record { first = n; body = ts; same = refl; tagIs = eqb-true (n .tag) 1 (w .0); aIs = eqb-true (n .a) 0 (w .1); bIs = eqb-true (n .b) 0 (w .2); cIs = eqb-true (n .c) 0 (w .3); formed = w .4; ordered = w .5 }
+    record {
+      first = n;
+      body = ts;
+      same = refl;
+      tagIs = eqb-true (n .tag) 1 (w .0);
+      aIs = eqb-true (n .a) 0 (w .1);
+      bIs = eqb-true (n .b) 0 (w .2);
+      cIs = eqb-true
+          (n .c) 0 (w .3);
+      formed = w .4;
+      ordered = w .5;
+    }
 
 -- a row of a tag's form uses at most three pairs
 pub few-picked : (p q r : Bool) (a : ℕ) → (q ≡ true → a ≤ 1) → leb (if p then 0 else if q then 1 + a else if r then 2 else 1) 3 ≡ true
@@ -76,7 +90,8 @@ form-any tag a b c e t = leb-true a 1 (flag-of a (form-parts 15 a b c (rw (eqb-t
 
 pub few-form : (t : Ten) → tenForm t ≡ true → few usedPairs t ≡ true
 unfolding few tenForm usedPairs
-few-form t e = few-picked (between 6 7 (t .tag) || between 10 11 (t .tag)) (eqb (t .tag) 15) (between 2 3 (t .tag) || eqb (t .tag) 14 || between 17 20 (t .tag)) (t .a) (form-any (t .tag) (t .a) (t .b) (t .c) e)
+few-form t e = few-picked (between 6 7 (t .tag) || between 10 11 (t .tag)) (eqb (t .tag) 15) (between 2 3 (t .tag) || eqb (t .tag) 14 || between 17 20 (t .tag)) (t .a)
+    (form-any (t .tag) (t .a) (t .b) (t .c) e)
 
 pub few-rows : (ts : List Ten) → rowsForm ts ≡ true → every (few usedPairs) ts ≡ true
 unfolding every few usedPairs between

@@ -45,7 +45,8 @@ pub namespace-read : (names : List ℕ) (t : Ten) → t .tag ≡ 1 → t .a ≡ 
 unfolding unpackRow namespaceRow namespaceA row
 namespace-read names t e a b c =
     let u : usedPairs (t .tag) (t .a) ≡ 1 = rw e (used-one (t .a)) in
-    let one : take (usedPairs (t .tag) (t .a)) (textAt names (t .at0) (t .len0) ∷ textAt names (t .at1) (t .len1) ∷ textAt names (t .at2) (t .len2) ∷ []) ≡ textAt names (t .at0) (t .len0) ∷ [] = rw u in
+    let one : take (usedPairs (t .tag) (t .a)) (textAt names (t .at0) (t .len0) ∷ textAt names (t .at1) (t .len1) ∷ textAt names (t .at2) (t .len2) ∷ [])
+    ≡ textAt names (t .at0) (t .len0) ∷ [] = rw u in
     λ i. record { tag = e i; texts = one i; a = a i; b = b i; c = c i }
 
 module _ (x : Sheet) (p : Parts x) where
@@ -60,14 +61,17 @@ module _ (x : Sheet) (p : Parts x) where
   unfolding namesTest rowsIn tensOf textRow
   names-text =
       let rest = drop (covered 0 (tensOf x)) (x .names) in
-      let taken : take (namesUsedOf x) (x .names) ≡ namesOf (rowsIn x) = ap (λ (l : List ℕ). take (namesUsedOf x) l) (sym (names-read usedPairs x (rowsUsedOf x - 1) few-pairs (pairs-cover x p))) ∙ take-at (namesOf (rowsIn x)) rest (namesUsedOf x) names-length in
+      let taken : take (namesUsedOf x) (x .names)
+      ≡ namesOf (rowsIn x) = ap (λ (l : List ℕ). take (namesUsedOf x) l) (sym (names-read usedPairs x (rowsUsedOf x - 1) few-pairs (pairs-cover x p)))
+      ∙ take-at (namesOf (rowsIn x)) rest (namesUsedOf x) names-length in
       sym (isText-namesOf (rowsIn x)) ∙ ap isText (sym taken) ∙ p .text
 
   pub sheet-again : sheetOfRows (row0Of x) (rowsIn x) (length (x .rows)) (length (x .names)) ≡ x
   unfolding rowsIn tensOf row0Of
   sheet-again =
       let all : 10 * (1 + (rowsUsedOf x - 1)) ≡ 10 * rowsUsedOf x = omega (arith, rows-two x p) in
-      sheet-read usedPairs x (rowsUsedOf x - 1) few-pairs (pairs-cover x p) (rw all (rows-room x p)) (rw (names-end x p) (names-room x p)) (rw all (zero-rows x p)) (rw (names-end x p) (zero-names x p))
+      sheet-read usedPairs x (rowsUsedOf x - 1) few-pairs (pairs-cover x p) (rw all (rows-room x p)) (rw (names-end x p) (names-room x p)) (rw all (zero-rows x p))
+      (rw (names-end x p) (zero-names x p))
 
   pub rows-length : 1 + length (rowsIn x) ≡ rowsUsedOf x
   unfolding rowsIn tensOf
@@ -75,7 +79,8 @@ module _ (x : Sheet) (p : Parts x) where
 
   pub words-rows : words (x .rows) ≡ true → every wordRow (rowsIn x) ≡ true
   unfolding rowsIn tensOf wordRow unpackRow
-  words-rows w = every-map (λ (t : Ten). ltb (t .a) (2 ^ 32) && ltb (t .b) (2 ^ 32)) wordRow (unpackRow usedPairs (x .names)) (λ t e. e) (tensOf x) (every-tens (λ (n : ℕ). ltb n (2 ^ 32)) refl (rowsUsedOf x - 1) (drop 10 (x .rows)) (every-drop (λ (n : ℕ). ltb n (2 ^ 32)) 10 (x .rows) w))
+  words-rows w = every-map (λ (t : Ten). ltb (t .a) (2 ^ 32) && ltb (t .b) (2 ^ 32)) wordRow (unpackRow usedPairs (x .names)) (λ t e. e) (tensOf x)
+      (every-tens (λ (n : ℕ). ltb n (2 ^ 32)) refl (rowsUsedOf x - 1) (drop 10 (x .rows)) (every-drop (λ (n : ℕ). ltb n (2 ^ 32)) 10 (x .rows) w))
 
   pub counted-read : every (counted usedPairs) (rowsIn x) ≡ true
   unfolding rowsIn
@@ -105,7 +110,8 @@ module _ (x : Sheet) (p : Parts x) where
   pub body-full : words (x .rows) ≡ true → every fullRow (bodyIn x p) ≡ true
   unfolding fullRow soundRow
   body-full w =
-      let two = every-both formedRow (counted usedPairs) (λ (r : Row). formedRow r && counted usedPairs r) (λ r e f. and-true e f) (bodyIn x p) body-formed (body-every (counted usedPairs) (counted-read x p)) in
+      let two = every-both formedRow (counted usedPairs) (λ (r : Row). formedRow r && counted usedPairs r) (λ r e f. and-true e f) (bodyIn x p) body-formed
+      (body-every (counted usedPairs) (counted-read x p)) in
       let three = every-both (λ (r : Row). formedRow r && counted usedPairs r) textRow soundRow (λ r e f. and-true e f) (bodyIn x p) two (body-every textRow (names-text x p)) in
       every-both soundRow wordRow fullRow (λ r e f. and-true e f) (bodyIn x p) three (body-every wordRow (words-rows x p w))
 
@@ -127,5 +133,7 @@ module _ (x : Sheet) (p : Parts x) where
       let z = row0In x in
       let q = parse 1 (bodyIn x p) (body-full w) body-order in
       let f = first-of z (p .row0) in
-      let same : bodyIn x p ≡ itemsRows (q .items) ++ stillRows (q .event) (q .still) = q .same ∙ ap (λ (l : List Row). l ++ (itemsRows (q .items) ++ stillRows (q .event) (q .still))) (no-loose 1 (λ n. refl) (q .loose) (q .looseOk)) in
-      opened (eqb (z .choice) 1) (z .nesting) (z .openTags) (z .extension) (bodyIn x p) (q .items) (q .itemsOk) (q .event) (q .still) (q .stillOk) same (f .flagIs) (z .context) (f .contextIs) (sym (nesting-both z) ∙ p .nest) (rw body-head at (p .context)) (rw body-head at (p .extension))
+      let same : bodyIn x p ≡ itemsRows (q .items) ++ stillRows (q .event) (q .still) = q .same
+      ∙ ap (λ (l : List Row). l ++ (itemsRows (q .items) ++ stillRows (q .event) (q .still))) (no-loose 1 (λ n. refl) (q .loose) (q .looseOk)) in
+      opened (eqb (z .choice) 1) (z .nesting) (z .openTags) (z .extension) (bodyIn x p) (q .items) (q .itemsOk) (q .event) (q .still) (q .stillOk) same (f .flagIs)
+      (z .context) (f .contextIs) (sym (nesting-both z) ∙ p .nest) (rw body-head at (p .context)) (rw body-head at (p .extension))

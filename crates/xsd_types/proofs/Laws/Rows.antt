@@ -97,12 +97,32 @@ module _ (r : Row) (s : soundRow r ≡ true) (w : wordRow r ≡ true) where
   unfolding facetRow facetOk usesA usesB usedPairs isHead between
   facet-row enumeration t = record { value = Facet.enumeration (text0 r); valueOk = text0-ok r s; same = plain-one r s w 4 0 t (zero-c r 4 t s refl) refl refl refl }
   facet-row pattern t = record { value = Facet.pattern (text0 r); valueOk = text0-ok r s; same = plain-one r s w 5 0 t (zero-c r 5 t s refl) refl refl refl }
-  facet-row minLength t = record { value = Facet.minLength (r .a + r .b * 2 ^ 32); valueOk = whole r s w; same = rw (low-half r s w, high-half r s w) (shape r 6 t s [] (r .a) (r .b) 0 (none-used r 6 t s refl) refl refl (zero-c r 6 t s refl)) }
-  facet-row maxLength t = record { value = Facet.maxLength (r .a + r .b * 2 ^ 32); valueOk = whole r s w; same = rw (low-half r s w, high-half r s w) (shape r 7 t s [] (r .a) (r .b) 0 (none-used r 7 t s refl) refl refl (zero-c r 7 t s refl)) }
+  facet-row minLength t = record {
+    value = Facet.minLength (r .a + r .b * 2 ^ 32);
+    valueOk = whole r s w;
+    same = rw (low-half r s w, high-half r s w)
+        (shape r 6 t s [] (r .a) (r .b) 0 (none-used r 6 t s refl) refl refl (zero-c r 6 t s refl));
+  }
+  facet-row maxLength t = record {
+    value = Facet.maxLength (r .a + r .b * 2 ^ 32);
+    valueOk = whole r s w;
+    same = rw (low-half r s w, high-half r s w)
+        (shape r 7 t s [] (r .a) (r .b) 0 (none-used r 7 t s refl) refl refl (zero-c r 7 t s refl));
+  }
   facet-row minInclusive t = record { value = Facet.minInclusive (text0 r); valueOk = text0-ok r s; same = plain-one r s w 8 0 t (zero-c r 8 t s refl) refl refl refl }
   facet-row maxInclusive t = record { value = Facet.maxInclusive (text0 r); valueOk = text0-ok r s; same = plain-one r s w 9 0 t (zero-c r 9 t s refl) refl refl refl }
-  facet-row totalDigits t = record { value = Facet.totalDigits (r .a); valueOk = lt-ltb (r .a) (2 ^ 32) (word-a r w); same = shape r 10 t s [] (r .a) 0 0 (none-used r 10 t s refl) refl (zero-b r 10 t s refl) (zero-c r 10 t s refl) }
-  facet-row fractionDigits t = record { value = Facet.fractionDigits (r .a); valueOk = lt-ltb (r .a) (2 ^ 32) (word-a r w); same = shape r 11 t s [] (r .a) 0 0 (none-used r 11 t s refl) refl (zero-b r 11 t s refl) (zero-c r 11 t s refl) }
+  facet-row totalDigits t = record {
+    value = Facet.totalDigits (r .a);
+    valueOk = lt-ltb (r .a) (2 ^ 32) (word-a r w);
+    same = shape r 10 t s [] (r .a) 0 0
+        (none-used r 10 t s refl) refl (zero-b r 10 t s refl) (zero-c r 10 t s refl);
+  }
+  facet-row fractionDigits t = record {
+    value = Facet.fractionDigits (r .a);
+    valueOk = lt-ltb (r .a) (2 ^ 32) (word-a r w);
+    same = shape r 11 t s [] (r .a) 0 0
+        (none-used r 11 t s refl) refl (zero-b r 11 t s refl) (zero-c r 11 t s refl);
+  }
 
   pub bounded-row : r .tag ≡ 17 → RowOf sequenceElementOk elementRow r
   unfolding sequenceElementOk maxOccursOk elementRow occursRow usedPairs isHead between
@@ -128,7 +148,12 @@ module _ (r : Row) (s : soundRow r ≡ true) (w : wordRow r ≡ true) where
 
   pub variant-row : r .tag ≡ 19 → RowOf choiceVariantOk variantRow r
   unfolding choiceVariantOk variantRow usedPairs isHead between usesA usesB
-  variant-row t = record { value = record { name = text0 r; typeName = text1 r }; valueOk = and-true (text0-ok r s) (text1-ok r s); same = plain-two r s w 19 0 t (zero-c r 19 t s refl) refl refl refl }
+  variant-row t = record {
+    value = record { name = text0 r; typeName = text1 r };
+    valueOk = and-true (text0-ok r s) (text1-ok r s);
+    same = plain-two r s w 19 0 t
+        (zero-c r 19 t s refl) refl refl refl;
+  }
 
   pub attribute-row : r .tag ≡ 20 → RowOf attributeOk attributeRow r
   unfolding attributeOk attributeRow usedPairs isHead between usesB
@@ -136,5 +161,6 @@ module _ (r : Row) (s : soundRow r ≡ true) (w : wordRow r ≡ true) where
       record {
         value = record { name = text0 r; typeName = text1 r; required = eqb (r .a) 1 };
         valueOk = and-true (text0-ok r s) (text1-ok r s);
-        same = rw (bit-again (r .a) (flag-of (r .a) (form-parts 20 (r .a) (r .b) (r .c) (tag-form r 20 t s) .3))) (shape r 20 t s (text0 r ∷ text1 r ∷ []) (r .a) 0 0 (two-used r 20 t s refl) refl (zero-b r 20 t s refl) (zero-c r 20 t s refl));
+        same = rw (bit-again (r .a) (flag-of (r .a) (form-parts 20 (r .a) (r .b) (r .c) (tag-form r 20 t s) .3)))
+            (shape r 20 t s (text0 r ∷ text1 r ∷ []) (r .a) 0 0 (two-used r 20 t s refl) refl (zero-b r 20 t s refl) (zero-c r 20 t s refl));
       }

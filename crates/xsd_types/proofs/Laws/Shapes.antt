@@ -19,9 +19,11 @@ use Rattle.text.proofs.Laws.Every.{every-getD}
 
 -- the parts of a row's form
 module _ (tag a b c : ℕ) (e : rowForm tag a b c ≡ true) where
-  pub form-parts : (between 2 20 tag ≡ true) × (isHead tag || eqb c 0 ≡ true) × (eqb b 0 || between 6 7 tag || eqb tag 17 ≡ true) × (eqb a 0 || between 6 7 tag || between 10 11 tag || between 17 18 tag || ((eqb tag 15 || eqb tag 20) && isFlag a) ≡ true)
+  pub form-parts : (between 2 20 tag ≡ true) × (isHead tag || eqb c 0 ≡ true) × (eqb b 0 || between 6 7 tag || eqb tag 17 ≡ true)
+      × (eqb a 0 || between 6 7 tag || between 10 11 tag || between 17 18 tag || ((eqb tag 15 || eqb tag 20) && isFlag a) ≡ true)
   unfolding rowForm
-  form-parts = four (between 2 20 tag) (isHead tag || eqb c 0) (eqb b 0 || between 6 7 tag || eqb tag 17) (eqb a 0 || between 6 7 tag || between 10 11 tag || between 17 18 tag || ((eqb tag 15 || eqb tag 20) && isFlag a)) e
+  form-parts = four (between 2 20 tag) (isHead tag || eqb c 0) (eqb b 0 || between 6 7 tag || eqb tag 17)
+      (eqb a 0 || between 6 7 tag || between 10 11 tag || between 17 18 tag || ((eqb tag 15 || eqb tag 20) && isFlag a)) e
 
   pub form-b : between 6 7 tag || eqb tag 17 ≡ false → b ≡ 0
   form-b f = eqb-true b 0 (rw (or-assoc (eqb b 0) (between 6 7 tag) (eqb tag 17), f, or-false (eqb b 0)) at (form-parts .2))

@@ -16,7 +16,8 @@ use Rattle.xsd_types.specs.State.{State, rootOk, countersOk, eventNumber
 use Rattle.xsd_types.specs.Rows.{namespaceRow, namespaceA, itemsRows, contextRows, rowsOf, rowsUsed, namesUsed, row0}
 use Rattle.xsd_types.specs.Row0.{row0Ten, row0In}
 use Rattle.xsd_types.specs.Sheet.{stateFits, bareSheetOf}
-use Rattle.xsd_types.specs.Good.{usedPairs, isHead, headAfter, lastHead, row0Form, rowsForm, namesForm, namesTest, limits, rootTest, nestingTest, contextTest, extensionTest, headOf, eventsTest, bareGood}
+use Rattle.xsd_types.specs.Good.{usedPairs, isHead, headAfter, lastHead, row0Form, rowsForm, namesForm, namesTest, limits, rootTest, nestingTest, contextTest}
+use Rattle.xsd_types.specs.Good.{extensionTest, headOf, eventsTest, bareGood}
 use Rattle.xsd_types.specs.Back.{rowsIn, bareStateOf}
 use Rattle.xsd_types.proofs.Laws.Row0.{nesting-both}
 use Rattle.xsd_types.proofs.Laws.Items.{bit-back}
@@ -85,7 +86,8 @@ module _ (s : State) (r n : ℕ) (ok : proper s ≡ true) (fit : stateFits r n s
 
   pub made-names : namesForm (namesUsedOf (bareSheetOf s r n)) (tensOf (bareSheetOf s r n)) ≡ true
   unfolding namesForm row0 namesUsed
-  made-names = rw (row0-made s r n, tens-made s r n) (and-true (covers-pack usedPairs 0 (rowsOf s) (counted-rows s ok)) (eq-eqb _ _ (covered-pack usedPairs 0 (rowsOf s) (counted-rows s ok) ∙ omega arith)))
+  made-names = rw (row0-made s r n, tens-made s r n)
+      (and-true (covers-pack usedPairs 0 (rowsOf s) (counted-rows s ok)) (eq-eqb _ _ (covered-pack usedPairs 0 (rowsOf s) (counted-rows s ok) ∙ omega arith)))
 
   pub made-zeros : zerosBehind (bareSheetOf s r n) ≡ true
   unfolding zerosBehind bareSheetOf row0 rowsUsed namesUsed
@@ -101,7 +103,9 @@ module _ (s : State) (r n : ℕ) (ok : proper s ≡ true) (fit : stateFits r n s
 
   pub made-root : rootTest (row0In (bareSheetOf s r n)) ≡ true
   unfolding rootOk
-  made-root = rw (row0-made s r n) (test-root (s .reader .schema .targetNamespace) (s .reader .schema .items) (s .reader .rootSeen) (s .reader .context) (s .events) (s .openTags) (s .byStandard) (proper-parts s ok .1))
+  made-root = rw (row0-made s r n)
+      (test-root (s .reader .schema .targetNamespace) (s .reader .schema .items) (s .reader .rootSeen) (s .reader .context) (s .events) (s .openTags) (s .byStandard)
+      (proper-parts s ok .1))
 
   pub made-nesting : nestingTest (row0In (bareSheetOf s r n)) ≡ true
   unfolding row0

@@ -10,7 +10,8 @@ use Rattle.text.proofs.Laws.Tests.{two, three, four, and-true-left, and-true-ri
 use Rattle.sheet.specs.Rows.{Row, row, bit}
 use Rattle.sheet.specs.Form.{isFlag, counted}
 use Rattle.xsd_types.specs.Types.{Facet, MaxOccurs, SequenceElement, ChoiceVariant, Attribute, Item}
-use Rattle.xsd_types.specs.State.{ComplexContentBuilder, Context, State, elementOk, facetOk, maxOccursOk, sequenceElementOk, choiceVariantOk, attributeOk, namespaceOk, contentOk, started, itemOk, contextOk, schemaOk, rootOk, countersOk, eventsOk, proper}
+use Rattle.xsd_types.specs.State.{ComplexContentBuilder, Context, State, elementOk, facetOk, maxOccursOk, sequenceElementOk, choiceVariantOk, attributeOk}
+use Rattle.xsd_types.specs.State.{namespaceOk, contentOk, started, itemOk, contextOk, schemaOk, rootOk, countersOk, eventsOk, proper}
 use Rattle.xsd_types.specs.Rows.{namespaceRow, facetRow, occursRow, elementRow, variantRow, attributeRow, simpleTypeRows, complexTypeRows, itemRows, itemsRows, contextRows, rowsOf}
 use Rattle.xsd_types.specs.Good.{usedPairs, rowForm, isHead}
 use Rattle.text.proofs.Laws.Every.{every-map, every-weaken, every-append, every-head, every-tail}
@@ -122,7 +123,8 @@ unfoldable pub bodyRows : State → List Row
 bodyRows s = itemsRows (s .reader .schema .items) ++ contextRows (s .reader .context)
 
 module _ (s : State) (ok : proper s ≡ true) where
-  pub proper-parts : (countersOk s ≡ true) × (rootOk (s .reader) ≡ true) × (contextOk (s .byStandard) (s .reader .context) (s .openTags) ≡ true) × (schemaOk (s .reader .schema) ≡ true) × (eventsOk (s .reader) (s .events) ≡ true)
+  pub proper-parts : (countersOk s ≡ true) × (rootOk (s .reader) ≡ true) × (contextOk (s .byStandard) (s .reader .context) (s .openTags) ≡ true)
+      × (schemaOk (s .reader .schema) ≡ true) × (eventsOk (s .reader) (s .events) ≡ true)
   unfolding proper
   proper-parts =
       let before = countersOk s && rootOk (s .reader) && contextOk (s .byStandard) (s .reader .context) (s .openTags) && schemaOk (s .reader .schema) in
@@ -138,7 +140,8 @@ module _ (s : State) (ok : proper s ≡ true) where
   unfolding bodyRows schemaOk
   sound-body =
       let items = sound-items (s .reader .schema .items) (and-true-right (isText (s .reader .schema .targetNamespace)) _ (proper-parts .3)) in
-      every-append soundRow (itemsRows (s .reader .schema .items)) (contextRows (s .reader .context)) ∙ and-true items (sound-context (s .byStandard) (s .reader .context) (s .openTags) (proper-parts .2))
+      every-append soundRow (itemsRows (s .reader .schema .items)) (contextRows (s .reader .context))
+      ∙ and-true items (sound-context (s .byStandard) (s .reader .context) (s .openTags) (proper-parts .2))
 
   pub counted-rows : every (counted usedPairs) (rowsOf s) ≡ true
   unfolding rowsOf namespaceRow row every counted usedPairs between bodyRows

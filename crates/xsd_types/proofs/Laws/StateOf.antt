@@ -99,7 +99,8 @@ module _ (x : Sheet) (p : Parts x) (w : words (x .rows) ≡ true) where
   held-namespace = and-true-left _ _ (every-head textRow (namespaceRow (namespaceAt x p)) (bodyIn x p) (rw (rows-split x p) at (names-text x p)))
 
   -- two rows and no names: no context, no items, no namespace
-  pub held-nothing : eqb (row0In x .context) 0 && eqb (rowsUsedOf x) 2 && eqb (namesUsedOf x) 0 ≡ true → isNoContext (held .reader .context) && isEmpty (held .reader .schema .items) && isEmpty (held .reader .schema .targetNamespace) ≡ true
+  pub held-nothing : eqb (row0In x .context) 0 && eqb (rowsUsedOf x) 2 && eqb (namesUsedOf x) 0 ≡ true
+      → isNoContext (held .reader .context) && isEmpty (held .reader .schema .items) && isEmpty (held .reader .schema .targetNamespace) ≡ true
   unfolding held stateWith rowsUsed namesUsed rowsOf namesOf namespaceRow row
   held-nothing e =
       let o = body-opened x p w in
@@ -107,11 +108,13 @@ module _ (x : Sheet) (p : Parts x) (w : words (x .rows) ≡ true) where
       let t = three (eqb (z .context) 0) (eqb (z .rowsUsed) 2) (eqb (z .namesUsed) 0) e in
       let context = no-context (o .context) (o .numberIs ∙ eqb-true (z .context) 0 (t .0)) in
       let rows = eqb-true (z .rowsUsed) 2 (t .1) in
-      and-true (and-true context (no-items (o .items) (contextRows (o .context)) (omega (arith, held-rowsUsed)))) (no-name (namespaceAt x p) (namesOf (itemsRows (o .items) ++ contextRows (o .context))) (held-namesUsed ∙ eqb-true (z .namesUsed) 0 (t .2)))
+      and-true (and-true context (no-items (o .items) (contextRows (o .context)) (omega (arith, held-rowsUsed))))
+      (no-name (namespaceAt x p) (namesOf (itemsRows (o .items) ++ contextRows (o .context))) (held-namesUsed ∙ eqb-true (z .namesUsed) 0 (t .2)))
 
   pub held-root : rootOk (held .reader) ≡ true
   unfolding rootOk rootTest held stateWith
-  held-root = ⊎-elim (λ e. or-left _ e) (λ e. or-right (eqb (row0In x .rootSeen) 1) (held-nothing e)) (or-cases (eqb (row0In x .rootSeen) 1) (eqb (row0In x .context) 0 && eqb (rowsUsedOf x) 2 && eqb (namesUsedOf x) 0) (p .root))
+  held-root = ⊎-elim (λ e. or-left _ e) (λ e. or-right (eqb (row0In x .rootSeen) 1) (held-nothing e))
+      (or-cases (eqb (row0In x .rootSeen) 1) (eqb (row0In x .context) 0 && eqb (rowsUsedOf x) 2 && eqb (namesUsedOf x) 0) (p .root))
 
   pub held-events : eventsOk (held .reader) (held .events) ≡ true
   unfolding eventsOk headsPass held stateWith
@@ -144,5 +147,7 @@ module _ (x : Sheet) (w : words (x .rows) ≡ true) (g : bareGood x ≡ true) wh
 -- a sheet of u32 is good exactly if it is the sheet of a proper state in buffers of these lengths
 pub bareGood-exactly : (x : Sheet) → words (x .rows) ≡ true
     → (bareGood x ≡ true) ↔ ((s : State) × (proper s ≡ true) × (stateFits (length (x .rows)) (length (x .names)) s ≡ true) × (bareSheetOf s (length (x .rows)) (length (x .names)) ≡ x))
-bareGood-exactly x w =
-    (λ g. (bareStateOf x, proper-bareStateOf x w g, fits-bareStateOf x w g, bareSheetOf-bareStateOf x w g), λ h. rw (h .3) at (bareGood-bareSheetOf (h .0) (length (x .rows)) (length (x .names)) (h .1) (h .2)))
+bareGood-exactly x w = (
+  λ g. (bareStateOf x, proper-bareStateOf x w g, fits-bareStateOf x w g, bareSheetOf-bareStateOf x w g),
+  λ h. rw (h .3) at (bareGood-bareSheetOf (h .0) (length (x .rows)) (length (x .names)) (h .1) (h .2)),
+)

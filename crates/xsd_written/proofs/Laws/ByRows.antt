@@ -20,8 +20,10 @@ use Rattle.xml.specs.Written.{quoteOf, writtenAttributes, tagEnd, writtenTag}
 use Rattle.xml.proofs.Laws.Written.{written-more}
 use Rattle.xsd_written.specs.Decimal.{decimal}
 use Rattle.xsd_written.specs.Markup.{Markup, starts, empties, ends, markupText, markupsText}
-use Rattle.xsd_written.specs.Schema.{attr, prefixed, tagOf, around, valued, facetMarkup, elementMarkup, variantMarkup, attributeMarkup, contentMarkup, itemMarkup, itemsMarkup, schemaMarkup, schemaText}
-use Rattle.xsd_written.specs.ByRows.{attributeText, emptyText, namedText, complexText, anyText, headText, facetWordText, facetValueText, maxOccursText, occursText, useText, childText, closeText, rowsText, schemaByRows}
+use Rattle.xsd_written.specs.Schema.{attr, prefixed, tagOf, around, valued, facetMarkup, elementMarkup, variantMarkup, attributeMarkup, contentMarkup, itemMarkup}
+use Rattle.xsd_written.specs.Schema.{itemsMarkup, schemaMarkup, schemaText}
+use Rattle.xsd_written.specs.ByRows.{attributeText, emptyText, namedText, complexText, anyText, headText, facetWordText, facetValueText, maxOccursText, occursText}
+use Rattle.xsd_written.specs.ByRows.{useText, childText, closeText, rowsText, schemaByRows}
 
 -- ---- markup as text
 

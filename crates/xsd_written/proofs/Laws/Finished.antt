@@ -61,34 +61,34 @@ module _ (x : Sheet) (w : words (x .rows) ≡ true) (g : bareGood x ≡ true) wh
 
 module _ (x y : Sheet) (wx : words (x .rows) ≡ true) (wy : words (y .rows) ≡ true) (gx : bareGood x ≡ true) (gy : bareGood y ≡ true)
     (same : map clearedRow (rowsOf (bareStateOf x)) ≡ map clearedRow (rowsOf (bareStateOf y)) ++ map clearedRow (contextRows (bareStateOf x .reader .context)))
-    where
-  abbrev rows : List Row
-  rows = map clearedRow (rowsIn y)
+  where
+    abbrev rows : List Row
+    rows = map clearedRow (rowsIn y)
 
-  abbrev openRows : List Row
-  openRows = map clearedRow (contextRows (bareStateOf x .reader .context))
+    abbrev openRows : List Row
+    openRows = map clearedRow (contextRows (bareStateOf x .reader .context))
 
-  rows-whole : map clearedRow (rowsIn x) ≡ rows ++ openRows
-  rows-whole = rw (rows-of x wx gx, rows-of y wy gy) same
+    rows-whole : map clearedRow (rowsIn x) ≡ rows ++ openRows
+    rows-whole = rw (rows-of x wx gx, rows-of y wy gy) same
 
-  same-numbers : take (length (tensOf y)) (map clearedTen (tensOf x)) ≡ map clearedTen (tensOf y)
-  same-numbers =
-      let made = tens-of y wy gy in
-      let n : length (pack 0 rows) ≡ length (tensOf y) = length-pack 0 rows ∙ length-cleared (rowsIn y) ∙ sym (ap length made ∙ length-pack 0 (rowsIn y)) in
-      let whole : map clearedTen (tensOf x) ≡ pack 0 rows ++ pack (0 + length (namesOf rows)) openRows =
-      ap (map clearedTen) (tens-of x wx gx) ∙ pack-cleared 0 (rowsIn x) ∙ ap (pack 0) rows-whole ∙ pack-append 0 rows openRows in
-      ap (take (length (tensOf y))) whole ∙ take-at (pack 0 rows) _ (length (tensOf y)) n ∙ sym (ap (map clearedTen) made ∙ pack-cleared 0 (rowsIn y))
+    same-numbers : take (length (tensOf y)) (map clearedTen (tensOf x)) ≡ map clearedTen (tensOf y)
+    same-numbers =
+        let made = tens-of y wy gy in
+        let n : length (pack 0 rows) ≡ length (tensOf y) = length-pack 0 rows ∙ length-cleared (rowsIn y) ∙ sym (ap length made ∙ length-pack 0 (rowsIn y)) in
+        let whole : map clearedTen (tensOf x) ≡ pack 0 rows ++ pack (0 + length (namesOf rows)) openRows =
+        ap (map clearedTen) (tens-of x wx gx) ∙ pack-cleared 0 (rowsIn x) ∙ ap (pack 0) rows-whole ∙ pack-append 0 rows openRows in
+        ap (take (length (tensOf y))) whole ∙ take-at (pack 0 rows) _ (length (tensOf y)) n ∙ sym (ap (map clearedTen) made ∙ pack-cleared 0 (rowsIn y))
 
-  names-whole : namesOf (rowsIn x) ≡ namesOf (rowsIn y) ++ namesOf openRows
-  names-whole = sym (names-cleared (rowsIn x)) ∙ ap namesOf rows-whole ∙ namesOf-append rows openRows ∙ ap (λ (u : Text). u ++ namesOf openRows) (names-cleared (rowsIn y))
+    names-whole : namesOf (rowsIn x) ≡ namesOf (rowsIn y) ++ namesOf openRows
+    names-whole = sym (names-cleared (rowsIn x)) ∙ ap namesOf rows-whole ∙ namesOf-append rows openRows ∙ ap (λ (u : Text). u ++ namesOf openRows) (names-cleared (rowsIn y))
 
-  same-names : take (namesUsedOf y) (x .names) ≡ take (namesUsedOf y) (y .names)
-  same-names =
-      let u = names-length x (parts-of x gx) in
-      let v = names-length y (parts-of y gy) in
-      let few : namesUsedOf y ≤ namesUsedOf x = omega (arith, ap length names-whole, length-append (namesOf (rowsIn y)) (namesOf openRows)) in
-      sym (take-take (namesUsedOf y) (namesUsedOf x) (x .names) few) ∙ ap (take (namesUsedOf y)) (names-used x gx ∙ names-whole)
-      ∙ take-at (namesOf (rowsIn y)) (namesOf openRows) (namesUsedOf y) v ∙ sym (names-used y gy)
+    same-names : take (namesUsedOf y) (x .names) ≡ take (namesUsedOf y) (y .names)
+    same-names =
+        let u = names-length x (parts-of x gx) in
+        let v = names-length y (parts-of y gy) in
+        let few : namesUsedOf y ≤ namesUsedOf x = omega (arith, ap length names-whole, length-append (namesOf (rowsIn y)) (namesOf openRows)) in
+        sym (take-take (namesUsedOf y) (namesUsedOf x) (x .names) few) ∙ ap (take (namesUsedOf y)) (names-used x gx ∙ names-whole)
+        ∙ take-at (namesOf (rowsIn y)) (namesOf openRows) (namesUsedOf y) v ∙ sym (names-used y gy)
 
 -- ---- two sheets with their counts
 
@@ -105,8 +105,8 @@ unfolding stateOf finishedOf unnumberedSchema
 finished-numbers x y wx wy gx gy same =
     record {
       count =
-        good-count x gx ∙ sym (refused-unnumbered (stateOf x .reader .schema .items)) ∙ ap (λ (s : Schema). refusedTypes (s .items)) (same .schema)
-        ∙ refused-unnumbered (stateOf y .reader .schema .items) ∙ sym (good-count y gy);
+          good-count x gx ∙ sym (refused-unnumbered (stateOf x .reader .schema .items)) ∙ ap (λ (s : Schema). refusedTypes (s .items)) (same .schema)
+          ∙ refused-unnumbered (stateOf y .reader .schema .items) ∙ sym (good-count y gy);
       numbers = same-numbers (bare x) (bare y) (bare-words x wx) (bare-words y wy) (good-bare x gx) (good-bare y gy) (same .rows);
       names = same-names (bare x) (bare y) (bare-words x wx) (bare-words y wy) (good-bare x gx) (good-bare y gy) (same .rows);
     }

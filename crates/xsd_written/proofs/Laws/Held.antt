@@ -28,7 +28,8 @@ use Rattle.xml.specs.Values.{isPlain}
 use Rattle.xml.specs.Written.{isNameText, isValue, quoteOf, newKeys}
 use Rattle.xsd_written.specs.Decimal.{decimal}
 use Rattle.xsd_written.specs.Markup.{Markup, empties, ends}
-use Rattle.xsd_written.specs.Schema.{attr, prefixed, tagOf, around, valued, facetMarkup, elementMarkup, maxText, variantMarkup, attributeMarkup, contentMarkup, itemMarkup, itemsMarkup, schemaMarkup}
+use Rattle.xsd_written.specs.Schema.{attr, prefixed, tagOf, around, valued, facetMarkup, elementMarkup, maxText, variantMarkup, attributeMarkup, contentMarkup}
+use Rattle.xsd_written.specs.Schema.{itemMarkup, itemsMarkup, schemaMarkup}
 use Rattle.xsd_written.specs.Call.{holds, unheldFrom, firstUnheld}
 use Rattle.xsd_written.proofs.Laws.Decimals.{decimal-digits}
 use Rattle.xsd_written.proofs.Laws.Fine.{nameFine, valueFine, attrFine, tagFine, markupFine}

@@ -11,8 +11,14 @@ use Rattle.ir_reduce.proofs.call.mark_reached.Tie as tie
 
 put-targets-requires : tie.Need-put-targets-requires
 put-targets-requires c κs =
-    let g = c .before .before .before .before .before .pre .0 in
-    (c .before .before .before .before .before .pre .1, rows-inside g, g .few, omega (arith, rows-inside g, g .few, length-replicate {A = ℕ} 4096 0), omega (arith, at-least g), targets-start _ _ _ 4096)
+    let g = c .before .before .before .before .before .pre .0 in (
+      c .before .before .before .before .before .pre .1,
+      rows-inside g,
+      g .few,
+      omega (arith, rows-inside g, g .few, length-replicate {A = ℕ} 4096 0),
+      omega (arith, at-least g),
+      targets-start _ _ _ 4096,
+    )
 
 mark-requires : tie.Need-mark-requires
 mark-requires c κs =
@@ -22,8 +28,16 @@ mark-requires c κs =
 mark-all-requires : tie.Need-mark-all-requires
 mark-all-requires c κs =
     let g = c .before .before .before .before .before .before .before .before .before .before .before .before .before .before .before .before .pre .0 in
-    let long = ap length (c .before .before .before .before .before .before .before .before .before .before .before .before .before .before .before .before .pre .2) ∙ length-replicate {A = ℕ} 4096 0 in
-    (room-first g (c .before .before .before .before .before .before .before .before .before .before .before .before .before .before .before .before .pre .1 .distinct) (c .before .before .before .before .before .before .before .before .before .before .put-targets .ensures .0) (c .before .before .before .before .before .before .before .before .before .before .put-targets .ensures .1 ∙ length-replicate {A = ℕ} 4096 0) (rw (c .before .before .before .before .before .before .before .before .before .before .before .before .before .before .before .before .pre .2) at (c .before .before .before .before .before .before .mark .ensures)) (omega (arith, long, c .before .before .before .before .before .before .mark .kept)), rows-inside g, omega (arith, rows-inside g, g .few))
+    let long = ap length (c .before .before .before .before .before .before .before .before .before .before .before .before .before .before .before .before .pre .2)
+    ∙ length-replicate {A = ℕ} 4096 0 in (
+      room-first g (c .before .before .before .before .before .before .before .before .before .before .before .before .before .before .before .before .pre .1 .distinct)
+          (c .before .before .before .before .before .before .before .before .before .before .put-targets .ensures .0)
+          (c .before .before .before .before .before .before .before .before .before .before .put-targets .ensures .1 ∙ length-replicate {A = ℕ} 4096 0)
+          (rw (c .before .before .before .before .before .before .before .before .before .before .before .before .before .before .before .before .pre .2) at
+          (c .before .before .before .before .before .before .mark .ensures)) (omega (arith, long, c .before .before .before .before .before .before .mark .kept)),
+      rows-inside g,
+      omega (arith, rows-inside g, g .few),
+    )
 
 returns : tie.Need-returns
 returns c = marks-done (c .before .before .before .before .before .before .before .before .before .before .before .before .before .before .before .before .before .before .before .before .pre .0) (c .before .before .before .before .before .before .before .before .before .before .before .before .before .before .put-targets .ensures .0) (rw (c .before .before .before .before .before .before .before .before .before .before .before .before .before .before .before .before .before .before .before .before .pre .2) at (c .before .before .before .before .before .before .before .before .before .before .mark .ensures)) (c .before .before .before .mark-all .ensures)

@@ -15,7 +15,8 @@ returns c = rw (c .answer .ensures) (Reduction.badLengths (sym (c .before .befor
 returns-2 : tie.Need-returns-2
 unfolding lengthsFit inForm
 returns-2 c =
-    rw (c .answer2 .ensures) (Reduction.noForm (sym (c .before .before .before .before .reduce-lengths .ensures) ∙ not-false _ (c .before .before .before .if1 .left)) (rw (sym (c .before .before .is-form .ensures) ∙ not-true _ (c .before .if2 .taken))))
+    rw (c .answer2 .ensures) (Reduction.noForm (sym (c .before .before .before .before .reduce-lengths .ensures) ∙ not-false _ (c .before .before .before .if1 .left))
+    (rw (sym (c .before .before .is-form .ensures) ∙ not-true _ (c .before .if2 .taken))))
 
 shared-slice-read-wide : tie.Need-shared-slice-read-wide
 unfolding lengthsFit
@@ -24,8 +25,15 @@ shared-slice-read-wide c = omega (arith, source-lengths _ _ _ _ (sym (c .before 
 reduce-form-requires : tie.Need-reduce-form-requires
 unfolding lengthsFit
 reduce-form-requires c κs =
-    let l = sym (c .before .before .before .before .before .before .before .reduce-lengths .ensures) ∙ not-false _ (c .before .before .before .before .before .before .if1 .left) in
-    (record { form = sym (c .before .before .before .before .before .is-form .ensures) ∙ not-false _ (c .before .before .before .before .if2 .left); used = c .before .before .wide .ensures; few = source-lengths _ _ _ _ l .1 }, l)
+    let l = sym (c .before .before .before .before .before .before .before .reduce-lengths .ensures) ∙ not-false _ (c .before .before .before .before .before .before .if1 .left) in (
+      record {
+        form = sym (c .before .before .before .before .before .is-form .ensures)
+            ∙ not-false _ (c .before .before .before .before .if2 .left);
+        used = c .before .before .wide .ensures;
+        few = source-lengths _ _ _ _ l .1;
+      },
+      l,
+    )
 
 returns-3 : tie.Need-returns-3
 returns-3 c = c .before .before .before .before .reduce-form .ensures

@@ -12,10 +12,18 @@ mark-reached-requires : tie.Need-mark-reached-requires
 mark-reached-requires c κs = (c .before .before .before .before .before .before .pre .0, c .before .before .before .before .before .before .pre .2, refl)
 
 place-graph-requires : tie.Need-place-graph-requires
-place-graph-requires c κs = (c .before .before .before .before .before .before .before .before .before .before .before .pre .0, c .before .before .before .before .before .before .before .before .before .before .before .pre .1, omega (arith, c .before .before .before .before .mark-reached .kept, length-replicate {A = ℕ} 4096 0))
+place-graph-requires c κs = (
+  c .before .before .before .before .before .before .before .before .before .before .before .pre .0,
+  c .before .before .before .before .before .before .before .before .before .before .before .pre .1,
+  omega (arith, c .before .before .before .before .mark-reached .kept, length-replicate {A = ℕ} 4096 0),
+)
 
 returns : tie.Need-returns
-returns c = reduction-of (c .before .before .before .before .before .before .before .before .before .before .before .before .before .before .before .before .pre .0) (c .before .before .before .before .before .before .before .before .before .before .before .before .before .before .before .before .pre .2 .distinct) (c .before .before .before .before .before .before .before .before .before .mark-reached .ensures) (c .before .before .before .before .before .before .before .before .before .before .before .before .before .before .before .before .pre .1) (c .before .before .before .before .place-graph .ensures)
+returns c = reduction-of (c .before .before .before .before .before .before .before .before .before .before .before .before .before .before .before .before .pre .0)
+    (c .before .before .before .before .before .before .before .before .before .before .before .before .before .before .before .before .pre .2 .distinct)
+    (c .before .before .before .before .before .before .before .before .before .mark-reached .ensures)
+    (c .before .before .before .before .before .before .before .before .before .before .before .before .before .before .before .before .pre .1)
+    (c .before .before .before .before .place-graph .ensures)
 
 pub reduce-distinct-spec : {M : Type 1} → statement M
 reduce-distinct-spec =

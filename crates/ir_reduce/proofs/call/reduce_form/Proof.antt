@@ -16,10 +16,17 @@ index-heads-requires c κs =
     (rows-inside g, g .few, length-replicate {A = ℕ} 8192 0, omega (arith, at-least g))
 
 returns : tie.Need-returns
-returns c = rw (c .answer .ensures) (Reduction.noForm (c .before .before .before .before .before .before .before .before .before .before .pre .1) (repeated-form (c .before .before .before .before .before .before .before .before .before .before .pre .0) (repeated-of _ _ _ _ _ (c .before .before .before .before .index-heads .ensures) (c .before .enum-told .given .1))))
+returns c = rw (c .answer .ensures)
+    (Reduction.noForm (c .before .before .before .before .before .before .before .before .before .before .pre .1)
+    (repeated-form (c .before .before .before .before .before .before .before .before .before .before .pre .0)
+    (repeated-of _ _ _ _ _ (c .before .before .before .before .index-heads .ensures) (c .before .enum-told .given .1))))
 
 reduce-distinct-requires : tie.Need-reduce-distinct-requires
-reduce-distinct-requires c κs = (c .before .before .before .before .before .before .before .before .before .before .before .before .before .pre .0, c .before .before .before .before .before .before .before .before .before .before .before .before .before .pre .1, all-of _ _ _ _ _ (c .before .before .before .before .before .before .before .index-heads .ensures) (c .before .before .before .before .indexed .given .1))
+reduce-distinct-requires c κs = (
+  c .before .before .before .before .before .before .before .before .before .before .before .before .before .pre .0,
+  c .before .before .before .before .before .before .before .before .before .before .before .before .before .pre .1,
+  all-of _ _ _ _ _ (c .before .before .before .before .before .before .before .index-heads .ensures) (c .before .before .before .before .indexed .given .1),
+)
 
 returns-2 : tie.Need-returns-2
 returns-2 c = c .before .before .before .before .reduce-distinct .ensures

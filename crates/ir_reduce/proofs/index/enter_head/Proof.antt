@@ -10,15 +10,22 @@ use Rattle.ir_reduce.proofs.index.enter_head.Tie as tie
 
 returns : tie.Need-returns
 unfolding headAt
-returns c = head-none (c .before .before .before .before .before .before .pre .0) (c .before .before .before .before .before .before .args .place) (ap isTypeTag (sym (c .before .before .row-tag .ensures)) ∙ sym (c .before .is-type .ensures) ∙ not-true _ (c .if1 .taken))
+returns c = head-none (c .before .before .before .before .before .before .pre .0) (c .before .before .before .before .before .before .args .place)
+    (ap isTypeTag (sym (c .before .before .row-tag .ensures)) ∙ sym (c .before .is-type .ensures) ∙ not-true _ (c .if1 .taken))
 
 returns-2 : tie.Need-returns-2
 unfolding headAt
-returns-2 c = head-old (c .before .before .before .before .before .before .before .before .before .before .before .pre .0) (c .before .before .before .before .before .before .before .before .before .before .before .args .place) (c .before .before .before .enter .ensures) (c .if2 .taken) (ap isTypeTag (sym (c .before .before .before .before .before .before .before .row-tag .ensures)) ∙ sym (c .before .before .before .before .before .before .is-type .ensures) ∙ not-false _ (c .before .before .before .before .before .if1 .left))
+returns-2 c = head-old (c .before .before .before .before .before .before .before .before .before .before .before .pre .0)
+    (c .before .before .before .before .before .before .before .before .before .before .before .args .place) (c .before .before .before .enter .ensures) (c .if2 .taken)
+    (ap isTypeTag (sym (c .before .before .before .before .before .before .before .row-tag .ensures))
+    ∙ sym (c .before .before .before .before .before .before .is-type .ensures) ∙ not-false _ (c .before .before .before .before .before .if1 .left))
 
 returns-3 : tie.Need-returns-3
 unfolding headAt
-returns-3 c = head-new (c .before .before .before .before .before .before .before .before .before .before .before .pre .0) (c .before .before .before .before .before .before .before .before .before .before .before .args .place) (c .before .before .before .enter .ensures) (c .if2 .left) (ap isTypeTag (sym (c .before .before .before .before .before .before .before .row-tag .ensures)) ∙ sym (c .before .before .before .before .before .before .is-type .ensures) ∙ not-false _ (c .before .before .before .before .before .if1 .left))
+returns-3 c = head-new (c .before .before .before .before .before .before .before .before .before .before .before .pre .0)
+    (c .before .before .before .before .before .before .before .before .before .before .before .args .place) (c .before .before .before .enter .ensures) (c .if2 .left)
+    (ap isTypeTag (sym (c .before .before .before .before .before .before .before .row-tag .ensures))
+    ∙ sym (c .before .before .before .before .before .before .is-type .ensures) ∙ not-false _ (c .before .before .before .before .before .if1 .left))
 
 pub enter-head-spec : {M : Type 1} → statement M
 enter-head-spec =
@@ -27,7 +34,10 @@ enter-head-spec =
     (λ c κs. search needs)
     (λ c κs. search needs)
     returns
-    (λ c κs. (c .before .before .before .before .before .before .before .pre .0, record { above = c .before .before .before .before .before .before .before .pre .1 .0; inside = c .before .before .before .before .before .before .before .pre .1 .1; small = c .before .before .before .before .before .before .before .pre .1 .2; room = c .before .before .before .before .before .before .before .pre .1 .3 }))
+    (λ c κs. (
+      c .before .before .before .before .before .before .before .pre .0,
+      record { above = c .before .before .before .before .before .before .before .pre .1 .0; inside = c .before .before .before .before .before .before .before .pre .1 .1; small = c .before .before .before .before .before .before .before .pre .1 .2; room = c .before .before .before .before .before .before .before .pre .1 .3 },
+    ))
     (λ c. search needs)
     returns-2
     (λ c. search needs)

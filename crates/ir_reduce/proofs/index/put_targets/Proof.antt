@@ -19,13 +19,25 @@ loop-holds : tie.Need-loop-holds Inv-loop μ-loop
 loop-holds c = (c .before .before .before .before .pre .5, omega arith, omega arith, refl)
 
 cast-to : tie.Need-cast-to Inv-loop μ-loop
-cast-to c = omega (arith, c .target-at .ensures, target-inside (c .before .before .before .before .before .before .before .pre .0 .index) (c .before .before .loop .place), c .before .before .before .before .before .before .before .pre .2)
+cast-to c = omega (
+  arith,
+  c .target-at .ensures,
+  target-inside (c .before .before .before .before .before .before .before .pre .0 .index) (c .before .before .loop .place),
+  c .before .before .before .before .before .before .before .pre .2,
+)
 
 loop-again : tie.Need-loop-again Inv-loop μ-loop
 loop-again c =
     let a = c .before .before .before .before .before .before .before .args in
-    let loop = c .before .before .loop in
-    (targets-step (loop .inv .0) (loop .inv .1) (omega (arith, loop .inv .3, c .before .before .before .before .before .before .before .pre .3, c .before .loop-test .taken)) (c .target-at .ensures ∙ ap (λ ps. targetOf (a .rows .now) (a .names .now) ps (loop .place)) (c .before .before .before .before .before .before .before .pre .0 .places)), omega arith, omega arith, search needs)
+    let loop = c .before .before .loop in (
+      targets-step (loop .inv .0) (loop .inv .1)
+          (omega (arith, loop .inv .3, c .before .before .before .before .before .before .before .pre .3, c .before .loop-test .taken))
+          (c .target-at .ensures ∙ ap (λ ps. targetOf (a .rows .now) (a .names .now) ps (loop .place))
+          (c .before .before .before .before .before .before .before .pre .0 .places)),
+      omega arith,
+      omega arith,
+      search needs,
+    )
 
 returns : tie.Need-returns Inv-loop μ-loop
 returns c = (targets-end (c .before .loop .inv .0) (omega arith), c .before .loop .inv .3)

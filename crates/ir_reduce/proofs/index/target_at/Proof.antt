@@ -18,7 +18,8 @@ pair-text-requires c κs = omega (arith, asked-at-most _ _ (c .before .asked-pai
 returns-2 : tie.Need-returns-2
 returns-2 c =
     let a = c .before .before .before .before .before .before .before .before .before .args in
-    rw (target-some (a .rows .now) (a .names .now) _ (a .place) (c .before .before .before .asked-pair .ensures) (c .before .before .if1 .left)) (rw (c .before .pair-text .ensures) at (c .find .ensures))
+    rw (target-some (a .rows .now) (a .names .now) _ (a .place) (c .before .before .before .asked-pair .ensures) (c .before .before .if1 .left))
+    (rw (c .before .pair-text .ensures) at (c .find .ensures))
 
 pub target-at-spec : {M : Type 1} → statement M
 target-at-spec =

@@ -9,21 +9,42 @@ use Rattle.ir_reduce.proofs.place.write_graph.Tie as tie
 
 put-kept-requires : tie.Need-put-kept-requires
 put-kept-requires c κs =
-    let g = c .before .before .before .before .before .before .before .pre .0 in
-    (first-room (c .before .before .before .before .before .before .before .pre .1), (rows-inside g, omega (arith, rows-inside g, g .few, c .before .before .before .before .before .before .before .pre .2), omega (arith, at-least g), rows-stand g))
+    let g = c .before .before .before .before .before .before .before .pre .0 in (
+      first-room (c .before .before .before .before .before .before .before .pre .1),
+      (rows-inside g, omega (arith, rows-inside g, g .few, c .before .before .before .before .before .before .before .pre .2), omega (arith, at-least g), rows-stand g),
+    )
 
 returns : tie.Need-returns
-returns c = written-full (c .before .before .before .before .before .before .before .before .before .before .before .before .before .before .pre .1) (short-of _ _ _ _ _ _ _ (c .before .before .before .before .before .before .put-kept .ensures) (c .enum-told .given .1))
+returns c = written-full (c .before .before .before .before .before .before .before .before .before .before .before .before .before .before .pre .1)
+    (short-of _ _ _ _ _ _ _ (c .before .before .before .before .before .before .put-kept .ensures) (c .enum-told .given .1))
 
 count-kept-requires : tie.Need-count-kept-requires
 count-kept-requires c κs =
-    let g = c .before .before .before .before .before .before .before .before .before .before .before .before .before .before .before .pre .0 in
-    (rows-inside g, omega (arith, rows-inside g, g .few, c .before .before .before .before .before .before .before .before .before .before .before .before .before .before .before .pre .2), omega (arith, at-least g), omega (arith, rows-inside g, g .few))
+    let g = c .before .before .before .before .before .before .before .before .before .before .before .before .before .before .before .pre .0 in (
+      rows-inside g,
+      omega (
+        arith,
+        rows-inside g,
+        g .few,
+        c .before .before .before .before .before .before .before .before .before .before .before .before .before .before .before .pre .2,
+      ),
+      omega (arith, at-least g),
+      omega (arith, rows-inside g, g .few),
+    )
 
 count-kept-requires-2 : tie.Need-count-kept-requires-2
 count-kept-requires-2 c κs =
-    let g = c .before .before .before .before .before .before .before .before .before .before .before .before .before .before .before .before .pre .0 in
-    (rows-inside g, omega (arith, rows-inside g, g .few, c .before .before .before .before .before .before .before .before .before .before .before .before .before .before .before .before .pre .2), omega (arith, at-least g), omega (arith, rows-inside g, g .few))
+    let g = c .before .before .before .before .before .before .before .before .before .before .before .before .before .before .before .before .pre .0 in (
+      rows-inside g,
+      omega (
+        arith,
+        rows-inside g,
+        g .few,
+        c .before .before .before .before .before .before .before .before .before .before .before .before .before .before .before .before .pre .2,
+      ),
+      omega (arith, at-least g),
+      omega (arith, rows-inside g, g .few),
+    )
 
 row0-of-requires : tie.Need-row0-of-requires
 row0-of-requires c κs =
@@ -37,7 +58,8 @@ row0-of-requires c κs =
     )
 
 put-row0-requires : tie.Need-put-row0-requires
-put-row0-requires c κs = omega (arith, c .before .before .before .before .before .before .before .before .before .before .before .before .before .before .before .before .before .before .before .pre .1 .someRows, c .before .before .before .before .before .before .before .before .before .before .before .put-kept .kept .0)
+put-row0-requires c κs = omega
+    (arith, c .before .before .before .before .before .before .before .before .before .before .before .before .before .before .before .before .before .before .before .pre .1 .someRows, c .before .before .before .before .before .before .before .before .before .before .before .put-kept .kept .0)
 
 returns-2 : tie.Need-returns-2
 returns-2 c =

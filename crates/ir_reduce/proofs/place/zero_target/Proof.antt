@@ -10,8 +10,10 @@ use Rattle.ir_reduce.proofs.place.zero_target.Tie as tie
 returns : tie.Need-returns
 returns c =
     let rows = c .before .before .before .before .before .before in
-    let a = rows .before .before .before .before .args in
-    (zeros-self (length (a .rows .now)) (rows .zero-rows .ensures ∙ zeros-whole (a .rows .now)), zeros-self (length (a .names .now)) (c .before .before .zero-names .ensures ∙ zeros-whole (a .names .now)))
+    let a = rows .before .before .before .before .args in (
+      zeros-self (length (a .rows .now)) (rows .zero-rows .ensures ∙ zeros-whole (a .rows .now)),
+      zeros-self (length (a .names .now)) (c .before .before .zero-names .ensures ∙ zeros-whole (a .names .now)),
+    )
 
 pub zero-target-spec : {M : Type 1} → statement M
 zero-target-spec =

@@ -39,7 +39,11 @@ mark-group-requires c κs =
     (c .before .before .before .before .loop .inv .0, start .pre .1, start .pre .2)
 
 add-k : tie.Need-add-k Inv-loop μ-loop
-add-k c = omega (arith, count-bound (c .before .before .before .before .before .before .before .before .before .loop .inv .0), c .before .before .before .before .before .before .before .before .before .loop .inv .0 .few)
+add-k c = omega (
+  arith,
+  count-bound (c .before .before .before .before .before .before .before .before .before .loop .inv .0),
+  c .before .before .before .before .before .before .before .before .before .loop .inv .0 .few,
+)
 
 loop-less : tie.Need-loop-less Inv-loop μ-loop
 loop-less c = omega (arith, count-bound (c .before .before .before .before .before .before .before .before .before .loop .inv .0))

@@ -39,8 +39,12 @@ same-length-2 c = c .before .before .before .loop .inv .3
 returns : tie.Need-returns Inv-loop μ-loop
 returns c =
     let a = c .before .before .before .before .before .before .before .before .args in
-    let l = c .before .before .before .loop in
-    (l .inv .1, l .inv .2, l .inv .3, λ w r. grouping-end (l .inv .4 w r) (inr (behind-true (a .rows .now) (a .end) (a .p) (l .row) (omega arith) (sym (c .before .is-behind .ensures) ∙ c .if1 .taken))))
+    let l = c .before .before .before .loop in (
+      l .inv .1,
+      l .inv .2,
+      l .inv .3,
+      λ w r. grouping-end (l .inv .4 w r) (inr (behind-true (a .rows .now) (a .end) (a .p) (l .row) (omega arith) (sym (c .before .is-behind .ensures) ∙ c .if1 .taken))),
+    )
 
 mul-mark-target : tie.Need-mul-mark-target Inv-loop μ-loop
 mul-mark-target c = omega arith
@@ -76,7 +80,9 @@ loop-again c =
     let t = c .before .before .before .before .mark-target .ensures in
     let b = inv .1 .targets row in
     let l = target-long _ _ _ _ _ _ _ (eqb q 0) t in
-    let plain = behind-false (a .rows .now) (a .end) (a .p) row (omega arith) (sym (c .before .before .before .before .before .before .before .before .before .is-behind .ensures) ∙ c .before .before .before .before .before .before .before .before .if1 .left) in
+    let plain = behind-false (a .rows .now) (a .end) (a .p) row (omega arith)
+    (sym (c .before .before .before .before .before .before .before .before .before .is-behind .ensures)
+    ∙ c .before .before .before .before .before .before .before .before .if1 .left) in
     let inside : row < length (headFlags (a .rows .now) (a .end)) = rw (flags-length (a .rows .now) 0 (a .end)) (omega arith) in
     (omega arith, room-more (eqb q 0) (inv .1) b t, l .0 ∙ inv .2, l .1 ∙ inv .3, λ w r. grouping-more (inv .4 w r) r (inv .0) inside b plain t)
 

@@ -39,7 +39,13 @@ copy-text-requires c κs =
     omega (arith, long, read, c .before .before .before .if2 .left, c .before .before .before .before .before .before .before .before .before .before .before .pre .0 .namesInside)
 
 moved-row-requires : tie.Need-moved-row-requires
-moved-row-requires c κs = omega (arith, c .before .before .before .before .before .before .before .before .before .bytes-of .ensures, c .before .before .before .before .before .before .before .if2 .left, c .before .before .before .before .before .before .before .before .before .before .before .before .before .before .before .pre .0 .namesInside, c .before .before .before .before .before .before .before .before .before .before .before .before .before .before .before .pre .0 .fewNames)
+moved-row-requires c κs = omega (
+  arith,
+  c .before .before .before .before .before .before .before .before .before .bytes-of .ensures,
+  c .before .before .before .before .before .before .before .if2 .left,
+  c .before .before .before .before .before .before .before .before .before .before .before .before .before .before .before .pre .0 .namesInside,
+  c .before .before .before .before .before .before .before .before .before .before .before .before .before .before .before .pre .0 .fewNames,
+)
 
 returns-3 : tie.Need-returns-3
 returns-3 c =
@@ -52,8 +58,19 @@ returns-3 c =
     let part = rw (read, start) at (c .before .before .before .before .before .before .before .before .before .part-of .ensures) in
     let whole = part ∙ part-whole (a .rows .now) (a .names .now) (a .place) s in
     let bytes = bytes-length (a .rows .now) (a .names .now) (a .place) s in
-    let numbers = c .before .before .before .before .moved-row .ensures ∙ ap (λ (u : ℕ). movedNumbers (asTen (c .before .before .before .before .before .before .before .before .before .before .before .before .before .before .before .ten-at .result)) u (a .used .names)) (c .before .before .before .before .before .used-pairs .ensures) ∙ ap (λ (t : Ten). movedNumbers t (usedPairs (t .tag) (t .a)) (a .used .names)) ten ∙ moved-numbers (a .rows .now) (a .names .now) (a .place) s (a .used .names) in
-    grown-one r _ (omega (arith, c .before .before .before .before .before .before .before .before .before .before .before .before .before .if1 .left)) (omega (arith, bytes, read, c .before .before .before .before .before .before .before .before .before .before .before .before .if2 .left, c .before .before .before .before .before .before .before .before .before .before .before .before .before .before .before .before .before .before .before .before .pre .0 .namesInside)) (rw (← numbers) (c .before .before .put-row .ensures)) (rw (← whole) (c .before .before .before .before .before .before .before .before .copy-text .ensures)) (omega (arith, bytes, read))
+    let numbers = c .before .before .before .before .moved-row .ensures
+    ∙ ap (λ (u : ℕ). movedNumbers (asTen
+    (c .before .before .before .before .before .before .before .before .before .before .before .before .before .before .before .ten-at .result)) u (a .used .names))
+    (c .before .before .before .before .before .used-pairs .ensures) ∙ ap (λ (t : Ten). movedNumbers t (usedPairs (t .tag) (t .a)) (a .used .names)) ten
+    ∙ moved-numbers (a .rows .now) (a .names .now) (a .place) s (a .used .names) in
+    grown-one r _ (omega (arith, c .before .before .before .before .before .before .before .before .before .before .before .before .before .if1 .left))
+    (omega (
+      arith,
+      bytes,
+      read,
+      c .before .before .before .before .before .before .before .before .before .before .before .before .if2 .left,
+      c .before .before .before .before .before .before .before .before .before .before .before .before .before .before .before .before .before .before .before .before .pre .0 .namesInside,
+    )) (rw (← numbers) (c .before .before .put-row .ensures)) (rw (← whole) (c .before .before .before .before .before .before .before .before .copy-text .ensures)) (omega (arith, bytes, read))
 
 pub append-same-spec : {M : Type 1} → statement M
 append-same-spec =

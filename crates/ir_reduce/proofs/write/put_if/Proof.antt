@@ -9,7 +9,8 @@ returns : tie.Need-returns
 returns c = rw (not-true (c .before .before .before .before .before .args .kept) (c .if1 .taken)) (grows-none (c .before .before .before .before .before .pre .0))
 
 returns-2 : tie.Need-returns-2
-returns-2 c = rw (not-false (c .before .before .before .before .before .before .before .before .before .before .before .before .args .kept) (c .before .before .before .before .before .before .before .if1 .left)) (c .before .before .before .before .append-same .ensures)
+returns-2 c = rw (not-false (c .before .before .before .before .before .before .before .before .before .before .before .before .args .kept)
+    (c .before .before .before .before .before .before .before .if1 .left)) (c .before .before .before .before .append-same .ensures)
 
 pub put-if-spec : {M : Type 1} → statement M
 put-if-spec = tie.close (tie.spec returns (λ c κs. search needs) (λ c. search needs) (λ c. search needs) returns-2)

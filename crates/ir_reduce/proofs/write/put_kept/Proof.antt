@@ -24,12 +24,23 @@ loop-holds c = (going-start _ (c .before .before .before .before .before .pre .0
 
 put-if-requires : tie.Need-put-if-requires Inv-loop μ-loop
 put-if-requires c κs =
-    let loop = c .before .before .before .before .before .before .loop in
-    (loop .inv .0 .room, c .before .before .before .before .before .before .before .before .before .before .before .before .pre .1 .3 (loop .place) (omega (arith, loop .inv .1)) (omega (arith, c .before .before .before .before .before .loop-test .taken)), omega (arith, c .before .before .before .before .before .before .before .before .before .before .before .before .pre .1 .0, c .before .before .before .before .before .loop-test .taken))
+    let loop = c .before .before .before .before .before .before .loop in (
+      loop .inv .0 .room,
+      c .before .before .before .before .before .before .before .before .before .before .before .before .pre .1 .3 (loop .place)
+          (omega (arith, loop .inv .1)) (omega (arith, c .before .before .before .before .before .loop-test .taken)),
+      omega (
+        arith,
+        c .before .before .before .before .before .before .before .before .before .before .before .before .pre .1 .0,
+        c .before .before .before .before .before .loop-test .taken,
+      ),
+    )
 
 -- the rest is the row at hand, where it is kept, and what is behind it
-on : (c : tie.After-keeps-row Inv-loop μ-loop) → let a = c .before .before .before .before .before .before .before .before .before .before .args in let loop = c .before .before .before .before .loop in
-    keptRows (rowAt (a .rows .now) (a .names .now)) (a .marks .now) (loop .kept) (loop .place) (a .end - loop .place) ≡ oneIf (c .keeps-row .result) (rowAt (a .rows .now) (a .names .now) (loop .place)) ++ keptRows (rowAt (a .rows .now) (a .names .now)) (a .marks .now) (c .keeps-row .result) (loop .place + 1) (a .end - (loop .place + 1))
+on : (c : tie.After-keeps-row Inv-loop μ-loop)
+    → let a = c .before .before .before .before .before .before .before .before .before .before .args in let loop = c .before .before .before .before .loop in
+    keptRows (rowAt (a .rows .now) (a .names .now)) (a .marks .now) (loop .kept) (loop .place) (a .end - loop .place)
+    ≡ oneIf (c .keeps-row .result) (rowAt (a .rows .now) (a .names .now) (loop .place))
+    ++ keptRows (rowAt (a .rows .now) (a .names .now)) (a .marks .now) (c .keeps-row .result) (loop .place + 1) (a .end - (loop .place + 1))
 on c =
     let a = c .before .before .before .before .before .before .before .before .before .before .args in
     let loop = c .before .before .before .before .loop in
@@ -38,11 +49,17 @@ on c =
 
 returns : tie.Need-returns Inv-loop μ-loop
 returns c =
-    going-full _ _ (c .before .before .before .before .before .before .before .before .before .before .before .before .before .loop .inv .0) (on (c .before .before .before .before .before .before .before .before .before)) (short-of _ _ _ _ _ _ _ (c .before .before .before .before .before .before .put-if .ensures) (c .enum-told .given .1))
+    going-full _ _ (c .before .before .before .before .before .before .before .before .before .before .before .before .before .loop .inv .0)
+    (on (c .before .before .before .before .before .before .before .before .before))
+    (short-of _ _ _ _ _ _ _ (c .before .before .before .before .before .before .put-if .ensures) (c .enum-told .given .1))
 
 loop-again : tie.Need-loop-again Inv-loop μ-loop
-loop-again c =
-    (going-step _ _ (c .before .before .before .before .before .before .before .before .before .before .before .before .before .before .loop .inv .0) (on (c .before .before .before .before .before .before .before .before .before .before)) (grown-of _ _ _ _ _ _ _ (c .before .before .before .before .before .before .before .put-if .ensures) (c .before .grown .given .1)), omega arith)
+loop-again c = (
+  going-step _ _ (c .before .before .before .before .before .before .before .before .before .before .before .before .before .before .loop .inv .0)
+      (on (c .before .before .before .before .before .before .before .before .before .before))
+      (grown-of _ _ _ _ _ _ _ (c .before .before .before .before .before .before .before .put-if .ensures) (c .before .grown .given .1)),
+  omega arith,
+)
 
 returns-2 : tie.Need-returns-2 Inv-loop μ-loop
 returns-2 c =

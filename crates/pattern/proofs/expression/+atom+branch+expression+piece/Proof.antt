@@ -13,7 +13,8 @@ use borrow.Fn.PlainCycle.{Measures, is, falls, and}
 use Rattle.pattern.specs.Scan as scanning
 use Rattle.pattern.specs.Scan.{isEscaped, go, scan, step, fresh, leave, final, start}
 use Rattle.pattern.specs.Answers.{isClose, isTail, anyByte}
-use Rattle.pattern.proofs.Laws.Places.{end-at, to-at, off-at, byte-to, before, open-final, close-byte, fresh-off, unmarked-at, unmarked-end, mark-at, escaped-on, escaped-off, escaped-inside, goes, bad}
+use Rattle.pattern.proofs.Laws.Places.{end-at, to-at, off-at, byte-to, before, open-final, close-byte, fresh-off, unmarked-at, unmarked-end, mark-at, escaped-on}
+use Rattle.pattern.proofs.Laws.Places.{escaped-off, escaped-inside, goes, bad}
 use Rattle.pattern.proofs.Laws.Derived.{plain-fresh}
 use Rattle.pattern.proofs.expression.atom.Reads as atom
 use Rattle.pattern.proofs.expression.atom.Kinds as atom-kinds
@@ -93,7 +94,20 @@ pub +atom+branch+expression+piece-spec : {M : Type 1} → statement M
 unfolding step fresh leave final isTail
 +atom+branch+expression+piece-spec =
     close μ-atom μ-branch μ-expression μ-piece
-    (λ t. atom-lts.spec (expression-below t, expression.Post, class-end.Asked, class-end.Learnt, byte-at.Asked, byte-at.Learnt, is-escaped.Asked, is-escaped.Learnt, is-plain.Asked, is-plain.Learnt, plain-end.Asked, plain-end.Learnt) (atom-at t) atom.Post
+    (λ t. atom-lts.spec (
+      expression-below t,
+      expression.Post,
+      class-end.Asked,
+      class-end.Learnt,
+      byte-at.Asked,
+      byte-at.Learnt,
+      is-escaped.Asked,
+      is-escaped.Learnt,
+      is-plain.Asked,
+      is-plain.Learnt,
+      plain-end.Asked,
+      plain-end.Learnt,
+    ) (atom-at t) atom.Post
     (λ c. search needs)
     (λ c. search needs)
     (λ c κs. (omega arith, omega arith))
@@ -103,7 +117,8 @@ unfolding step fresh leave final isTail
     let k = c .before .before .before .before .before .before in
     let s = k .args .s .now in
     let at = k .args .at in
-    λ d. byte-to (go d start) s at 40 (k .pre .1 .0) (c .before .before .before .if1 .taken) refl ∙ bad s start (at + 1) start (at + 1) isClose (c .before .before .expression .ensures) (c .enum-told .given .1) (suc d))
+    λ d. byte-to (go d start) s at 40 (k .pre .1 .0) (c .before .before .before .if1 .taken) refl
+    ∙ bad s start (at + 1) start (at + 1) isClose (c .before .before .expression .ensures) (c .enum-told .given .1) (suc d))
     (λ c.
     let k = c .before .before .before .before .before .before .before .before in
     let s = k .args .s .now in
@@ -118,13 +133,21 @@ unfolding step fresh leave final isTail
     let at = k .args .at in
     let g = goes (c .before .before .before .before .expression .ensures) (c .before .before .e .given .1) in
     let e = c .before .before .e .given .0 .0 in
-    record { onward = omega (arith, g .onward); within = omega arith; stops = λ _. refl; reads = λ d. byte-to (go d start) s at 40 (k .pre .1 .0) (c .before .before .before .before .before .if1 .taken) refl ∙ g .reads (suc d) ∙ byte-to (go (suc d) start) s e 41 (omega arith) (closing _ (g .stops (omega arith))) refl })
+    record {
+      onward = omega (arith, g .onward);
+      within = omega arith;
+      stops = λ _. refl;
+      reads = λ d. byte-to (go d start) s at 40 (k .pre .1 .0)
+          (c .before .before .before .before .before .if1 .taken) refl ∙ g .reads (suc d)
+          ∙ byte-to (go (suc d) start) s e 41 (omega arith) (closing _ (g .stops (omega arith))) refl;
+    })
     (λ c. search needs)
     (λ c κs. search needs)
     (λ c.
     let k = c .before .before .before .before .before in
     let s = k .args .s .now in
-    let at = k .args .at in before s start scanning.opened at (at + 1) scanning.atom (at + 1) anyByte (λ d. byte-to (go d start) s at 91 (k .pre .1 .0) (c .before .if3 .taken) refl) (c .class-end .result) (c .class-end .ensures))
+    let at = k .args .at in before s start scanning.opened at (at + 1) scanning.atom (at + 1) anyByte
+    (λ d. byte-to (go d start) s at 91 (k .pre .1 .0) (c .before .if3 .taken) refl) (c .class-end .result) (c .class-end .ensures))
     (λ c. search needs)
     (λ c κs. search needs)
     (λ c κs. search needs)
@@ -135,7 +158,14 @@ unfolding step fresh leave final isTail
     let at = k .args .at in
     let x = sym (c .before .is-escaped .ensures ∙ ap isEscaped (c .before .before .byte-at .ensures)) ∙ c .if5 .taken in
     let two : at + 1 + 1 ≡ at + 2 = omega arith in
-    record { onward = omega arith; within = omega (arith, escaped-inside s (at + 1) x); stops = λ _. refl; reads = λ d. byte-to (go d start) s at 92 (k .pre .1 .0) (c .before .before .before .if4 .taken) refl ∙ escaped-on scanning.escape scanning.atom (λ d b. refl) (λ d. refl) s (at + 1) x d ∙ ap (λ (k : ℕ). scan (go d scanning.atom) (drop k s)) two })
+    record {
+      onward = omega arith;
+      within = omega (arith, escaped-inside s (at + 1) x);
+      stops = λ _. refl;
+      reads = λ d. byte-to (go d start) s at 92 (k .pre .1 .0)
+          (c .before .before .before .if4 .taken) refl ∙ escaped-on scanning.escape scanning.atom (λ d b. refl) (λ d. refl) s (at + 1) x d
+          ∙ ap (λ (k : ℕ). scan (go d scanning.atom) (drop k s)) two;
+    })
     (λ c.
     let k = c .before .before .before .before .before .before .before .before in
     let s = k .args .s .now in
@@ -148,12 +178,20 @@ unfolding step fresh leave final isTail
     (λ c.
     let k = c .before .before .before .before .before .before .before .before in
     let g = c .plain-end .ensures in
-    record { onward = omega (arith, g .onward); within = g .within; stops = λ _. refl; reads = λ d. to-at (go d start) (k .args .s .now) (k .args .at) (k .pre .1 .0) (plain-fresh d _ (sym (c .before .before .is-plain .ensures) ∙ c .before .if6 .taken)) ∙ g .reads d })
+    record {
+      onward = omega (arith, g .onward);
+      within = g .within;
+      stops = λ _. refl;
+      reads = λ d. to-at (go d start) (k .args .s .now) (k .args .at) (k .pre .1 .0)
+          (plain-fresh d _ (sym (c .before .before .is-plain .ensures) ∙ c .before .if6 .taken)) ∙ g .reads d;
+    })
     (λ c.
     let k = c .before .before .before .before .before .before .before in
     let s = k .args .s .now in
     let at = k .args .at in
-    λ d. off-at (go d start) s at (k .pre .1 .0) (fresh-off d _ (c .before .before .before .before .if1 .left) (k .pre .1 .1) (c .before .before .before .if3 .left) (c .before .before .if4 .left) (sym (c .before .is-plain .ensures) ∙ c .if6 .left))))
+    λ d. off-at (go d start) s at (k .pre .1 .0)
+    (fresh-off d _ (c .before .before .before .before .if1 .left) (k .pre .1 .1) (c .before .before .before .if3 .left) (c .before .before .if4 .left)
+    (sym (c .before .is-plain .ensures) ∙ c .if6 .left))))
     (λ t. branch-lts.spec (piece-below t, piece.Post) (branch-at t) branch.Post branch-Inv branch-μ
     (λ c. (search needs, search needs, λ d. refl))
     (λ c. search needs)
@@ -164,7 +202,8 @@ unfolding step fresh leave final isTail
     (λ c. search needs)
     (λ c.
     let z = c .before .before .before .before .before .before .before .loop in
-    λ d. z .inv .2 d ∙ bad (c .before .before .before .before .before .before .before .before .before .args .s .now) start (z .i) start (z .i + 1) anyByte (c .before .before .piece .ensures) (c .enum-told .given .1) d)
+    λ d. z .inv .2 d ∙ bad (c .before .before .before .before .before .before .before .before .before .args .s .now) start (z .i) start (z .i + 1) anyByte
+    (c .before .before .piece .ensures) (c .enum-told .given .1) d)
     (λ c. let g = goes (c .before .before .before .piece .ensures) (c .before .e .given .1) in omega (arith, g .onward, g .within))
     (λ c.
     let g = goes (c .before .before .before .piece .ensures) (c .before .e .given .1) in
@@ -184,12 +223,23 @@ unfolding step fresh leave final isTail
     (λ c. search needs)
     (λ c.
     let g = goes (c .before .before .before .before .before .before .branch .ensures) (c .before .before .before .before .e .given .1) in
-    record { onward = omega (arith, g .onward); within = g .within; stops = λ h. close-byte _ (g .stops h) (c .if2 .taken); reads = λ d. c .before .before .before .before .before .before .before .loop .inv .2 d ∙ g .reads d })
+    record {
+      onward = omega (arith, g .onward);
+      within = g .within;
+      stops = λ h. close-byte _ (g .stops h)
+          (c .if2 .taken);
+      reads = λ d. c .before .before .before .before .before .before .before .loop .inv .2 d ∙ g .reads d;
+    })
     (λ c. let g = goes (c .before .before .before .before .before .before .branch .ensures) (c .before .before .before .before .e .given .1) in omega (arith, g .within))
     (λ c. let g = goes (c .before .before .before .before .before .before .branch .ensures) (c .before .before .before .before .e .given .1) in omega (arith, g .onward, g .within))
     (λ c.
-    let g = goes (c .before .before .before .before .before .before .branch .ensures) (c .before .before .before .before .e .given .1) in
-    (omega (arith, g .onward), omega arith, λ d. c .before .before .before .before .before .before .before .loop .inv .2 d ∙ g .reads d ∙ byte-to (go d start) (c .before .before .before .before .before .before .before .before .before .args .s .now) (c .before .before .before .before .e .given .0 .0) 124 (omega arith) (c .if2 .left) refl)))
+    let g = goes (c .before .before .before .before .before .before .branch .ensures) (c .before .before .before .before .e .given .1) in (
+      omega (arith, g .onward),
+      omega arith,
+      λ d. c .before .before .before .before .before .before .before .loop .inv .2 d ∙ g .reads d
+          ∙ byte-to (go d start) (c .before .before .before .before .before .before .before .before .before .args .s .now)
+          (c .before .before .before .before .e .given .0 .0) 124 (omega arith) (c .if2 .left) refl,
+    )))
     (λ t. piece-lts.spec (atom-below t, atom.Post, is-mark.Asked, is-mark.Learnt) (piece-at t) piece.Post
     (λ c κs. (omega arith, (c .before .pre .1 .0, c .before .pre .1 .1)))
     (λ c. search needs)

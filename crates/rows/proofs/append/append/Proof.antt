@@ -21,7 +21,8 @@ returns c =
     record {
       rowsLength = set .kept .0;
       namesLength = stored .kept .0;
-      holds = λ z rs h. holds-more r (stored .result) h (start .pre .0) (rw bytes (start .pre .1 .0 .0)) (set .ensures (a .first .now) (a .second .now) refl refl) (rw bytes (stored .ensures .1)) (rw bytes (stored .ensures .0));
+      holds = λ z rs h. holds-more r (stored .result) h (start .pre .0) (rw bytes (start .pre .1 .0 .0)) (set .ensures (a .first .now) (a .second .now) refl refl)
+          (rw bytes (stored .ensures .1)) (rw bytes (stored .ensures .0));
     }
 
 pub append-spec : {M : Type 1} → statement M

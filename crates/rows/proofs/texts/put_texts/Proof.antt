@@ -32,15 +32,24 @@ add-result : tie.Need-add-result
 add-result c =
     let start = c .before .before .before .before .before .before .before .before .before .before .before .before .before in
     let a = start .args in
-    omega (arith, start .pre, used-both (a .pairs) (length (a .first .now)) (length (a .second .now)) (c .before .before .before .before .before .before .before .before .before .if1 .left) (c .before .before .before .before .if2 .left))
+    omega (
+      arith,
+      start .pre,
+      used-both (a .pairs) (length (a .first .now)) (length (a .second .now))
+          (c .before .before .before .before .before .before .before .before .before .if1 .left) (c .before .before .before .before .if2 .left),
+    )
 
 returns-3 : tie.Need-returns-3
 returns-3 c =
     let start = c .before .before .before .before .before .before .before .before .before .before .before .before .before in
     let a = start .args in
-    let both = used-both (a .pairs) (length (a .first .now)) (length (a .second .now)) (c .before .before .before .before .before .before .before .before .before .if1 .left) (c .before .before .before .before .if2 .left) in
-    let two : a .pairs ≡ 2 = omega (arith, start .pre) in
-    (omega arith, store-two _ (a .first .now) (a .second .now) (a .at) two (omega (arith, start .pre)) (c .before .before .before .before .before .before .before .copy-text .ensures) (c .before .before .copy-text2 .ensures))
+    let both = used-both (a .pairs) (length (a .first .now)) (length (a .second .now))
+    (c .before .before .before .before .before .before .before .before .before .if1 .left) (c .before .before .before .before .if2 .left) in
+    let two : a .pairs ≡ 2 = omega (arith, start .pre) in (
+      omega arith,
+      store-two _ (a .first .now) (a .second .now) (a .at) two (omega (arith, start .pre))
+          (c .before .before .before .before .before .before .before .copy-text .ensures) (c .before .before .copy-text2 .ensures),
+    )
 
 pub put-texts-spec : {M : Type 1} → statement M
 put-texts-spec =

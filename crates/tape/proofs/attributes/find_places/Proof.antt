@@ -35,8 +35,13 @@ add-at c = omega arith
 loop-holds : tie.Need-loop-holds Inv-loop μ-loop
 unfolding pairCount
 loop-holds c =
-    let a = c .before .before .args in
-    (omega arith, omega arith, refl, λ k h. places-none (a .text .now) (a .marks .now) k h (sym (ap (λ (xs : List Attr). lookupText xs (getD keyWords k [])) (tag-attributes (a .text .now) (a .marks .now) (a .pairs) (a .count)))))
+    let a = c .before .before .args in (
+      omega arith,
+      omega arith,
+      refl,
+      λ k h. places-none (a .text .now) (a .marks .now) k h
+          (sym (ap (λ (xs : List Attr). lookupText xs (getD keyWords k [])) (tag-attributes (a .text .now) (a .marks .now) (a .pairs) (a .count)))),
+    )
 
 key-at-requires : tie.Need-key-at-requires Inv-loop μ-loop
 key-at-requires c κs =
@@ -54,7 +59,9 @@ loop-again c =
       omega arith,
       omega arith,
       ap (λ (p : List ℕ). length p) (c .keep-first .ensures) ∙ kept-length _ _ _ (l .inv .2),
-      λ k h. rw (c .keep-first .ensures) (places-step (a .text .now) (a .marks .now) (l .places) (l .at) (l .left) k (keyed .key-at .result) (omega arith) (omega arith) h (l .inv .2) (keyed .key-at .ensures) ∙ l .inv .3 k h),
+      λ k h. rw (c .keep-first .ensures)
+          (places-step (a .text .now) (a .marks .now) (l .places) (l .at) (l .left) k (keyed .key-at .result) (omega arith) (omega arith) h (l .inv .2)
+          (keyed .key-at .ensures) ∙ l .inv .3 k h),
     )
 
 returns : tie.Need-returns Inv-loop μ-loop

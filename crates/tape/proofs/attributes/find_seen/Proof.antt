@@ -39,4 +39,7 @@ returns c =
     )
 
 pub find-seen-spec : {M : Type 1} → statement M
-find-seen-spec = tie.close (tie.spec word-under-requires (λ c κs. search needs) (λ c. omega (arith, c .find-places .ensures .many)) (λ c. omega (arith, c .find-places .ensures .many)) (λ c. omega (arith, c .find-places .ensures .many)) (λ c. omega (arith, c .find-places .ensures .many)) (λ c. omega (arith, c .find-places .ensures .many)) (λ c. omega (arith, c .find-places .ensures .many)) (λ c. omega (arith, c .find-places .ensures .many)) (λ c. omega (arith, c .find-places .ensures .many)) (λ c. omega (arith, c .find-places .ensures .many)) returns)
+find-seen-spec = tie.close (tie.spec word-under-requires (λ c κs. search needs) (λ c. omega (arith, c .find-places .ensures .many))
+    (λ c. omega (arith, c .find-places .ensures .many)) (λ c. omega (arith, c .find-places .ensures .many)) (λ c. omega (arith, c .find-places .ensures .many))
+    (λ c. omega (arith, c .find-places .ensures .many)) (λ c. omega (arith, c .find-places .ensures .many)) (λ c. omega (arith, c .find-places .ensures .many))
+    (λ c. omega (arith, c .find-places .ensures .many)) (λ c. omega (arith, c .find-places .ensures .many)) returns)

@@ -32,7 +32,8 @@ returns c =
     let head = c .before .before .before .before in
     let a = head .before .before .before .args in
     let l = head .loop in
-    sym (ascii-hit (a .marks .now) (l .pair) (l .left) (omega arith) (omega arith) (a .text .now) (sym (ap isText (c .before .before .pair-part .ensures)) ∙ sym (c .before .is-text .ensures) ∙ not-true _ (c .if1 .taken))) ∙ l .inv .1
+    sym (ascii-hit (a .marks .now) (l .pair) (l .left) (omega arith) (omega arith) (a .text .now)
+    (sym (ap isText (c .before .before .pair-part .ensures)) ∙ sym (c .before .is-text .ensures) ∙ not-true _ (c .if1 .taken))) ∙ l .inv .1
 
 add-pair : tie.Need-add-pair Inv-loop μ-loop
 add-pair c = omega arith
@@ -47,8 +48,11 @@ loop-again : tie.Need-loop-again Inv-loop μ-loop
 loop-again c =
     let head = c .before .before .before .before in
     let a = head .before .before .before .args in
-    let l = head .loop in
-    (omega arith, sym (ascii-on (a .marks .now) (l .pair) (l .left) (omega arith) (omega arith) (a .text .now) (sym (ap isText (c .before .before .pair-part .ensures)) ∙ sym (c .before .is-text .ensures) ∙ not-false _ (c .if1 .left))) ∙ l .inv .1)
+    let l = head .loop in (
+      omega arith,
+      sym (ascii-on (a .marks .now) (l .pair) (l .left) (omega arith) (omega arith) (a .text .now)
+          (sym (ap isText (c .before .before .pair-part .ensures)) ∙ sym (c .before .is-text .ensures) ∙ not-false _ (c .if1 .left))) ∙ l .inv .1,
+    )
 
 returns-2 : tie.Need-returns-2 Inv-loop μ-loop
 returns-2 c =

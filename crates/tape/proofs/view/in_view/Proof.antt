@@ -1,4 +1,5 @@
--- `tape::view::in_view` meets its contract: a walk of its MIR, by hand. The view is made of the two slices in a local, and passed to `lookup` with the count. All that the proof knows of `lookup` is that it meets its contract.
+-- `tape::view::in_view` meets its contract: a walk of its MIR, by hand. The view is made of the two slices in a local, and passed to `lookup` with the count. All that
+-- the proof knows of `lookup` is that it meets its contract.
 -- The slices are Copy: what each owns is had twice, one copy is kept for the exit, and the others are what the view owns. In a local MIR erases the lifetimes of the view's type.
 -- Assumes nothing.
 use mathlib.Core.Path.{_≡_, refl}
@@ -140,7 +141,8 @@ module _ {M : Type 1} (𝓤 : URA M) (H : Heap 𝓤) (A : Atoms 𝓤) (W : Given
       -- [the text's, twice; the marks', twice; the tokens]: what the fields own together is what the view owns
       nothing ! $ move ! (3 ∷ 0 ∷ []) $ fjoin ! $ move ! (1 ∷ 0 ∷ []) $ fjoin ! $ use1 W (‵ Own) (own-shut 𝓤 H A W (D κs) (L κs) (x, (y, tt))) $
       -- [the view's; the text's; the marks'; the tokens]
-      nothing ! $ owned ! usize (Is usize) (uint-makes 𝓤 H A W w64) n _ (refl, fits) $ fjoin ! $ move ! (1 ∷ 0 ∷ []) $ fjoin ! $ move ! (3 ∷ 0 ∷ []) $ use2 W (raw (Lookup 𝓤 H A mem run .pre to)) (asked judged) $
+      nothing ! $ owned ! usize (Is usize) (uint-makes 𝓤 H A W w64) n _ (refl, fits) $ fjoin ! $ move ! (1 ∷ 0 ∷ []) $ fjoin ! $ move ! (3 ∷ 0 ∷ []) $ use2 W
+      (raw (Lookup 𝓤 H A mem run .pre to)) (asked judged) $
       -- [what the callee asks; the text's; the marks']
       nothing ! $ owned ! usize (Is usize) (uint-makes 𝓤 H A W w64) n _ (refl, fits) $ fjoin ! $ move ! (3 ∷ 0 ∷ []) $ fjoin ! $ move ! (2 ∷ 0 ∷ []) $ fjoin ! $ move ! (1 ∷ []) $ frame ! $ done !
 
@@ -151,7 +153,8 @@ module _ {M : Type 1} (𝓤 : URA M) (H : Heap 𝓤) (A : Atoms 𝓤) (W : Given
   exits : (r : SeenTag) (u : Val) → Says r → ent 𝓤 (⋆ 𝓤 H A (‵ (S.the-row .own r (u ∷ [])) ∷ (‵ (flft κ q) ⊛ ‵ (flft κ′ q′) ⊛ ‵ ftrue) ∷ ‵ Kept ∷ [])) (Post u)
   exits r u e =
       qed W (‵ (S.the-row .own r (u ∷ [])) ∷ (‵ (flft κ q) ⊛ ‵ (flft κ′ q′) ⊛ ‵ ftrue) ∷ ‵ Kept ∷ []) ∵
-      suffices ! _ (ends-at 𝓤 H A in-view.ended stayed (in-view.clauses 𝓤 H A mem run) W ((κs, (q, (q′, tt)), tt, (x, (y, (n, tt))), at), tt) u r (tt, (tt, (tt, tt))) (tt, (tt, (tt, tt)))) $ says ! e $
+      suffices ! _ (ends-at 𝓤 H A in-view.ended stayed (in-view.clauses 𝓤 H A mem run) W ((κs, (q, (q′, tt)), tt, (x, (y, (n, tt))), at), tt) u r (tt, (tt, (tt, tt)))
+      (tt, (tt, (tt, tt)))) $ says ! e $
       move ! (1 ∷ []) $ frame ! $ move ! (1 ∷ []) $ frame ! $ done !
 
   module _ (C : Calls 𝓤 H) (Λ : Loops 𝓤 H) (fm : FmC 𝓤 H (W .laws) C) (known : Triple 𝓤 (C #event_view·lookup) (Lookup 𝓤 H A mem run)) where
@@ -163,24 +166,28 @@ module _ {M : Type 1} (𝓤 : URA M) (H : Heap 𝓤) (A : Atoms 𝓤) (W : Given
         qed W (raw (onEntry 𝓤 H A in-view.signature κs (q, (q′, tt)) (x, (y, (n, tt))) at) ∷ []) ∵ enter ! C Λ code.function (vx ∷ vy ∷ vint w64 n ∷ []) _ $
         alloc1 ! (λ l₀. alloc1 ! (λ l₁. alloc1 ! (λ l₂. alloc1 ! (λ l₃. alloc1 ! (λ l₄. alloc0 ! $ params1 ! $
         pass1 ! (init ! 6 refl tx) $ pass1 ! (init ! 4 refl ty) $ pass1 ! (init ! 2 refl (tt, record { fits = fits })) $ pass0 ! $
-        assigns ! (agg ! (and-then ! (load ! (from ! (stop !)) (look ! 6 refl)) (and-then ! (load ! (from ! (stop !)) (look ! 4 refl)) (no-more !)))) (from ! (stop !)) (init ! 0 refl (tt, (tx .1, (ty .1, tt)))) $
+        assigns ! (agg ! (and-then ! (load ! (from ! (stop !)) (look ! 6 refl)) (and-then ! (load ! (from ! (stop !)) (look ! 4 refl)) (no-more !)))) (from ! (stop !))
+        (init ! 0 refl (tt, (tx .1, (ty .1, tt)))) $
         -- [_4, the view; …; _3; …; _2; …; _1; …; room for _0; …; what the parameters own]
         move ! (10 ∷ []) $ use1 W (raw (Lookup 𝓤 H A mem run .pre to) ⊛ ‵ Kept) (together fits judged) $ split ! $
         calls-at ! fm (Lookup 𝓤 H A mem run) known to (and-then ! (load ! (from ! (stop !)) (look ! 2 refl)) (and-then ! (load ! (from ! (stop !)) (look ! 4 refl)) (no-more !))) (λ u.
-        use1 W (later (some (λ (r : SeenTag). ((‵ (flft κ q) ⊛ ‵ (flft κ′ q′) ⊛ ‵ ftrue) ⊛ ‵ (S.the-row .own r (u ∷ []))) ⊛ raw (ensured 𝓤 H A lookup.ended (lookup.clauses 𝓤 H A mem run) κs (d, (n, tt)) tt r)))) (id⊢ 𝓤 _) $ await ! tt $ pick ! (λ r.
+        use1 W (later (some (λ (r : SeenTag). ((‵ (flft κ q) ⊛ ‵ (flft κ′ q′) ⊛ ‵ ftrue) ⊛ ‵ (S.the-row .own r (u ∷ []))) ⊛ raw
+        (ensured 𝓤 H A lookup.ended (lookup.clauses 𝓤 H A mem run) κs (d, (n, tt)) tt r)))) (id⊢ 𝓤 _) $ await ! tt $ pick ! (λ r.
         split ! $ move ! (1 ∷ []) $ use1 W (raw (fact 𝓤 (Says r))) (said r) $ heard ! (Says r) (λ e. split ! $ move ! (1 ∷ []) $
         -- [the result; the tokens; what the parameters own; _4; …; _3; …; _2; …; _1; …; room for _0; …]
         peeks ! S.the-row (Is S.the-row) (shows 𝓤 H A S.the-row) r (u ∷ []) (λ is.
         land ! (from ! (stop !)) (init ! 11 refl (LL.lawful S.the-type S′.the-laws 𝓤 H A W .typed r _ is .0)) $
         returns ! (look ! 11 refl) $ forget ! 3 refl $ forget ! 5 refl $ forget ! 7 refl $ forget ! 9 refl $ forget ! 11 refl $
-        move ! (11 ∷ 12 ∷ []) $ free1 ! $ move ! (9 ∷ 10 ∷ []) $ free1 ! $ move ! (7 ∷ 8 ∷ []) $ free1 ! $ move ! (5 ∷ 6 ∷ []) $ free1 ! $ move ! (3 ∷ 4 ∷ []) $ free1 ! $ free0 ! $ by ! (exits r u e))))))))))
+        move ! (11 ∷ 12 ∷ []) $ free1 ! $ move ! (9 ∷ 10 ∷ []) $ free1 ! $ move ! (7 ∷ 8 ∷ []) $ free1 ! $ move ! (5 ∷ 6 ∷ []) $ free1 ! $ move !
+        (3 ∷ 4 ∷ []) $ free1 ! $ free0 ! $ by ! (exits r u e))))))))))
 
 module _ {M : Type 1} (𝓤 : URA M) (H : Heap 𝓤) (A : Atoms 𝓤) (W : Given 𝓤 H A) (mem : Memory → SProp 𝓤) (run : Routine → Fun 𝓤) where
   in-view-walks : (C : Calls 𝓤 H) (Λ : Loops 𝓤 H) → FmC 𝓤 H (W .laws) C → Triple 𝓤 (C #event_view·lookup) (Lookup 𝓤 H A mem run)
       → Walks 𝓤 H A in-view.ended stayed (WpFn 𝓤 H C Λ code.function) (in-view.clauses 𝓤 H A mem run)
   in-view-walks C Λ fm known = walked 𝓤 H A in-view.ended stayed (in-view.clauses 𝓤 H A mem run) (WpFn 𝓤 H C Λ code.function) (λ κs. (slice-vals, (slice-vals, (uint-vals w64, tt))))
       (λ κs. (shr-slice-tells (named 0) (κs .0) u8, (shr-slice-tells (named 1) (κs .1 .0) u32, (uint-tells w64, tt))))
-      (λ κs qs bounds a g are. needs 𝓤 (TagInside (now (a .0)) (now (a .1 .0)) 0 (a .1 .1 .0)) _ (walk 𝓤 H A W mem run (κs .0) (κs .1 .0) (qs .0) (qs .1 .0) (a .0) (a .1 .0) (a .1 .1 .0) C Λ fm known (are .0) (are .1 .0) (are .1 .1 .0 .1)))
+      (λ κs qs bounds a g are. needs 𝓤 (TagInside (now (a .0)) (now (a .1 .0)) 0 (a .1 .1 .0)) _
+      (walk 𝓤 H A W mem run (κs .0) (κs .1 .0) (qs .0) (qs .1 .0) (a .0) (a .1 .0) (a .1 .1 .0) C Λ fm known (are .0) (are .1 .0) (are .1 .1 .0 .1)))
 
 in-view-meets : {M : Type 1} (𝓤 : URA M) (H : Heap 𝓤) (A : Atoms 𝓤) (W : Given 𝓤 H A) (mem : Memory → SProp 𝓤) (run : Routine → Fun 𝓤) (𝓣 : Tables 𝓤 H)
     → Triple 𝓤 (𝓣 .C #event_view·lookup) (Lookup 𝓤 H A mem run)

@@ -1,4 +1,5 @@
--- `tape::view::lookup` meets its contract: a walk of its MIR, by hand. The view is taken apart, and `find_seen` is called on the two slices, 0 and the count. All that the proof knows of `find_seen` is that it meets its contract.
+-- `tape::view::lookup` meets its contract: a walk of its MIR, by hand. The view is taken apart, and `find_seen` is called on the two slices, 0 and the count. All that
+-- the proof knows of `find_seen` is that it meets its contract.
 -- The view is Copy: what it owns is had twice, one copy is kept whole for the exit and the other goes to the callee, beside the lifetimes' tokens, which come back.
 -- Assumes nothing.
 use mathlib.Core.Path.{_≡_, refl}
@@ -111,7 +112,9 @@ module _ {M : Type 1} (𝓤 : URA M) (H : Heap 𝓤) (A : Atoms 𝓤) (W : Given
   to = ((κs, (q, (q′, tt)), tt, (d .text, (d .marks, (0, (n, tt)))), passed), tt)
 
   asked : Judged → ent 𝓤 (onEntry 𝓤 H A find.signature κs (q, (q′, tt)) (d .text, (d .marks, (0, (n, tt)))) passed) (Find 𝓤 H A mem run .pre to)
-  asked judged = qed W ((‵ (flft κ q) ⊛ ‵ (flft κ′ q′) ⊛ ‵ ftrue) ∷ ‵ (owns (ShrSlice (named 0) κ u8 ∷ ShrSlice (named 1) κ′ u32 ∷ usize ∷ usize ∷ []) (d .text, (d .marks, (0, (n, tt)))) passed) ∷ []) ∵ says ! judged $ frame ! $ done !
+  asked judged = qed W ((‵ (flft κ q) ⊛ ‵ (flft κ′ q′) ⊛ ‵ ftrue)
+      ∷ ‵ (owns (ShrSlice (named 0) κ u8 ∷ ShrSlice (named 1) κ′ u32 ∷ usize ∷ usize ∷ []) (d .text, (d .marks, (0, (n, tt)))) passed)
+      ∷ []) ∵ says ! judged $ frame ! $ done !
 
   -- what the parameters own gives what the callee asks, and is kept
   apart : n < 2 ^ 64 → Judged → ent 𝓤 (onEntry 𝓤 H A lookup.signature κs (q, (q′, tt)) (d, (n, tt)) at) (sep 𝓤 (Find 𝓤 H A mem run .pre to) (sem 𝓤 H A Kept))
@@ -149,25 +152,34 @@ module _ {M : Type 1} (𝓤 : URA M) (H : Heap 𝓤) (A : Atoms 𝓤) (W : Given
         assigns ! (of-opd ! (load ! (from ! (fld ! refl (stop !))) (look-in ! 6 (sub ! 1 refl (whole !))))) (from ! (stop !)) (init ! 0 refl (tt, wt .1 .1 .0)) $
         -- [_4; …; _3; …; _2; …; _1; …; room for _0; …; what the parameters own]
         move ! (10 ∷ []) $ use1 W (raw (Find 𝓤 H A mem run .pre to) ⊛ ‵ Kept) (apart fits judged) $ split ! $
-        calls-at ! fm (Find 𝓤 H A mem run) known to (and-then ! (load ! (from ! (stop !)) (look ! 4 refl)) (and-then ! (load ! (from ! (stop !)) (look ! 2 refl)) (and-then ! (lit ! tt) (and-then ! (load ! (from ! (stop !)) (look ! 6 refl)) (no-more !))))) (λ u.
-        use1 W (later (some (λ (r : SeenTag). ((‵ (flft κ q) ⊛ ‵ (flft κ′ q′) ⊛ ‵ ftrue) ⊛ ‵ (S.the-row .own r (u ∷ []))) ⊛ raw (ensured 𝓤 H A find.ended (find.clauses 𝓤 H A mem run) κs (d .text, (d .marks, (0, (n, tt)))) tt r)))) (id⊢ 𝓤 _) $ await ! tt $ pick ! (λ r.
+        calls-at ! fm (Find 𝓤 H A mem run) known to
+        (and-then ! (load ! (from ! (stop !)) (look ! 4 refl))
+        (and-then ! (load ! (from ! (stop !)) (look ! 2 refl)) (and-then ! (lit ! tt) (and-then ! (load ! (from ! (stop !)) (look ! 6 refl)) (no-more !))))) (λ u.
+        use1 W (later (some (λ (r : SeenTag). ((‵ (flft κ q) ⊛ ‵ (flft κ′ q′) ⊛ ‵ ftrue) ⊛ ‵ (S.the-row .own r (u ∷ []))) ⊛ raw
+        (ensured 𝓤 H A find.ended (find.clauses 𝓤 H A mem run) κs (d .text, (d .marks, (0, (n, tt)))) tt r)))) (id⊢ 𝓤 _) $ await ! tt $ pick ! (λ r.
         split ! $ move ! (1 ∷ []) $ use1 W (raw (fact 𝓤 (Says r))) (said r) $ heard ! (Says r) (λ e. split ! $ move ! (1 ∷ []) $
         -- [the result; the tokens; what the parameters own; _4; …; _3; …; _2; …; _1; …; room for _0; …]
         peeks ! S.the-row (Is S.the-row) (shows 𝓤 H A S.the-row) r (u ∷ []) (λ is.
         land ! (from ! (stop !)) (init ! 11 refl (LL.lawful S.the-type S′.the-laws 𝓤 H A W .typed r _ is .0)) $
         returns ! (look ! 11 refl) $ forget ! 3 refl $ forget ! 5 refl $ forget ! 7 refl $ forget ! 9 refl $ forget ! 11 refl $
-        move ! (11 ∷ 12 ∷ []) $ free1 ! $ move ! (9 ∷ 10 ∷ []) $ free1 ! $ move ! (7 ∷ 8 ∷ []) $ free1 ! $ move ! (5 ∷ 6 ∷ []) $ free1 ! $ move ! (3 ∷ 4 ∷ []) $ free1 ! $ free0 ! $ by ! (exits r u e))))))))))
+        move ! (11 ∷ 12 ∷ []) $ free1 ! $ move ! (9 ∷ 10 ∷ []) $ free1 ! $ move ! (7 ∷ 8 ∷ []) $ free1 ! $ move ! (5 ∷ 6 ∷ []) $ free1 ! $ move !
+        (3 ∷ 4 ∷ []) $ free1 ! $ free0 ! $ by ! (exits r u e))))))))))
 
 module _ {M : Type 1} (𝓤 : URA M) (H : Heap 𝓤) (A : Atoms 𝓤) (W : Given 𝓤 H A) (mem : Memory → SProp 𝓤) (run : Routine → Fun 𝓤) where
   lookup-walks : (C : Calls 𝓤 H) (Λ : Loops 𝓤 H) → FmC 𝓤 H (W .laws) C → Triple 𝓤 (C #attributes·find-seen) (Find 𝓤 H A mem run)
       → Walks 𝓤 H A lookup.ended stayed (WpFn 𝓤 H C Λ code.function) (lookup.clauses 𝓤 H A mem run)
-  lookup-walks C Λ fm known = walked 𝓤 H A lookup.ended stayed (lookup.clauses 𝓤 H A mem run) (WpFn 𝓤 H C Λ code.function) (λ κs. (LL.vals (D κs) (L κs), (uint-vals w64, tt))) (λ κs. (LL.tells (D κs) (L κs), (uint-tells w64, tt)))
-      (λ κs qs bounds a g are. needs 𝓤 (TagInside (now (a .0 .text)) (now (a .0 .marks)) 0 (a .1 .0)) _ (walk 𝓤 H A W mem run (κs .0) (κs .1 .0) (qs .0) (qs .1 .0) (a .0) (a .1 .0) C Λ fm known (LL.lawful (D κs) (L κs) 𝓤 H A W .typed (a .0) _ (are .0) .0) (are .1 .0 .1)))
+  lookup-walks C Λ fm known = walked 𝓤 H A lookup.ended stayed (lookup.clauses 𝓤 H A mem run) (WpFn 𝓤 H C Λ code.function)
+      (λ κs. (LL.vals (D κs) (L κs), (uint-vals w64, tt))) (λ κs. (LL.tells (D κs) (L κs), (uint-tells w64, tt)))
+      (λ κs qs bounds a g are. needs 𝓤 (TagInside (now (a .0 .text)) (now (a .0 .marks)) 0 (a .1 .0)) _
+      (walk 𝓤 H A W mem run (κs .0) (κs .1 .0) (qs .0) (qs .1 .0) (a .0) (a .1 .0) C Λ fm known (LL.lawful (D κs) (L κs) 𝓤 H A W .typed (a .0) _ (are .0) .0)
+      (are .1 .0 .1)))
 
 lookup-meets : {M : Type 1} (𝓤 : URA M) (H : Heap 𝓤) (A : Atoms 𝓤) (W : Given 𝓤 H A) (mem : Memory → SProp 𝓤) (run : Routine → Fun 𝓤) (𝓣 : Tables 𝓤 H)
     → Triple 𝓤 (𝓣 .C #attributes·find-seen) (Find 𝓤 H A mem run)
     → Meets 𝓤 H A lookup.signature (WpFn 𝓤 H (𝓣 .C) (𝓣 .Λ) code.function) (lookup.spec 𝓤 H A mem run)
-lookup-meets 𝓤 H A W mem run 𝓣 known-find = walk-meets 𝓤 H A lookup.ended stayed W (goes-none 𝓤 H A W 2 B yes (λ κs x f. refl), (goes-none 𝓤 H A W 2 (λ _. usize) yes (λ κs x f. refl), tt)) (lookup.clauses 𝓤 H A mem run) (WpFn 𝓤 H (𝓣 .C) (𝓣 .Λ) code.function) (WpFn-mono 𝓤 H (W .laws) 𝓣 code.function)
+lookup-meets 𝓤 H A W mem run 𝓣 known-find = walk-meets 𝓤 H A lookup.ended stayed W
+    (goes-none 𝓤 H A W 2 B yes (λ κs x f. refl), (goes-none 𝓤 H A W 2 (λ _. usize) yes (λ κs x f. refl), tt)) (lookup.clauses 𝓤 H A mem run)
+    (WpFn 𝓤 H (𝓣 .C) (𝓣 .Λ) code.function) (WpFn-mono 𝓤 H (W .laws) 𝓣 code.function)
     (lookup-walks 𝓤 H A W mem run (𝓣 .C) (𝓣 .Λ) (fmOf 𝓤 H (W .laws) 𝓣) known-find)
 
 pub lookup-spec : {M : Type 1} → stated.statement M

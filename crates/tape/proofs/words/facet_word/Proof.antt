@@ -41,7 +41,8 @@ unfolding wordAt knownWords
 returns-8 c =
     let no = c .match .rest in
     let start = c .before in
-    let least = above (above (above (above (above (above (above (start .pre .0) (no .0 .0 .0 .0 .0 .0 .1)) (no .0 .0 .0 .0 .0 .1)) (no .0 .0 .0 .0 .1)) (no .0 .0 .0 .1)) (no .0 .0 .1)) (no .0 .1)) (no .1) in
+    let least = above (above (above (above (above (above (above (start .pre .0) (no .0 .0 .0 .0 .0 .0 .1)) (no .0 .0 .0 .0 .0 .1)) (no .0 .0 .0 .0 .1)) (no .0 .0 .0 .1))
+    (no .0 .0 .1)) (no .0 .1)) (no .1) in
     let is : start .args .number ≡ 12 = omega (arith, least, start .pre) in
     sym (ap wordAt is)
 

@@ -31,7 +31,20 @@ returns-5 : tie.Need-returns-5
 unfolding wordNumberOf wordTexts knownWords numbered every bytes
 returns-5 c =
     let s = c .before .before .before .before .before .args .name .now in
-    sym (found-none 19 (numbered 0 wordTexts) s (rw (ne-eqb 6 (length s) (λ e. omega (arith, e, c .before .before .before .before .before .pre .0)), ne-eqb 10 (length s) (λ e. c .before .before .before .if1 .left (sym e)), ne-eqb 11 (length s) (λ e. c .before .before .before .before .before .pre .2 (sym e)), ne-eqb 7 (length s) (λ e. omega (arith, e, c .before .before .before .before .before .pre .0)), ne-eqb 9 (length s) (λ e. c .before .before .before .before .before .pre .1 (sym e)), ne-eqb 12 (length s) (λ e. c .before .before .if2 .left (sym e)), ne-eqb 14 (length s) (λ e. c .if4 .left (sym e)), ne-eqb 8 (length s) (λ e. omega (arith, e, c .before .before .before .before .before .pre .0)), ne-eqb 13 (length s) (λ e. c .before .if3 .left (sym e)), ne-eqb 3 (length s) (λ e. omega (arith, e, c .before .before .before .before .before .pre .0)))))
+    sym (found-none 19 (numbered 0 wordTexts) s
+    (rw (
+      ne-eqb 6 (length s) (λ e. omega (arith, e, c .before .before .before .before .before .pre .0)),
+      ne-eqb 10 (length s) (λ e. c .before .before .before .if1 .left (sym e)),
+      ne-eqb 11 (length s) (λ e. c .before .before .before .before .before .pre .2 (sym e)),
+      ne-eqb 7 (length s) (λ e. omega (arith, e, c .before .before .before .before .before .pre .0)),
+      ne-eqb 9 (length s) (λ e. c .before .before .before .before .before .pre .1 (sym e)),
+      ne-eqb 12 (length s) (λ e. c .before .before .if2 .left (sym e)),
+      ne-eqb 14 (length s) (λ e. c .if4 .left (sym e)),
+      ne-eqb 8 (length s) (λ e. omega (arith, e, c .before .before .before .before .before .pre .0)),
+      ne-eqb 13 (length s) (λ e. c .before .if3 .left (sym e)),
+      ne-eqb 3 (length s) (λ e. omega (arith, e, c .before .before .before .before .before .pre .0)),
+    )))
 
 pub long-word-spec : {M : Type 1} → statement M
-long-word-spec = tie.close (tie.spec (λ c. search needs) (λ c κs. search needs) returns (λ c. search needs) (λ c. search needs) (λ c κs. search needs) returns-2 (λ c. search needs) (λ c κs. search needs) returns-3 (λ c. search needs) (λ c κs. search needs) returns-4 returns-5)
+long-word-spec = tie.close (tie.spec (λ c. search needs) (λ c κs. search needs) returns (λ c. search needs) (λ c. search needs) (λ c κs. search needs) returns-2
+    (λ c. search needs) (λ c κs. search needs) returns-3 (λ c. search needs) (λ c κs. search needs) returns-4 returns-5)

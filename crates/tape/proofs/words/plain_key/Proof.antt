@@ -35,7 +35,16 @@ returns-6 : tie.Need-returns-6
 unfolding keyOf keyWords numbered every bytes
 returns-6 c =
     let s = c .before .before .before .before .before .before .args .name .now in
-    sym (found-none 9 (numbered 0 keyWords) s (rw (ne-eqb 4 (length s) (λ e. c .before .before .before .before .if1 .left (sym e)), ne-eqb 5 (length s) (λ e. c .before .before .if3 .left (sym e)), ne-eqb 9 (length s) (λ e. c .before .before .before .if2 .left (sym e)), ne-eqb 3 (length s) (λ e. c .before .if4 .left (sym e)), ne-eqb 15 (length s) (λ e. c .if5 .left (sym e)))))
+    sym (found-none 9 (numbered 0 keyWords) s
+    (rw (
+      ne-eqb 4 (length s) (λ e. c .before .before .before .before .if1 .left (sym e)),
+      ne-eqb 5 (length s) (λ e. c .before .before .if3 .left (sym e)),
+      ne-eqb 9 (length s) (λ e. c .before .before .before .if2 .left (sym e)),
+      ne-eqb 3 (length s) (λ e. c .before .if4 .left (sym e)),
+      ne-eqb 15 (length s) (λ e. c .if5 .left (sym e)),
+    )))
 
 pub plain-key-spec : {M : Type 1} → statement M
-plain-key-spec = tie.close (tie.spec (λ c. search needs) (λ c. search needs) (λ c. search needs) (λ c κs. search needs) returns (λ c. search needs) (λ c. search needs) (λ c. search needs) (λ c κs. search needs) returns-2 (λ c. search needs) (λ c κs. search needs) returns-3 (λ c. search needs) (λ c κs. search needs) returns-4 (λ c. search needs) (λ c κs. search needs) returns-5 returns-6)
+plain-key-spec = tie.close (tie.spec (λ c. search needs) (λ c. search needs) (λ c. search needs) (λ c κs. search needs) returns (λ c. search needs) (λ c. search needs)
+    (λ c. search needs) (λ c κs. search needs) returns-2 (λ c. search needs) (λ c κs. search needs) returns-3 (λ c. search needs) (λ c κs. search needs) returns-4
+    (λ c. search needs) (λ c κs. search needs) returns-5 returns-6)

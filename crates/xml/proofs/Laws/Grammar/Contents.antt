@@ -17,14 +17,17 @@ use Rattle.xml.specs.Steps.{Step, bad, behind, _andThen_, startsWith, li
 use Rattle.xml.specs.Values.{charData}
 use Rattle.xml.specs.Tape.{AttributePairs, TapeEvent}
 use Rattle.xml.specs.Tags.{Tagged, untagged, tagged, tag}
-use Rattle.xml.specs.Root.{Piece, passed, ending, starting, passedBy, endingBy, closeBehind, close, markup, markupBehind, piece, on, opened, levelOfTag, levelOf, turn, Rooted, unrooted, rooted, addEvents, onLevel, inside, insideAll, root}
-use Rattle.xml.specs.Grammar.{Opt, absent, present, run, S, Reference, CharData, Comment, PI, CDSect, STag, EmptyElemTag, ETag, endTag, Element, emptyElement, wholeElement, Content, content, Items, noItem, oneItem, Item, itemElement, itemReference, itemSection, itemPI, itemComment}
+use Rattle.xml.specs.Root.{Piece, passed, ending, starting, passedBy, endingBy, closeBehind, close, markup, markupBehind, piece, on, opened, levelOfTag, levelOf}
+use Rattle.xml.specs.Root.{turn, Rooted, unrooted, rooted, addEvents, onLevel, inside, insideAll, root}
+use Rattle.xml.specs.Grammar.{Opt, absent, present, run, S, Reference, CharData, Comment, PI, CDSect, STag, EmptyElemTag, ETag, endTag, Element, emptyElement}
+use Rattle.xml.specs.Grammar.{wholeElement, Content, content, Items, noItem, oneItem, Item, itemElement, itemReference, itemSection, itemPI, itemComment}
 use Rattle.xml.specs.Grammar as grammar
 use Rattle.xml.proofs.Laws.Moves.{then-ends, char-data-moves}
 use Rattle.xml.proofs.Laws.Written.{start-other}
 use Rattle.xml.proofs.Laws.Root.{closing, close-of, add-none, add-add}
 use Rattle.xml.proofs.Laws.Grammar.Basics.{ends-at, literal-sound, name-sound, name-complete, name-whole, nameOf-complete, white-no-name, spaces-sound, spaces-complete}
-use Rattle.xml.proofs.Laws.Grammar.Markup.{comment-sound, comment-complete, comment-some, section-sound, section-complete, section-some, instruction-sound, instruction-complete, instruction-some}
+use Rattle.xml.proofs.Laws.Grammar.Markup.{comment-sound, comment-complete, comment-some, section-sound, section-complete, section-some, instruction-sound}
+use Rattle.xml.proofs.Laws.Grammar.Markup.{instruction-complete, instruction-some}
 use Rattle.xml.proofs.Laws.Grammar.References.{reference-bytes}
 use Rattle.xml.proofs.Laws.Grammar.Texts.{data-pass, Refs, noRef, oneRef, data-sound, Stops, data-complete}
 use Rattle.xml.proofs.Laws.Grammar.Tags.{greater-no-white, greater-no-name, tag-sound, start-complete, empty-complete}

@@ -18,7 +18,8 @@ use Rattle.xml.specs.Grammar.{isXml, Opt, absent, present, Many, none, m
 use Rattle.xml.specs.Grammar as grammar
 use Rattle.xml.proofs.Laws.Names.{bad-not}
 use Rattle.xml.proofs.Laws.Moves.{moves, then-ends, comment-passes, section-passes, instruction-passes}
-use Rattle.xml.proofs.Laws.Grammar.Basics.{Sound, ends-at, behind-same, starts-word, literal-sound, literal-complete, name-sound, name-complete, nameOf-complete, name-whole, white-is, white-no-name, white-char, s-white, regroup, regroup4}
+use Rattle.xml.proofs.Laws.Grammar.Basics.{Sound, ends-at, behind-same, starts-word, literal-sound, literal-complete, name-sound, name-complete, nameOf-complete}
+use Rattle.xml.proofs.Laws.Grammar.Basics.{name-whole, white-is, white-no-name, white-char, s-white, regroup, regroup4}
 
 -- [15]: a byte before a comment's text, where no `--` begins
 behind-hyphen : (v r : Text) → Many CommentPart v → (b : ℕ) → startsWith (45 ∷ []) (v ++ (45 ∷ 45 ∷ r)) ≡ false → b ≡ 45 → Many CommentPart (b ∷ v)

@@ -12,13 +12,15 @@ use Rattle.text.specs.Trim.{isWhiteSpace}
 use Rattle.text.proofs.Laws.Tests.{bool-cases, two}
 use Rattle.xml.specs.Classes.{isLetter, isEncoding}
 use Rattle.xml.specs.Steps.{Step, behind, _andThen_, startsWith, literal, many, oneThen, spaces, space, comment, instruction}
-use Rattle.xml.specs.Grammar.{Opt, absent, present, Many, none, more, S, Comment, PI, VersionNum, versionNum, EncName, YesNo, Quoted, single, double, Declares, declares, XMLDecl, xmlDecl, Misc, miscComment, miscPI, miscS}
+use Rattle.xml.specs.Grammar.{Opt, absent, present, Many, none, more, S, Comment, PI, VersionNum, versionNum, EncName, YesNo, Quoted, single, double, Declares}
+use Rattle.xml.specs.Grammar.{declares, XMLDecl, xmlDecl, Misc, miscComment, miscPI, miscS}
 use Rattle.xml.specs.Values.{isQuote}
 use Rattle.xml.specs.Prolog.{eq, quoted, versionNumber, encodingName, yesOrNo, declared, endsAt, optional, declaration, isMisc, miscPart, miscFrom, misc}
 use Rattle.xml.specs.Grammar as grammar
 use Rattle.xml.proofs.Laws.Names.{behind-at, behind-rest, bad-not}
 use Rattle.xml.proofs.Laws.Moves.{then-ends, spaces-moves, misc-stop}
-use Rattle.xml.proofs.Laws.Grammar.Basics.{Splits, Sound, behind-same, starts-word, literal-sound, literal-complete, run-sound, run-complete, space-sound, space-complete, s-white, spaces-sound, spaces-complete, eq-sound, eq-complete, Is, is-sound, Then, then-sound, then-is}
+use Rattle.xml.proofs.Laws.Grammar.Basics.{Splits, Sound, behind-same, starts-word, literal-sound, literal-complete, run-sound, run-complete, space-sound}
+use Rattle.xml.proofs.Laws.Grammar.Basics.{space-complete, s-white, spaces-sound, spaces-complete, eq-sound, eq-complete, Is, is-sound, Then, then-sound, then-is}
 use Rattle.xml.proofs.Laws.Grammar.Markup.{comment-sound, comment-complete, comment-some, instruction-sound, instruction-complete, instruction-some}
 
 -- [27]

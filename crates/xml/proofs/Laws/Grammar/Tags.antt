@@ -17,13 +17,16 @@ use Rattle.xml.specs.Steps.{Step, bad, behind, startsWith, literal, spac
 use Rattle.xml.specs.Values.{value}
 use Rattle.xml.specs.Prolog.{eq}
 use Rattle.xml.specs.Tape.{AttributePairs, TapeEvent}
-use Rattle.xml.specs.Tags.{Part, wrong, last, more, span, attributeFrom, attributeBehind, valueBehind, eqBehind, attribute, partBehind, partOf, Ended, unended, ended, onPart, attributesFrom, attributes, untagged, tagged, taggedBy, attributesBehind, nameBehind, tag}
-use Rattle.xml.specs.Grammar.{isAmong, Opt, absent, present, run, S, Name, Eq, equals, AttValue, doubleQuoted, singleQuoted, Attribute, Attributes, noAttribute, oneMore, newKey, TagBody, tagBody, STag, startTag, EmptyElemTag, emptyTag}
+use Rattle.xml.specs.Tags.{Part, wrong, last, more, span, attributeFrom, attributeBehind, valueBehind, eqBehind, attribute, partBehind, partOf, Ended, unended}
+use Rattle.xml.specs.Tags.{ended, onPart, attributesFrom, attributes, untagged, tagged, taggedBy, attributesBehind, nameBehind, tag}
+use Rattle.xml.specs.Grammar.{isAmong, Opt, absent, present, run, S, Name, Eq, equals, AttValue, doubleQuoted, singleQuoted, Attribute, Attributes, noAttribute}
+use Rattle.xml.specs.Grammar.{oneMore, newKey, TagBody, tagBody, STag, startTag, EmptyElemTag, emptyTag}
 use Rattle.xml.specs.Grammar as grammar
 use Rattle.xml.proofs.Laws.Names.{behind-at}
 use Rattle.xml.proofs.Laws.Written.{pair-same, attribute-same, start-other, start-no-space, less-written, equals-no-name, tagged-same}
 use Rattle.xml.proofs.Laws.Tags.{attributes-last, tag-found}
-use Rattle.xml.proofs.Laws.Grammar.Basics.{literal-sound, word-starts, name-sound, name-complete, name-whole, nameOf-complete, white-no-name, spaces-sound, spaces-complete, eq-sound, eq-complete}
+use Rattle.xml.proofs.Laws.Grammar.Basics.{literal-sound, word-starts, name-sound, name-complete, name-whole, nameOf-complete, white-no-name, spaces-sound}
+use Rattle.xml.proofs.Laws.Grammar.Basics.{spaces-complete, eq-sound, eq-complete}
 use Rattle.xml.proofs.Laws.Grammar.Texts.{value-sound, value-complete}
 
 -- [41]: a part that is an attribute, step by step

@@ -1,4 +1,5 @@
--- `xml_parts::prolog::misc` meets its contract. The loop's invariant: the parts from i on end where the whole ends, with turns enough for the bytes left. The measure is how much is left. Assumes nothing.
+-- `xml_parts::prolog::misc` meets its contract. The loop's invariant: the parts from i on end where the whole ends, with turns enough for the bytes left. The measure is
+-- how much is left. Assumes nothing.
 use borrow.Author.Needs.{needs}
 use native.Mathlib.Omega.{arith}
 use Prim.Native.Nat.{ℕ, suc, _-_, _<_}

@@ -1,4 +1,5 @@
--- `xml_parts::steps::same_name` meets its contract. The loop's invariant: the names from both places on are the same where the whole names are. The measure is how much is left behind the first. Assumes nothing.
+-- `xml_parts::steps::same_name` meets its contract. The loop's invariant: the names from both places on are the same where the whole names are. The measure is how much
+-- is left behind the first. Assumes nothing.
 use borrow.Author.Needs.{needs}
 use native.Mathlib.Omega.{arith}
 use Prim.Native.Nat.{_-_}

@@ -1,4 +1,5 @@
--- `xml_parts::steps::starts` meets its contract. The loop's invariant: the rest of the word stands at i where the word stands at the start. The measure is how much of the word is left. Assumes nothing.
+-- `xml_parts::steps::starts` meets its contract. The loop's invariant: the rest of the word stands at i where the word stands at the start. The measure is how much of
+-- the word is left. Assumes nothing.
 use native.Mathlib.Omega.{arith}
 use Prim.Native.Nat.{_-_, _≤_}
 use mathlib.Core.Path.{_≡_, refl, sym, _∙_}

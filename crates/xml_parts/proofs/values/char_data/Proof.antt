@@ -1,4 +1,5 @@
--- `xml_parts::values::char_data` meets its contract: a run of bytes that need no look, then the byte that does. The loop's invariant: the character data from i on ends where that from the start on ends. The measure is how much is left. Assumes nothing.
+-- `xml_parts::values::char_data` meets its contract: a run of bytes that need no look, then the byte that does. The loop's invariant: the character data from i on ends
+-- where that from the start on ends. The measure is how much is left. Assumes nothing.
 use borrow.Author.Needs.{needs}
 use native.Mathlib.Omega.{arith}
 use Prim.Native.Nat.{_+_, _-_}

@@ -1,4 +1,5 @@
--- `xml_parts::values::is_number` meets its contract. The loop's invariant: the value so far, with what is left from i on, answers for the whole. A value past the last code point stays past it. The measure is how much is left. Assumes nothing.
+-- `xml_parts::values::is_number` meets its contract. The loop's invariant: the value so far, with what is left from i on, answers for the whole. A value past the last
+-- code point stays past it. The measure is how much is left. Assumes nothing.
 use borrow.Author.Needs.{needs}
 use native.Mathlib.Omega.{arith}
 use Prim.Native.Nat.{suc, _-_, _≤_, _<_, _*_, _+_}

@@ -1,4 +1,5 @@
--- `xml_text::root::inside` meets its contract. The loop's invariant: the events so far in front of those from i on are all events, with turns enough for the bytes left; the numbers of those so far are stored. The measure is how much is left. Assumes nothing.
+-- `xml_text::root::inside` meets its contract. The loop's invariant: the events so far in front of those from i on are all events, with turns enough for the bytes left;
+-- the numbers of those so far are stored. The measure is how much is left. Assumes nothing.
 use borrow.Author.Needs.{needs}
 use native.Mathlib.Omega.{arith}
 use Prim.Native.Nat.{ℕ, suc, _+_, _*_, _-_, _<_, _≤_}
@@ -99,7 +100,8 @@ same-length-4 c = search needs
 returns-2 : tie.Need-returns-2 Inv-loop μ-loop
 returns-2 c =
     let c5 = c .before .before .before .before .before in
-    let e = inside-end (c .before .loop .inv .0) (c5 .args .text .now) (c .before .loop .slots) (c .before .loop .left) (c .before .loop .i) _ (omega (arith, c .before .loop .inv .2)) (omega arith) in (
+    let e = inside-end (c .before .loop .inv .0) (c5 .args .text .now) (c .before .loop .slots) (c .before .loop .left) (c .before .loop .i) _
+    (omega (arith, c .before .loop .inv .2)) (omega arith) in (
       c .before .loop .inv .1,
       sym (c .before .loop .inv .3) ∙ ap (addEvents (c .before .loop .inv .1)) e ∙ add-end (c .before .loop .inv .1)
           (c .before .loop .i) _,

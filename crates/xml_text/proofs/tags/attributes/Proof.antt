@@ -1,4 +1,5 @@
--- `xml_text::tags::attributes` meets its contract. The loop's invariant: the parts from i on end the tag as all of them do, with turns enough for the bytes left; the keys so far are the names of the slots, and their numbers are stored. The measure is how much is left. Assumes nothing.
+-- `xml_text::tags::attributes` meets its contract. The loop's invariant: the parts from i on end the tag as all of them do, with turns enough for the bytes left; the
+-- keys so far are the names of the slots, and their numbers are stored. The measure is how much is left. Assumes nothing.
 use borrow.Author.Needs.{needs}
 use native.Mathlib.Omega.{arith}
 use Prim.Native.Nat.{ℕ, suc, _+_, _*_, _-_, _<_, _≤_}

@@ -20,7 +20,8 @@ unfolding anyContent
 returns-2 c =
     let called = c .before .before .before in
     let t = called .before .args .t in
-    λ text marks. c .content-alone .ensures text marks ∙ ap (λ v. ok (anyContent v)) (sym (value-none text marks (t .namespace) (called .place-found .ensures text marks) (c .before .enum-told .given .1)))
+    λ text marks. c .content-alone .ensures text marks
+    ∙ ap (λ v. ok (anyContent v)) (sym (value-none text marks (t .namespace) (called .place-found .ensures text marks) (c .before .enum-told .given .1)))
 
 pub any-content-spec : {M : Type 1} → statement M
 any-content-spec = tie.close (tie.spec (λ c κs. search needs) (λ c. search needs) (λ c. search needs) (λ c κs. search needs) returns returns-2)

@@ -27,7 +27,8 @@ returns-2 c =
     let a = called .before .before .before .before .args in
     let t = seenAt (a .text .now) (a .marks .now) (a .t) in
     let on = attribute-on t (not-false (a .flag) (called .before .if1 .left)) refl in
-    ap ok (sym (on ∙ typed-told (a .text .now) (a .marks .now) (t .name) (t .typeName) (called .name-and-type .ensures (a .text .now) (a .marks .now)) (c .enum-told .given .1) (typedRow 20 (bit (isRequired (t .usage))) 0 0)))
+    ap ok (sym (on ∙ typed-told (a .text .now) (a .marks .now) (t .name) (t .typeName) (called .name-and-type .ensures (a .text .now) (a .marks .now))
+    (c .enum-told .given .1) (typedRow 20 (bit (isRequired (t .usage))) 0 0)))
 
 returns-3 : tie.Need-returns-3
 unfolding named typedValues forBoth bit seenAt
@@ -37,7 +38,8 @@ returns-3 c =
     let t = seenAt (a .text .now) (a .marks .now) (a .t) in
     let on = attribute-on t (not-false (a .flag) (called .before .if1 .left)) (sym (c .before .before .is-required .ensures) ∙ c .before .if2 .taken) in
     c .typed-row .ensures (a .text .now) (a .marks .now)
-    ∙ ap ok (sym (on ∙ typed-told (a .text .now) (a .marks .now) (t .name) (t .typeName) (called .name-and-type .ensures (a .text .now) (a .marks .now)) (c .before .before .before .before .p .given .1) (typedRow 20 1 0 0)))
+    ∙ ap ok (sym (on ∙ typed-told (a .text .now) (a .marks .now) (t .name) (t .typeName) (called .name-and-type .ensures (a .text .now) (a .marks .now))
+    (c .before .before .before .before .p .given .1) (typedRow 20 1 0 0)))
 
 returns-4 : tie.Need-returns-4
 unfolding named typedValues forBoth bit seenAt
@@ -47,7 +49,8 @@ returns-4 c =
     let t = seenAt (a .text .now) (a .marks .now) (a .t) in
     let on = attribute-on t (not-false (a .flag) (called .before .if1 .left)) (sym (c .before .before .is-required .ensures) ∙ c .before .if2 .left) in
     c .typed-row2 .ensures (a .text .now) (a .marks .now)
-    ∙ ap ok (sym (on ∙ typed-told (a .text .now) (a .marks .now) (t .name) (t .typeName) (called .name-and-type .ensures (a .text .now) (a .marks .now)) (c .before .before .before .before .p .given .1) (typedRow 20 0 0 0)))
+    ∙ ap ok (sym (on ∙ typed-told (a .text .now) (a .marks .now) (t .name) (t .typeName) (called .name-and-type .ensures (a .text .now) (a .marks .now))
+    (c .before .before .before .before .p .given .1) (typedRow 20 0 0 0)))
 
 pub attribute-inside-spec : {M : Type 1} → statement M
 attribute-inside-spec =

@@ -18,7 +18,8 @@ returns c =
     let a = called .before .before .before .args in
     let t = seenAt (a .text .now) (a .marks .now) (a .t) in
     c .typed-row .ensures (a .text .now) (a .marks .now)
-    ∙ ap ok (sym (typed-told (a .text .now) (a .marks .now) (t .name) (t .typeName) (called .name-and-type .ensures (a .text .now) (a .marks .now)) (c .before .before .p .given .1) (typedRow (a .tag) 0 0 (a .c))))
+    ∙ ap ok (sym (typed-told (a .text .now) (a .marks .now) (t .name) (t .typeName) (called .name-and-type .ensures (a .text .now) (a .marks .now))
+    (c .before .before .p .given .1) (typedRow (a .tag) 0 0 (a .c))))
 
 returns-2 : tie.Need-returns-2
 unfolding decision named typedValues forBoth seenAt
@@ -26,7 +27,8 @@ returns-2 c =
     let called = c .before .before in
     let a = called .before .before .before .args in
     let t = seenAt (a .text .now) (a .marks .now) (a .t) in
-    ap ok (sym (typed-told (a .text .now) (a .marks .now) (t .name) (t .typeName) (called .name-and-type .ensures (a .text .now) (a .marks .now)) (c .enum-told .given .1) (typedRow (a .tag) 0 0 (a .c))))
+    ap ok (sym (typed-told (a .text .now) (a .marks .now) (t .name) (t .typeName) (called .name-and-type .ensures (a .text .now) (a .marks .now))
+    (c .enum-told .given .1) (typedRow (a .tag) 0 0 (a .c))))
 
 pub named-row-spec : {M : Type 1} → statement M
 named-row-spec =

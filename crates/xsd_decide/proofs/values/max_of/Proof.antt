@@ -18,14 +18,16 @@ unfolding bytes is isUnbounded parseMaxOccurs maxAnswer onParsed
 returns-2 c =
     let parsing = c .before .before .before in
     let word = parsing .before .before in
-    rw (← word .before .before .trimmed .ensures, sym (word .same-text .ensures), parsing .before .if1 .left) (ap (λ p. onParsed p MaxOccurs.bounded) (sym (ap ofU32 (c .before .v .given .1)) ∙ parsing .parse-u32 .ensures))
+    rw (← word .before .before .trimmed .ensures, sym (word .same-text .ensures), parsing .before .if1 .left)
+    (ap (λ p. onParsed p MaxOccurs.bounded) (sym (ap ofU32 (c .before .v .given .1)) ∙ parsing .parse-u32 .ensures))
 
 returns-3 : tie.Need-returns-3
 unfolding bytes is isUnbounded parseMaxOccurs maxAnswer onParsed
 returns-3 c =
     let parsing = c .before .before in
     let word = parsing .before .before in
-    rw (← word .before .before .trimmed .ensures, sym (word .same-text .ensures), parsing .before .if1 .left) (ap (λ p. onParsed p MaxOccurs.bounded) (sym (ap ofU32 (c .enum-told .given .1)) ∙ parsing .parse-u32 .ensures))
+    rw (← word .before .before .trimmed .ensures, sym (word .same-text .ensures), parsing .before .if1 .left)
+    (ap (λ p. onParsed p MaxOccurs.bounded) (sym (ap ofU32 (c .enum-told .given .1)) ∙ parsing .parse-u32 .ensures))
 
 pub max-of-spec : {M : Type 1} → statement M
 max-of-spec =

@@ -56,7 +56,8 @@ returns-3 : tie.Need-returns-3
 returns-3 c =
     let p = c .before .before .before .before .before in
     let a = p .before .before .before .before .before .before .before .args in
-    convert-wrong (a .rows .now) (a .names .now) (lengths-pass (p .before .before .before)) (passes p) (c .before .count-in .ensures) (c .before .before .before .count-of .ensures .0) (not-true _ (c .if3 .taken))
+    convert-wrong (a .rows .now) (a .names .now) (lengths-pass (p .before .before .before)) (passes p) (c .before .count-in .ensures)
+    (c .before .before .before .count-of .ensures .0) (not-true _ (c .if3 .taken))
 
 cast-rows : tie.Need-cast-rows
 cast-rows c = omega (arith, few-rows (c .before .before .before .before .before .before .before .before), c .before .before .before .count-of .ensures .1)
@@ -68,7 +69,8 @@ returns-4 : tie.Need-returns-4
 returns-4 c =
     let p = c .before .before .before .before .before in
     let a = p .before .before .before .before .before .before .before .args in
-    convert-fills (a .rows .now) (a .names .now) (lengths-pass (p .before .before .before)) (passes p) (c .before .count-in .ensures) (c .before .before .before .count-of .ensures .0) (not-false _ (c .if3 .left))
+    convert-fills (a .rows .now) (a .names .now) (lengths-pass (p .before .before .before)) (passes p) (c .before .count-in .ensures)
+    (c .before .before .before .count-of .ensures .0) (not-false _ (c .if3 .left))
 
 pub convert-spec : {M : Type 1} → statement M
 convert-spec =

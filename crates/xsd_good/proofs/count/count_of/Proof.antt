@@ -18,7 +18,9 @@ finished-place-requires c κs =
     (omega (arith, u .0), u .1)
 
 -- the finished items end where the call says
-ends : (c : tie.After-finished-place) → let a = c .before .before .before .args in c .finished-place .result ≡ 2 + length (itemsRows (stateOf (sheet (a .rows .now) (a .names .now)) .reader .schema .items))
+ends : (c : tie.After-finished-place)
+    → let a = c .before .before .before .args in c .finished-place .result
+    ≡ 2 + length (itemsRows (stateOf (sheet (a .rows .now) (a .names .now)) .reader .schema .items))
 ends c =
     let start = c .before .before .before in
     c .finished-place .ensures .0 ∙ bare-end (start .args .rows .now) (start .args .names .now) (start .pre) (c .finished-place .ensures .1)
@@ -34,8 +36,10 @@ returns c =
     let start = at .before .before .before in
     let rows = start .args .rows .now in
     let names = start .args .names .now in
-    let room = bare-room rows names (start .pre) (at .finished-place .ensures .1) (ends at) in
-    (c .count-refused .ensures ∙ bare-count rows names (start .pre) (at .finished-place .ensures .1) (ends at), omega (arith, c .count-refused .ensures, count-few rows names 2 (at .finished-place .result), room .1))
+    let room = bare-room rows names (start .pre) (at .finished-place .ensures .1) (ends at) in (
+      c .count-refused .ensures ∙ bare-count rows names (start .pre) (at .finished-place .ensures .1) (ends at),
+      omega (arith, c .count-refused .ensures, count-few rows names 2 (at .finished-place .result), room .1),
+    )
 
 pub count-of-spec : {M : Type 1} → statement M
 count-of-spec = tie.close (tie.spec finished-place-requires count-refused-requires returns)

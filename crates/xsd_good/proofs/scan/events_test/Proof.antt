@@ -41,8 +41,11 @@ loop-again : tie.Need-loop-again Inv-loop μ-loop
 loop-again c =
     let called = c .before .before in
     let at = called .before .before in
-    let args = at .before .before .args in
-    (omega arith, events-step (args .events) (at .loop .left) (at .loop .at) (args .rows .now) (asTen (called .ten-at .result)) (at .loop .ok) (omega arith) (called .ten-at .ensures) ∙ at .loop .inv .1)
+    let args = at .before .before .args in (
+      omega arith,
+      events-step (args .events) (at .loop .left) (at .loop .at) (args .rows .now) (asTen (called .ten-at .result)) (at .loop .ok) (omega arith)
+          (called .ten-at .ensures) ∙ at .loop .inv .1,
+    )
 
 returns : tie.Need-returns Inv-loop μ-loop
 returns c =

@@ -12,7 +12,8 @@ unfolding firstRow
 returns c =
     let p = c .before in
     let a = p .before .before .before .before .before .before .before .before .args in
-    let e = first-passes (a .limit) (asTen (a .t)) (p .before .row-covers .ensures usedPairs (p .before .before .used-pairs .ensures)) (p .before .before .before .before .before .before .before .end-of .ensures) (p .wide .ensures) (c .if1 .taken) in
+    let e = first-passes (a .limit) (asTen (a .t)) (p .before .row-covers .ensures usedPairs (p .before .before .used-pairs .ensures))
+    (p .before .before .before .before .before .before .before .end-of .ensures) (p .wide .ensures) (c .if1 .taken) in
     rw (e, p .before .before .before .before .before .before .before .end-of .ensures)
 
 returns-2 : tie.Need-returns-2
@@ -20,7 +21,8 @@ unfolding firstRow
 returns-2 c =
     let p = c .before .before in
     let a = p .before .before .before .before .before .before .before .before .args in
-    let e = first-passes (a .limit) (asTen (a .t)) (p .before .row-covers .ensures usedPairs (p .before .before .used-pairs .ensures)) (p .before .before .before .before .before .before .before .end-of .ensures) (p .wide .ensures) (c .before .if1 .left) in
+    let e = first-passes (a .limit) (asTen (a .t)) (p .before .row-covers .ensures usedPairs (p .before .before .used-pairs .ensures))
+    (p .before .before .before .before .before .before .before .end-of .ensures) (p .wide .ensures) (c .before .if1 .left) in
     rw e (c .failed .ensures)
 
 pub first-row-spec : {M : Type 1} → statement M

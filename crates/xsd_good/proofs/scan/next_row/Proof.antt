@@ -13,7 +13,9 @@ returns c =
     let p = c .before .before in
     let q = p .before .before .before in
     let a = q .before .before .before .before .args in
-    let e = next-passes (a .limit) (a .s) (asTen (a .t)) (q .before .before .row-form .ensures) (q .may-follow .ensures) (p .before .row-covers .ensures usedPairs (p .before .before .used-pairs .ensures)) (q .before .before .before .end-of .ensures) (p .wide .ensures) (c .before .if1 .taken) in
+    let e = next-passes (a .limit) (a .s) (asTen (a .t)) (q .before .before .row-form .ensures) (q .may-follow .ensures)
+    (p .before .row-covers .ensures usedPairs (p .before .before .used-pairs .ensures)) (q .before .before .before .end-of .ensures) (p .wide .ensures)
+    (c .before .if1 .taken) in
     rw (e, q .before .before .before .end-of .ensures, c .head-after .ensures)
 
 returns-2 : tie.Need-returns-2
@@ -22,7 +24,9 @@ returns-2 c =
     let p = c .before .before in
     let q = p .before .before .before in
     let a = q .before .before .before .before .args in
-    let e = next-passes (a .limit) (a .s) (asTen (a .t)) (q .before .before .row-form .ensures) (q .may-follow .ensures) (p .before .row-covers .ensures usedPairs (p .before .before .used-pairs .ensures)) (q .before .before .before .end-of .ensures) (p .wide .ensures) (c .before .if1 .left) in
+    let e = next-passes (a .limit) (a .s) (asTen (a .t)) (q .before .before .row-form .ensures) (q .may-follow .ensures)
+    (p .before .row-covers .ensures usedPairs (p .before .before .used-pairs .ensures)) (q .before .before .before .end-of .ensures) (p .wide .ensures)
+    (c .before .if1 .left) in
     rw e (c .failed .ensures)
 
 pub next-row-spec : {M : Type 1} → statement M

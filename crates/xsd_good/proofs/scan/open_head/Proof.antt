@@ -37,8 +37,11 @@ loop-less c = omega arith
 
 loop-again : tie.Need-loop-again Inv-loop μ-loop
 loop-again c =
-    let at = c .before .before .before .before in
-    (omega arith, head-on (at .before .before .args .rows .now) (at .loop .i) (omega arith) (sym (c .before .is-head .ensures ∙ ap isHead (c .before .before .row-tag .ensures)) ∙ c .if1 .left) ∙ at .loop .inv .1)
+    let at = c .before .before .before .before in (
+      omega arith,
+      head-on (at .before .before .args .rows .now) (at .loop .i) (omega arith)
+          (sym (c .before .is-head .ensures ∙ ap isHead (c .before .before .row-tag .ensures)) ∙ c .if1 .left) ∙ at .loop .inv .1,
+    )
 
 returns-2 : tie.Need-returns-2 Inv-loop μ-loop
 returns-2 c =

@@ -10,7 +10,8 @@ returns c =
     let at = c .before .before .before in
     let raised = at .before .before in
     let a = raised .before .args in
-    let parts = mode-parts (a .by-standard) (a .start) (a .d) (a .m) (at .before .context-after .ensures) (raised .raises .ensures) (at .nesting-after .ensures) (c .before .before .root-after .ensures) (c .flag-after .ensures) in
+    let parts = mode-parts (a .by-standard) (a .start) (a .d) (a .m) (at .before .context-after .ensures) (raised .raises .ensures) (at .nesting-after .ensures)
+    (c .before .before .root-after .ensures) (c .flag-after .ensures) in
     λ text marks x e. parts ∙ decided-mode (a .by-standard) (a .start) (a .m) text marks (a .d) x e
 
 pub tag-mode-spec : {M : Type 1} → statement M

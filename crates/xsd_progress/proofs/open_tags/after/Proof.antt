@@ -1,4 +1,5 @@
--- `xsd_progress::open_tags::after` meets its contract: a walk of its MIR, by hand. The record is put into a local, which is lent to `change` for a lifetime that is made for the call, and comes back at the record after the event. All that the proof knows of `change` is that it meets its contract.
+-- `xsd_progress::open_tags::after` meets its contract: a walk of its MIR, by hand. The record is put into a local, which is lent to `change` for a lifetime that is made
+-- for the call, and comes back at the record after the event. All that the proof knows of `change` is that it meets its contract.
 -- The record and the arrival own only facts, which are made anew where they are asked for.
 -- Assumes nothing.
 use mathlib.Core.Path.{refl}
@@ -73,12 +74,14 @@ module _ {M : Type 1} (𝓤 : URA M) (H : Heap 𝓤) (A : Atoms 𝓤) (W : Given
   unfolding partOf
   lies-out is =
       qed W (‵ (fat fullShare T′.mir b 0 (mach h)) ∷ []) ∵ use1 W (‵ (cellAt fullShare (T.the-row .mir) (mach h ∷ []) b 0)) (W .laws .at-raw fullShare T′.mir b 0 (mach h)) $
-      owned ! T.the-row (Is T.the-row) ((LL.makes T.the-type T′.the-plain) 𝓤 H A) h _ is $ move ! (1 ∷ 0 ∷ []) $ fjoin ! $ fpack ! (List Val) (λ us. fsep (cellAt fullShare (T.the-row .mir) us b 0) (T.the-row .own h us)) (mach h ∷ []) $ done !
+      owned ! T.the-row (Is T.the-row) ((LL.makes T.the-type T′.the-plain) 𝓤 H A) h _ is $ move ! (1 ∷ 0 ∷ []) $ fjoin ! $ fpack ! (List Val)
+      (λ us. fsep (cellAt fullShare (T.the-row .mir) us b 0) (T.the-row .own h us)) (mach h ∷ []) $ done !
 
   lies-in : ent 𝓤 (sem 𝓤 H A (mem T.the-row .lies h b 0)) (sep 𝓤 (sem 𝓤 H A (fat fullShare T′.mir b 0 (mach h))) (sem 𝓤 H A (T.the-row .own h (mach h ∷ []))))
   unfolding partOf
   lies-in =
-      qed W (‵ (mem T.the-row .lies h b 0) ∷ []) ∵ fpick ! (λ vs. fsplit ! $ spelt ! T.the-row (Is T.the-row) (shows 𝓤 H A T.the-row) (LL.vals T.the-type T′.the-laws) (LL.tells T.the-type T′.the-laws) fullShare h vs b 0 $
+      qed W (‵ (mem T.the-row .lies h b 0) ∷ []) ∵ fpick !
+      (λ vs. fsplit ! $ spelt ! T.the-row (Is T.the-row) (shows 𝓤 H A T.the-row) (LL.vals T.the-type T′.the-laws) (LL.tells T.the-type T′.the-laws) fullShare h vs b 0 $
       use1 W (‵ (fat fullShare T′.mir b 0 (mach h))) (W .laws .raw-at fullShare T′.mir b 0 (mach h)) $ frame ! $ done !)
 
 module _ {M : Type 1} (𝓤 : URA M) (H : Heap 𝓤) (A : Atoms 𝓤) (W : Given 𝓤 H A) (at-mem : Memory → SProp 𝓤) (run : Routine → Fun 𝓤) (o : OpenTags) (a : Arrival) where
@@ -113,7 +116,8 @@ module _ {M : Type 1} (𝓤 : URA M) (H : Heap 𝓤) (A : Atoms 𝓤) (W : Given
       owned ! T.the-row (Is T.the-row) ((LL.makes T.the-type T′.the-plain) 𝓤 H A) r _ is $ move ! (1 ∷ 0 ∷ []) $ nothing ! $ done !
 
   module _ (C : Calls 𝓤 H) (Λ : Loops 𝓤 H) (fm : FmC 𝓤 H (W .laws) C) (known : Triple 𝓤 (C #open_tags·change) (Change 𝓤 H A at-mem run)) where
-    walk : o .nesting ≤ 255 → Is T.the-row o (mach o ∷ []) → Is Ar.the-row a (va ∷ []) → ent 𝓤 (onEntry 𝓤 H A after.signature tt tt (o, (a, tt)) at) (WpFn 𝓤 H C Λ code.function (mach o ∷ va ∷ []) Post)
+    walk : o .nesting ≤ 255 → Is T.the-row o (mach o ∷ []) → Is Ar.the-row a (va ∷ [])
+        → ent 𝓤 (onEntry 𝓤 H A after.signature tt tt (o, (a, tt)) at) (WpFn 𝓤 H C Λ code.function (mach o ∷ va ∷ []) Post)
     walk low iso isa =
         qed W (‵ ftrue ∷ ‵ (owns (T.the-row ∷ Ar.the-row ∷ []) (o, (a, tt)) at) ∷ []) ∵ enter ! C Λ code.function (mach o ∷ va ∷ []) _ $
         alloc1 ! (λ l₀. alloc1 ! (λ l₁. alloc1 ! (λ l₂. alloc1 ! (λ l₃. alloc1 ! (λ l₄. alloc1 ! (λ l₅. alloc0 ! $ params1 ! $
@@ -122,13 +126,17 @@ module _ {M : Type 1} (𝓤 : URA M) (H : Heap 𝓤) (A : Atoms 𝓤) (W : Given
         assigns ! (addr ! (from ! (stop !))) (from ! (stop !)) (init ! 0 refl (tt, tt)) $
         -- the local r is lent for a lifetime ν of the call
         move ! (4 ∷ []) $ use1 W (‵ (mem T.the-row .lies o l₃ 0)) (lies-out 𝓤 H A W l₃ o iso) $ lft-new ! tt (λ ν. move ! (1 ∷ []) $
-        use1 W (later (some (λ (γ : GName). ‵ (MutRef (named 0) (ν ∷ []) T.the-row .own (lent l₃ γ) (vptr l₃ 0 ∷ [])) ⊛ ‵ (flent (ν ∷ []) (Body (mem T.the-row) l₃ 0 γ))))) (lends-ref 𝓤 H A W T.the-row (named 0) (ν ∷ []) o l₃ 0) $ await ! tt $ pick ! (λ γ. split ! $
+        use1 W (later (some (λ (γ : GName). ‵ (MutRef (named 0) (ν ∷ []) T.the-row .own (lent l₃ γ) (vptr l₃ 0 ∷ [])) ⊛ ‵
+        (flent (ν ∷ []) (Body (mem T.the-row) l₃ 0 γ))))) (lends-ref 𝓤 H A W T.the-row (named 0) (ν ∷ []) o l₃ 0) $ await ! tt $ pick ! (λ γ. split ! $
         move ! (2 ∷ 0 ∷ []) $ use2 W (raw (Change 𝓤 H A at-mem run .pre (to l₃ ν γ))) (asked low isa l₃ ν γ) $
         -- [what the callee asks; the lender's part; _5; …; _4; …; what frees _3; _2; …; _1; …; room for _0; …; true; what the parameters own]
         calls-at ! fm (Change 𝓤 H A at-mem run) known (to l₃ ν γ) (and-then ! (load ! (from ! (stop !)) (look ! 2 refl)) (and-then ! (load ! (from ! (stop !)) (look ! 7 refl)) (no-more !))) (λ u.
-        use1 W (later (some (λ (t : Unit {0}). ((‵ (flft (ν ∷ []) fullShare) ⊛ ‵ ftrue) ⊛ ‵ (unit .own t (u ∷ []))) ⊛ raw (ensured 𝓤 H A change.ended (change.clauses 𝓤 H A at-mem run) (ν ∷ [], tt) (lent l₃ γ, (a, tt)) tt t)))) (id⊢ 𝓤 _) $ await ! tt $ pick ! (λ t.
+        use1 W (later (some (λ (t : Unit {0}). ((‵ (flft (ν ∷ []) fullShare) ⊛ ‵ ftrue) ⊛ ‵ (unit .own t (u ∷ []))) ⊛ raw
+        (ensured 𝓤 H A change.ended (change.clauses 𝓤 H A at-mem run) (ν ∷ [], tt) (lent l₃ γ, (a, tt)) tt t)))) (id⊢ 𝓤 _) $ await ! tt $ pick ! (λ t.
         -- what `change` ensures, at some last record
-        split ! $ move ! (1 ∷ []) $ use1 W (some (λ (zs : OpenTags × (Unit {0} × Unit {0})). ‵ (lasts change.ended (ν ∷ [], tt) (lent l₃ γ, (a, tt)) zs) ⊛ raw (fact 𝓤 (Changed a o (zs .0))))) (id⊢ 𝓤 _) $ pick ! (λ zs.
+        split ! $ move ! (1 ∷ []) $ use1 W
+        (some (λ (zs : OpenTags × (Unit {0} × Unit {0})). ‵ (lasts change.ended (ν ∷ [], tt) (lent l₃ γ, (a, tt)) zs) ⊛ raw (fact 𝓤 (Changed a o (zs .0)))))
+        (id⊢ 𝓤 _) $ pick ! (λ zs.
         split ! $ move ! (1 ∷ []) $ heard ! (Changed a o (zs .0)) (λ e. fsplit ! $ move ! (1 ∷ []) $ drop ! $ move ! (1 ∷ []) $ split ! $ move ! (1 ∷ []) $
         -- [the unit; the token; the last record's name; the lender's part; _5; …; room for _4; …]
         feqL ! (λ is. land ! (from ! (stop !)) (init ! 5 refl (nothing-lawful 𝓤 H A W .typed tt _ is .0)) $
@@ -139,13 +147,15 @@ module _ {M : Type 1} (𝓤 : URA M) (H : Heap 𝓤) (A : Atoms 𝓤) (W : Given
         -- [what the record owns; _3; true; _5; …; _4; …; what frees _3; _2; …; _1; …; room for _0; …; true; what the parameters own]
         assigns ! (of-opd ! (load ! (from ! (stop !)) (look ! 1 refl))) (from ! (stop !)) (init ! 12 refl (LL.lawful T.the-type T′.the-laws 𝓤 H A W .typed (zs .0) _ isz .0)) $
         returns ! (look ! 12 refl) $ forget ! 1 refl $ forget ! 3 refl $ forget ! 5 refl $ forget ! 8 refl $ forget ! 10 refl $ forget ! 12 refl $
-        move ! (12 ∷ 13 ∷ []) $ free1 ! $ move ! (10 ∷ 11 ∷ []) $ free1 ! $ move ! (8 ∷ 9 ∷ []) $ free1 ! $ move ! (1 ∷ 7 ∷ []) $ free1 ! $ move ! (4 ∷ 5 ∷ []) $ free1 ! $ move ! (2 ∷ 3 ∷ []) $ free1 ! $ free0 ! $
+        move ! (12 ∷ 13 ∷ []) $ free1 ! $ move ! (10 ∷ 11 ∷ []) $ free1 ! $ move ! (8 ∷ 9 ∷ []) $ free1 ! $ move ! (1 ∷ 7 ∷ []) $ free1 ! $ move !
+        (4 ∷ 5 ∷ []) $ free1 ! $ move ! (2 ∷ 3 ∷ []) $ free1 ! $ free0 ! $
         keep ! (3 ∷ []) $ by ! (exits (zs .0) isz e)))))))))))))))
 
 module _ {M : Type 1} (𝓤 : URA M) (H : Heap 𝓤) (A : Atoms 𝓤) (W : Given 𝓤 H A) (at-mem : Memory → SProp 𝓤) (run : Routine → Fun 𝓤) where
   after-walks : (C : Calls 𝓤 H) (Λ : Loops 𝓤 H) → FmC 𝓤 H (W .laws) C → Triple 𝓤 (C #open_tags·change) (Change 𝓤 H A at-mem run)
       → Walks 𝓤 H A after.ended stayed (WpFn 𝓤 H C Λ code.function) (after.clauses 𝓤 H A at-mem run)
-  after-walks C Λ fm known = walked 𝓤 H A after.ended stayed (after.clauses 𝓤 H A at-mem run) (WpFn 𝓤 H C Λ code.function) (λ κs. (LL.vals T.the-type T′.the-laws, (LL.vals Ar.the-type Ar′.the-laws, tt))) (λ κs. (LL.tells T.the-type T′.the-laws, (LL.tells Ar.the-type Ar′.the-laws, tt)))
+  after-walks C Λ fm known = walked 𝓤 H A after.ended stayed (after.clauses 𝓤 H A at-mem run) (WpFn 𝓤 H C Λ code.function)
+      (λ κs. (LL.vals T.the-type T′.the-laws, (LL.vals Ar.the-type Ar′.the-laws, tt))) (λ κs. (LL.tells T.the-type T′.the-laws, (LL.tells Ar.the-type Ar′.the-laws, tt)))
       (λ κs qs bounds a _ are. needs 𝓤 _ _ (λ low. walk 𝓤 H A W at-mem run (a .0) (a .1 .0) C Λ fm known low (are .0) (are .1 .0)))
 
   goes : AllGo 𝓤 H A W 0 (after.signature .params) (after.ended .kept) stayed
@@ -154,7 +164,8 @@ module _ {M : Type 1} (𝓤 : URA M) (H : Heap 𝓤) (A : Atoms 𝓤) (W : Given
 after-meets : {M : Type 1} (𝓤 : URA M) (H : Heap 𝓤) (A : Atoms 𝓤) (W : Given 𝓤 H A) (at-mem : Memory → SProp 𝓤) (run : Routine → Fun 𝓤) (𝓣 : Tables 𝓤 H)
     → Triple 𝓤 (𝓣 .C #open_tags·change) (Change 𝓤 H A at-mem run)
     → Meets 𝓤 H A after.signature (WpFn 𝓤 H (𝓣 .C) (𝓣 .Λ) code.function) (after.spec 𝓤 H A at-mem run)
-after-meets 𝓤 H A W at-mem run 𝓣 known = walk-meets 𝓤 H A after.ended stayed W (goes 𝓤 H A W at-mem run) (after.clauses 𝓤 H A at-mem run) (WpFn 𝓤 H (𝓣 .C) (𝓣 .Λ) code.function) (WpFn-mono 𝓤 H (W .laws) 𝓣 code.function)
+after-meets 𝓤 H A W at-mem run 𝓣 known = walk-meets 𝓤 H A after.ended stayed W (goes 𝓤 H A W at-mem run) (after.clauses 𝓤 H A at-mem run)
+    (WpFn 𝓤 H (𝓣 .C) (𝓣 .Λ) code.function) (WpFn-mono 𝓤 H (W .laws) 𝓣 code.function)
     (after-walks 𝓤 H A W at-mem run (𝓣 .C) (𝓣 .Λ) (fmOf 𝓤 H (W .laws) 𝓣) known)
 
 pub after-spec : {M : Type 1} → stated.statement M

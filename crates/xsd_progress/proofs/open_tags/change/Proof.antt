@@ -1,4 +1,5 @@
--- `xsd_progress::open_tags::change` meets its contract: a walk of its MIR, by hand. The borrow is opened, the record is taken out, `by_value` is called on it, the record that it gives is stored, and the borrow is closed at that record. All that the proof knows of `by_value` is that it meets its contract.
+-- `xsd_progress::open_tags::change` meets its contract: a walk of its MIR, by hand. The borrow is opened, the record is taken out, `by_value` is called on it, the
+-- record that it gives is stored, and the borrow is closed at that record. All that the proof knows of `by_value` is that it meets its contract.
 -- The record and the arrival own only facts, which are made anew where they are asked for.
 -- Assumes nothing.
 use mathlib.Core.Path.{refl, ap}
@@ -63,7 +64,8 @@ module _ {M : Type 1} (𝓤 : URA M) (H : Heap 𝓤) (A : Atoms 𝓤) (at-mem : 
   abbrev ByValue : Contract 𝓤
   ByValue = tripleOf 𝓤 H A by-value.signature (by-value.spec 𝓤 H A at-mem run)
 
-module _ {M : Type 1} (𝓤 : URA M) (H : Heap 𝓤) (A : Atoms 𝓤) (W : Given 𝓤 H A) (at-mem : Memory → SProp 𝓤) (run : Routine → Fun 𝓤) (κ : Lft) (q : Share) (b o : ℕ) (γ : GName) (h : OpenTags) (a : Arrival) where
+module _ {M : Type 1} (𝓤 : URA M) (H : Heap 𝓤) (A : Atoms 𝓤) (W : Given 𝓤 H A) (at-mem : Memory → SProp 𝓤) (run : Routine → Fun 𝓤) (κ : Lft) (q : Share) (b o : ℕ)
+    (γ : GName) (h : OpenTags) (a : Arrival) where
   abbrev x : Arg
   x = (record { ptr = (b, o); name = γ; now = h }, (a, tt))
 
@@ -97,8 +99,10 @@ module _ {M : Type 1} (𝓤 : URA M) (H : Heap 𝓤) (A : Atoms 𝓤) (W : Given
       → ent 𝓤 (sep 𝓤 (A .obs γ (T.the-row .coded .code h′)) (sep 𝓤 (A .bor κ (Body (mem T.the-row) b o γ)) (A .lft κ q))) (Post vunit)
   exits isa h′ e =
       qed W (‵ (fobs γ (T.the-row .coded .code h′)) ∷ ‵ (fbor κ (Body (mem T.the-row) b o γ)) ∷ ‵ (flft κ q) ∷ []) ∵
-      suffices ! _ (ends-at 𝓤 H A change.ended stayed (change.clauses 𝓤 H A at-mem run) W (((κ, tt), (q, tt), tt, x, at), tt) vunit tt (h′, (tt, tt)) (tt, (tt, tt))) $ says ! e $ nothing ! $ move ! (3 ∷ 0 ∷ []) $ join ! $
-      frame ! $ feqI ! (List Val) (vptr b o ∷ []) (vptr b o ∷ []) refl $ fjoin3 ! $ nothing ! $ owned ! Ar.the-row (Is Ar.the-row) ((LL.makes Ar.the-type Ar′.the-plain) 𝓤 H A) a _ isa $ fjoin ! $ move ! (1 ∷ 0 ∷ []) $ fjoin ! $
+      suffices ! _ (ends-at 𝓤 H A change.ended stayed (change.clauses 𝓤 H A at-mem run) W (((κ, tt), (q, tt), tt, x, at), tt) vunit tt (h′, (tt, tt))
+      (tt, (tt, tt))) $ says ! e $ nothing ! $ move ! (3 ∷ 0 ∷ []) $ join ! $
+      frame ! $ feqI ! (List Val) (vptr b o ∷ []) (vptr b o ∷ []) refl $ fjoin3 ! $ nothing ! $ owned ! Ar.the-row (Is Ar.the-row)
+      ((LL.makes Ar.the-type Ar′.the-plain) 𝓤 H A) a _ isa $ fjoin ! $ move ! (1 ∷ 0 ∷ []) $ fjoin ! $
       feqI ! (List Val) (vunit ∷ []) (vunit ∷ []) refl $ move ! (1 ∷ 0 ∷ []) $ done !
 
   -- the record that the callee gives, as it is stored
@@ -118,13 +122,15 @@ module _ {M : Type 1} (𝓤 : URA M) (H : Heap 𝓤) (A : Atoms 𝓤) (W : Given
         assigns ! (of-opd ! (load ! (from ! (hop ! (look ! 13 refl) (stop !))) (look-raw ! 1 refl))) (from ! (stop !)) (init ! 7 refl (LL.lawful T.the-type T′.the-laws 𝓤 H A W .typed h _ was .0)) $
         use1 W (raw (ByValue 𝓤 H A at-mem run .pre to)) (asked low isa) $
         calls-at ! fm (ByValue 𝓤 H A at-mem run) known to (and-then ! (load ! (from ! (stop !)) (look ! 7 refl)) (and-then ! (load ! (from ! (stop !)) (look ! 11 refl)) (no-more !))) (λ u.
-        use1 W (later (some (λ (r : OpenTags). (‵ ftrue ⊛ ‵ (T.the-row .own r (u ∷ []))) ⊛ raw (ensured 𝓤 H A by-value.ended (by-value.clauses 𝓤 H A at-mem run) tt (h, (a, tt)) tt r)))) (id⊢ 𝓤 _) $ await ! tt $ pick ! (λ r.
+        use1 W (later (some (λ (r : OpenTags). (‵ ftrue ⊛ ‵ (T.the-row .own r (u ∷ []))) ⊛ raw
+        (ensured 𝓤 H A by-value.ended (by-value.clauses 𝓤 H A at-mem run) tt (h, (a, tt)) tt r)))) (id⊢ 𝓤 _) $ await ! tt $ pick ! (λ r.
         split ! $ move ! (1 ∷ []) $ use1 W (raw (fact 𝓤 (Changed a h r))) (said r) $ heard ! (Changed a h r) (λ e. split ! $ drop ! $
         peeks ! T.the-row (Is T.the-row) (shows 𝓤 H A T.the-row) r (u ∷ []) (λ is.
         land ! (from ! (stop !)) (init ! 9 refl (LL.lawful T.the-type T′.the-laws 𝓤 H A W .typed r _ is .0)) $
         rewrite ! 9 (λ (w : Val). ‵ (fat fullShare T′.mir l₃ 0 w)) (ap only (LL.tells T.the-type T′.the-laws r _ is)) refl $
         -- [what the answer owns; the record's cell; the open borrow; obs; auth; true; what the arrival owns; _4; …; _3, the answer; …; _2; …; _1; …; room for _0; …]
-        assigns ! (of-opd ! (load ! (from ! (stop !)) (look ! 9 refl))) (from ! (hop ! (look ! 13 refl) (stop !))) (store-raw ! 1 refl (LL.lawful T.the-type T′.the-laws 𝓤 H A W .typed r _ (kept r _ is) .0)) $
+        assigns ! (of-opd ! (load ! (from ! (stop !)) (look ! 9 refl))) (from ! (hop ! (look ! 13 refl) (stop !)))
+        (store-raw ! 1 refl (LL.lawful T.the-type T′.the-laws 𝓤 H A W .typed r _ (kept r _ is) .0)) $
         assigns ! (of-opd ! (unit-lit !)) (from ! (stop !)) (init ! 15 refl (tt, tt)) $
         drop ! $ owned ! T.the-row (Is T.the-row) ((LL.makes T.the-type T′.the-plain) 𝓤 H A) r _ (kept r _ is) $ move ! (1 ∷ 0 ∷ []) $ closes ! tt T.the-row r (mach r ∷ []) b o $
         -- [obs; the borrow; the token; true; what the arrival owns; _4; …]
@@ -135,7 +141,8 @@ module _ {M : Type 1} (𝓤 : URA M) (H : Heap 𝓤) (A : Atoms 𝓤) (W : Given
 module _ {M : Type 1} (𝓤 : URA M) (H : Heap 𝓤) (A : Atoms 𝓤) (W : Given 𝓤 H A) (at-mem : Memory → SProp 𝓤) (run : Routine → Fun 𝓤) where
   change-walks : (C : Calls 𝓤 H) (Λ : Loops 𝓤 H) → FmC 𝓤 H (W .laws) C → Triple 𝓤 (C #open_tags·by-value) (ByValue 𝓤 H A at-mem run)
       → Walks 𝓤 H A change.ended stayed (WpFn 𝓤 H C Λ code.function) (change.clauses 𝓤 H A at-mem run)
-  change-walks C Λ fm known = walked 𝓤 H A change.ended stayed (change.clauses 𝓤 H A at-mem run) (WpFn 𝓤 H C Λ code.function) (λ κs. (ptr-vals, (LL.vals Ar.the-type Ar′.the-laws, tt))) (λ κs. (mut-tells (named 0) (κs .0) T.the-row, (LL.tells Ar.the-type Ar′.the-laws, tt)))
+  change-walks C Λ fm known = walked 𝓤 H A change.ended stayed (change.clauses 𝓤 H A at-mem run) (WpFn 𝓤 H C Λ code.function)
+      (λ κs. (ptr-vals, (LL.vals Ar.the-type Ar′.the-laws, tt))) (λ κs. (mut-tells (named 0) (κs .0) T.the-row, (LL.tells Ar.the-type Ar′.the-laws, tt)))
       (λ κs qs bounds a _ are. needs 𝓤 _ _ (λ low. walk 𝓤 H A W at-mem run (κs .0) (qs .0) (a .0 .ptr .0) (a .0 .ptr .1) (a .0 .name) (a .0 .now) (a .1 .0) C Λ fm known low (are .1 .0)))
 
   goes : AllGo 𝓤 H A W 1 (change.signature .params) (change.ended .kept) stayed
@@ -144,7 +151,8 @@ module _ {M : Type 1} (𝓤 : URA M) (H : Heap 𝓤) (A : Atoms 𝓤) (W : Given
 change-meets : {M : Type 1} (𝓤 : URA M) (H : Heap 𝓤) (A : Atoms 𝓤) (W : Given 𝓤 H A) (at-mem : Memory → SProp 𝓤) (run : Routine → Fun 𝓤) (𝓣 : Tables 𝓤 H)
     → Triple 𝓤 (𝓣 .C #open_tags·by-value) (ByValue 𝓤 H A at-mem run)
     → Meets 𝓤 H A change.signature (WpFn 𝓤 H (𝓣 .C) (𝓣 .Λ) code.function) (change.spec 𝓤 H A at-mem run)
-change-meets 𝓤 H A W at-mem run 𝓣 known = walk-meets 𝓤 H A change.ended stayed W (goes 𝓤 H A W at-mem run) (change.clauses 𝓤 H A at-mem run) (WpFn 𝓤 H (𝓣 .C) (𝓣 .Λ) code.function) (WpFn-mono 𝓤 H (W .laws) 𝓣 code.function)
+change-meets 𝓤 H A W at-mem run 𝓣 known = walk-meets 𝓤 H A change.ended stayed W (goes 𝓤 H A W at-mem run) (change.clauses 𝓤 H A at-mem run)
+    (WpFn 𝓤 H (𝓣 .C) (𝓣 .Λ) code.function) (WpFn-mono 𝓤 H (W .laws) 𝓣 code.function)
     (change-walks 𝓤 H A W at-mem run (𝓣 .C) (𝓣 .Λ) (fmOf 𝓤 H (W .laws) 𝓣) known)
 
 pub change-spec : {M : Type 1} → stated.statement M

@@ -28,8 +28,11 @@ returns-2 c = stepped-refused (c .before .before .needed .ensures) (sym (c .befo
 act-requires : tie.Need-act-requires
 act-requires c κs =
     let q = c .before .before .before .before .before .before .before .before .before .before .before .pre in
-    let room = c .before .before in
-    (act-room (room .before .before .needed .ensures) (ready-at (q .due .at)) (q .due .decided) (q .due .acted .fitting) (sym (room .before .has-room .ensures) ∙ not-false _ (room .if1 .left)), q .lent .fewNames)
+    let room = c .before .before in (
+      act-room (room .before .before .needed .ensures) (ready-at (q .due .at)) (q .due .decided) (q .due .acted .fitting)
+          (sym (room .before .has-room .ensures) ∙ not-false _ (room .if1 .left)),
+      q .lent .fewNames,
+    )
 
 stands-after-requires-2 : tie.Need-stands-after-requires-2
 stands-after-requires-2 c κs = due-counters (c .before .before .before .before .before .before .before .before .before .before .before .before .before .before .before .before .pre)
@@ -37,9 +40,11 @@ stands-after-requires-2 c κs = due-counters (c .before .before .before .before 
 returns-3 : tie.Need-returns-3
 returns-3 c =
     let room = c .before .before .before .before .before .before .before .before in
-    stepped-done (room .before .before .needed .ensures) (sym (room .before .has-room .ensures) ∙ not-false _ (room .if1 .left)) (c .before .before .before .before .before .act .ensures) (c .stands-after2 .ensures)
+    stepped-done (room .before .before .needed .ensures) (sym (room .before .has-room .ensures) ∙ not-false _ (room .if1 .left))
+    (c .before .before .before .before .before .act .ensures) (c .stands-after2 .ensures)
 
 pub carry-out-spec : {M : Type 1} → statement M
 carry-out-spec =
     tie.close
-    (tie.spec (λ c. search needs) stands-after-requires returns needed-requires has-room-requires (λ c. search needs) returns-2 act-requires stands-after-requires-2 (λ c. search needs) (λ c. search needs) returns-3)
+    (tie.spec (λ c. search needs) stands-after-requires returns needed-requires has-room-requires (λ c. search needs) returns-2 act-requires stands-after-requires-2
+    (λ c. search needs) (λ c. search needs) returns-3)

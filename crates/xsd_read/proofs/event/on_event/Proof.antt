@@ -26,13 +26,16 @@ arrival c =
     let a = c .before .before .before .before .before .before .before .before .before .before .before .before .before .before .args in
     record { kind = a .t .kind; decision = c .decide-event .result; «open_tags» = c .before .before .before .before .before .tags2 .given .0 .0; «by_standard» = a .p .«by_standard» }
 
-arrives : (c : tie.After-decide-event) → let a = c .before .before .before .before .before .before .before .before .before .before .before .before .before .before .args in Arrives (a .rows .now) (a .text .now) (c .before .own-marks .result .now) (a .p) (recordEvent (a .text .now) (a .marks .now) (a .t)) (arrival c)
+arrives : (c : tie.After-decide-event)
+    → let a = c .before .before .before .before .before .before .before .before .before .before .before .before .before .before .args in Arrives (a .rows .now)
+    (a .text .now) (c .before .own-marks .result .now) (a .p) (recordEvent (a .text .now) (a .marks .now) (a .t)) (arrival c)
 unfolding tags
 arrives c =
     let a = c .before .before .before .before .before .before .before .before .before .before .before .before .before .before .args in
     record {
       more = omega (arith, c .before .before .before .before .before .before .before .before .if1 .left);
-      tagged = counted-as (a .text .now) (a .marks .now) (a .t) (a .p .«open_tags») _ (c .before .before .before .before .before .before .before .tags-after .ensures) (c .before .before .before .before .before .tags2 .given .1);
+      tagged = counted-as (a .text .now) (a .marks .now) (a .t) (a .p .«open_tags») _ (c .before .before .before .before .before .before .before .tags-after .ensures)
+          (c .before .before .before .before .before .tags2 .given .1);
       tag = _;
       eventIs = record-as (a .text .now) (a .marks .now) (a .t);
       choice = refl;
@@ -40,7 +43,9 @@ arrives c =
           record {
             head = c .before .before .head-tag .result;
             headIs = c .before .before .head-tag .ensures;
-            decidedIs = c .decide-event .ensures ∙ ap (λ (e : Event). decided (a .p .events) e (a .p .mode) (c .before .before .head-tag .result)) (event-own (a .text .now) (a .marks .now) (c .before .own-marks .result .now) (a .t) (c .before .own-marks .ensures));
+            decidedIs = c .decide-event .ensures
+                ∙ ap (λ (e : Event). decided (a .p .events) e (a .p .mode) (c .before .before .head-tag .result))
+                (event-own (a .text .now) (a .marks .now) (c .before .own-marks .result .now) (a .t) (c .before .own-marks .ensures));
           };
     }
 
@@ -72,7 +77,8 @@ returns-2 : tie.Need-returns-2
 unfolding tags
 returns-2 c =
     let a = c .before .before .before .before .before .before .before .before .before .before .args in
-    taken-tags _ (omega (arith, c .before .before .before .before .if1 .left)) (counted-as (a .text .now) (a .marks .now) (a .t) (a .p .«open_tags») _ (c .before .before .before .tags-after .ensures) (c .before .tags .given .1))
+    taken-tags _ (omega (arith, c .before .before .before .before .if1 .left))
+    (counted-as (a .text .now) (a .marks .now) (a .t) (a .p .«open_tags») _ (c .before .before .before .tags-after .ensures) (c .before .tags .given .1))
 
 returns-3 : tie.Need-returns-3
 returns-3 c = taken-decided _ (arrives (c .before .before .before)) (c .before .decision .given .1)
@@ -81,7 +87,8 @@ returns-4 : tie.Need-returns-4
 returns-4 c =
     let at = c .before .before .before .before .before .before .before .before in
     let a = at .before .before .before .before .before .before .before .before .before .before .before .before .before .before .args in
-    taken-done (arrives at) (accepted (a .text .now) (at .before .own-marks .result .now) _ (not-refused _ (c .before .before .before .before .before .before .before .match2 .keys2))) (c .before .before .before .before .carry-out .ensures)
+    taken-done (arrives at) (accepted (a .text .now) (at .before .own-marks .result .now) _
+    (not-refused _ (c .before .before .before .before .before .before .before .match2 .keys2))) (c .before .before .before .before .carry-out .ensures)
 
 pub on-event-spec : {M : Type 1} → statement M
 on-event-spec =

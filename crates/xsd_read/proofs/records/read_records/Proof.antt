@@ -52,7 +52,8 @@ same-length-4 : tie.Need-same-length-4 Inv-loop μ-loop
 same-length-4 c = c .before .before .before .before .before .loop .inv .namesLength
 
 returns-2 : tie.Need-returns-2 Inv-loop μ-loop
-returns-2 c = rw (c .stopped-at .ensures) (reads-form _ (c .before .before .before .before .before .loop .inv) (c .before .before .before .before .record-at .ensures) (c .before .before .refusal .given .1))
+returns-2 c = rw (c .stopped-at .ensures)
+    (reads-form _ (c .before .before .before .before .before .loop .inv) (c .before .before .before .before .record-at .ensures) (c .before .before .refusal .given .1))
 
 enum-known-t : tie.Need-enum-known-t Inv-loop μ-loop
 enum-known-t c = search needs
@@ -69,13 +70,19 @@ stopped-at-requires-2 : tie.Need-stopped-at-requires-2 Inv-loop μ-loop
 stopped-at-requires-2 c κs = search needs
 
 same-length-5 : tie.Need-same-length-5 Inv-loop μ-loop
-same-length-5 c = c .before .before .before .before .before .before .before .before .on-event .ensures .rowsLength ∙ c .before .before .before .before .before .before .before .before .before .before .before .before .before .before .before .loop .inv .rowsLength
+same-length-5 c = c .before .before .before .before .before .before .before .before .on-event .ensures .rowsLength
+    ∙ c .before .before .before .before .before .before .before .before .before .before .before .before .before .before .before .loop .inv .rowsLength
 
 same-length-6 : tie.Need-same-length-6 Inv-loop μ-loop
-same-length-6 c = c .before .before .before .before .before .before .before .before .on-event .ensures .namesLength ∙ c .before .before .before .before .before .before .before .before .before .before .before .before .before .before .before .loop .inv .namesLength
+same-length-6 c = c .before .before .before .before .before .before .before .before .on-event .ensures .namesLength
+    ∙ c .before .before .before .before .before .before .before .before .before .before .before .before .before .before .before .loop .inv .namesLength
 
 returns-3 : tie.Need-returns-3 Inv-loop μ-loop
-returns-3 c = rw (c .stopped-at2 .ensures) (reads-refuse _ (c .before .before .before .before .before .before .before .before .before .before .before .before .before .before .before .loop .inv) (followed _ (c .before .before .before .before .before .before .before .before .before .before .before .before .before .before .record-at .ensures) (c .before .before .before .before .before .before .before .before .before .before .before .before .t .given .1)) (c .before .before .before .before .before .before .before .before .on-event .ensures) (c .before .before .refusal2 .given .1))
+returns-3 c = rw (c .stopped-at2 .ensures)
+    (reads-refuse _ (c .before .before .before .before .before .before .before .before .before .before .before .before .before .before .before .loop .inv)
+    (followed _ (c .before .before .before .before .before .before .before .before .before .before .before .before .before .before .record-at .ensures)
+    (c .before .before .before .before .before .before .before .before .before .before .before .before .t .given .1))
+    (c .before .before .before .before .before .before .before .before .on-event .ensures) (c .before .before .refusal2 .given .1))
 
 enum-known-next : tie.Need-enum-known-next Inv-loop μ-loop
 enum-known-next c = search needs
@@ -83,16 +90,27 @@ enum-known-next c = search needs
 add-place : tie.Need-add-place Inv-loop μ-loop
 add-place c =
     let w = c .before .before .before .before .before .before .before .before .before .before .before .before .before .before .loop .inv in
-    let f = followed _ (c .before .before .before .before .before .before .before .before .before .before .before .before .before .record-at .ensures) (c .before .before .before .before .before .before .before .before .before .before .before .t .given .1) in
-    omega (arith, w .counted, f .later, f .within, c .before .before .before .before .before .before .before .before .before .before .before .before .before .before .before .before .before .before .before .before .good)
+    let f = followed _ (c .before .before .before .before .before .before .before .before .before .before .before .before .before .record-at .ensures)
+    (c .before .before .before .before .before .before .before .before .before .before .before .t .given .1) in
+    omega (
+      arith,
+      w .counted,
+      f .later,
+      f .within,
+      c .before .before .before .before .before .before .before .before .before .before .before .before .before .before .before .before .before .before .before .before .good,
+    )
 
 loop-less : tie.Need-loop-less Inv-loop μ-loop
 loop-less c =
-    let f = followed _ (c .before .before .before .before .before .before .before .before .before .before .before .before .before .record-at .ensures) (c .before .before .before .before .before .before .before .before .before .before .before .t .given .1) in
+    let f = followed _ (c .before .before .before .before .before .before .before .before .before .before .before .before .before .record-at .ensures)
+    (c .before .before .before .before .before .before .before .before .before .before .before .t .given .1) in
     omega (arith, f .later, f .within)
 
 loop-again : tie.Need-loop-again Inv-loop μ-loop
-loop-again c = reads-next _ (c .before .before .before .before .before .before .before .before .before .before .before .before .before .before .loop .inv) (followed _ (c .before .before .before .before .before .before .before .before .before .before .before .before .before .record-at .ensures) (c .before .before .before .before .before .before .before .before .before .before .before .t .given .1)) (c .before .before .before .before .before .before .before .on-event .ensures) (c .before .next .given .1)
+loop-again c = reads-next _ (c .before .before .before .before .before .before .before .before .before .before .before .before .before .before .loop .inv)
+    (followed _ (c .before .before .before .before .before .before .before .before .before .before .before .before .before .record-at .ensures)
+    (c .before .before .before .before .before .before .before .before .before .before .before .t .given .1))
+    (c .before .before .before .before .before .before .before .on-event .ensures) (c .before .next .given .1)
 
 pub read-records-spec : {M : Type 1} → statement M
 read-records-spec =

@@ -18,10 +18,15 @@ first c = offsets-first (c .pre .0 .offsets) (c .pre .1)
 facts : (c : tie.Start) → FirstNumbers (first c)
 facts c = first-numbers (first c)
 
-read : {goal : List ℕ} {total : ℕ} (c : tie.After-used-pairs) (x : First (c .before .before .before .before .before .before .before .before .args .rows .now) (c .before .before .before .before .before .before .before .before .args .place) (c .before .before .before .before .before .before .before .before .args .end) (c .before .before .before .before .before .before .before .before .args .at) goal total)
+read : {goal : List ℕ} {total : ℕ} (c : tie.After-used-pairs)
+    (x : First (c .before .before .before .before .before .before .before .before .args .rows .now)
+    (c .before .before .before .before .before .before .before .before .args .place) (c .before .before .before .before .before .before .before .before .args .end)
+    (c .before .before .before .before .before .before .before .before .args .at) goal total)
     → (usedLength (c .used-pairs .result) (c .before .before .before .pair-at .result .len) (c .before .pair-at2 .result .len) ≡ length (join (x .r .texts))) × (c .used-pairs .result ≤ 2)
 read c x =
-    first-bytes x (c .before .before .before .before .before .numbers-at .result) (c .used-pairs .result) (c .before .before .before .pair-at .result .len) (c .before .pair-at2 .result .len) (c .before .before .before .before .before .numbers-at .ensures) (c .used-pairs .ensures) (c .before .before .before .pair-at .ensures .1) (c .before .pair-at2 .ensures .1)
+    first-bytes x (c .before .before .before .before .before .numbers-at .result) (c .used-pairs .result) (c .before .before .before .pair-at .result .len)
+    (c .before .pair-at2 .result .len) (c .before .before .before .before .before .numbers-at .ensures) (c .used-pairs .ensures)
+    (c .before .before .before .pair-at .ensures .1) (c .before .pair-at2 .ensures .1)
 
 numbers-at-requires : tie.Need-numbers-at-requires
 numbers-at-requires c κs = omega (arith, facts (c .before .before))
@@ -64,8 +69,13 @@ returns c goal total o =
     let a = c .before .before .before .before .before .before .before .before .before .before .before .before .before .args in
     let x = offsets-first o (c .before .before .before .before .before .before .before .before .before .before .before .before .before .pre .1) in
     let g = first-numbers x in
-    let set = c .before .before .before .set-row .ensures (getD (x .r .texts) 0 []) (getD (x .r .texts) 1 []) (sym (c .before .before .before .before .before .before .before .before .pair-at .ensures .1 ∙ g .len0)) (sym (c .before .before .before .before .before .before .pair-at2 .ensures .1 ∙ g .len1)) in
-    let same = first-row x (c .before .before .before .before .before .before .before .before .before .before .numbers-at .result) (c .before .before .before .before .before .used-pairs .result) (c .before .before .before .before .before .before .before .before .before .before .numbers-at .ensures) (c .before .before .before .before .before .used-pairs .ensures) in
+    let set = c .before .before .before .set-row .ensures (getD (x .r .texts) 0 []) (getD (x .r .texts) 1 [])
+    (sym (c .before .before .before .before .before .before .before .before .pair-at .ensures .1 ∙ g .len0))
+    (sym (c .before .before .before .before .before .before .pair-at2 .ensures .1 ∙ g .len1)) in
+    let same = first-row x (c .before .before .before .before .before .before .before .before .before .before .numbers-at .result)
+    (c .before .before .before .before .before .used-pairs .result)
+    (c .before .before .before .before .before .before .before .before .before .before .numbers-at .ensures)
+    (c .before .before .before .before .before .used-pairs .ensures) in
     offsets-next x (a .at + c .texts-length .result) (rw same at set) (ap (λ (n : ℕ). a .at + n) (c .texts-length .ensures ∙ read (c .before .before .before .before .before) x .0))
 
 pub reoffset-row-spec : {M : Type 1} → statement M

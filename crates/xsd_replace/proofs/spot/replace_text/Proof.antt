@@ -65,7 +65,12 @@ reoffset-requires c κs =
     let start = c .before .before .before .before .before .before .before .before .before .before .before .before in
     let a = start .args in
     let w = start .pre .0 in
-    record { goal = _; total = _; offsets = spot-offsets (w .text) (a .new .now) (c .before .before .before .before .before .before .before .pair-at .result .at) (c .before .before .before .before .before .before .before .pair-at .ensures .0 ∙ facts start .first) (bounded start (w .text)) }
+    record {
+      goal = _;
+      total = _;
+      offsets = spot-offsets (w .text) (a .new .now) (c .before .before .before .before .before .before .before .pair-at .result .at)
+          (c .before .before .before .before .before .before .before .pair-at .ensures .0 ∙ facts start .first) (bounded start (w .text));
+    }
 
 same-length : tie.Need-same-length
 same-length c = c .before .before .reoffset .kept .0 ∙ simp length-set
@@ -83,8 +88,11 @@ returns c =
       holds = λ x h.
           let g = spot-numbers h in
           let room : a .used .names - length (x .old) + length (a .new .now) ≤ length (a .names .now) = omega (arith, facts start, start .pre .0 .room, g) in
-          let done = set .ensures _ _ (spot-offsets h (a .new .now) (c .before .before .before .before .before .before .before .before .before .before .pair-at .result .at) (c .before .before .before .before .before .before .before .before .before .before .pair-at .ensures .0 ∙ g .first) (bounded start h)) in
-          spot-holds h (a .new .now) (set .result) room (done .0) (spot-names h (a .new .now) (found .result .at) (found .result .len) (found .ensures .0) (found .ensures .1) (moved .ensures)) (done .1);
+          let done = set .ensures _ _ (spot-offsets h (a .new .now)
+          (c .before .before .before .before .before .before .before .before .before .before .pair-at .result .at)
+          (c .before .before .before .before .before .before .before .before .before .before .pair-at .ensures .0 ∙ g .first) (bounded start h)) in
+          spot-holds h (a .new .now) (set .result) room (done .0)
+          (spot-names h (a .new .now) (found .result .at) (found .result .len) (found .ensures .0) (found .ensures .1) (moved .ensures)) (done .1);
     }
 
 pub replace-text-spec : {M : Type 1} → statement M

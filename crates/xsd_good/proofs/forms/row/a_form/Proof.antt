@@ -12,7 +12,8 @@ unfolding aForm
 returns c =
     let p = c .before .before .before in
     let a = p .before .args in
-    ap₂ _||_ (ap₂ _||_ (ap₂ (λ (x y : Bool). eqb (a .a) 0 || x || y) (p .in-range .ensures) (c .before .before .in-range2 .ensures)) (c .before .in-range3 .ensures)) (ap (λ (x : Bool). (eqb (a .tag) 15 || eqb (a .tag) 20) && x) (c .is-flag .ensures))
+    ap₂ _||_ (ap₂ _||_ (ap₂ (λ (x y : Bool). eqb (a .a) 0 || x || y) (p .in-range .ensures) (c .before .before .in-range2 .ensures)) (c .before .in-range3 .ensures))
+    (ap (λ (x : Bool). (eqb (a .tag) 15 || eqb (a .tag) 20) && x) (c .is-flag .ensures))
 
 pub a-form-spec : {M : Type 1} → statement M
 a-form-spec =

@@ -11,7 +11,8 @@ returns : tie.Need-returns
 unfolding isChild
 returns c =
     let a = c .before .before .args in
-    ap₂ (λ (x y : Bool). (eqb (a .head) 3 && x) || (eqb (a .head) 12 && y) || (eqb (a .head) 13 && eqb (a .tag) 19) || (eqb (a .head) 14 && eqb (a .tag) 20)) (c .before .in-range .ensures) (c .in-range2 .ensures)
+    ap₂ (λ (x y : Bool). (eqb (a .head) 3 && x) || (eqb (a .head) 12 && y) || (eqb (a .head) 13 && eqb (a .tag) 19) || (eqb (a .head) 14 && eqb (a .tag) 20))
+    (c .before .in-range .ensures) (c .in-range2 .ensures)
 
 pub is-child-spec : {M : Type 1} → statement M
 is-child-spec = tie.close (tie.spec (λ c κs. search needs) (λ c κs. search needs) returns)

@@ -30,7 +30,9 @@ returns-2 c =
     rw (has-pairs (c .before .before), eq-eqb _ _ (c .before .if2 .taken), c .wide .ensures)
 
 -- the code's test of the tags with two pairs is the definition's
-two-pairs : (p : tie.After-in-range4) → p .before .in-range3 .result || eqb (tagOf (p .before .before .before)) 14 || p .in-range4 .result ≡ between 2 3 (tagOf (p .before .before .before)) || eqb (tagOf (p .before .before .before)) 14 || between 17 20 (tagOf (p .before .before .before))
+two-pairs : (p : tie.After-in-range4)
+    → p .before .in-range3 .result || eqb (tagOf (p .before .before .before)) 14 || p .in-range4 .result ≡ between 2 3 (tagOf (p .before .before .before))
+    || eqb (tagOf (p .before .before .before)) 14 || between 17 20 (tagOf (p .before .before .before))
 two-pairs p = ap₂ _||_ (ap₂ _||_ (p .before .in-range3 .ensures) refl) (p .in-range4 .ensures)
 
 returns-3 : tie.Need-returns-3
