@@ -11,9 +11,9 @@ use Rattle.names.specs.declared.Written.{Written}
 use Rattle.sheet.specs.Rows.{bit}
 use Rattle.ir_types.specs.Label.{Labelled}
 
--- 0.2.0
+-- 0.3.0
 abbrev pub version : ℕ
-version = 200
+version = 300
 
 abbrev pub numberOf : Parsed → ℕ
 numberOf (parsed v) = 0

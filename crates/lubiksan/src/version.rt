@@ -3,7 +3,7 @@ ghost use mathlib.Core.Path.{_≡_};
 ghost use Rattle.lubiksan.specs.Exported.{version};
 
 // 10,000 for the first number, 100 for the second, 1 for the third.
-const VERSION: u32 = 200;
+const VERSION: u32 = 300;
 
 #[no_mangle]
 pub extern "C" fn lubiksan_version() -> u32
