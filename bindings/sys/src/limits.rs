@@ -37,7 +37,7 @@ pub const LUBIKSAN_LOWER_STACK: usize = 67584;
 /// Bytes of stack that `lubiksan_reduce` takes.
 pub const LUBIKSAN_REDUCE_STACK: usize = 70656;
 /// Bytes of stack that `lubiksan_write` takes.
-pub const LUBIKSAN_WRITE_STACK: usize = 1024;
+pub const LUBIKSAN_WRITE_STACK: usize = 2048;
 /// Bytes of stack that `lubiksan_pattern` takes.
 pub const LUBIKSAN_PATTERN_STACK: usize = 4096;
 /// Bytes of stack that any other call takes.
