@@ -1,5 +1,7 @@
 // Stores into the buffers of a sheet: a text, zeros. `shift`: a part moved; `replace`: a part replaced. The contracts speak of lists of
 // numbers.
+#![tactic(auto)]
+
 pub mod replace;
 pub mod shift;
 

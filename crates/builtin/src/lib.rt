@@ -1,5 +1,7 @@
 // The built-in names: 001, `map_builtin`. The 38 names stand once, one behind the other in one text, in the sequence of XML Schema Part 2 (order 9). The tables
 // beside it, where each name begins, the kinds, and the slots, are those that the list of specs/Builtin.antt gives.
+#![tactic(auto)]
+
 ghost use Rattle.std.specs.Prelude.{◌≡◌, ◌≤◌, ◌<◌, length};
 ghost use Rattle.std.proofs.Math.Option.{some};
 ghost use Rattle.std.proofs.Math.Seq.{slice};
@@ -9,7 +11,7 @@ ghost use Rattle.builtin.specs.Answers.{entry_at, of_builtin, key_of, keys_of, s
 
 use text::{byte_at, has_byte, local_name, same_text};
 
-#[derive(Drop)]
+#[derive(Clone, Copy)]
 pub enum Builtin {
     String,
     Bool,

@@ -1,5 +1,7 @@
 // Order 10: rows of ten numbers as ten columns of differences, and back. Columns are written column by column, rows row by row, so that each target is filled
 // from front to back.
+#![tactic(auto)]
+
 ghost use Rattle.std.specs.Prelude.{◌≡◌, ◌+◌, ◌*◌, ◌<◌, length};
 ghost use Rattle.columns.specs.Columns.{minus, plus, column_at, columns_of, row_at, rows_of};
 ghost use Rattle.columns.specs.Call.{same_lengths, ColumnsIs, RowsIs};

@@ -1,1 +1,2 @@
 // Examples by computation that need reading and lowering together. Definitions only (specs/).
+#![tactic(auto)]

@@ -1,4 +1,6 @@
 // The test of a graph sheet's form (paper 01, "Graph sheet"). `row`: the tests of one row; `row0`: those of row 0; `scan`: one pass over the rows.
+#![tactic(auto)]
+
 pub mod row;
 pub mod row0;
 pub mod scan;

@@ -12,7 +12,7 @@ use rows::ten::{Ten, ten_at};
 use sheet::limits;
 
 // ok: every row passed. Then end is where the pairs end, head the tag of the last head, and roots and types their counts.
-#[derive(Drop)]
+#[derive(Clone, Copy)]
 pub struct Scan {
     pub ok: bool,
     pub end: usize,

@@ -1,4 +1,6 @@
 // A row of the graph with its texts added to a graph sheet, each text in its spelling.
+#![tactic(auto)]
+
 ghost use Rattle.std.specs.Prelude.{◌≡◌, true, [], ◌∷◌, ◌+◌, ◌*◌, ◌/◌, ◌%◌, ◌^◌, ◌≤◌, length};
 ghost use Rattle.names.specs.Names.{normalize_type_name, xml_to_snake_case, code_to_pascal_case};
 ghost use Rattle.sheet.specs.Limits.{names_limit};
@@ -17,14 +19,14 @@ use rows::row::put_row;
 use sheet::limits;
 
 // What is used of a sheet after rows were added, or that they have no room.
-#[derive(Drop)]
+#[derive(Clone, Copy)]
 pub enum Grown {
     To(Used),
     Full,
 }
 
 // A text of a graph's row: none, or the first or second text of the schema's row in a spelling.
-#[derive(Drop)]
+#[derive(Clone, Copy)]
 pub enum Spelling {
     Nothing,
     First,
@@ -36,7 +38,7 @@ pub enum Spelling {
 }
 
 // A row of the graph: its numbers, and how its texts are spelled.
-#[derive(Drop)]
+#[derive(Clone, Copy)]
 pub struct Recipe {
     pub tag: u32,
     pub a: u32,
@@ -48,7 +50,7 @@ pub struct Recipe {
 }
 
 // How long each of a row's three texts is, or that they have no room.
-#[derive(Drop)]
+#[derive(Clone, Copy)]
 enum TextLengths {
     Of(usize, usize, usize),
     NoRoom,

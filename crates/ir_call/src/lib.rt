@@ -1,4 +1,6 @@
 // The lowering call: the graph of a schema sheet written into a graph sheet.
+#![tactic(auto)]
+
 ghost use Rattle.std.specs.Prelude.{true, ◌&&◌, ◌≡◌, [], ◌∷◌, ◌≤◌, ◌<◌};
 ghost use Rattle.sheet.specs.Rows.{numbers};
 ghost use Rattle.sheet.specs.Lengths.{sheet_lengths};
@@ -55,7 +57,7 @@ fn zero_scratch(scratch: &mut [u32])
 }
 
 // "Row 0: 0, rows used, names used, root elements, types, then zeros.": what it says of a graph.
-#[derive(Drop)]
+#[derive(Clone, Copy)]
 struct GraphRow0 {
     rows_used: u32,
     names_used: u32,

@@ -1,4 +1,6 @@
 // What lowering asks of a schema sheet before it writes: how many types and elements there are. Places count rows; row 0 is at place 0.
+#![tactic(auto)]
+
 ghost use Rattle.std.specs.Prelude.{ℕ, ◌*◌, ◌≤◌, ◌≡◌, List, length};
 ghost use Rattle.xsd_types.specs.Places.{rows_from};
 ghost use Rattle.ir_rows.specs.Lowered.{root_rows};

@@ -1,5 +1,7 @@
 // The finished types in lowering's order, one number for each, up to the first whose name came before (order 4: "Lowering refuses when
 // two finished types normalise to the same name").
+#![tactic(auto)]
+
 ghost use Rattle.std.specs.Prelude.{◌≡◌, ◌&&◌, ◌+◌, ◌*◌, ◌/◌, ◌%◌, ◌≤◌, ◌<◌, ltb, eqb, length, get_or, set};
 ghost use Rattle.text.specs.Text.{same};
 ghost use Rattle.names.specs.Names.{normalize_type_name};
@@ -20,7 +22,7 @@ use text::has_byte;
 use xsd_types::tags;
 
 // How many types there are, or the row of the first whose name came before.
-#[derive(Drop)]
+#[derive(Clone, Copy)]
 pub enum Indexed {
     All(usize),
     Repeated(usize),

@@ -1,5 +1,7 @@
 // The label call (paper 01): a row's type reference, as a part of the names or of the word list, and the call's number. `words`: the words
 // of the word list.
+#![tactic(auto)]
+
 pub mod words;
 
 ghost use Rattle.std.specs.Prelude.{◌≡◌, ◌≤◌};
@@ -12,7 +14,7 @@ use rows::ten::{Ten, ten_at};
 use sheet::{limits, returned};
 
 // Where a label stands, with the call's number: in the word list or in the names, len bytes from at on.
-#[derive(Drop)]
+#[derive(Clone, Copy)]
 pub struct Spot {
     pub number: u32,
     pub in_words: bool,

@@ -1,1 +1,2 @@
 // Lowering (001, ir/lower.rs). Definitions only (specs/).
+#![tactic(auto)]

@@ -15,7 +15,7 @@ use sheet::limits;
 pub const BUCKETS: usize = 4096;
 
 // How many heads there are, or that two have one name.
-#[derive(Drop)]
+#[derive(Clone, Copy)]
 pub enum Indexed {
     All(usize),
     Repeated,

@@ -1,4 +1,6 @@
 // What lowering makes of one row of a schema sheet: decided, and written to a graph sheet.
+#![tactic(auto)]
+
 ghost use Rattle.std.specs.Prelude.{ℕ, ◌+◌, ◌*◌, ◌/◌, ◌%◌, ◌^◌, ◌≤◌, ◌<◌, ◌≡◌, Bool, true, length};
 ghost use Rattle.builtin.specs.Builtin.{map_builtin, reference as reference_number};
 ghost use Rattle.xsd_types.specs.Types.{MaxOccurs};
@@ -30,7 +32,7 @@ const VEC: u32 = 2;
 const BOUNDED: u32 = 3;
 
 // b and c of a field's row: its cardinality, and the bound where it is bounded.
-#[derive(Drop)]
+#[derive(Clone, Copy)]
 pub struct FieldNumbers {
     pub b: u32,
     pub c: u32,

@@ -1,1 +1,2 @@
 // Lowering told row by row: definitions and laws alone.
+#![tactic(auto)]

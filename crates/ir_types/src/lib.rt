@@ -1,2 +1,4 @@
 // The type graph (003, ir/types.rs) and the graph sheet (specs/). The tags of its rows, by name.
+#![tactic(auto)]
+
 pub mod tags;

@@ -1,4 +1,6 @@
 // The graph's rows written one behind the other from the rows of a schema sheet: the namespace, the elements, the types that are kept.
+#![tactic(auto)]
+
 ghost use Rattle.std.specs.Prelude.{◌≡◌, true, [], ◌∷◌, ◌+◌, ◌*◌, ◌%◌, ◌≤◌, ◌<◌, ltb, length};
 ghost use Rattle.text.specs.Text.{every};
 ghost use Rattle.xsd_types.specs.Places.{row_at, rows_from};
@@ -21,7 +23,7 @@ fn place_of(entry: u32) -> usize
 }
 
 // The children of a type: they stand from `first` up to the next head, or up to `end`.
-#[derive(Drop)]
+#[derive(Clone, Copy)]
 struct Children {
     first: usize,
     end: usize,

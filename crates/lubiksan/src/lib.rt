@@ -1,4 +1,6 @@
 // The calls exported to C and Rust, as a static library. A slice passes as a pointer and a length. include/lubiksan.h declares them.
+#![tactic(auto)]
+
 mod by_column;
 mod form;
 mod judging;

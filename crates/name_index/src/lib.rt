@@ -1,5 +1,7 @@
 // An index of names over the places of heads: is there a head of this name, and where. A table of `buckets` numbers and then one number for each head
 // so far; a name is looked for in its bucket alone, and compared byte by byte.
+#![tactic(auto)]
+
 ghost use Rattle.std.specs.Prelude.{◌≡◌, Bool, List, ℕ, ◌+◌, ◌*◌, ◌/◌, ◌%◌, ◌≤◌, ◌<◌, length, get_or};
 ghost use Rattle.names.specs.Same.{spelled};
 ghost use Rattle.sheet.specs.Limits.{rows_limit};

@@ -1,5 +1,7 @@
 // The name conversions of 001 (lower.rs), each written into a lent part: two here, `xml_to_snake_case` in `snake`. `same`: two names
 // compared as they normalise.
+#![tactic(auto)]
+
 pub mod same;
 pub mod snake;
 
@@ -12,7 +14,7 @@ use text::ascii::{to_lower, to_upper};
 use text::has_byte;
 
 // How many bytes a conversion wrote, or that the part is shorter than the conversion.
-#[derive(Drop)]
+#[derive(Clone, Copy)]
 pub enum Written {
     Bytes(usize),
     NoRoom,

@@ -8,7 +8,7 @@ use crate::cased;
 use text::has_byte;
 
 // A byte of a spelled name with the place where the name goes on, or the name's end.
-#[derive(Drop)]
+#[derive(Clone, Copy)]
 pub enum Next {
     Byte(u8, usize),
     End,

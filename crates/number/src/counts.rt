@@ -5,13 +5,13 @@ ghost use Rattle.number.specs.Counts.{of_characters, of_digits};
 
 use crate::{CharacterCount, DigitCount, U32, U64, parse_u32, parse_u64};
 
-#[derive(Drop)]
+#[derive(Clone, Copy)]
 pub enum Characters {
     Count(CharacterCount),
     Invalid,
 }
 
-#[derive(Drop)]
+#[derive(Clone, Copy)]
 pub enum Digits {
     Count(DigitCount),
     Invalid,

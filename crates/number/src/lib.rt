@@ -1,5 +1,7 @@
 // Numbers: 000, `parse_u32` and `parse_u64`, with the spellings of order 2. An occurrence number is a plain u32;
 // lengths count characters and digit facets count digits, each with a type of its own (read in `counts`).
+#![tactic(auto)]
+
 pub mod counts;
 
 ghost use Rattle.std.specs.Prelude.{◌≡◌, ◌+◌};
@@ -10,20 +12,20 @@ use text::ascii::is_digit;
 use text::trimmed;
 
 // The value of a min_length or max_length facet.
-#[derive(Drop)]
+#[derive(Clone, Copy)]
 pub struct CharacterCount(pub u64);
 
 // The value of a total_digits or fraction_digits facet.
-#[derive(Drop)]
+#[derive(Clone, Copy)]
 pub struct DigitCount(pub u32);
 
-#[derive(Drop)]
+#[derive(Clone, Copy)]
 pub enum U32 {
     Value(u32),
     Invalid,
 }
 
-#[derive(Drop)]
+#[derive(Clone, Copy)]
 pub enum U64 {
     Value(u64),
     Invalid,

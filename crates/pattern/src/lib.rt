@@ -1,5 +1,7 @@
 // Order 13: whether a pattern is a regular expression of XML Schema Part 2 (Second Edition), Appendix F. `tests`: the characters; `class`: a class in
 // brackets; `expression`: expression, branch, piece and atom in a cycle; `aside`: the forms that are not judged.
+#![tactic(auto)]
+
 mod aside;
 mod class;
 mod expression;
@@ -13,7 +15,7 @@ use sheet::{limits, returned};
 use text::is_text;
 
 // Where a part of a pattern ends.
-#[derive(Drop)]
+#[derive(Clone, Copy)]
 pub enum End {
     At(usize),
     Bad,

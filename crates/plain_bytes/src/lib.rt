@@ -1,5 +1,7 @@
 // Passing over the plain bytes of a text, eight at a time. A word holds eight bytes, the first lowest; bit 7 of each of its bytes answers a
 // question of that byte, so that one sum or one `&` asks it of all eight.
+#![tactic(auto)]
+
 ghost use Rattle.std.specs.Prelude.{◌≡◌, ◌+◌, ◌*◌, ◌/◌, ◌^◌, ◌≤◌, ◌<◌, length};
 ghost use Rattle.std.specs.Int.Count.{count_trailing_zeros};
 ghost use Rattle.plain_bytes.specs.Scan.{is_text_run, is_value_run, is_comment_run, Skips};

@@ -1,17 +1,18 @@
 // The printing program's work (paper 01, "Specimens"): a tape is cleared, read and lowered, and what came of it is printed.
+#![tactic(auto)]
+
 ghost use Rattle.std.specs.Prelude.{◌≡◌, ◌+◌, ◌≤◌, length, get_or};
 ghost use Rattle.sheet.specs.Calls.{sheet, answered};
 ghost use Rattle.printing.specs.Work.{WorkIs};
 ghost use Rattle.printing.specs.Input.{number_at, too_long, input_of};
 
-use libc::STDOUT_FILENO;
-use program::print;
+use program::{STDOUT_FILENO, print};
 use rows::Answer;
 use rows::numbers::wide;
 use xsd_good::clear;
 
 // The answers of reading and of lowering.
-#[derive(Drop)]
+#[derive(Clone, Copy)]
 pub struct Made {
     pub read: Answer,
     pub lowered: Answer,
@@ -142,7 +143,7 @@ fn too_long(input: &[u8]) -> bool
 }
 
 // What the input is: one with a length too long, one with too few bytes, or a tape with the lengths of its text and its marks.
-#[derive(Drop)]
+#[derive(Clone, Copy)]
 pub enum Input {
     TooLong,
     Short,

@@ -1,5 +1,5 @@
 // A sheet printed as paper 01 has it: the used rows, a line each, then the used names and a newline.
-use libc::STDOUT_FILENO;
+use crate::STDOUT_FILENO;
 use rows::numbers::wide;
 use tape::pairs::mark_at;
 

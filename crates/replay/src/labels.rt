@@ -1,8 +1,7 @@
 // The labels of a lowered graph. A line has the letter g, a label, a text and numbers, which are the marks of its tape. The tape is read and lowered as by the
 // printing program, and both label calls are made for each used row of the graph, for the row behind them and for the one behind the sheet: the row, the
 // number and the part, in quotes. compare/run holds these lines of stdout to a model of paper 01.
-use libc::STDOUT_FILENO;
-use program::{lines, numbers};
+use program::{STDOUT_FILENO, lines, numbers};
 use rows::numbers::wide;
 use tape::pairs::mark_at;
 

@@ -1,7 +1,7 @@
 // The answers of the text leaves on a text, in one line. These lines of stdout are the answers of the Rust (compare/VECTORS.md).
-use libc::STDOUT_FILENO;
 use names::{Written, same, snake};
 use number::{U32, U64};
+use program::STDOUT_FILENO;
 
 // A label and a text.
 fn put(label: &[u8], t: &[u8]) {

@@ -14,6 +14,8 @@
 //     g            the labels of the rows of a tape's graph (labels.rt)
 //     n            the leaves' answers on the text, which begins behind the first `;` (leaves.rt)
 // The number and the place of a call stand behind its label.
+#![tactic(auto)]
+
 mod labels;
 mod leaves;
 mod lengths;
@@ -22,14 +24,13 @@ mod printed;
 mod records;
 mod sheets;
 
-use libc::STDOUT_FILENO;
-use program::{lines, numbers};
+use program::{STDOUT_FILENO, lines, numbers};
 use rows::numbers::wide;
 use sheet::limits::{NAMES, ROWS};
 use tape::pairs::mark_at;
 
 // The lengths of the kept sheet's buffers.
-#[derive(Drop)]
+#[derive(Clone, Copy)]
 struct Lent {
     rows: usize,
     names: usize,

@@ -1,5 +1,5 @@
 // What more than one part prints.
-use libc::STDOUT_FILENO;
+use program::STDOUT_FILENO;
 use rows::Answer;
 
 pub fn put_number(n: u64) {

@@ -2,8 +2,7 @@
 //     t       the tape of the text and the numbers, which are its marks
 //     i       the input of as many bytes as there are numbers, each number a byte
 // The label is printed in front. compare/run holds these lines of stdout to a model of paper 01.
-use libc::STDOUT_FILENO;
-use program::{lines, numbers};
+use program::{STDOUT_FILENO, lines, numbers};
 use rows::parts::part_of;
 use tape::pairs::mark_at;
 

@@ -2,8 +2,8 @@
 ghost use Rattle.tape.specs.Answers.{RecordAt, EventPlaced};
 
 use crate::output;
-use libc::STDOUT_FILENO;
 use number::U32;
+use program::STDOUT_FILENO;
 use rows::numbers::wide;
 use sheet::refusal;
 use tape::attributes::SeenTag;

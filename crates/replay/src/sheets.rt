@@ -1,7 +1,6 @@
 // What a line says, done to a sheet.
 use crate::output;
-use libc::STDOUT_FILENO;
-use program::print;
+use program::{STDOUT_FILENO, print};
 use rows::numbers::wide;
 use tape::pairs::mark_at;
 use xsd_good::clear;

@@ -2,6 +2,8 @@
 // ten numbers; `parts`: the text under a pair; `form`: the form of a row's pairs; `behind`: the used parts and what is behind them; `lengths`: the
 // lengths that a call may be lent. Stored: `texts`: a row's texts; `row`: the row as a whole; `append`: a row behind the others; `facets`:
 // those of length and digit facets.
+#![tactic(auto)]
+
 pub mod append;
 pub mod behind;
 pub mod facets;
@@ -14,7 +16,7 @@ pub mod ten;
 pub mod texts;
 
 // A call's number and place, of paper 01's "Returned numbers".
-#[derive(Drop)]
+#[derive(Clone, Copy)]
 pub struct Answer {
     pub number: u32,
     pub place: usize,

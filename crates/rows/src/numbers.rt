@@ -6,14 +6,14 @@ ghost use Rattle.rows.specs.Numbers.{numbers_at};
 use sheet::limits;
 
 // How many rows, row 0 among them, and how many bytes of names are used.
-#[derive(Drop)]
+#[derive(Clone, Copy)]
 pub struct Used {
     pub rows: usize,
     pub names: usize,
 }
 
 // A row's numbers that are not of its pairs.
-#[derive(Drop)]
+#[derive(Clone, Copy)]
 pub struct RowNumbers {
     pub tag: u32,
     pub a: u32,
@@ -22,7 +22,7 @@ pub struct RowNumbers {
 }
 
 // A pair of a row: where its text starts in the names, and how long it is.
-#[derive(Drop)]
+#[derive(Clone, Copy)]
 pub struct Pair {
     pub at: usize,
     pub len: usize,

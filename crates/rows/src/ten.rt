@@ -4,7 +4,7 @@ ghost use Rattle.sheet.specs.Rows.{ten};
 ghost use Rattle.rows.specs.Ten.{as_ten};
 
 // A row's numbers: the tag, three pairs, and a, b, c.
-#[derive(Drop)]
+#[derive(Clone, Copy)]
 pub struct Ten {
     pub tag: u32,
     pub at0: u32,

@@ -75,10 +75,10 @@ lowerings-joined (Call.lowering graph scratch ∷ calls) h e = lowerings-joined 
 
 -- ---- one reading on a state
 
-read_held : (lent : Lengths) (s : State) (text : Text) (marks : List ℕ) → tape_lengths (length text) (length marks) ≡ true
+read_held_lem : (lent : Lengths) (s : State) (text : Text) (marks : List ℕ) → tape_lengths (length text) (length marks) ≡ true
     → read_held (Held.holding lent s) text marks ≡ held_after lent s (read_state lent s text marks)
 unfolding read_held
-read_held lent s text marks t = rw t
+read_held_lem lent s text marks t = rw t
 
 read-long : (lent : Lengths) (s : State) (text : Text) (marks : List ℕ) → tape_lengths (length text) (length marks) ≡ false
     → read_held (Held.holding lent s) text marks ≡ refused_with 1 (Held.holding lent s)
@@ -88,12 +88,12 @@ read-long lent s text marks t = rw t
 held_behind-read : (lent : Lengths) (s : State) (text : Text) (marks : List ℕ) (calls : List Call) → tape_lengths (length text) (length marks) ≡ true
     → held_behind (Call.reading text marks ∷ calls) (Held.holding lent s) ≡ held_behind calls (Held.holding lent (read_state lent s text marks).state)
 unfolding held_behind held_after
-held_behind-read lent s text marks calls t = ap (λ (st : Stepped). held_behind calls st.held) (read_held lent s text marks t)
+held_behind-read lent s text marks calls t = ap (λ (st : Stepped). held_behind calls st.held) (read_held_lem lent s text marks t)
 
 joined_from-read : (lent : Lengths) (s : State) (text : Text) (marks : List ℕ) (calls : List Call) → tape_lengths (length text) (length marks) ≡ true
     → joined_from (Call.reading text marks ∷ calls) (Held.holding lent s) ≡ judged_in lent s text marks ++ joined_from calls (Held.holding lent (read_state lent s text marks).state)
 unfolding joined_from judged_held held_after
-joined_from-read lent s text marks calls t = rw (read_held lent s text marks t, t)
+joined_from-read lent s text marks calls t = rw (read_held_lem lent s text marks t, t)
 
 -- what the calls of a tape leave: the answers, what is held, the records judged
 record Leaves (lent : Lengths) (text : Text) (s : State) (marks : List ℕ) (calls : List Call) (r : Reading) : Type 0 where
@@ -106,7 +106,7 @@ one-leaves : (lent : Lengths) (text : Text) (s : State) (marks : List ℕ) → t
 unfolding run_calls answered_first held_behind held_after joined_from
 one-leaves lent text s marks t =
     record {
-      answers = rw (read_held lent s text marks t) PiecesAnswer.last;
+      answers = rw (read_held_lem lent s text marks t) PiecesAnswer.last;
       held = held_behind-read lent s text marks [] t;
       events = joined_from-read lent s text marks [] t ∙ append-nil (judged_in lent s text marks);
     }
@@ -145,7 +145,7 @@ module _ (lent : Lengths) (text : Text) (s : State) (m₁ m₂ : List ℕ) (z : 
     first-held : read_held (Held.holding lent s) text m₁ ≡ record { answer = record { number = 0; place = r₁.answer.place }; in_run = none; held = Held.holding lent r₁.state }
     unfolding held_after number_in_run between
     first-held =
-        read_held lent s text m₁ t
+        read_held_lem lent s text m₁ t
         ∙ ap (λ (n : ℕ). held_after lent s (record { answer = record { number = n; place = r₁.answer.place }; state = r₁.state })) z
 
     module _ (lowerings calls : List Call) (o : every is_lowering lowerings ≡ true) where

@@ -132,10 +132,10 @@ module _ (x y : Sheet) (choice : ℕ) (marks : List ℕ) (w : words x.rows ≡ t
         rows = rw k same_rows;
       }
 
-  given_back : (tape_of text marks).number ≡ accepted → room ≡ true
+  given_back_lem : (tape_of text marks).number ≡ accepted → room ≡ true
       → ((read_written y choice text marks).answer.number ≡ accepted) × SameFinished x (read_written y choice text marks).sheet
   unfolding sheet_of_reading lengths_of
-  given_back h f = rw (reads h, reading-is f) (refl, last-same f)
+  given_back_lem h f = rw (reads h, reading-is f) (refl, last-same f)
 
   small-sheet : (tape_of text marks).number ≡ accepted → room ≡ false → (read_written y choice text marks).answer.number ≡ no_room
   unfolding sheet_of_reading lengths_of
@@ -146,7 +146,7 @@ module _ (x y : Sheet) (choice : ℕ) (marks : List ℕ) (w : words x.rows ≡ t
       record {
         taped = tape-enough schema schema-ok held marks short l;
         few_marks = tape-few schema schema-ok held marks short l;
-        given_back = given_back;
+        given_back = given_back_lem;
         small_sheet = small-sheet;
       }
 

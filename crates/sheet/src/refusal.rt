@@ -4,7 +4,7 @@ ghost use Rattle.sheet.specs.Returned.{refusal_number};
 
 use crate::returned;
 
-#[derive(Drop)]
+#[derive(Clone, Copy)]
 pub enum Refusal {
     BadRecord,
     BadPair,

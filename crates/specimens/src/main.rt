@@ -1,10 +1,11 @@
 // The specimens of paper 01, run beside their expected results, which the file stdout holds.
 // The file stdin holds one on each line: what is asked of a text, a space and the text.
+#![tactic(auto)]
+
 use builtin::Builtin;
-use libc::STDOUT_FILENO;
 use names::{Written, snake};
 use number::{U32, U64};
-use program::lines;
+use program::{STDOUT_FILENO, lines};
 
 // The text in quotes.
 fn put_quoted(t: &[u8]) {

@@ -13,7 +13,7 @@ use crate::words::{key_of, word_of};
 use xsd_parser::words::Word;
 
 // The word of a tag, and where the pairs of the nine values stand in the marks, 0 where there is none: the first attribute of each key.
-#[derive(Drop)]
+#[derive(Clone, Copy)]
 pub struct SeenTag {
     pub word: Word,
     pub name: usize,

@@ -1,5 +1,7 @@
 // The tape (paper 01, "Tape"): a record at a place of the marks, judged for 3 (`form`), 4 and 5 (`tests`). `pairs`: the parts of the text
 // under its pairs; `words`: the word of a tag and the number of a key; `attributes`: what is seen of a tag that was judged; `view`: the event view.
+#![tactic(auto)]
+
 pub mod attributes;
 pub mod form;
 pub mod pairs;
@@ -20,7 +22,7 @@ use xsd_parser::kinds;
 
 // An accepted record: kind 1 a start, 2 an empty tag, 3 a close, which has no attributes; its number of attributes, where its pairs
 // start in the marks (the first is the name's) and where the next record starts.
-#[derive(Drop)]
+#[derive(Clone, Copy)]
 pub struct TagRecord {
     pub kind: u32,
     pub count: usize,
@@ -29,7 +31,7 @@ pub struct TagRecord {
 }
 
 // What stands at a place of the marks: nothing, a record that is refused, or an event's.
-#[derive(Drop)]
+#[derive(Clone, Copy)]
 pub enum Record {
     End,
     Bad(Refusal),

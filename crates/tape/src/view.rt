@@ -9,7 +9,7 @@ ghost use Rattle.tape.specs.Marks.{event_marks};
 use crate::attributes::{SeenTag, find_seen};
 
 // The text of a tape, and the marks of one event: its name's pair first.
-#[derive(Drop)]
+#[derive(Clone, Copy)]
 pub struct View<'a, 'b> {
     pub text: &'a [u8],
     pub marks: &'b [u32],

@@ -1,5 +1,7 @@
 // Texts: which bytes they may have, a byte of a text, equality, the local name, white space at the ends. `ascii`: the classes and the case of
 // letters.
+#![tactic(auto)]
+
 pub mod ascii;
 
 ghost use Rattle.std.specs.Prelude.{◌≡◌, false, drop};

@@ -3,7 +3,7 @@ ghost use Rattle.std.specs.Prelude.{◌≡◌, ◌<◌};
 ghost use Rattle.xml.specs.Classes.{is_char, is_name};
 ghost use Rattle.xml_parts.specs.Answers.{class_of, class_table, bit_of, has_bit};
 
-#[derive(Drop)]
+#[derive(Clone, Copy)]
 pub enum Class {
     Space,
     NameStart,

@@ -8,7 +8,7 @@ use crate::steps::{Moved, comment, instruction, literal, one_then, spaces, start
 use crate::values::is_quote;
 
 // What stands between the quotes of a part of the declaration.
-#[derive(Drop)]
+#[derive(Clone, Copy)]
 pub enum Body {
     Version,
     Encoding,

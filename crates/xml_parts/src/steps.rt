@@ -10,7 +10,7 @@ use plain_bytes::skip_comment;
 use text::ascii;
 
 // Where a step ends.
-#[derive(Drop)]
+#[derive(Clone, Copy)]
 pub enum Moved {
     To(usize),
     Bad,
@@ -204,7 +204,7 @@ pub fn section(text: &[u8], at: usize) -> Moved
 }
 
 // Two places, up to which two names are the same.
-#[derive(Drop)]
+#[derive(Clone, Copy)]
 pub struct Places(pub usize, pub usize);
 
 // Up to where the bytes from one place on have bytes from another place on beside them.

@@ -15,7 +15,7 @@ use xml_parts::prolog::{misc, prolog};
 use xml_parts::steps::{Moved, starts};
 
 // What a text is found to be: begun by a DOCTYPE, not well formed, or well formed with so many marks needed.
-#[derive(Drop)]
+#[derive(Clone, Copy)]
 pub enum Found {
     Doctype,
     Malformed,

@@ -16,7 +16,7 @@ use xml_parts::values::char_data;
 use xsd_parser::kinds;
 
 // What stands next inside the root, but for an end tag: a piece without an event, or another tag.
-#[derive(Drop)]
+#[derive(Clone, Copy)]
 pub enum Content {
     Wrong,
     Passed(usize),
@@ -60,7 +60,7 @@ fn markup(classes: &[u8; 256], text: &[u8], at: usize) -> Content
 }
 
 // How many tags are open behind a piece, how many marks are used, and the position behind it.
-#[derive(Drop)]
+#[derive(Clone, Copy)]
 pub enum Onward {
     Stop,
     On(usize, usize, usize),
@@ -152,7 +152,7 @@ fn turn(
 }
 
 // The marks used by the root, and the position behind it.
-#[derive(Drop)]
+#[derive(Clone, Copy)]
 pub enum WholeRoot {
     Bad,
     To(usize, usize),

@@ -15,7 +15,7 @@ use xml_parts::values::value;
 use xsd_parser::kinds;
 
 // What stands next in a tag: its end with its kind, or an attribute by where its key starts and ends, and its value with the quotes.
-#[derive(Drop)]
+#[derive(Clone, Copy)]
 pub enum Next {
     Wrong,
     Last(u32, usize),
@@ -72,7 +72,7 @@ pub fn is_among(classes: &[u8; 256], text: &[u8], key: usize, keys: &[u16], coun
 }
 
 // The end of a tag: its kind, how many attributes it has, and the position behind it.
-#[derive(Drop)]
+#[derive(Clone, Copy)]
 pub enum EndOfTag {
     Bad,
     To(u32, usize, usize),
@@ -126,7 +126,7 @@ pub fn attributes(
 }
 
 // A whole tag: its kind, where its name starts, the marks used behind it, and the position behind it.
-#[derive(Drop)]
+#[derive(Clone, Copy)]
 pub enum WholeTag {
     Bad,
     To(u32, usize, usize, usize),

@@ -1,5 +1,7 @@
 // What was decided for an event, done to a schema sheet: by the writer of a row, of the open type's head, or of a text. `needs`: the rows and
 // names used after it; `put`: the writers by places in the marks.
+#![tactic(auto)]
+
 pub mod needs;
 pub mod put;
 

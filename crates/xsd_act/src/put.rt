@@ -19,14 +19,14 @@ use xsd_replace::head::replace_head;
 use xsd_replace::spot::replace_text;
 
 // A text of a row: the row, and which of its pairs.
-#[derive(Drop)]
+#[derive(Clone, Copy)]
 pub struct TextPlace {
     pub row: usize,
     pub pair: usize,
 }
 
 // The head of a type that is opened: its tag, one pair for the name alone or two with a base, and the number of the event that gives the name.
-#[derive(Drop)]
+#[derive(Clone, Copy)]
 pub struct TypeHead {
     pub tag: u32,
     pub pairs: usize,

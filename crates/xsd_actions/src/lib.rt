@@ -1,9 +1,11 @@
 // What an event does to a schema sheet: the reader's mode, and the decisions, whose texts are given by places in the marks.
+#![tactic(auto)]
+
 use number::{CharacterCount, DigitCount};
 use sheet::refusal::Refusal;
 
 // What the handlers go by, beside the open head: the context, nesting, root seen and extension flag of row 0.
-#[derive(Drop)]
+#[derive(Clone, Copy)]
 pub struct Mode {
     pub context: u32,
     pub nesting: u32,
@@ -12,7 +14,7 @@ pub struct Mode {
 }
 
 // A row to add: its tag, how many pairs it uses, where their pairs stand in the marks, and its numbers.
-#[derive(Drop)]
+#[derive(Clone, Copy)]
 pub struct NewRow {
     pub tag: u32,
     pub pairs: usize,
@@ -24,28 +26,28 @@ pub struct NewRow {
 }
 
 // A type to open: where the pair of its name stands in the marks, and the number of the event that gives the name.
-#[derive(Drop)]
+#[derive(Clone, Copy)]
 pub struct NewType {
     pub name: usize,
     pub event: u32,
 }
 
 // The row of a length facet to add.
-#[derive(Drop)]
+#[derive(Clone, Copy)]
 pub struct CharacterFacet {
     pub tag: u32,
     pub count: CharacterCount,
 }
 
 // The row of a digit facet to add.
-#[derive(Drop)]
+#[derive(Clone, Copy)]
 pub struct DigitFacet {
     pub tag: u32,
     pub count: DigitCount,
 }
 
 // Another content for the open complex type: its tag, whether a text follows the name, where that text's pair stands in the marks.
-#[derive(Drop)]
+#[derive(Clone, Copy)]
 pub struct NewContent {
     pub tag: u32,
     pub follows: bool,
@@ -54,7 +56,7 @@ pub struct NewContent {
 }
 
 // What is to be done for an event. Texts are given by the places of their pairs in the marks; past the end is the empty text.
-#[derive(Drop)]
+#[derive(Clone, Copy)]
 pub enum Decision {
     Refuse(Refusal),
     Keep,

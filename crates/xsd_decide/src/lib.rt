@@ -1,5 +1,7 @@
 // What an event decides, by the mode and the tag of the open head: 000, `on_start`, `on_empty` and `on_end`. `values`: what a tag says;
 // `rows`: decisions that several handlers share; `simple`, `complex`: inside a simple, a complex type.
+#![tactic(auto)]
+
 pub mod complex;
 pub mod rows;
 pub mod simple;

@@ -15,20 +15,20 @@ use tape::pairs::pair_part;
 use text::same_text;
 
 // Where the pairs of a tag's name and type attributes stand in the marks.
-#[derive(Drop)]
+#[derive(Clone, Copy)]
 pub struct Places {
     pub name: usize,
     pub typ: usize,
 }
 
-#[derive(Drop)]
+#[derive(Clone, Copy)]
 pub enum Typed {
     Both(Places),
     Missing,
 }
 
 // What maxOccurs gives.
-#[derive(Drop)]
+#[derive(Clone, Copy)]
 pub enum Max {
     Bounded(u32),
     Unbounded,
@@ -36,7 +36,7 @@ pub enum Max {
 }
 
 // Where the pair of a value stands in the marks, if the tag has one.
-#[derive(Drop)]
+#[derive(Clone, Copy)]
 pub enum Found {
     At(usize),
     Nothing,

@@ -1,5 +1,7 @@
 // The test of a good schema sheet. `forms`: the tests of one row; `row0`: row 0 and its tests; `scan`: one pass over the rows; `count`: order 7's count;
 // `clear`: clearing; `convert`: order 7's conversion.
+#![tactic(auto)]
+
 pub mod clear;
 pub mod convert;
 pub mod count;

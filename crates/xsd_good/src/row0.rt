@@ -9,7 +9,7 @@ ghost use Rattle.xsd_good.specs.Row0.{as_row0};
 use rows::ten::ten_of;
 
 // "Row 0 instead: 0, rows used, names used, context .., nesting, root seen, events done, open tags, extension flag", and order 3's choice.
-#[derive(Drop)]
+#[derive(Clone, Copy)]
 pub struct Row0 {
     pub first: u32,
     pub rows_used: u32,

@@ -17,7 +17,7 @@ use sheet::limits;
 use xsd_types::{contexts, tags};
 
 // ok: every row passed. Then end is where the pairs end, and head the tag of the last head, 0 if there is none.
-#[derive(Drop)]
+#[derive(Clone, Copy)]
 pub struct Scan {
     pub ok: bool,
     pub end: usize,

@@ -1,6 +1,6 @@
 // The words of tags that 000 knows.
 
-#[derive(Drop)]
+#[derive(Clone, Copy)]
 pub enum Word {
     Schema,
     SimpleType,
@@ -18,7 +18,7 @@ pub enum Word {
 }
 
 // The words of facets.
-#[derive(Drop)]
+#[derive(Clone, Copy)]
 pub enum FacetWord {
     Enumeration,
     Pattern,

@@ -1,5 +1,7 @@
 // The reader's state as a reading carries it from event to event: by value, without its rows, which stand in the sheet. `mode`: context and
 // nesting after an event; `open_tags`: the open-tag record; `head`: the open type's head.
+#![tactic(auto)]
+
 pub mod head;
 pub mod mode;
 pub mod open_tags;
@@ -15,7 +17,7 @@ use xsd_good::row0::Row0;
 use xsd_good::{row0, scan};
 
 // The numbers of row 0, and the row of the open type's head.
-#[derive(Drop)]
+#[derive(Clone, Copy)]
 pub struct Progress {
     pub mode: Mode,
     pub events: u32,

@@ -17,7 +17,7 @@ use xsd_parser::kinds;
 use xsd_types::contexts;
 
 // How many tags are open, or the refusal.
-#[derive(Drop)]
+#[derive(Clone, Copy)]
 pub enum Tags {
     Open(u32),
     Refused(Refusal),

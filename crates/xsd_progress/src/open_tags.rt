@@ -8,7 +8,7 @@ use xsd_actions::{Decision, Mode};
 use xsd_parser::kinds;
 
 // The context, the nesting, the open tags and the extension flag of row 0. Root seen, the events done and the rows used stand beside it.
-#[derive(Drop)]
+#[derive(Clone, Copy)]
 pub struct OpenTags {
     pub context: u32,
     pub nesting: u32,
@@ -17,7 +17,7 @@ pub struct OpenTags {
 }
 
 // An event that is counted and decided: its kind, what was decided, the open tags after it, and the sheet's choice.
-#[derive(Drop)]
+#[derive(Clone, Copy)]
 pub struct Arrival {
     pub kind: u32,
     pub decision: Decision,
@@ -26,7 +26,7 @@ pub struct Arrival {
 }
 
 // The mode and the open tags after an event.
-#[derive(Drop)]
+#[derive(Clone, Copy)]
 pub struct Arrived {
     pub mode: Mode,
     pub open_tags: u32,

@@ -12,7 +12,7 @@ use xsd_progress::open_tags::{Arrival, event_after};
 use xsd_types::contexts;
 
 // An event that is refused, or where the reading stands after it.
-#[derive(Drop)]
+#[derive(Clone, Copy)]
 pub enum Step {
     Refused(Refusal),
     Done(Progress),

@@ -1,4 +1,6 @@
 // The reading call: a piece of a tape read into a schema sheet.
+#![tactic(auto)]
+
 pub mod carry;
 pub mod event;
 pub mod records;

@@ -13,7 +13,7 @@ use text::is_text;
 use xsd_progress::Progress;
 
 // How far a reading came: its number, the events read, and where it stands.
-#[derive(Drop)]
+#[derive(Clone, Copy)]
 pub struct ReadTo {
     pub number: u32,
     pub place: usize,

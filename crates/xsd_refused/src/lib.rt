@@ -1,5 +1,7 @@
 // The verdict on a simple type: whether lowering refuses it (13, "`UnknownBase`"), by the rows of a schema sheet, and how many it refuses. Places count rows; row 0 is
 // at place 0.
+#![tactic(auto)]
+
 ghost use Rattle.std.specs.Prelude.{ℕ, ◌+◌, ◌*◌, ◌<◌, ◌≤◌, ◌≡◌, List, length};
 ghost use Rattle.builtin.specs.Builtin.{map_builtin, reference};
 ghost use Rattle.xsd_types.specs.Places.{row_at, rows_from};

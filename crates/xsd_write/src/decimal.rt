@@ -10,7 +10,7 @@ fn digit(n: u64) -> u8
 }
 
 // The digits stand from `from` on, up to the end.
-#[derive(Drop)]
+#[derive(Clone, Copy)]
 pub struct Spelled {
     pub digits: [u8; 20],
     pub from: usize,

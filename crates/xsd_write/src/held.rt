@@ -19,7 +19,7 @@ use xml_parts::values::{is_value, value_run};
 use xsd_good::forms::row::used_pairs;
 
 // The row of the first value that XML cannot hold.
-#[derive(Drop)]
+#[derive(Clone, Copy)]
 pub enum Unheld {
     At(usize),
     Nothing,

@@ -1,5 +1,7 @@
 // Order 8: a schema sheet's finished part written as schema text. `put`: texts put one behind the other into a lent buffer; `decimal`: a number's
 // digits; `part`: the texts of a row; `head`, `child`: the text of a row; `body`: all rows; `held`: whether XML can hold the values; `call`: the call.
+#![tactic(auto)]
+
 mod body;
 pub mod call;
 mod child;

@@ -74,9 +74,9 @@ module _ (p : Item → Bool) where
   complexes-each (Item.simple_type t ∷ is) h = complexes-each is (and-true-right (p (Item.simple_type t)) (every p is) h)
   complexes-each (Item.complex_type t ∷ is) h = keep_left (p (Item.complex_type t)) (every p is) _ h (complexes-each is)
 
-root_ok : (e : Element) → item_fine (Item.element e) ≡ true → root_ok (root_of e) ≡ true
+root_ok_lem : (e : Element) → item_fine (Item.element e) ≡ true → root_ok (root_of e) ≡ true
 unfolding item_fine item_passes small_event item_ok element_ok root_ok root_of
-root_ok e h = h
+root_ok_lem e h = h
 
 -- a definition that is there is within its widths
 option_ok : Option TypeDef → Bool
@@ -100,9 +100,9 @@ field-ok e h =
     let a : x ≡ true = and-true-left x y p in
     rw (a, snake-text e.name a, resolve-ok e.type_name (and-true-right x y p)) (cardinality-ok e.min_occurs e.max_occurs (and-true-right (x && y && m) n h))
 
-variant_ok : (v : ChoiceVariant) → choice_variant_ok v ≡ true → variant_ok (lower_variant v) ≡ true
+variant_ok_lem : (v : ChoiceVariant) → choice_variant_ok v ≡ true → variant_ok (lower_variant v) ≡ true
 unfolding choice_variant_ok variant_ok lower_variant
-variant_ok v h =
+variant_ok_lem v h =
     let a : is_text v.name ≡ true = and-true-left (is_text v.name) (is_text v.type_name) h in
     rw a (resolve-ok v.type_name (and-true-right (is_text v.name) (is_text v.type_name) h))
 
@@ -153,7 +153,7 @@ simple-definitions-ok (t ∷ ts) h =
 content-ok : (event : ℕ) (n : Text) (c : ComplexContent) → is_small event ≡ true → is_text n ≡ true → content_ok (started c) ≡ true → type_ok (lower_content event n c) ≡ true
 unfolding type_ok lower_content content_ok started namespace_ok
 content-ok event n (ComplexContent.sequence es) s h k = and-true s (and-true h (every_map sequence_element_ok field_ok lower_field field-ok es k))
-content-ok event n (ComplexContent.choice vs) s h k = and-true s (and-true h (every_map choice_variant_ok variant_ok lower_variant variant_ok vs k))
+content-ok event n (ComplexContent.choice vs) s h k = and-true s (and-true h (every_map choice_variant_ok variant_ok lower_variant variant_ok_lem vs k))
 content-ok event n (ComplexContent.simple_content base xs) s h k =
     and-true s (and-true (and-true h (resolve-ok base (and-true-left (is_text base) (every attribute_ok xs) k)))
     (every_map attribute_ok attr_ok lower_attribute attribute-ok xs (and-true-right (is_text base) (every attribute_ok xs) k)))
@@ -183,6 +183,6 @@ lower-ok s g h w e =
     let p = lower-some s g e in
     let a : is_text g.namespace ≡ true = rw (← p.1) (and-true-left (is_text s.target_namespace) (every item_ok s.items) h) in
     let b : every root_ok g.root_elements
-    ≡ true = rw (← p.1) (every_map (λ (x : Element). item_fine (Item.element x)) root_ok root_of root_ok (elements s.items) (elements-each item_fine s.items k)) in
+    ≡ true = rw (← p.1) (every_map (λ (x : Element). item_fine (Item.element x)) root_ok root_of root_ok_lem (elements s.items) (elements-each item_fine s.items k)) in
     let c : every type_ok g.types ≡ true = rw (← p.1) (finished-ok s k) in
     rw (a, b, c)

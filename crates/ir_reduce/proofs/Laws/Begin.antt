@@ -15,7 +15,7 @@ use Rattle.ir_reduce.specs.declared.index.Indexed.{Indexed}
 use Rattle.ir_reduce.specs.Marks.{head_flags, Reached, ones, pick, Marked, Marking, Room, AllDone}
 use Rattle.ir_reduce.specs.Steps.{Graph, MarksDone}
 use Rattle.ir_reduce.proofs.Laws.Marks.{flags-length, marking-more}
-use Rattle.ir_reduce.proofs.Laws.Facts.{at_least, rows_inside}
+use Rattle.ir_reduce.proofs.Laws.Facts.{at_least, rows_inside_lem}
 use Rattle.ir_reduce.proofs.Laws.Asked.{targets-are}
 
 zeros-at : (n i : ℕ) → get_or (replicate {A = ℕ} n 0) i 0 ≡ 0
@@ -46,7 +46,7 @@ marking-start tags to n k h l =
 pub marking-first : {rows names : List ℕ} {end : ℕ} (g : Graph rows names end) (to : List ℕ) {marks queue : List ℕ} {n : ℕ} → Marked (replicate 4096 0) (replicate 4096 0) 0 1 marks queue n
     → Marking (head_flags rows end) to marks queue n
 marking-first {rows} {names} {end} g to m =
-    let few : length (head_flags rows end) ≤ 4096 = rw (flags-length rows 0 end) (omega (arith, rows_inside g, g.few)) in
+    let few : length (head_flags rows end) ≤ 4096 = rw (flags-length rows 0 end) (omega (arith, rows_inside_lem g, g.few)) in
     marking-more m (marking-start (head_flags rows end) to 4096 4096 few (omega arith)) Reached.start (rw (flags-length rows 0 end) (omega (arith, at_least g)))
 
 pub first-marked : {marks queue : List ℕ} {n : ℕ} → Marked (replicate 4096 0) (replicate 4096 0) 0 1 marks queue n → 0 < get_or marks 1 0
@@ -68,7 +68,7 @@ pub room-first : {rows names to : List ℕ} {end : ℕ} (g : Graph rows names en
 room-first {rows} {names} {to} {end} g d put l m k =
     let w = marking-first g to m in
     record {
-      tos = rw (flags-length rows 0 end) (omega (arith, rows_inside g, g.few));
+      tos = rw (flags-length rows 0 end) (omega (arith, rows_inside_lem g, g.few));
       targets = λ i. rw (flags-length rows 0 end) (targets-below g d put i);
       count = w.count;
       long = w.long;

@@ -36,7 +36,7 @@ use Rattle.ir_reduce.proofs.Laws.Marked.{reduced_graph, reduced-is, rows-reduced
 use Rattle.ir_reduce.proofs.Laws.Kept.{tagged}
 use Rattle.ir_reduce.proofs.Laws.Marks.{flags-length, flag_at}
 use Rattle.ir_reduce.proofs.Laws.Asked.{head-is, targets-are, type-names}
-use Rattle.ir_reduce.proofs.Laws.Facts.{at_least, rows_inside, rows-ordered, graph_is}
+use Rattle.ir_reduce.proofs.Laws.Facts.{at_least, rows_inside_lem, rows-ordered, graph_is}
 
 -- ---- a target of zeros
 abbrev pub first : Used

@@ -51,9 +51,9 @@ record RowsOk (n : Ten) (ts : List Ten) : Type 0 where
   forms : every ten_form ts ≡ true
   order : in_order 1 (tags_of ts) ≡ true
 
-rows_ok : (z : GraphRow0) (n : Ten) (ts : List Ten) → rows_form z (n ∷ ts) ≡ true → RowsOk n ts
+rows_ok_lem : (z : GraphRow0) (n : Ten) (ts : List Ten) → rows_form z (n ∷ ts) ≡ true → RowsOk n ts
 unfolding rows_form
-rows_ok z n ts h =
+rows_ok_lem z n ts h =
     let a = eqb n.tag 1 in let b = eqb n.a 0 in let c = eqb n.b 0 in let d = eqb n.c 0 in let e = every ten_form ts in let f = in_order 1 (tags_of ts) in
     let g = eqb z.root_elements (count (λ tag. eqb tag root_tag) (tags_of ts)) in let k = eqb z.types (count is_type_tag (tags_of ts)) in
     let s = and-true-left (a && b && c && d && e && f) g (and-true-left (a && b && c && d && e && f && g) k h) in
@@ -90,8 +90,8 @@ module _ {rows names : List ℕ} {end : ℕ} (g : Graph rows names end) where
   pub at_least : 2 ≤ end
   at_least = used-room.0
 
-  pub rows_inside : 10 * end ≤ length rows
-  rows_inside = used-room.1.0
+  pub rows_inside_lem : 10 * end ≤ length rows
+  rows_inside_lem = used-room.1.0
 
   tens-are : tens_of (sheet rows names) ≡ tens (end - 1) (drop (10 * 1) rows)
   unfolding tens_of row0_of ten
@@ -101,7 +101,7 @@ module _ {rows names : List ℕ} {end : ℕ} (g : Graph rows names end) where
   tens-split = tens-two end rows at_least
 
   rows-checked : RowsOk (ten (drop (10 * 1) rows)) (tens (end - 2) (drop (10 * 2) rows))
-  rows-checked = rows_ok (graph_row0_in (sheet rows names)) (ten (drop (10 * 1) rows)) (tens (end - 2) (drop (10 * 2) rows)) (rw (tens-are ∙ tens-split) at parts-of.rows_ok)
+  rows-checked = rows_ok_lem (graph_row0_in (sheet rows names)) (ten (drop (10 * 1) rows)) (tens (end - 2) (drop (10 * 2) rows)) (rw (tens-are ∙ tens-split) at parts-of.rows_ok)
 
   first-tag : get_or rows (10 * 1) 0 ≡ 1
   unfolding ten

@@ -55,9 +55,9 @@ order-two s tag a c = or_right (not (is_nothing s)) refl
 abbrev one : Row → List Row
 one r = r ∷ []
 
-value_row : (n c : ℕ) (t u : Text) → n ≡ reference (map_builtin u) → value_row c t u ≡ recipe_row (texts_recipe 7 n c Spelling.FirstNormalized (reference_spelling n)) t u
+value_row_lem : (n c : ℕ) (t u : Text) → n ≡ reference (map_builtin u) → value_row c t u ≡ recipe_row (texts_recipe 7 n c Spelling.FirstNormalized (reference_spelling n)) t u
 unfolding value_row recipe_row spelled_texts
-value_row n c t u w =
+value_row_lem n c t u w =
     let second = append-nil (spelled_texts (reference_spelling n) t u) ∙ reference-texts n t u w in
     ap₂ (λ (m : ℕ) (ts : List Text). row 7 (normalize_type_name t ∷ ts) m 0 c) (sym w) (sym second)
 
@@ -117,7 +117,7 @@ module _ (e : Bool) (a b c n : ℕ) where
   lowers-14 =
       record {
         in_order = order-two (reference_spelling n) 7 n c;
-        lowers = λ t u h q. ap one (value_row n c t u (q refl));
+        lowers = λ t u h q. ap one (value_row_lem n c t u (q refl));
       }
 
   pub lowers-15 : Lowers e 15 a b c n (texts_recipe 8 a c Spelling.FirstNormalized (namespace_spelling a))

@@ -92,9 +92,9 @@ module _ (code_enum : Bool) where
   occurs-row t u min (MaxOccurs.bounded n) = refl
   occurs-row t u min MaxOccurs.unbounded = refl
 
-  field_row : (e : SequenceElement) → lowered_row code_enum (element_row e) ≡ graph_field (lower_field e) ∷ []
+  field_row_lem : (e : SequenceElement) → lowered_row code_enum (element_row e) ≡ graph_field (lower_field e) ∷ []
   unfolding element_row field_row lower_field graph_field
-  field_row e = occurs-row e.name e.type_name e.min_occurs e.max_occurs ∙ rw (reference-a e.type_name, reference-text e.type_name)
+  field_row_lem e = occurs-row e.name e.type_name e.min_occurs e.max_occurs ∙ rw (reference-a e.type_name, reference-text e.type_name)
 
   variant-row : (v : ChoiceVariant) → lowered_row code_enum (choice_row v) ≡ variant_row (lower_variant v) ∷ []
   unfolding lowered_row lowered_as choice_row row text0 text1 lower_variant variant_row
@@ -109,7 +109,7 @@ module _ (code_enum : Bool) where
 content-rows : (event : ℕ) (name : Text) (c : ComplexContent) (more : List Row) → head_first more ≡ true
     → type_rows_of (complex_type_rows event name (started c) ++ more) ≡ type_rows (lower_content event (normalize_type_name name) c)
 unfolding type_rows_of complex_type_rows started type_rows lower_content lowered_row lowered_as row text0 text1 value_row opaque_row
-content-rows event name (ComplexContent.sequence es) more h = rw (child_rows-map (is_code_enum (map element_row es ++ more)) element_row lower_field graph_field element-child (field_row _) es more h)
+content-rows event name (ComplexContent.sequence es) more h = rw (child_rows-map (is_code_enum (map element_row es ++ more)) element_row lower_field graph_field element-child (field_row_lem _) es more h)
 content-rows event name (ComplexContent.choice vs) more h = rw (child_rows-map (is_code_enum (map choice_row vs ++ more)) choice_row lower_variant variant_row variant-child (variant-row _) vs more h)
 content-rows event name (ComplexContent.simple_content base xs) more h =
     rw (child_rows-map (is_code_enum (map attribute_row xs ++ more)) attribute_row lower_attribute attr_row attribute-child (attribute-row _) xs more h, reference-a base, reference-text base)

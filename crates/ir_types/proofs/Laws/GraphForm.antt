@@ -16,7 +16,7 @@ use Rattle.ir_types.specs.Row0.{graph_row0_ten}
 use Rattle.ir_types.specs.Sheet.{graph_fits, graph_sheet}
 use Rattle.ir_types.specs.Form.{used_pairs, ten_form, row0_form, rows_form, names_form, graph_form}
 use Rattle.ir_types.specs.Ok.{root_ok, type_ok, graph_ok, row_form, row_small, row_ok}
-use Rattle.ir_types.proofs.Laws.GraphRows.{root_ok, types-ok}
+use Rattle.ir_types.proofs.Laws.GraphRows.{root_ok_lem, types-ok}
 use Rattle.ir_types.proofs.Laws.GraphOrder.{order-graph, count-types, count-roots, tags-packed}
 use Rattle.text.proofs.Laws.Tests.{and-true-left, and-true-right, and-true}
 use Rattle.sheet.specs.Form.{row0_of, tens_of, used_parts, zeros_behind, counted}
@@ -85,7 +85,7 @@ unfolding graph_ok
 behind-ok g h =
     let a = is_text g.namespace in let b = every root_ok g.root_elements in let c = every type_ok g.types in
     every-append-true row_ok (map root_row g.root_elements) (types_rows g.types)
-    (every_map root_ok row_ok root_row root_ok g.root_elements (and-true-right a b (and-true-left (a && b) c h)))
+    (every_map root_ok row_ok root_row root_ok_lem g.root_elements (and-true-right a b (and-true-left (a && b) c h)))
     (types-ok g.types (and-true-right (a && b) c h))
 
 namespace-text : (g : TypeGraph) → graph_ok g ≡ true → is_text g.namespace ≡ true

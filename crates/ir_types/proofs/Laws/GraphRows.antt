@@ -116,9 +116,9 @@ field-ok f h =
     reference-row-ok 9 (cardinality_b f.cardinality) (cardinality_c f.cardinality) f.xml_name f.rust_name f.type_ref refl
     (field-form f c) (small 9 (omega arith)) (cardinality-width f.cardinality c) (and-true-left t (cardinality_ok f.cardinality) h)
 
-variant_ok : (v : VariantDef) → variant_ok v ≡ true → row_ok (variant_row v) ≡ true
+variant_ok_lem : (v : VariantDef) → variant_ok v ≡ true → row_ok (variant_row v) ≡ true
 unfolding variant_ok variant_row row used_pairs between row_form form_a form_b form_c is_small
-variant_ok v h = reference-row-ok 10 0 0 v.xml_name v.rust_name v.type_ref refl (rw (reference-small v.type_ref)) refl refl h
+variant_ok_lem v h = reference-row-ok 10 0 0 v.xml_name v.rust_name v.type_ref refl (rw (reference-small v.type_ref)) refl refl h
 
 bit-flag : (b : Bool) → leb (bit b) 1 ≡ true
 unfolding bit
@@ -155,13 +155,13 @@ constraint-ok (Constraint.max_inclusive v) h = rw h
 constraint-ok (Constraint.total_digits n) h = rw (digits-small n h)
 constraint-ok (Constraint.fraction_digits n) h = rw (digits-small n h)
 
-code_ok : (v : CodeValue) → code_ok v ≡ true → row_ok (code_row v) ≡ true
+code_ok_lem : (v : CodeValue) → code_ok v ≡ true → row_ok (code_row v) ≡ true
 unfolding code_ok code_row row row_ok counted used_pairs between row_form form_a form_b form_c row_small is_small
-code_ok v h = two-texts v.xml_value v.rust_name (and-true-left (is_text v.xml_value) (is_text v.rust_name) h) (and-true-right (is_text v.xml_value) (is_text v.rust_name) h)
+code_ok_lem v h = two-texts v.xml_value v.rust_name (and-true-left (is_text v.xml_value) (is_text v.rust_name) h) (and-true-right (is_text v.xml_value) (is_text v.rust_name) h)
 
-pub root_ok : (e : RootElement) → root_ok e ≡ true → row_ok (root_row e) ≡ true
+pub root_ok_lem : (e : RootElement) → root_ok e ≡ true → row_ok (root_row e) ≡ true
 unfolding root_ok root_row row row_ok counted used_pairs between row_form form_a form_b form_c row_small is_small
-root_ok e h =
+root_ok_lem e h =
     let w = two (is_small e.event) (is_text e.xml_name && is_text e.type_name) h in
     let t = two (is_text e.xml_name) (is_text e.type_name) w.1 in
     and-true w.0 (two-texts e.xml_name e.type_name t.0 t.1)
@@ -222,9 +222,9 @@ value-rows event n v xs h =
 pub type-ok : (d : TypeDef) → type_ok d ≡ true → every row_ok (type_rows d) ≡ true
 unfolding type_ok type_rows every counted row used_pairs between row_form form_a form_b form_c row_ok is_flag row_small is_small
 type-ok (TypeDef.struct event n fs) h = plain-children 3 event n field_ok field_row field-ok fs refl refl h
-type-ok (TypeDef.enum event n vs) h = plain-children 4 event n variant_ok variant_row variant_ok vs refl refl h
+type-ok (TypeDef.enum event n vs) h = plain-children 4 event n variant_ok variant_row variant_ok_lem vs refl refl h
 type-ok (TypeDef.newtype event n i cs) h = newtype-rows event n i cs h
-type-ok (TypeDef.code_enum event n cs) h = plain-children 6 event n code_ok code_row code_ok cs refl refl h
+type-ok (TypeDef.code_enum event n cs) h = plain-children 6 event n code_ok code_row code_ok_lem cs refl refl h
 type-ok (TypeDef.value_with_attr event n v xs) h = value-rows event n v xs h
 type-ok (TypeDef.opaque event n none) h =
     let w = two (is_small event) (is_text n) h in

@@ -27,14 +27,14 @@ pairs_small p = is_small p.at0 && is_small p.len0 && is_small p.at1 && is_small 
 zero-small : is_small 0 ≡ true
 zero-small = small 0 (omega arith)
 
-pairs_small : (k : ℕ) (ts : List Text) → length ts ≤ 3 → k + length (join ts) < 2 ^ 32 → pairs_small (pairs k ts) ≡ true
+pairs_small_lem : (k : ℕ) (ts : List Text) → length ts ≤ 3 → k + length (join ts) < 2 ^ 32 → pairs_small (pairs k ts) ≡ true
 unfolding pairs_small pairs join
-pairs_small k [] h b = rw zero-small
-pairs_small k (t ∷ []) h b = let l = simp append-nil at b in rw (zero-small, small k (omega arith), small (length t) (omega arith))
-pairs_small k (t ∷ u ∷ []) h b =
+pairs_small_lem k [] h b = rw zero-small
+pairs_small_lem k (t ∷ []) h b = let l = simp append-nil at b in rw (zero-small, small k (omega arith), small (length t) (omega arith))
+pairs_small_lem k (t ∷ u ∷ []) h b =
     let l = simp (append-nil, length-append) at b in
     rw (zero-small, small k (omega arith), small (length t) (omega arith), small (k + length t) (omega arith), small (length u) (omega arith))
-pairs_small k (t ∷ u ∷ v ∷ []) h b =
+pairs_small_lem k (t ∷ u ∷ v ∷ []) h b =
     let l = simp (append-nil, length-append) at b in
     rw (
       small k (omega arith),
@@ -44,7 +44,7 @@ pairs_small k (t ∷ u ∷ v ∷ []) h b =
       small (k + length t + length u) (omega arith),
       small (length v) (omega arith),
     )
-pairs_small k (t ∷ u ∷ v ∷ w ∷ ts) h b = absurd (omega arith)
+pairs_small_lem k (t ∷ u ∷ v ∷ w ∷ ts) h b = absurd (omega arith)
 
 six-tests : (p q u v w x rest : Bool) → p && q && u && v && w && x ≡ true → rest ≡ true → p && (q && (u && (v && (w && (x && rest))))) ≡ true
 six-tests p q u v w x rest k e = simp (← and_assoc) (and-true k e)
@@ -58,20 +58,20 @@ ten-tests true p q u v w x true false c rest h k e = absurd (false≢true h)
 ten-tests true p q u v w x false b c rest h k e = absurd (false≢true h)
 ten-tests false p q u v w x a b c rest h k e = absurd (false≢true h)
 
-row_small : (k : ℕ) (r : Row) (ts : List Ten) → row_small r ≡ true → length r.texts ≤ 3 → k + length (join r.texts) < 2 ^ 32 → every is_small (numbers ts) ≡ true
+row_small_lem : (k : ℕ) (r : Row) (ts : List Ten) → row_small r ≡ true → length r.texts ≤ 3 → k + length (join r.texts) < 2 ^ 32 → every is_small (numbers ts) ≡ true
     → every is_small (numbers (pack_row k r ∷ ts)) ≡ true
 unfolding every numbers pack_row row_small pairs_small
-row_small k r ts s h b e =
+row_small_lem k r ts s h b e =
     let p = pairs k r.texts in
     ten-tests (is_small r.tag) (is_small p.at0) (is_small p.len0) (is_small p.at1) (is_small p.len1) (is_small p.at2) (is_small p.len2)
-    (is_small r.a) (is_small r.b) (is_small r.c) (every is_small (numbers ts)) s (pairs_small k r.texts h b) e
+    (is_small r.a) (is_small r.b) (is_small r.c) (every is_small (numbers ts)) s (pairs_small_lem k r.texts h b) e
 
 pack-small : (k : ℕ) (rs : List Row) → every row_small rs ≡ true → every (counted used_pairs) rs ≡ true → k + length (names_of rs) < 2 ^ 32 → every is_small (numbers (pack k rs)) ≡ true
 unfolding every pack names_of numbers
 pack-small k [] s u b = refl
 pack-small k (r ∷ rs) s u b =
     let l = length-append (join r.texts) (names_of rs) in
-    row_small k r (pack (k + length (join r.texts)) rs) (and-true-left (row_small r) (every row_small rs) s)
+    row_small_lem k r (pack (k + length (join r.texts)) rs) (and-true-left (row_small r) (every row_small rs) s)
     (counted-small used_pairs r (and-true-left (counted used_pairs r) (every (counted used_pairs) rs) u)) (omega arith)
     (pack-small (k + length (join r.texts)) rs (and-true-right (row_small r) (every row_small rs) s)
     (and-true-right (counted used_pairs r) (every (counted used_pairs) rs) u) (omega arith))

@@ -118,15 +118,15 @@ DocumentAt text with_doctype = Unit {0}
 DocumentAt text not_well_formed = Unit {0}
 DocumentAt text (well_formed es) = EventsAt text es × Closes 0 es
 
-pub to_end : (text : Text) (es : List TapeEvent) (d : Step) → (EventsAt text es × Closes 0 es) → DocumentAt text (to_end es d)
+pub to_end_lem : (text : Text) (es : List TapeEvent) (d : Step) → (EventsAt text es × Closes 0 es) → DocumentAt text (to_end es d)
 unfolding to_end
-to_end text es bad p = tt
-to_end text es (behind a []) p = p
-to_end text es (behind a (b ∷ s)) p = tt
+to_end_lem text es bad p = tt
+to_end_lem text es (behind a []) p = p
+to_end_lem text es (behind a (b ∷ s)) p = tt
 
 pub root-behind : (text : Text) (d : Rooted) → RootAt text 0 d → DocumentAt text (root_behind d)
 root-behind text unrooted p = tt
-root-behind text (rooted es a r) p = to_end text es (misc a r) p
+root-behind text (rooted es a r) p = to_end_lem text es (misc a r) p
 
 pub prolog-behind : (text : Text) (d : Step) → Here text d → DocumentAt text (prolog_behind d)
 unfolding document_from

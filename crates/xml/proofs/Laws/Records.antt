@@ -22,18 +22,18 @@ use Rattle.xml.proofs.Laws.Tags.{marks-length}
 use Rattle.xml.proofs.Laws.Events.{events-at}
 
 -- the pairs of a record's numbers
-pub pairs_of : (xs : List AttributePairs) (rest : List ℕ) → pairs_of (2 * length xs) (attribute_marks xs ++ rest) ≡ attribute_pairs xs
+pub pairs_of_lem : (xs : List AttributePairs) (rest : List ℕ) → pairs_of (2 * length xs) (attribute_marks xs ++ rest) ≡ attribute_pairs xs
 unfolding pairs_of attribute_marks attribute_pairs
-pairs_of [] rest = refl
-pairs_of (x ∷ xs) rest =
+pairs_of_lem [] rest = refl
+pairs_of_lem (x ∷ xs) rest =
     let n : 2 * suc (length xs) ≡ suc (suc (2 * length xs)) = omega arith in
-    rw n (ap (λ (ps : List Pair). x.key ∷ x.value ∷ ps) (pairs_of xs rest))
+    rw n (ap (λ (ps : List Pair). x.key ∷ x.value ∷ ps) (pairs_of_lem xs rest))
 
 pub pairs-of-tag : (name : Pair) (xs : List AttributePairs) (rest : List ℕ) → pairs_of (pair_count (length xs)) (name.offset ∷ name.size ∷ attribute_marks xs ++ rest) ≡ name ∷ attribute_pairs xs
 unfolding pairs_of pair_count
 pairs-of-tag name xs rest =
     let n : 1 + 2 * length xs ≡ suc (2 * length xs) = omega arith in
-    rw n (ap (λ (ps : List Pair). name ∷ ps) (pairs_of xs rest))
+    rw n (ap (λ (ps : List Pair). name ∷ ps) (pairs_of_lem xs rest))
 
 pub behind-tag : (o z : ℕ) (xs : List AttributePairs) (rest : List ℕ) → drop (2 * pair_count (length xs)) (o ∷ z ∷ attribute_marks xs ++ rest) ≡ rest
 unfolding pair_count
@@ -64,10 +64,10 @@ inside-tag text name xs h p =
     and-true (and-true (le-leb 0 name.offset (omega arith)) (le-leb (end_of name) (length text) h)) (inside-attributes text (end_of name) xs p)
 
 -- 5: the bytes
-pub all_ascii : (text : Text) (ps : List Pair) → is_text text ≡ true → all_ascii text ps ≡ true
+pub all_ascii_lem : (text : Text) (ps : List Pair) → is_text text ≡ true → all_ascii text ps ≡ true
 unfolding all_ascii every is_text pair_text
-all_ascii text [] t = refl
-all_ascii text (p ∷ ps) t = and-true (every_take is_text_byte p.size (drop p.offset text) (every_drop is_text_byte p.offset text t)) (all_ascii text ps t)
+all_ascii_lem text [] t = refl
+all_ascii_lem text (p ∷ ps) t = and-true (every_take is_text_byte p.size (drop p.offset text) (every_drop is_text_byte p.offset text t)) (all_ascii_lem text ps t)
 
 -- a record
 pub record-tag : (text : Text) (kind : ℕ) (name : Pair) (xs : List AttributePairs) (rest : List ℕ) → is_text text ≡ true → leb (length xs) 32 ≡ true → EventAt text (TapeEvent.tag kind name xs)
@@ -82,7 +82,7 @@ record-tag text kind name xs rest t f p =
       pairs-of-tag name xs rest,
       behind-tag name.offset name.size xs rest,
       inside-tag text name xs p.4 p.5,
-      all_ascii text (name ∷ attribute_pairs xs) t,
+      all_ascii_lem text (name ∷ attribute_pairs xs) t,
     )
 
 pub record-event : (text : Text) (e : TapeEvent) (rest : List ℕ) → is_text text ≡ true → few_attributes e ≡ true → EventAt text e → record1 text (event_marks e ++ rest) ≡ next (event_read text e) rest

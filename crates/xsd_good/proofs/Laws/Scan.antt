@@ -31,10 +31,10 @@ abbrev pub ends : ℕ → (ℕ → Bool) → Scan → Bool
 ends limit p s = s.ok && (eqb s.end limit && p s.head)
 
 -- a test of the results that the code's calls give comes out as the definition's test does
-pub first_passes : (limit : ℕ) (t : Ten) {v b : Bool} {e l : ℕ} → v ≡ row_covers used_pairs 0 t → e ≡ end_of 0 t → l ≡ limit
+pub first_passes_lem : (limit : ℕ) (t : Ten) {v b : Bool} {e l : ℕ} → v ≡ row_covers used_pairs 0 t → e ≡ end_of 0 t → l ≡ limit
     → eqb t.tag 1 && eqb t.a 0 && eqb t.b 0 && eqb t.c 0 && v && leb e l ≡ b → first_passes limit t ≡ b
 unfolding first_passes
-first_passes limit t v e l test = rw (v, e, l) at test
+first_passes_lem limit t v e l test = rw (v, e, l) at test
 
 pub next-passes : (limit : ℕ) (s : Scan) (t : Ten) {f m v b : Bool} {e l : ℕ} → f ≡ ten_form t → m ≡ may_follow s.head t.tag → v ≡ row_covers used_pairs s.end t
     → e ≡ end_of s.end t → l ≡ limit → s.ok && f && m && v && leb e l ≡ b → next_passes limit s t ≡ b

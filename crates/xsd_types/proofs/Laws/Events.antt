@@ -4,7 +4,9 @@ use mathlib.Core.Bool.{Bool, true, ◌&&◌, and_assoc, and-true as and-nothing}
 use mathlib.Core.List.{List, [], ◌∷◌, ◌++◌, map, append_assoc}
 use mathlib.Core.Option.{some, none}
 use Prim.Native.Nat.{ℕ}
-use Rattle.text.specs.Text.{Text, every}
+use lib.ListN.{length}
+use Prim.Native.Nat.{◌+◌}
+use Rattle.text.specs.Text.{Text, every, join}
 use Rattle.text.proofs.Laws.Tests.{and-true, two}
 use Rattle.text.proofs.Laws.Every.{every_append, every_map, every-weaken}
 use Rattle.sheet.specs.Rows.{Ten, Row, row, pack_row, pack, unpack_row}
@@ -93,7 +95,7 @@ module _ (events : ℕ) where
   pub events-pack : (k : ℕ) (rs : List Row) → events_test events (pack k rs) ≡ every (event_row events) rs
   unfolding events_test pack pack_row every event_row
   events-pack k [] = refl
-  events-pack k (r ∷ rs) = ap (λ (b : Bool). event_number_ok events r.c && b) (events-pack _ rs)
+  events-pack k (r ∷ rs) = ap (λ (b : Bool). event_number_ok events r.c && b) (events-pack (k + length (join r.texts)) rs)
 
   pub events-unpack : (names : List ℕ) (ts : List Ten) → events_test events ts ≡ true → every (event_row events) (map (unpack_row used_pairs names) ts) ≡ true
   unfolding events_test event_row unpack_row

@@ -5,6 +5,8 @@ use mathlib.Core.List.{List, [], ◌∷◌, ◌++◌, map, append-nil}
 use mathlib.Core.Option.{some, none}
 use Prim.Native.Nat.{ℕ, ◌+◌}
 use lib.Dec.{eqb, leb}
+use lib.ListN.{length}
+use Prim.Native.Nat.{◌+◌}
 use Rattle.text.specs.Text.{Text, every, is_text, between, join}
 use Rattle.text.proofs.Laws.Tests.{three, four, or_right, and-true-left, and-true-right, and-true}
 use Rattle.sheet.specs.Rows.{Ten, Row, row, bit, pack_row, pack, names_of}
@@ -24,12 +26,12 @@ use Rattle.xsd_types.proofs.Laws.Items.{group-simple, group-complex, group-item,
 pub tags-pack : (k : ℕ) (rs : List Row) → map (λ (t : Ten). t.tag) (pack k rs) ≡ tags rs
 unfolding pack pack_row
 tags-pack k [] = refl
-tags-pack k (r ∷ rs) = ap (λ (l : List ℕ). r.tag ∷ l) (tags-pack _ rs)
+tags-pack k (r ∷ rs) = ap (λ (l : List ℕ). r.tag ∷ l) (tags-pack (k + length (join r.texts)) rs)
 
 pub form-pack : (k : ℕ) (rs : List Row) → every ten_form (pack k rs) ≡ every formed_row rs
 unfolding pack pack_row every ten_form formed_row
 form-pack k [] = refl
-form-pack k (r ∷ rs) = ap (λ (b : Bool). formed_row r && b) (form-pack _ rs)
+form-pack k (r ∷ rs) = ap (λ (b : Bool). formed_row r && b) (form-pack (k + length (join r.texts)) rs)
 
 -- items: the order behind any head but 16, and the last head is none
 pub order-items : (n : ℕ) (is : List Item) → not (eqb n 16) ≡ true → in_order n (tags (items_rows is)) && not (eqb (last_head n (tags (items_rows is))) 16) ≡ true

@@ -29,15 +29,15 @@ use Rattle.xml.proofs.Laws.Grammar.Around.{prolog-sound, prolog-complete}
 not-well-not : {es : List TapeEvent} {A : Type 0} → not_well_formed ≡ well_formed es → A
 not-well-not q = let z : ◌≡◌ {A = ℕ} 0 1 = cc in absurd (omega arith)
 
-to_end : (fs : List TapeEvent) (d : Step) (es : List TapeEvent) → to_end fs d ≡ well_formed es → (a : ℕ) × (d ≡ behind a []) × (fs ≡ es)
+to_end_lem : (fs : List TapeEvent) (d : Step) (es : List TapeEvent) → to_end fs d ≡ well_formed es → (a : ℕ) × (d ≡ behind a []) × (fs ≡ es)
 unfolding to_end
-to_end fs bad es h = not-well-not h
-to_end fs (behind a []) es h = (a, refl, cc)
-to_end fs (behind a (b ∷ s)) es h = not-well-not h
+to_end_lem fs bad es h = not-well-not h
+to_end_lem fs (behind a []) es h = (a, refl, cc)
+to_end_lem fs (behind a (b ∷ s)) es h = not-well-not h
 
 root-end : (d : Rooted) (es : List TapeEvent) → root_behind d ≡ well_formed es → (a : ℕ) × (r : Text) × (b : ℕ) × (d ≡ rooted es a r) × (misc a r ≡ behind b [])
 root-end unrooted es h = not-well-not h
-root-end (rooted fs a r) es h = let k = to_end fs (misc a r) es h in (a, r, k.0, ap (λ (l : List TapeEvent). rooted l a r) k.2, k.1)
+root-end (rooted fs a r) es h = let k = to_end_lem fs (misc a r) es h in (a, r, k.0, ap (λ (l : List TapeEvent). rooted l a r) k.2, k.1)
 
 prolog-end : (d : Step) (es : List TapeEvent) → prolog_behind d ≡ well_formed es → (at : ℕ) × (s : Text) × (d ≡ behind at s) × (document_from at s ≡ well_formed es)
 prolog-end bad es h = not-well-not h

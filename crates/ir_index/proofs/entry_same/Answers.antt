@@ -1,0 +1,27 @@
+-- `ir_index::entry_same` meets its contract: where the fingerprints differ the names do, and else the two heads' names are compared. Assumes nothing.
+use Prim.Native.Nat.{◌%◌}
+use mathlib.Core.Path.{◌≡◌, sym, ◌∙◌}
+use Rattle.names.specs.Names.{normalize_type_name}
+use Rattle.ir_rows.specs.Places.{name_at}
+use Rattle.text.specs.Text.{same}
+use Rattle.ir_index.specs.Entries.{head_name}
+use Rattle.ir_index.proofs.Laws.Heads.{name-at}
+use Rattle.ir_index.proofs.Laws.Entries.{prints-differ}
+use Rattle.ir_index.proofs.entry_same.Goals as goal
+
+pub returns-then-entry-print : goal.returns-then-entry-print
+returns-then-entry-print c =
+    let p = c.requires in
+    sym (prints-differ _ _ (λ e. c.if-entry-print.true (p.0.print ∙ e ∙ sym p.1.1)))
+
+pub returns : goal.returns
+returns c =
+    let rows = c.args.rows.now in
+    let names = c.args.names.now in
+    let place : c.wide.result ≡ c.args.entry % 65536 = c.wide.ensures in
+    let held : c.name_at-held.result.now ≡ head_name rows names (c.args.entry % 65536) = c.name_at-held.ensures ∙ rw place in
+    let asked : c.name_at-asked.result.now ≡ head_name rows names c.args.place = c.name_at-asked.ensures in
+    let compared : same (normalize_type_name c.name_at-held.result.now) (normalize_type_name c.name_at-asked.result.now)
+    ≡ same (name_at rows names (c.args.entry % 65536)) (name_at rows names c.args.place) =
+    rw (name-at rows names (c.args.entry % 65536) c.requires.0.head.is_head, name-at rows names c.args.place c.requires.1.0.is_head, held, asked) in
+    c.same_normalized.ensures ∙ compared

@@ -1,0 +1,41 @@
+-- `ir_reduce::call::mark_reached` meets its contract: row 1 is marked, and then all that is reached from it. Assumes nothing.
+use Prim.Native.Nat.{ℕ}
+use mathlib.Core.Path.{ap, ◌∙◌}
+use native.Mathlib.Omega.{arith}
+use lib.ListN.{length, length-replicate}
+use Rattle.ir_reduce.proofs.Laws.Facts.{at_least, rows_inside}
+use Rattle.ir_reduce.proofs.Laws.Begin.{targets-start, room-first, marks-done}
+use Rattle.ir_reduce.proofs.call.mark_reached.Goals as goal
+
+pub put_targets-requires : goal.put_targets-requires
+put_targets-requires c =
+    let g = c.requires.0 in (
+      c.requires.1,
+      rows_inside g,
+      g.few,
+      omega (arith, rows_inside g, g.few, length-replicate {A = ℕ} 4096 0),
+      omega (arith, at_least g),
+      targets-start _ _ _ 4096,
+    )
+
+pub mark-n-requires : goal.mark-n-requires
+mark-n-requires c =
+    let long = ap length c.requires.2 ∙ length-replicate {A = ℕ} 4096 0 in
+    (omega (arith, long), omega (arith, long), λ z. omega (arith, length-replicate {A = ℕ} 4096 0))
+
+pub mark_all-requires : goal.mark_all-requires
+mark_all-requires c =
+    let g = c.requires.0 in
+    let long = ap length c.requires.2
+    ∙ length-replicate {A = ℕ} 4096 0 in (
+      room-first g c.requires.1.distinct
+          c.put_targets.ensures.0
+          (c.put_targets.ensures.1 ∙ length-replicate {A = ℕ} 4096 0)
+          (rw c.requires.2 at
+          c.mark-n.ensures) (omega (arith, long, c.mark-n.auto)),
+      rows_inside g,
+      omega (arith, rows_inside g, g.few),
+    )
+
+pub returns : goal.returns
+returns c = marks-done c.requires.0 c.put_targets.ensures.0 (rw c.requires.2 at c.mark-n.ensures) c.mark_all.ensures

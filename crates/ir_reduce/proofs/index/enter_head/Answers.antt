@@ -1,0 +1,31 @@
+-- `ir_reduce::index::enter_head` meets its contract: a row that is no head enters nothing, and a head what `enter` says. Assumes nothing.
+use mathlib.Core.Path.{sym, ap, ◌∙◌}
+use Rattle.ir_types.specs.Form.{is_type_tag}
+use Rattle.ir_reduce.specs.Marks.{head_at}
+use Rattle.ir_reduce.proofs.Laws.Index.{head-none, head-old, head-new}
+use Rattle.ir_reduce.proofs.index.enter_head.Goals as goal
+
+pub returns-then-not-is_type : goal.returns-then-not-is_type
+unfolding head_at
+returns-then-not-is_type c = head-none c.requires.0 c.args.place
+    (ap is_type_tag (sym c.row_tag.ensures) ∙ sym c.is_type.ensures ∙ c.if-not-is_type.true)
+
+pub returns-then-enter-ne0 : goal.returns-then-enter-ne0
+unfolding head_at
+returns-then-enter-ne0 c = head-old c.requires.0
+    c.args.place c.enter.ensures c.if-enter-ne0.true
+    (ap is_type_tag (sym c.row_tag.ensures)
+    ∙ sym c.is_type.ensures ∙ c.if-not-is_type.false)
+
+pub returns : goal.returns
+unfolding head_at
+returns c = head-new c.requires.0
+    c.args.place c.enter.ensures c.if-enter-ne0.false
+    (ap is_type_tag (sym c.row_tag.ensures)
+    ∙ sym c.is_type.ensures ∙ c.if-not-is_type.false)
+
+pub enter-requires : goal.enter-requires
+enter-requires c = (
+  c.requires.0,
+  record { above = c.requires.1.0; inside = c.requires.1.1; small = c.requires.1.2; room = c.requires.1.3 },
+)

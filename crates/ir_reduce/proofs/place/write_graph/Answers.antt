@@ -1,0 +1,64 @@
+-- `ir_reduce::place::write_graph` meets its contract: the kept rows are added to a sheet of zeros, and row 0 is set. Assumes nothing.
+use native.Mathlib.Omega.{arith}
+use Rattle.ir_append.proofs.Laws.Grows.{grown-of, short-of}
+use Rattle.ir_reduce.proofs.Laws.Facts.{at_least, rows_inside, rows-stand}
+use Rattle.ir_reduce.proofs.Laws.Call.{first-room, written-full, written-to}
+use Rattle.ir_reduce.proofs.place.write_graph.Goals as goal
+
+pub put_kept-grown-requires : goal.put_kept-grown-requires
+put_kept-grown-requires c =
+    let g = c.requires.0 in (
+      first-room c.requires.1,
+      (rows_inside g, omega (arith, rows_inside g, g.few, c.requires.2), omega (arith, at_least g), rows-stand g),
+    )
+
+pub returns-in_default : goal.returns-in_default
+returns-in_default c = written-full c.requires.1
+    (short-of _ _ _ _ _ _ _ c.put_kept-grown.ensures c.in_default.is)
+
+pub count_kept-roots-requires : goal.count_kept-roots-requires
+count_kept-roots-requires c =
+    let g = c.requires.0 in (
+      rows_inside g,
+      omega (
+        arith,
+        rows_inside g,
+        g.few,
+        c.requires.2,
+      ),
+      omega (arith, at_least g),
+      omega (arith, rows_inside g, g.few),
+    )
+
+pub count_kept-types-requires : goal.count_kept-types-requires
+count_kept-types-requires c =
+    let g = c.requires.0 in (
+      rows_inside g,
+      omega (
+        arith,
+        rows_inside g,
+        g.few,
+        c.requires.2,
+      ),
+      omega (arith, at_least g),
+      omega (arith, rows_inside g, g.few),
+    )
+
+pub row0_of-row0-requires : goal.row0_of-row0-requires
+row0_of-row0-requires c =
+    let g = c.requires.0 in
+    let grown = grown-of _ _ _ _ _ _ _ c.put_kept-grown.ensures c.in-To.is in (
+      omega (arith, grown.rows_inside, grown.rows_length, c.requires.1.few_rows),
+      omega (arith, grown.names_inside, grown.names_length, c.requires.1.few_names),
+      omega (arith, c.count_kept-roots.ensures.1, rows_inside g, g.few),
+      omega (arith, c.count_kept-types.ensures.1, rows_inside g, g.few),
+    )
+
+pub put_row0-requires : goal.put_row0-requires
+put_row0-requires c = omega
+    (arith, c.requires.1.some_rows, c.put_kept-grown.auto.0)
+
+pub returns : goal.returns
+returns c =
+    let a = c.args in
+    written-to c.requires.1 (grown-of _ _ _ _ _ _ _ c.put_kept-grown.ensures c.in-To.is) (c.count_kept-roots.ensures.0 a.graph_names.now) (c.count_kept-types.ensures.0 a.graph_names.now) c.row0_of-row0.ensures c.put_row0.ensures

@@ -1,0 +1,17 @@
+-- `ir_write::put_root` meets its contract: an element's row, and no row for any other. Assumes nothing.
+use Prim.Native.Nat.{◌-◌}
+use mathlib.Core.Path.{sym, ◌∙◌}
+use borrow.Author.Tests.{ne_eqb}
+use Rattle.ir_append.proofs.Laws.Grows.{grows_none}
+use Rattle.ir_write.proofs.Laws.Rest.{root-hit, root_none}
+use Rattle.ir_write.proofs.put_root.Goals as goal
+
+pub returns-then-row_tag-ne-ELEMENT : goal.returns-then-row_tag-ne-ELEMENT
+returns-then-row_tag-ne-ELEMENT c =
+    let a = c.args in
+    rw (root_none a.rows.now a.names.now a.place (ne_eqb _ _ (λ e. c.if-row_tag-ne-ELEMENT.true (c.row_tag.ensures ∙ e)))) (grows_none c.requires.0)
+
+pub returns : goal.returns
+returns c =
+    let a = c.args in
+    rw (root-hit a.rows.now a.names.now a.place (sym c.row_tag.ensures ∙ c.if-row_tag-ne-ELEMENT.false)) c.put_lowered.ensures

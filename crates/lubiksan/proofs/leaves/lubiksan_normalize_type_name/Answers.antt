@@ -1,0 +1,9 @@
+-- `lubiksan::leaves::lubiksan_normalize_type_name` meets its contract: the count is that of the writer's answer. Assumes nothing.
+use mathlib.Core.Path.{ap, ◌∙◌}
+use Rattle.lubiksan.specs.Exported.{count_of}
+use Rattle.lubiksan.proofs.leaves.lubiksan_normalize_type_name.Goals as goal
+
+pub returns : goal.returns
+returns c =
+    let put = c.normalize_type_name.ensures in
+    (c.count_of.ensures ∙ ap count_of put.counted, put.holds)

@@ -1,0 +1,7 @@
+-- `lubiksan::leaves::lubiksan_same_normalized` meets its contract: the bit is that of the comparison. Assumes nothing.
+use mathlib.Core.Path.{ap, ◌∙◌}
+use Rattle.sheet.specs.Rows.{bit}
+use Rattle.lubiksan.proofs.leaves.lubiksan_same_normalized.Goals as goal
+
+pub returns : goal.returns
+returns c = c.bit_of.ensures ∙ ap bit c.same_normalized.ensures

@@ -1,0 +1,12 @@
+-- `name_index::find_in` meets its contract. The loop's invariant: the place of the name among all entries is that among the first e, and the last of those is
+-- in its bucket. The measure is e, which falls. Assumes nothing.
+use Prim.Native.Nat.{◌-◌}
+use Rattle.names.specs.Same.{spelled}
+use Rattle.name_index.proofs.Laws.Buckets.{Onward}
+use Rattle.name_index.proofs.find_in.Given as goal
+
+abbrev pub invariant-loop-e : goal.invariant-loop-e
+invariant-loop-e l = Onward l.rows l.names l.normalised l.table l.buckets (spelled l.asked_normalised l.asked) l.entries l.e
+
+abbrev pub decreases-loop-e : goal.decreases-loop-e
+decreases-loop-e l = l.e

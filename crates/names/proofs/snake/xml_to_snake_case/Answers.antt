@@ -1,0 +1,82 @@
+-- `names::snake::xml_to_snake_case` meets its contract. The loop's invariant: len bytes of the target are written, and the snake form of the name
+-- from i on is what is still to be written. The measure is how much of the name is left. Assumes nothing.
+use Prim.Native.Nat.{suc, ◌-◌}
+use mathlib.Core.List.{◌∷◌}
+use mathlib.Core.Path.{◌≡◌, sym, ◌∙◌}
+use mathlib.Core.Logic.{⊎_elim}
+use native.Mathlib.Numerals.{add-one}
+use native.Mathlib.Omega.{arith}
+use lib.ListN.{drop, get_or}
+use Rattle.text.specs.Text.{lower, first}
+use Rattle.names.specs.Names.{starts_word, snake_from, xml_to_snake_case}
+use Rattle.names.proofs.Laws.Writing.{Writing, writing_start, writing-length, writing-as, writing_more, writing-end, writing-full}
+use Rattle.names.proofs.Laws.Words.{snake-marked, snake-plain, snake-end}
+use Rattle.names.proofs.snake.xml_to_snake_case.Tie as tie
+use Rattle.names.proofs.snake.xml_to_snake_case.Lts as lts
+use Rattle.names.proofs.snake.xml_to_snake_case.Reads as reads
+use Rattle.names.proofs.snake.xml_to_snake_case.Goals as goal
+
+-- what the test of the branch says of the name
+starts :
+    (c : lts.After-starts_word tie.the-claims reads.Pre reads.Post goal.the-invariant-loop-i goal.the-decreases-loop-i) →
+    let name = c.args.name.now in
+    let i = c.loop-i.i in
+    starts_word c.loop-i.prev (get_or name i 0) (first (drop (suc i) name)) ≡ c.starts_word.result
+starts c = rw (← add-one c.loop-i.i, ← c.byte_at.ensures) (sym c.starts_word.ensures)
+
+-- behind the branch: with or without an underscore, the letter is next
+marked :
+    (c : lts.Joined1 tie.the-claims reads.Pre reads.Post goal.the-invariant-loop-i goal.the-decreases-loop-i) →
+    let a = c.args in
+    let b = get_or a.name.now c.loop-i.i 0 in
+    Writing (xml_to_snake_case a.name.now) a.out.now c.if-starts_word.len c.if-starts_word.out (lower b ∷ snake_from b (drop (suc c.loop-i.i) a.name.now))
+marked c =
+    let name = c.args.name.now in
+    let i = c.loop-i.i in
+    let w = c.loop-i.invariant.1 in
+    ⊎_elim
+    (λ v. rw (v.out-is, v.len-is) (writing_more (writing-as w (snake-marked c.loop-i.prev name i (omega arith) (starts c.before ∙ v.if-starts_word.true))) (omega (arith, writing-length w))))
+    (λ v. rw (v.out-is, v.len-is) (writing-as w (snake-plain c.loop-i.prev name i (omega arith) (starts c.before ∙ v.if-starts_word.false))))
+    c.if-starts_word.branch-raw
+
+pub loop-i-init : goal.loop-i-init
+unfolding xml_to_snake_case
+loop-i-init c = (omega arith, writing_start _ _)
+
+pub shape_of-out-then-out-len : goal.shape_of-out-then-out-len
+shape_of-out-then-out-len c = writing-length c.loop-i.invariant.1
+
+pub returns-then-out-len : goal.returns-then-out-len
+returns-then-out-len c =
+    let name = c.args.name.now in
+    let i = c.loop-i.i in
+    let w = c.loop-i.invariant.1 in
+    writing-full (writing-as w (snake-marked c.loop-i.prev name i (omega arith) (starts c.before.before.before ∙ c.if-starts_word.true))) (omega (arith, writing-length w))
+
+pub bounds-out-len : goal.bounds-out-len
+bounds-out-len c = omega (arith, writing-length c.loop-i.invariant.1)
+
+pub shape_of-out-then-out-len-2 : goal.shape_of-out-then-out-len-2
+shape_of-out-then-out-len-2 c = writing-length (marked c.before.before)
+
+pub returns-then-out-len-2 : goal.returns-then-out-len-2
+returns-then-out-len-2 c = writing-full (marked c.before.before) (omega (arith, writing-length (marked c.before.before)))
+
+pub bounds-out-len-in-loop-i : goal.bounds-out-len-in-loop-i
+bounds-out-len-in-loop-i c = omega (arith, writing-length (marked c.before.before.before))
+
+pub overflow_add-len-in-loop-i : goal.overflow_add-len-in-loop-i
+overflow_add-len-in-loop-i c = omega (arith, writing-length (marked c.before.before.before.before))
+
+pub loop-i-preserved : goal.loop-i-preserved
+loop-i-preserved c =
+    let w = marked c.before.before.before.before in
+    (omega arith, rw (c.to_lower.ensures, add-one c.loop-i.i) (writing_more w (omega (arith, writing-length w))))
+
+pub shape_of-out : goal.shape_of-out
+shape_of-out c = writing-length c.loop-i.invariant.1
+
+pub returns : goal.returns
+returns c =
+    let a = c.args in
+    writing-end (writing-as c.loop-i.invariant.1 (snake-end c.loop-i.prev a.name.now c.loop-i.i (omega arith)))

@@ -1,0 +1,50 @@
+-- `pattern::class::class_end` meets its contract: a class that does not begin with its closing bracket is read like the rest of a class. The loop's invariant:
+-- the scan goes on at i, inside the class. The measure is what is left. Assumes nothing.
+use borrow.Author.Tests.{ne_eqb}
+use native.Mathlib.Omega.{arith}
+use Prim.Native.Nat.{◌+◌, ◌-◌}
+use mathlib.Core.Path.{refl, sym, ◌∙◌}
+use Rattle.pattern.specs.Scan.{Mode, go, step, final}
+use Rattle.pattern.specs.Answers.{is_bracket, any_byte}
+use Rattle.pattern.proofs.Laws.Places.{byte-to, end-at, goes, bad, opened-at, bracket-first}
+use Rattle.pattern.proofs.class.class_end.Goals as goal
+
+pub returns-then-byte_at-eq93 : goal.returns-then-byte_at-eq93
+returns-then-byte_at-eq93 c =
+    bracket-first c.args.s.now c.args.at (sym c.byte_at.ensures ∙ c.if-byte_at-eq93.true)
+
+pub loop-i-init : goal.loop-i-init
+loop-i-init c =
+    (omega arith, omega arith, opened-at c.args.s.now c.args.at (λ e. c.if-byte_at-eq93.false (c.byte_at.ensures ∙ e)))
+
+pub returns-then-s-i-eq93 : goal.returns-then-s-i-eq93
+unfolding step
+returns-then-s-i-eq93 c =
+    let z = c.loop-i in
+    record { onward = omega arith; within = omega arith; stops = λ _. refl; reads = λ d. z.invariant.2 d ∙ byte-to (go d Mode.class) _ z.i 93 (omega arith) c.if-s-i-eq93.true refl }
+
+pub item-requires : goal.item-requires
+unfolding is_bracket
+item-requires c = (omega arith, ne_eqb _ 93 c.if-s-i-eq93.false)
+
+pub returns-in_default : goal.returns-in_default
+returns-in_default c =
+    let z = c.loop-i in
+    λ d. z.invariant.2 d ∙ bad _ Mode.class z.i Mode.class (z.i + 1) any_byte c.item.ensures c.in_default.is d
+
+pub loop-i-smaller : goal.loop-i-smaller
+loop-i-smaller c =
+    let g = goes c.item.ensures c.in-At.is in
+    omega (arith, g.onward, g.within)
+
+pub loop-i-preserved : goal.loop-i-preserved
+loop-i-preserved c =
+    let z = c.loop-i in
+    let g = goes c.item.ensures c.in-At.is in
+    (omega (arith, g.onward), g.within, λ d. z.invariant.2 d ∙ g.reads d)
+
+pub returns : goal.returns
+unfolding final
+returns c =
+    let z = c.loop-i in
+    λ d. z.invariant.2 d ∙ end-at (go d Mode.class) _ z.i c.loop-i-test.false

@@ -1,0 +1,34 @@
+-- `pattern::expression::is_expression` meets its contract: the scan of the whole decides, and it is that of the derivations. Assumes nothing.
+use Prim.Native.Nat.{ℕ, ◌+◌}
+use mathlib.Core.Path.{◌≡◌, refl, sym, ◌∙◌}
+use mathlib.Core.Bool.{Bool, true, false, false≢true}
+use lib.Dec.{leb}
+use lib.ListN.{length, drop, get_or}
+use borrow.Author.Tests.{eqb-true, leb-true, leb-false}
+use Rattle.text.specs.Text.{Text}
+use Rattle.pattern.specs.Grammar.{Derives, reg_exp}
+use Rattle.pattern.specs.Scan.{start, go, scan, step, fresh, leave, final}
+use Rattle.pattern.specs.Answers.{Goes, Judged, is_close}
+use Rattle.pattern.proofs.Laws.Places.{byte-to, stop-at, end-at, goes, bad}
+use Rattle.pattern.proofs.Laws.One.{derived-true}
+use Rattle.pattern.proofs.Laws.Sound.{scan-derived}
+use Rattle.pattern.proofs.expression.is_expression.Goals as goal
+
+judged-false : (s : Text) → scan (go 0 start) s ≡ false → Derives reg_exp s → ⊥
+judged-false s e k = false≢true (sym e ∙ derived-true s k)
+
+judged : (s : Text) (e : ℕ) → Goes s start 0 start 0 e is_close → Judged s (leb (length s) e)
+unfolding is_close step fresh leave final
+judged s e g = go_on (leb (length s) e) refl
+  where
+    go_on : (t : Bool) → leb (length s) e ≡ t → Judged s t
+    go_on true w = scan-derived s (g.reads 0 ∙ end-at (go 0 start) s e (leb-true (length s) e w))
+    go_on false w =
+        let h = leb-false (length s) e w in
+        judged-false s (g.reads 0 ∙ byte-to (go 0 start) s e 41 h (eqb-true (get_or s e 0) 41 (g.stops h)) refl ∙ stop-at (drop (e + 1) s))
+
+pub returns-in_default : goal.returns-in_default
+returns-in_default c = judged-false c.args.s.now (bad _ start 0 start 0 is_close c.expression.ensures c.in_default.is 0)
+
+pub returns : goal.returns
+returns c = judged _ _ (goes c.expression.ensures c.in-At.is)

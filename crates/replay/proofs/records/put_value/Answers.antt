@@ -1,0 +1,10 @@
+-- `replay::records::put_value` meets its contract: the record was read. Assumes nothing.
+use mathlib.Core.Path.{subst}
+use Rattle.tape.specs.Answers.{IsPlaced}
+use Rattle.replay.proofs.records.put_value.Goals as goal
+
+pub put_tag_value-requires : goal.put_tag_value-requires
+unfolding IsPlaced
+put_tag_value-requires c =
+    let a = c.args in
+    subst (IsPlaced a.text.now a.marks.now 0) c.in-Event.is c.read_at.ensures.places

@@ -1,0 +1,23 @@
+-- `rows::append::append` meets its contract: the row and its texts stand behind the used parts. Assumes nothing.
+use mathlib.Core.Path.{refl}
+use Rattle.sheet.specs.Rows.{row}
+use Rattle.rows.specs.Texts.{used_texts}
+use Rattle.rows.specs.Packing.{row_of}
+use Rattle.rows.proofs.Laws.Texts.{used-bytes}
+use Rattle.rows.proofs.Laws.More.{holds_more}
+use Rattle.rows.proofs.append.append.Goals as goal
+
+pub returns : goal.returns
+unfolding row
+returns c =
+    let a = c.args in
+    let r = row_of a.n (used_texts a.pairs a.first.now a.second.now) in
+    let bytes = used-bytes a.pairs a.first.now a.second.now c.requires.names.1 in
+    let set = c.set_row in
+    let stored = c.put_texts-end in
+    record {
+      rows_length = set.auto.0;
+      names_length = stored.auto.0;
+      holds = λ z rs h. holds_more r stored.result h c.requires.rows (rw bytes c.requires.names.0.0) (set.ensures a.first.now a.second.now refl refl)
+          (rw bytes stored.ensures.1) (rw bytes stored.ensures.0);
+    }

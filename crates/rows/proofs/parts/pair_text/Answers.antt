@@ -1,0 +1,7 @@
+-- `rows::parts::pair_text` meets its contract: the pair's two numbers are read, and the part that they name is taken. Assumes nothing.
+use Rattle.sheet.specs.Rows.{text_at}
+use Rattle.rows.proofs.parts.pair_text.Goals as goal
+
+pub returns : goal.returns
+unfolding text_at
+returns c = rw (c.part_of.ensures, c.wide-len.ensures, c.wide-at.ensures)

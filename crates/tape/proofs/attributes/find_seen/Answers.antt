@@ -1,0 +1,63 @@
+-- `tape::attributes::find_seen` meets its contract: the word is the name's, and each place leads to what its lookup gives. Assumes nothing.
+use mathlib.Core.Path.{refl, sym, ap, ◌∙◌}
+use native.Mathlib.Omega.{arith}
+use Rattle.text.specs.Text.{Text, local_name}
+use Rattle.xsd_parser.specs.Words.{word_of}
+use Rattle.xsd_parser.specs.Seen.{seen}
+use Rattle.tape.specs.Pairs.{tag_at}
+use Rattle.tape.specs.Keys.{key_words}
+use Rattle.tape.specs.Lookup.{seen_at}
+use Rattle.tape.proofs.Laws.Pairs.{name-inside}
+use Rattle.tape.proofs.Laws.Attributes.{tag-name}
+use Rattle.tape.proofs.Laws.Places.{place-value}
+use Rattle.tape.proofs.attributes.find_seen.Goals as goal
+
+pub word_under-word-requires : goal.word_under-word-requires
+word_under-word-requires c = name-inside _ _ _ _ c.requires
+
+pub returns : goal.returns
+unfolding seen_at seen key_words
+returns c =
+    let a = c.args in
+    let t = tag_at a.text.now a.marks.now a.pairs a.count in
+    let p = c.find_places-places.ensures in
+    let word = c.word_under-word.ensures ∙ ap (λ (l : Text). word_of (local_name l)) (sym (tag-name a.text.now a.marks.now a.pairs a.count)) in
+    rw (
+      word,
+      place-value t "name" p 0 (omega arith) refl,
+      place-value t "type" p 1 (omega arith) refl,
+      place-value t "base" p 2 (omega arith) refl,
+      place-value t "value" p 3 (omega arith) refl,
+      place-value t "minOccurs" p 4 (omega arith) refl,
+      place-value t "maxOccurs" p 5 (omega arith) refl,
+      place-value t "use" p 6 (omega arith) refl,
+      place-value t "namespace" p 7 (omega arith) refl,
+      place-value t "targetNamespace" p 8 (omega arith) refl,
+    )
+
+pub bounds-places-0 : goal.bounds-places-0
+bounds-places-0 c = omega (arith, c.find_places-places.ensures.many)
+
+pub bounds-places-1 : goal.bounds-places-1
+bounds-places-1 c = omega (arith, c.find_places-places.ensures.many)
+
+pub bounds-places-2 : goal.bounds-places-2
+bounds-places-2 c = omega (arith, c.find_places-places.ensures.many)
+
+pub bounds-places-3 : goal.bounds-places-3
+bounds-places-3 c = omega (arith, c.find_places-places.ensures.many)
+
+pub bounds-places-4 : goal.bounds-places-4
+bounds-places-4 c = omega (arith, c.find_places-places.ensures.many)
+
+pub bounds-places-5 : goal.bounds-places-5
+bounds-places-5 c = omega (arith, c.find_places-places.ensures.many)
+
+pub bounds-places-6 : goal.bounds-places-6
+bounds-places-6 c = omega (arith, c.find_places-places.ensures.many)
+
+pub bounds-places-7 : goal.bounds-places-7
+bounds-places-7 c = omega (arith, c.find_places-places.ensures.many)
+
+pub bounds-places-8 : goal.bounds-places-8
+bounds-places-8 c = omega (arith, c.find_places-places.ensures.many)

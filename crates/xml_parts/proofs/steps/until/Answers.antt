@@ -1,0 +1,32 @@
+-- `xml_parts::steps::until` meets its contract. The loop's invariant: the search from i on ends where the search from the start on ends. The measure is how much is left. Assumes nothing.
+use native.Mathlib.Omega.{arith}
+use Prim.Native.Nat.{◌-◌}
+use mathlib.Core.Path.{sym, ◌∙◌}
+use native.Mathlib.Numerals.{add-one}
+use Rattle.xml.proofs.Laws.Steps.{until-hit, until-wrong, until-on, until_end}
+use Rattle.xml_parts.proofs.steps.until.Goals as goal
+
+pub returns-then-starts : goal.returns-then-starts
+returns-then-starts c =
+    let a = c.args in
+    c.literal.ensures ∙ sym (until-hit a.word.now a.text.now c.loop-i.i c.loop-i.i (omega arith) (sym c.starts.ensures ∙ c.if-starts.true)) ∙ c.loop-i.invariant
+
+pub overflow_cast-text : goal.overflow_cast-text
+overflow_cast-text c = omega (arith, c.shared_slice_known-in-loop-i-1.given c.loop-i.i)
+
+pub returns-then-not-is_char : goal.returns-then-not-is_char
+returns-then-not-is_char c =
+    let a = c.args in
+    sym (until-wrong a.word.now a.text.now c.loop-i.i c.loop-i.i (omega arith) (sym c.starts.ensures ∙ c.if-starts.false)
+    (sym c.is_char.ensures ∙ c.if-not-is_char.true)) ∙ c.loop-i.invariant
+
+pub loop-i-preserved : goal.loop-i-preserved
+loop-i-preserved c =
+    let a = c.args in
+    rw (add-one c.loop-i.i) (sym (until-on a.word.now a.text.now c.loop-i.i c.loop-i.i (omega arith) (sym c.starts.ensures ∙ c.if-starts.false)
+    (sym c.is_char.ensures ∙ c.if-not-is_char.false)) ∙ c.loop-i.invariant)
+
+pub returns : goal.returns
+returns c =
+    let a = c.args in
+    sym (until_end a.word.now a.text.now c.loop-i.i c.loop-i.i c.loop-i-test.false) ∙ c.loop-i.invariant

@@ -1,0 +1,54 @@
+-- `xml_parts::values::is_number` meets its contract. The loop's invariant: the value so far, with what is left from i on, answers for the whole. A value past the last
+-- code point stays past it. The measure is how much is left. Assumes nothing.
+use native.Mathlib.Omega.{arith}
+use Prim.Native.Nat.{suc, ◌-◌, ◌≤◌, ◌<◌, ◌*◌, ◌+◌}
+use mathlib.Core.Path.{refl, sym, ◌∙◌}
+use native.Mathlib.Numerals.{add-one}
+use lib.ListN.{get_or, drop}
+use Rattle.xml.specs.Grammar.{digit_of}
+use Rattle.xml.proofs.Laws.Values.{number-end, number-stop, number-wrong, number-on, number_past, step_fits}
+use Rattle.xml_parts.proofs.values.is_number.Goals as goal
+
+pub loop-i-init : goal.loop-i-init
+loop-i-init c = (omega arith, refl)
+
+pub returns-then-b-eq59 : goal.returns-then-b-eq59
+returns-then-b-eq59 c =
+    let a = c.args in
+    c.is_char.ensures ∙ sym (number-stop a.base c.loop-i.v a.text.now c.loop-i.i (omega arith) c.if-b-eq59.true) ∙ c.loop-i.invariant.1
+
+pub returns-then-base-digit : goal.returns-then-base-digit
+returns-then-base-digit c =
+    let a = c.args in
+    let d : a.base ≤ digit_of (get_or a.text.now c.loop-i.i 0) = omega (arith, c.if-base-digit.true, c.digit_of-digit.ensures) in
+    sym (number-wrong a.base c.loop-i.v a.text.now c.loop-i.i (omega arith) c.if-b-eq59.false d) ∙ c.loop-i.invariant.1
+
+pub overflow_mul-v : goal.overflow_mul-v
+overflow_mul-v c = omega (arith, step_fits _ _ c.loop-i.invariant.0 c.requires.1)
+
+pub overflow_add-v : goal.overflow_add-v
+overflow_add-v c =
+    let digit : c.digit_of-digit.result < c.args.base = omega (arith, c.if-base-digit.false) in
+    omega (arith, step_fits _ _ c.loop-i.invariant.0 c.requires.1, c.requires.1)
+
+pub returns-then-v-gt1114111 : goal.returns-then-v-gt1114111
+returns-then-v-gt1114111 c =
+    let a = c.args in
+    let d = digit_of (get_or a.text.now c.loop-i.i 0) in
+    let less : d < a.base = omega (arith, c.if-base-digit.false, c.digit_of-digit.ensures) in
+    let past = number_past a.base (c.loop-i.v * a.base + d) (drop (suc c.loop-i.i) a.text.now) c.requires.0 (omega (arith, c.if-v-gt1114111.true, c.digit_of-digit.ensures)) in
+    sym past ∙ sym (number-on a.base c.loop-i.v a.text.now c.loop-i.i (omega arith) c.if-b-eq59.false less) ∙ c.loop-i.invariant.1
+
+pub loop-i-preserved : goal.loop-i-preserved
+loop-i-preserved c =
+    let a = c.args in
+    let d = digit_of (get_or a.text.now c.loop-i.i 0) in
+    let less : d < a.base = omega (arith, c.if-base-digit.false, c.digit_of-digit.ensures) in (
+      omega (arith, c.if-v-gt1114111.false),
+      rw (add-one c.loop-i.i, c.digit_of-digit.ensures) (sym (number-on a.base c.loop-i.v a.text.now c.loop-i.i (omega arith) c.if-b-eq59.false less) ∙ c.loop-i.invariant.1),
+    )
+
+pub returns : goal.returns
+returns c =
+    let a = c.args in
+    sym (number-end a.base c.loop-i.v a.text.now c.loop-i.i c.loop-i-test.false) ∙ c.loop-i.invariant.1

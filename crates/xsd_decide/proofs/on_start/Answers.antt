@@ -1,0 +1,25 @@
+-- `xsd_decide::on_start` meets its contract: the context picks the handler, as in the definition. Assumes nothing.
+use borrow.Author.Tests.{eq-eqb, ne_eqb}
+use Rattle.xsd_actions.specs.Decided.{decided_start}
+use Rattle.xsd_decide.proofs.Laws.Chains.{if-true, if-false, whole}
+use Rattle.xsd_decide.proofs.on_start.Goals as goal
+
+pub returns-then-m-eq-NONE : goal.returns-then-m-eq-NONE
+unfolding decided_start
+returns-then-m-eq-NONE c = if-true whole _ _ (eq-eqb _ 0 c.if-m-eq-NONE.true) (c.root_found.ensures c.args.text.now)
+
+pub returns-then-m-eq-SCHEMA : goal.returns-then-m-eq-SCHEMA
+unfolding decided_start
+returns-then-m-eq-SCHEMA c = if-false whole _ _ (ne_eqb _ 0 c.if-m-eq-NONE.false) (if-true whole _ _ (eq-eqb _ 1 c.if-m-eq-SCHEMA.true) c.start_in_schema.ensures)
+
+pub returns-then-m-eq-SIMPLE_TYPE : goal.returns-then-m-eq-SIMPLE_TYPE
+unfolding decided_start
+returns-then-m-eq-SIMPLE_TYPE c =
+    if-false whole _ _ (ne_eqb _ 0 c.if-m-eq-NONE.false)
+    (if-false whole _ _ (ne_eqb _ 1 c.if-m-eq-SCHEMA.false) (if-true whole _ _ (eq-eqb _ 2 c.if-m-eq-SIMPLE_TYPE.true) c.start_in_simple_type.ensures))
+
+pub returns : goal.returns
+unfolding decided_start
+returns c =
+    if-false whole _ _ (ne_eqb _ 0 c.if-m-eq-NONE.false)
+    (if-false whole _ _ (ne_eqb _ 1 c.if-m-eq-SCHEMA.false) (if-false whole _ _ (ne_eqb _ 2 c.if-m-eq-SIMPLE_TYPE.false) c.start_in_complex_type.ensures))

@@ -1,0 +1,35 @@
+-- `xsd_decide::open_type` meets its contract: an absent name is refused with 9, for either kind of type. Assumes nothing.
+use mathlib.Core.Path.{sym, ap, ◌∙◌}
+use mathlib.Core.Bool.{Bool}
+use Rattle.xsd_parser.specs.Handlers.{ok}
+use Rattle.tape.specs.Lookup.{seen_at}
+use Rattle.xsd_actions.specs.Answers.{text_at_mark, decision}
+use Rattle.xsd_decide.specs.Schema.{opened_as}
+use Rattle.xsd_decide.proofs.Laws.Values.{value-at, value_none}
+use Rattle.xsd_decide.proofs.Laws.Names.{require_name-some, require_name-none}
+use Rattle.xsd_decide.proofs.open_type.Goals as goal
+
+pub returns-in_default : goal.returns-in_default
+unfolding decision seen_at
+returns-in_default c =
+    let a = c.args in
+    λ text marks. sym (require_name-none (seen_at text marks a.t) (opened_as a.event a.simple)
+    (value_none text marks a.t.name (c.place_found.ensures text marks) c.in_default.is))
+
+pub returns-then-simple : goal.returns-then-simple
+unfolding decision opened_as seen_at
+returns-then-simple c =
+    let a = c.args in
+    let found = c.name-1.given in
+    λ text marks.
+    let name = value-at text marks a.t.name (c.place_found.ensures text marks) found.1 in
+    sym (require_name-some (seen_at text marks a.t) (opened_as a.event a.simple) name ∙ ap (λ (b : Bool). ok (opened_as a.event b (text_at_mark text marks found.0.0))) c.if-simple.true)
+
+pub returns : goal.returns
+unfolding decision opened_as seen_at
+returns c =
+    let a = c.args in
+    let found = c.name-1.given in
+    λ text marks.
+    let name = value-at text marks a.t.name (c.place_found.ensures text marks) found.1 in
+    sym (require_name-some (seen_at text marks a.t) (opened_as a.event a.simple) name ∙ ap (λ (b : Bool). ok (opened_as a.event b (text_at_mark text marks found.0.0))) c.if-simple.false)

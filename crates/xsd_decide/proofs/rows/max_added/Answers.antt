@@ -1,0 +1,28 @@
+-- `xsd_decide::rows::max_added` meets its contract: an upper bound gives tag 17, none gives tag 18. Assumes nothing.
+use mathlib.Core.Path.{sym, ap, ◌∙◌}
+use Rattle.xsd_types.specs.Rows.{occurs_row}
+use Rattle.xsd_actions.specs.Answers.{text_at_mark, decision}
+use Rattle.xsd_decide.specs.Reads.{max_answer}
+use Rattle.xsd_decide.specs.Rows.{typed_row, max_added}
+use Rattle.xsd_decide.proofs.rows.max_added.Goals as goal
+
+pub returns-in-Bounded : goal.returns-in-Bounded
+unfolding max_added max_answer ◌and_then◌ occurs_row typed_row
+returns-in-Bounded c =
+    let a = c.args in
+    let added = max_added (text_at_mark a.text.now a.marks.now a.p.name) (text_at_mark a.text.now a.marks.now a.p.typ) a.min in
+    c.typed_row.ensures a.text.now a.marks.now ∙ ap added (sym (ap max_answer c.in-Bounded.is) ∙ c.max_occurs.ensures)
+
+pub returns-in-Unbounded : goal.returns-in-Unbounded
+unfolding max_added max_answer ◌and_then◌ occurs_row typed_row
+returns-in-Unbounded c =
+    let a = c.args in
+    let added = max_added (text_at_mark a.text.now a.marks.now a.p.name) (text_at_mark a.text.now a.marks.now a.p.typ) a.min in
+    c.typed_row-in-Unbounded.ensures a.text.now a.marks.now ∙ ap added (sym (ap max_answer c.in-Unbounded.is) ∙ c.max_occurs.ensures)
+
+pub returns-in-Invalid : goal.returns-in-Invalid
+unfolding decision max_added max_answer ◌and_then◌
+returns-in-Invalid c =
+    let a = c.args in
+    let added = max_added (text_at_mark a.text.now a.marks.now a.p.name) (text_at_mark a.text.now a.marks.now a.p.typ) a.min in
+    ap added (sym (ap max_answer c.in-Invalid.is) ∙ c.max_occurs.ensures)

@@ -1,0 +1,32 @@
+-- `xsd_decide::values::name_and_type` meets its contract: both places are asked for, the name's first. Assumes nothing.
+use mathlib.Core.Path.{sym, ap}
+use mathlib.Core.Option.{Option}
+use Rattle.text.specs.Text.{Text}
+use Rattle.tape.specs.Lookup.{value_at}
+use Rattle.xsd_decide.specs.Reads.{both, typed_values}
+use Rattle.xsd_decide.proofs.Laws.Values.{value-at, value_none}
+use Rattle.xsd_decide.proofs.values.name_and_type.Goals as goal
+
+pub returns-in_default : goal.returns-in_default
+unfolding both typed_values
+returns-in_default c =
+    let t = c.args.t in
+    λ text marks. sym (ap (λ (v : Option Text). both v (value_at text marks t.typ)) (value_none text marks t.name (c.place_found.ensures text marks) c.in_default.is))
+
+pub returns-in_default-place_found : goal.returns-in_default-place_found
+unfolding both typed_values
+returns-in_default-place_found c =
+    let t = c.args.t in
+    λ text marks.
+    let name = value-at text marks t.name (c.place_found.ensures text marks) c.in-At.is in
+    let type = value_none text marks t.typ (c.place_found-2.ensures text marks) c.in_default-place_found.is in
+    rw (name, type)
+
+pub returns : goal.returns
+unfolding both typed_values
+returns c =
+    let t = c.args.t in
+    λ text marks.
+    let name = value-at text marks t.name (c.place_found.ensures text marks) c.in-At.is in
+    let type = value-at text marks t.typ (c.place_found-2.ensures text marks) c.in-At-place_found.is in
+    rw (name, type)

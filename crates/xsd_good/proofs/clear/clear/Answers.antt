@@ -1,0 +1,54 @@
+-- `xsd_good::clear::clear` meets its contract: with lengths as the paper has them and a choice up to 1, row 0 and row 1's tag stored among
+-- zeros are the cleared sheet; else nothing is stored. Assumes nothing.
+use Prim.Native.Nat.{ℕ, ◌≤◌}
+use mathlib.Core.Bool.{Bool, true, ◌&&◌}
+use mathlib.Core.Path.{◌≡◌, sym, ap, ap₂, ◌∙◌}
+use mathlib.Core.List.{List, [], ◌∷◌}
+use native.Mathlib.Omega.{arith}
+use lib.Dec.{leb}
+use lib.ListN.{length, length-set}
+use lib.Seq.{paste}
+use borrow.Author.Tests.{leb-true, not-false}
+use Rattle.text.proofs.Laws.Tests.{and-true-left, and-true-right}
+use Rattle.sheet.specs.Rows.{numbers}
+use Rattle.sheet.specs.Lengths.{sheet_lengths}
+use Rattle.buffer.proofs.Laws.Buffer.{zeros-whole}
+use Rattle.xsd_types.specs.Row0.{Row0, row0_ten}
+use Rattle.xsd_good.proofs.Laws.Clear.{lengths-rows, clear-refused, clear-done}
+use Rattle.xsd_good.proofs.clear.clear.Tie as tie
+use Rattle.xsd_good.proofs.clear.clear.Lts as lts
+use Rattle.xsd_good.proofs.clear.clear.Reads as reads
+use Rattle.xsd_good.proofs.clear.clear.Goals as goal
+
+-- behind the test the lengths are as the paper has them, and the choice is 0 or 1
+passes : (p : lts.Else1 tie.the-claims reads.Pre reads.Post) → let a = p.before.before.before.before.args in sheet_lengths (length a.rows.now) (length a.names.now) && leb a.choice 1 ≡ true
+passes p = sym (ap (λ (b : Bool). b && leb p.before.before.before.before.args.choice 1) p.before.sheet_lengths.ensures) ∙ not-false _ p.if1.false
+
+long-enough : (p : lts.Else1 tie.the-claims reads.Pre reads.Post) → 20 ≤ length p.before.before.before.before.args.rows.now
+long-enough p = lengths-rows _ (length p.before.before.before.before.args.names.now) (and-true-left _ _ (passes p))
+
+pub returns-then-not-sheet_lengths-choice : goal.returns-then-not-sheet_lengths-choice
+returns-then-not-sheet_lengths-choice c =
+    let a = c.args in
+    clear-refused a.choice a.rows.now a.names.now (sym (ap (λ (b : Bool). b && leb a.choice 1) c.sheet_lengths.ensures) ∙ c.if-not-sheet_lengths-choice.true)
+
+pub cleared_row0-requires : goal.cleared_row0-requires
+cleared_row0-requires c =
+    let a = c.args in
+    leb-true a.choice 1 (and-true-right (sheet_lengths (length a.rows.now) (length a.names.now)) _ (passes c.before.before.before.before.before.before.before.before.before.before))
+
+pub put_row-requires : goal.put_row-requires
+put_row-requires c = omega (arith, long-enough c.before.before.before.before.before.before.before.before.before.before.before.before)
+
+pub bounds-rows-10 : goal.bounds-rows-10
+bounds-rows-10 c = omega (arith, long-enough c.before.before.before.before.before.before.before.before.before.before.before.before.before.before.before, c.put_row.auto.0)
+
+pub shape_of-rows : goal.shape_of-rows
+shape_of-rows c = simp length-set (c.put_row.auto.0 ∙ c.zero_rows.auto.0)
+
+pub returns : goal.returns
+returns c =
+    let a = c.args in
+    let row = c.row0_numbers.ensures ∙ ap (λ (z : Row0). numbers (row0_ten z ∷ [])) c.cleared_row0.ensures in
+    let rows = c.put_row.ensures ∙ ap₂ (λ (d s : List ℕ). paste d 0 s 10) (c.zero_rows.ensures ∙ zeros-whole a.rows.now) row in
+    rw (rows, c.zero_names.ensures ∙ zeros-whole a.names.now) (clear-done a.choice a.rows.now a.names.now (passes c.before.before.before.before.before.before.before.before.before.before.before.before.before.before.before))

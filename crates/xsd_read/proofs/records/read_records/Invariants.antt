@@ -1,0 +1,12 @@
+-- `xsd_read::records::read_records` meets its contract. The loop's invariant: the sheet holds the rows of a state from which the rest of the marks leads to
+-- the whole reading. The measure is how many marks are left. Assumes nothing.
+use Prim.Native.Nat.{◌-◌}
+use lib.ListN.{length}
+use Rattle.xsd_read.proofs.Laws.Loop.{Reads}
+use Rattle.xsd_read.proofs.records.read_records.Given as goal
+
+abbrev pub invariant-loop-refusal : goal.invariant-loop-refusal
+invariant-loop-refusal l = Reads l.initial.rows l.initial.names l.text l.marks l.initial.progress l.rows l.names l.progress l.place l.at
+
+abbrev pub decreases-loop-refusal : goal.decreases-loop-refusal
+decreases-loop-refusal l = length l.marks - l.at

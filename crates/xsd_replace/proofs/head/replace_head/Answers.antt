@@ -1,0 +1,84 @@
+-- `xsd_replace::head::replace_head` meets its contract: the name stays where it is, what is behind it is freed, and the row and its second text are stored anew.
+-- Assumes nothing.
+use Prim.Native.Nat.{◌+◌, ◌-◌, ◌≤◌}
+use mathlib.Core.Path.{◌≡◌, ◌∙◌}
+use native.Mathlib.Omega.{arith}
+use lib.ListN.{length}
+use Rattle.rows.specs.Texts.{used_length}
+use Rattle.rows.proofs.Laws.Texts.{used-rest}
+use Rattle.xsd_replace.proofs.Laws.Head.{HeadNumbers, head-numbers, head-replaced}
+use Rattle.xsd_replace.proofs.head.replace_head.Tie as tie
+use Rattle.xsd_replace.proofs.head.replace_head.Lts as lts
+use Rattle.xsd_replace.proofs.head.replace_head.Reads as reads
+use Rattle.xsd_replace.proofs.head.replace_head.Goals as goal
+
+facts : (c : lts.Start tie.the-claims reads.Pre reads.Post) → HeadNumbers c.args.rows.now c.args.names.now c.args.used c.args.place c.requires.0.rs c.requires.0.name
+facts c = head-numbers c.requires.0.head
+
+room : (c : lts.Start tie.the-claims reads.Pre reads.Post) → used_length c.args.pairs (length c.requires.0.name) (length c.args.second.now)
+    ≡ length c.requires.0.name + used_length (c.args.pairs - 1) (length c.args.second.now) (length c.args.second.now)
+room c = used-rest c.args.pairs (length c.requires.0.name) (length c.args.second.now) c.requires.1.0.0 c.requires.1.0.1
+
+pub overflow_mul-place : goal.overflow_mul-place
+overflow_mul-place c = omega (arith, facts c.before.before.before.before.before)
+
+pub overflow_add-place : goal.overflow_add-place
+overflow_add-place c = omega (arith, facts c.before.before.before.before.before)
+
+pub pair_at-name-requires : goal.pair_at-name-requires
+pair_at-name-requires c = omega (arith, facts c.before.before.before.before.before)
+
+pub overflow_add-end : goal.overflow_add-end
+overflow_add-end c = omega (arith, facts c.before.before.before.before.before.before.before, c.pair_at-name.ensures)
+
+pub cut-requires : goal.cut-requires
+cut-requires c = omega (arith, facts c.before.before.before.before.before.before.before.before.before, c.pair_at-name.ensures)
+
+pub set_row-requires : goal.set_row-requires
+set_row-requires c =
+    let found = c.pair_at-name in
+    let rest = room c.before.before.before.before.before.before.before.before.before.before.before.before.before.before.before in
+    omega (
+      arith,
+      facts c.before.before.before.before.before.before.before.before.before.before.before.before.before.before.before,
+      found.ensures,
+      c.cut.auto,
+      c.requires,
+      room c.before.before.before.before.before.before.before.before.before.before.before.before.before.before.before,
+      used-rest c.args.pairs found.result.len (length c.args.second.now) c.requires.1.0.0 c.requires.1.0.1,
+    )
+
+pub put_texts-names_end-requires : goal.put_texts-names_end-requires
+put_texts-names_end-requires c =
+    omega (
+      arith,
+      facts c.before.before.before.before.before.before.before.before.before.before.before.before.before.before.before.before.before.before.before,
+      c.pair_at-name.ensures,
+      c.cut.auto,
+      c.requires,
+      room c.before.before.before.before.before.before.before.before.before.before.before.before.before.before.before.before.before.before.before,
+    )
+
+pub overflow_add-result : goal.overflow_add-result
+overflow_add-result c = omega (
+  arith,
+  facts
+      c.before.before.before.before.before.before.before.before.before.before.before.before.before.before.before.before.before.before.before.before.before.before,
+)
+
+pub returns : goal.returns
+returns c =
+    let a = c.args in
+    let found = c.pair_at-name in
+    let freed = c.cut in
+    let set = c.set_row in
+    let stored = c.put_texts-names_end in
+    let space : found.result.at + found.result.len + used_length (a.pairs - 1) (length a.second.now) (length a.second.now) ≤ length a.names.now = omega
+    (arith, facts c.before.before.before.before.before.before.before.before.before.before.before.before.before.before.before.before.before.before.before.before.before.before, found.ensures, c.requires, room c.before.before.before.before.before.before.before.before.before.before.before.before.before.before.before.before.before.before.before.before.before.before) in
+    record {
+      rows_length = set.auto.0 ∙ freed.auto.0;
+      names_length = stored.auto.0 ∙ freed.auto.1.0;
+      holds = λ z rs name h. head-replaced h a.n a.pairs a.second.now found.result.at found.result.len stored.result c.requires.1.0.0
+          c.requires.1.0.1 found.ensures.0 found.ensures.1 space freed.ensures.0 freed.ensures.1 set.ensures stored.ensures.1
+          stored.ensures.0;
+    }

@@ -1,0 +1,52 @@
+-- `xsd_write::call::write_good` meets its contract: the sheet holds its state, whose finished items end where row 0 says. Assumes nothing.
+use Prim.Native.Nat.{◌+◌}
+use mathlib.Core.Path.{◌≡◌, ap, ◌∙◌}
+use native.Mathlib.Omega.{arith}
+use lib.ListN.{length}
+use Rattle.sheet.specs.Calls.{sheet}
+use Rattle.xsd_types.specs.Row0.{Row0}
+use Rattle.xsd_types.specs.Rows.{items_rows}
+use Rattle.xsd_types.specs.Count.{state_of}
+use Rattle.xsd_good.specs.Row0.{as_row0}
+use Rattle.xsd_types.proofs.Laws.Count.{good-bare}
+use Rattle.xsd_good.proofs.Laws.Bare.{bare-used, bare-room}
+use Rattle.xsd_write.proofs.Laws.Calls.{good-end, good-root, good-written}
+use Rattle.xsd_write.proofs.call.write_good.Tie as tie
+use Rattle.xsd_write.proofs.call.write_good.Lts as lts
+use Rattle.xsd_write.proofs.call.write_good.Reads as reads
+use Rattle.xsd_write.proofs.call.write_good.Goals as goal
+
+-- the finished items end where the call says
+ends : (c : lts.After-finished_end tie.the-claims reads.Pre reads.Post)
+    → let a = c.args in c.finished_end-end.result
+    ≡ 2 + length (items_rows (state_of (sheet a.rows.now a.names.now)).reader.schema.items)
+ends c =
+    c.finished_end-end.ensures.0 ∙ good-end c.args.rows.now c.args.names.now c.requires.0 c.finished_end-end.ensures.1
+    (as_row0 c.row0_at-z.result) c.row0_at-z.ensures
+
+pub row0_at-z-requires : goal.row0_at-z-requires
+row0_at-z-requires c =
+    let rows = c.args.rows.now in
+    let names = c.args.names.now in
+    omega (arith, (bare-used rows names (good-bare (sheet rows names) c.requires.0)).0)
+
+pub finished_end-end-requires : goal.finished_end-end-requires
+finished_end-end-requires c =
+    let rows = c.args.rows.now in
+    let names = c.args.names.now in
+    rw (ap (λ (z : Row0). z.rows_used) c.row0_at-z.ensures) (bare-used rows names (good-bare (sheet rows names) c.requires.0)).1
+
+pub write_finished-requires : goal.write_finished-requires
+write_finished-requires c =
+    let rows = c.args.rows.now in
+    let names = c.args.names.now in
+    let room = bare-room rows names (good-bare (sheet rows names) c.requires.0) c.finished_end-end.ensures.1 (ends c.before.before.before) in
+    (c.requires.1, room.0, room.1)
+
+pub returns : goal.returns
+returns c =
+    let rows = c.args.rows.now in
+    let names = c.args.names.now in
+    let w = c.finished_end-end.ensures.1 in
+    c.write_finished.ensures ∙ good-written rows names c.requires.0 w (ends c.before.before.before.before.before.before) _ _
+    (good-root rows names c.requires.0 w (as_row0 c.row0_at-z.result) c.row0_at-z.ensures)

@@ -1,0 +1,22 @@
+-- `xsd_write::child::put_max` meets its contract: the bound, or `unbounded`, by the tag. Assumes nothing.
+use borrow.Author.Tests.{eq-eqb, ne_eqb}
+use Rattle.text.specs.Text.{bytes, contains}
+use Rattle.sheet.specs.Rows.{unpack_row}
+use Rattle.xml.specs.Written.{written_attributes, quote_of}
+use Rattle.xsd_written.specs.Schema.{attr}
+use Rattle.xsd_written.specs.ByRows.{attribute_text}
+use Rattle.xsd_write.specs.Texts.{row_of, quoted}
+use Rattle.xsd_write.proofs.Laws.Rows.{max-bound, max_none}
+use Rattle.xsd_write.proofs.child.put_max.Goals as goal
+
+pub returns-then-t-eq-BOUND_ELEMENT : goal.returns-then-t-eq-BOUND_ELEMENT
+unfolding unpack_row attribute_text written_attributes attr bytes quoted
+returns-then-t-eq-BOUND_ELEMENT c =
+    let a = c.args in
+    rw (max-bound (row_of a.names.now a.t) (eq-eqb a.t.tag 17 c.if-t-eq-BOUND_ELEMENT.true)) c.put_number.ensures
+
+pub returns : goal.returns
+unfolding unpack_row attribute_text written_attributes attr bytes quote_of contains
+returns c =
+    let a = c.args in
+    rw (max_none (row_of a.names.now a.t) (ne_eqb a.t.tag 17 c.if-t-eq-BOUND_ELEMENT.false)) c.put.ensures
