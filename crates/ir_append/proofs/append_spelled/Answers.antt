@@ -17,7 +17,7 @@ pub returns-in_default : goal.returns-in_default
 returns-in_default c =
     let put = c.put_texts in
     let a = c.args in
-    short-names (recipe_row a.recipe a.first.now a.second.now) put.auto.0 (rw (recipe-bytes a.recipe a.first.now a.second.now) (rw c.in_default.is at put.ensures))
+    short-names (recipe_row a.recipe a.first.now a.second.now) put.auto.names (rw (recipe-bytes a.recipe a.first.now a.second.now) (rw c.in_default.is at put.ensures))
 
 pub spelled_row-row-requires : goal.spelled_row-row-requires
 spelled_row-row-requires c =

@@ -17,7 +17,7 @@ overflow_add-behind c =
 pub put_spelled-requires-2 : goal.put_spelled-requires-2
 put_spelled-requires-2 c =
     let s = rw c.in-Bytes.is at c.put_spelled.ensures in
-    omega (arith, s.inside, c.put_spelled.auto.0)
+    omega (arith, s.inside, c.put_spelled.auto.names)
 
 pub returns-in_default-put_spelled : goal.returns-in_default-put_spelled
 returns-in_default-put_spelled c =
@@ -34,7 +34,7 @@ overflow_add-last c =
 pub put_spelled-requires-3 : goal.put_spelled-requires-3
 put_spelled-requires-3 c =
     let k = rw c.in-Bytes-put_spelled.is at c.put_spelled-2.ensures in
-    omega (arith, k.inside, c.put_spelled-2.auto.0)
+    omega (arith, k.inside, c.put_spelled-2.auto.names)
 
 pub returns-in_default-put_spelled-2 : goal.returns-in_default-put_spelled-2
 returns-in_default-put_spelled-2 c =

@@ -23,7 +23,7 @@ ends : (c : lts.After-finished_end tie.the-claims reads.Pre reads.Post)
     → let a = c.args in c.finished_end-end.result
     ≡ 2 + length (items_rows (state_of (sheet a.rows.now a.names.now)).reader.schema.items)
 ends c =
-    c.finished_end-end.ensures.0 ∙ good-end c.args.rows.now c.args.names.now c.requires.0 c.finished_end-end.ensures.1
+    c.finished_end-end.ensures.place ∙ good-end c.args.rows.now c.args.names.now c.requires.0 c.finished_end-end.ensures.words
     (as_row0 c.row0_at-z.result) c.row0_at-z.ensures
 
 -- the rows up to there are theirs, and the count is right for them
@@ -31,11 +31,11 @@ finished : (c : lts.After-finished_end tie.the-claims reads.Pre reads.Post)
     → let a = c.args in Stands (state_of (sheet a.rows.now a.names.now)) a.rows.now
     a.names.now c.finished_end-end.result
 finished c =
-    good-stands c.args.rows.now c.args.names.now c.requires.0 c.finished_end-end.ensures.1 (ends c)
+    good-stands c.args.rows.now c.args.names.now c.requires.0 c.finished_end-end.ensures.words (ends c)
 
 counts : (c : lts.After-finished_end tie.the-claims reads.Pre reads.Post) → let a = c.args in Counted a.rows.now a.names.now c.finished_end-end.result
 counts c =
-    good-counted c.args.rows.now c.args.names.now c.requires.0 c.finished_end-end.ensures.1 (ends c)
+    good-counted c.args.rows.now c.args.names.now c.requires.0 c.finished_end-end.ensures.words (ends c)
 
 pub row0_at-z-requires : goal.row0_at-z-requires
 row0_at-z-requires c =
@@ -66,7 +66,7 @@ lower_finished-requires c =
 pub returns : goal.returns
 returns c =
     let a = c.args in
-    let w = c.finished_end-end.ensures.1 in
+    let w = c.finished_end-end.ensures.words in
     let root = good-root a.rows.now a.names.now c.requires.0 w (as_row0 c.row0_at-z.result) c.row0_at-z.ensures in
     state-enough (finished c.before.before.before.before.before.before.before.before.before.before.before.before.before.before) a.graph_rows.now a.graph_names.now a.scratch.now (c.count_types.ensures a.names.now) c.if-scratch-count_types.false
     (c.lower_finished.ensures _ (lowers-held (finished c.before.before.before.before.before.before.before.before.before.before.before.before.before.before) root))

@@ -42,7 +42,7 @@ row0_of-row0-requires c =
 
 pub put_row0-requires : goal.put_row0-requires
 put_row0-requires c =
-    omega (arith, (at_entry c.before.before.before.before.before.before.before.before.before.before.before).requires.1.sized.some_rows, c.put_graph-grown.auto.0)
+    omega (arith, (at_entry c.before.before.before.before.before.before.before.before.before.before.before).requires.1.sized.some_rows, c.put_graph-grown.auto.graph_rows)
 
 pub returns : goal.returns
 returns c =

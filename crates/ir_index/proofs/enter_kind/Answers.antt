@@ -30,7 +30,7 @@ abbrev kind_at : lts.After-slice_known4 tie.the-claims reads.Pre reads.Post goal
 kind_at c = (entered c).before.before.before
 
 pub loop-place-init : goal.loop-place-init
-loop-place-init c = (refl, refl, walk_start _ _ c.requires.0)
+loop-place-init c = (refl, refl, walk_start _ _ c.requires.known)
 
 pub enter-requires : goal.enter-requires
 enter-requires c =
@@ -41,11 +41,11 @@ enter-requires c =
     let room = walk-room w c.loop-place-test.true e in
     let head : HeadAt c.args.rows.now
     c.loop-place.place = record {
-      inside = omega (arith, c.requires.1.0, c.loop-place-test.true);
+      inside = omega (arith, c.requires.end_in_bounds.0, c.loop-place-test.true);
       is_head = kind-type
           c.args.complex _ e;
     } in
-    (w.known, (head, (c.requires.1.1, omega (arith, room, c.requires.1.2, c.loop-place.invariant.0))))
+    (w.known, (head, (c.requires.end_in_bounds.1, omega (arith, room, c.requires.end_in_bounds.2, c.loop-place.invariant.0))))
 
 pub shape_of-scratch-then-not-enter : goal.shape_of-scratch-then-not-enter
 shape_of-scratch-then-not-enter c = (entered c.before.before).enter.kept.1.1.1.0 ∙ (kind_at c.before.before).before.before.before.before.loop.inv.0

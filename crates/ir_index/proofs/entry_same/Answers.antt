@@ -23,5 +23,5 @@ returns c =
     let asked : c.name_at-asked.result.now ≡ head_name rows names c.args.place = c.name_at-asked.ensures in
     let compared : same (normalize_type_name c.name_at-held.result.now) (normalize_type_name c.name_at-asked.result.now)
     ≡ same (name_at rows names (c.args.entry % 65536)) (name_at rows names c.args.place) =
-    rw (name-at rows names (c.args.entry % 65536) c.requires.0.head.is_head, name-at rows names c.args.place c.requires.1.0.is_head, held, asked) in
+    rw (name-at rows names (c.args.entry % 65536) c.requires.entry_of.head.is_head, name-at rows names c.args.place c.requires.head_at.is_head, held, asked) in
     c.same_normalized.ensures ∙ compared

@@ -17,12 +17,12 @@ returns-in_default c =
     let ns = lowered_row false (row_at a.rows.now a.names.now 1) in
     let rs = root_rows (rows_from a.rows.now a.names.now 2 a.end) in
     let ts = types_rows a.rows.now a.names.now a.end (entry_places a.entries.now) in
-    onward-full ns (rs ++ ts) (onward-start _ c.requires.0.0) (graph-on a.rows.now a.names.now a.end (entry_places a.entries.now))
+    onward-full ns (rs ++ ts) (onward-start _ c.requires.room.0) (graph-on a.rows.now a.names.now a.end (entry_places a.entries.now))
     (short-of _ _ _ _ _ _ _ c.put_lowered-namespace.ensures c.in_default.is)
 
 pub put_roots-roots-requires : goal.put_roots-roots-requires
 put_roots-roots-requires c =
-    (room_after c.requires.0.0 (grown-of _ _ _ _ _ _ _ c.put_lowered-namespace.ensures c.in-To.is), search rules)
+    (room_after c.requires.room.0 (grown-of _ _ _ _ _ _ _ c.put_lowered-namespace.ensures c.in-To.is), search rules)
 
 pub returns-in_default-roots : goal.returns-in_default-roots
 returns-in_default-roots c =
@@ -30,14 +30,14 @@ returns-in_default-roots c =
     let ns = lowered_row false (row_at a.rows.now a.names.now 1) in
     let rs = root_rows (rows_from a.rows.now a.names.now 2 a.end) in
     let ts = types_rows a.rows.now a.names.now a.end (entry_places a.entries.now) in
-    let o = onward-step ns (rs ++ ts) (onward-start _ c.requires.0.0) (graph-on a.rows.now a.names.now a.end (entry_places a.entries.now))
+    let o = onward-step ns (rs ++ ts) (onward-start _ c.requires.room.0) (graph-on a.rows.now a.names.now a.end (entry_places a.entries.now))
     (grown-of _ _ _ _ _ _ _ c.put_lowered-namespace.ensures c.in-To.is) in
     onward-full rs ts o refl (short-of _ _ _ _ _ _ _ c.put_roots-roots.ensures c.in_default-roots.is)
 
 pub put_types-requires : goal.put_types-requires
 put_types-requires c =
-    let room = room_after c.requires.0.0 (grown-of _ _ _ _ _ _ _ c.put_lowered-namespace.ensures c.in-To.is) in
-    ((room_after room (grown-of _ _ _ _ _ _ _ c.put_roots-roots.ensures c.in-To-roots.is), search rules), c.requires.1)
+    let room = room_after c.requires.room.0 (grown-of _ _ _ _ _ _ _ c.put_lowered-namespace.ensures c.in-To.is) in
+    ((room_after room (grown-of _ _ _ _ _ _ _ c.put_roots-roots.ensures c.in-To-roots.is), search rules), c.requires.places)
 
 pub returns : goal.returns
 returns c =
@@ -45,7 +45,7 @@ returns c =
     let ns = lowered_row false (row_at a.rows.now a.names.now 1) in
     let rs = root_rows (rows_from a.rows.now a.names.now 2 a.end) in
     let ts = types_rows a.rows.now a.names.now a.end (entry_places a.entries.now) in
-    let o = onward-step ns (rs ++ ts) (onward-start _ c.requires.0.0) (graph-on a.rows.now a.names.now a.end (entry_places a.entries.now))
+    let o = onward-step ns (rs ++ ts) (onward-start _ c.requires.room.0) (graph-on a.rows.now a.names.now a.end (entry_places a.entries.now))
     (grown-of _ _ _ _ _ _ _ c.put_lowered-namespace.ensures c.in-To.is) in
     let o₂ = onward-step rs ts o refl (grown-of _ _ _ _ _ _ _ c.put_roots-roots.ensures c.in-To-roots.is) in
     let last = c.put_types in

@@ -41,7 +41,7 @@ rest c =
 
 pub loop-k-init : goal.loop-k-init
 loop-k-init c =
-    (onward-start _ c.requires.0.0, refl, refl, c.requires.1)
+    (onward-start _ c.requires.room.0, refl, refl, c.requires.places)
 
 pub put_type-grown-requires : goal.put_type-grown-requires
 put_type-grown-requires c =

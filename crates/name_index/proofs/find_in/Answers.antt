@@ -26,45 +26,45 @@ compared c =
 
 pub offset_bounds-table-bucket : goal.offset_bounds-table-bucket
 offset_bounds-table-bucket c =
-    omega (arith, bucket-inside _ c.requires.0 c.requires.1)
+    omega (arith, bucket-inside _ c.requires.index c.requires.bucket_value)
 
 pub bounds-table-bucket : goal.bounds-table-bucket
 bounds-table-bucket c =
-    omega (arith, bucket-inside _ c.requires.0 c.requires.1)
+    omega (arith, bucket-inside _ c.requires.index c.requires.bucket_value)
 
 pub loop-e-init : goal.loop-e-init
 loop-e-init c =
     let a = c.args in
-    rw (c.wide-e.ensures, c.requires.1) (walk_start c.requires.0 (spelled a.asked_normalised a.asked.now))
+    rw (c.wide-e.ensures, c.requires.bucket_value) (walk_start c.requires.index (spelled a.asked_normalised a.asked.now))
 
 pub overflow_add-entry : goal.overflow_add-entry
 overflow_add-entry c =
-    omega (arith, c.loop-e.invariant.bound, c.requires.0.inside)
+    omega (arith, c.loop-e.invariant.bound, c.requires.index.inside)
 
 pub offset_bounds-table-buckets : goal.offset_bounds-table-buckets
 offset_bounds-table-buckets c =
-    omega (arith, c.loop-e.invariant.bound, c.requires.0.inside)
+    omega (arith, c.loop-e.invariant.bound, c.requires.index.inside)
 
 pub bounds-table-buckets : goal.bounds-table-buckets
 bounds-table-buckets c =
-    omega (arith, c.loop-e.invariant.bound, c.requires.0.inside)
+    omega (arith, c.loop-e.invariant.bound, c.requires.index.inside)
 
 pub name_at-held-requires : goal.name_at-held-requires
 name_at-held-requires c =
-    rw c.wide-place.ensures (c.requires.0.placed (c.loop-e.e - 1) (omega (arith, c.loop-e.invariant.bound))).1
+    rw c.wide-place.ensures (c.requires.index.placed (c.loop-e.e - 1) (omega (arith, c.loop-e.invariant.bound))).1
 
 pub returns-then-same_spelled : goal.returns-then-same_spelled
 returns-then-same_spelled c =
-    c.wide-place.ensures ∙ walk-hit c.requires.0 _ c.loop-e.invariant (omega arith) (sym (compared c.before.before) ∙ c.if-same_spelled.true)
+    c.wide-place.ensures ∙ walk-hit c.requires.index _ c.loop-e.invariant (omega arith) (sym (compared c.before.before) ∙ c.if-same_spelled.true)
 
 pub loop-e-smaller : goal.loop-e-smaller
 loop-e-smaller c =
-    rw c.wide-e-in-loop-e.ensures (walk-less c.requires.0 _ c.loop-e.invariant (omega arith))
+    rw c.wide-e-in-loop-e.ensures (walk-less c.requires.index _ c.loop-e.invariant (omega arith))
 
 pub loop-e-preserved : goal.loop-e-preserved
 loop-e-preserved c =
-    rw c.wide-e-in-loop-e.ensures (walk_more c.requires.0 _ c.loop-e.invariant (omega arith) (sym (compared c.before.before.before) ∙ c.if-same_spelled.false))
+    rw c.wide-e-in-loop-e.ensures (walk_more c.requires.index _ c.loop-e.invariant (omega arith) (sym (compared c.before.before.before) ∙ c.if-same_spelled.false))
 
 pub returns : goal.returns
 returns c =
-    walk_end c.requires.0 _ c.loop-e.invariant (omega arith)
+    walk_end c.requires.index _ c.loop-e.invariant (omega arith)

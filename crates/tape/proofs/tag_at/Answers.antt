@@ -12,7 +12,7 @@ use Rattle.tape.proofs.tag_at.Goals as goal
 
 pub pairs_inside-requires : goal.pairs_inside-requires
 unfolding pair_count
-pairs_inside-requires c = c.requires.0.2
+pairs_inside-requires c = c.requires.fact.2
 
 pub returns-then-not-pairs_inside : goal.returns-then-not-pairs_inside
 unfolding recorded IsPlaced pair_count
@@ -37,7 +37,7 @@ pub returns : goal.returns
 unfolding recorded IsPlaced pair_count tag_at
 returns c =
     let a = c.args in
-    let form = c.requires.0 in
+    let form = c.requires.fact in
     let ps = pairs_of (pair_count a.count) (drop (a.at + 2) a.marks.now) in
     let inside = sym c.pairs_inside.ensures ∙ c.if-not-pairs_inside.false in
     let ascii = sym c.pairs_ascii.ensures ∙ c.if-not-pairs_ascii.false in

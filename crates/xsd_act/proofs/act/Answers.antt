@@ -27,7 +27,7 @@ use Rattle.xsd_act.proofs.act.Goals as goal
 -- the room and what is left to show, the decision as its arm found it
 room_as : (c : lts.Start tie.the-claims reads.Pre reads.Post) (x : Decision) (a : Action) → c.args.d ≡ x → decision c.args.text.now c.args.marks.now x ≡ ok a
     → RoomFor c.args.rows.now c.args.names.now c.args.used c.args.head a
-room_as c x a e f = room_for c.requires.0 a (ap (decision c.args.text.now c.args.marks.now) e ∙ f)
+room_as c x a e f = room_for c.requires.room a (ap (decision c.args.text.now c.args.marks.now) e ∙ f)
 
 done-as : (c : lts.Start tie.the-claims reads.Pre reads.Post) (x : Decision) (rows' names' : List ℕ) (r : Used) → c.args.d ≡ x
     → Done c.args.rows.now c.args.names.now c.args.used c.args.head (decision c.args.text.now c.args.marks.now x) rows' names' r
@@ -39,42 +39,42 @@ pub put_text-requires : goal.put_text-requires
 unfolding decision
 put_text-requires c =
     let w = room_as c.before.before.before.before.before.before.before.before.before.before _ _ c.in-Root.is refl in
-    (root-room w.ready _ w.roomy, c.requires.1)
+    (root-room w.ready _ w.roomy, c.requires.names)
 
 pub open_type-requires : goal.open_type-requires
 unfolding decision rows_after_all namespace_after rows_after
 open_type-requires c =
     let w = room_as c.before.before.before.before.before.before.before.before.before.before _ _ c.in-OpenSimple.is refl in
     let room = more_room w.ready _ w.roomy in
-    (room.0, ((rw (open_simple-bytes _ _) at room.1, c.requires.1), (omega arith, omega arith)))
+    (room.0, ((rw (open_simple-bytes _ _) at room.1, c.requires.names), (omega arith, omega arith)))
 
 pub open_type-requires-in-OpenComplex : goal.open_type-requires-in-OpenComplex
 unfolding decision rows_after_all namespace_after rows_after
 open_type-requires-in-OpenComplex c =
     let w = room_as c.before.before.before.before.before.before.before.before.before.before _ _ c.in-OpenComplex.is refl in
     let room = more_room w.ready _ w.roomy in
-    (room.0, ((rw (open_complex-bytes _ _) at room.1, c.requires.1), (omega arith, omega arith)))
+    (room.0, ((rw (open_complex-bytes _ _) at room.1, c.requires.names), (omega arith, omega arith)))
 
 pub add_row-requires : goal.add_row-requires
 unfolding decision rows_after_all namespace_after rows_after
 add_row-requires c =
     let w = room_as c.before.before.before.before.before.before.before.before.before.before _ _ c.in-Add.is refl in
     let room = more_room w.ready _ w.roomy in
-    (room.0, (room.1, c.requires.1))
+    (room.0, (room.1, c.requires.names))
 
 pub append_characters-requires : goal.append_characters-requires
 unfolding decision row join rows_after_all namespace_after rows_after
 append_characters-requires c =
     let w = room_as c.before.before.before.before.before.before.before.before.before.before _ _ c.in-Characters.is refl in
     let room = more_room w.ready _ w.roomy in
-    (room.0, (rw add-zero at room.1, c.requires.1))
+    (room.0, (rw add-zero at room.1, c.requires.names))
 
 pub append_digits-requires : goal.append_digits-requires
 unfolding decision row join rows_after_all namespace_after rows_after
 append_digits-requires c =
     let w = room_as c.before.before.before.before.before.before.before.before.before.before _ _ c.in-Digits.is refl in
     let room = more_room w.ready _ w.roomy in
-    (room.0, (rw add-zero at room.1, c.requires.1))
+    (room.0, (rw add-zero at room.1, c.requires.names))
 
 pub put_content-requires : goal.put_content-requires
 unfolding decision Fitting
@@ -83,29 +83,29 @@ put_content-requires c =
     let n = c.in-Content.n in
     let w = room_as c.before.before.before.before.before.before.before.before.before.before _ _ c.in-Content.is refl in
     let texts = following-used a.text.now a.marks.now n w.fitting.name in
-    (content-room w.ready n.tag n.a _ w.fitting (content_pairs n.follows) _ (content_pairs-bound n.follows).1 texts w.roomy, c.requires.1)
+    (content-room w.ready n.tag n.a _ w.fitting (content_pairs n.follows) _ (content_pairs-bound n.follows).1 texts w.roomy, c.requires.names)
 
 pub put_text-requires-in-Base : goal.put_text-requires-in-Base
 unfolding decision Fitting
 put_text-requires-in-Base c =
     let w = room_as c.before.before.before.before.before.before.before.before.before.before _ _ c.in-Base.is refl in
-    (base-room w.ready _ w.fitting w.roomy, c.requires.1)
+    (base-room w.ready _ w.fitting w.roomy, c.requires.names)
 
 pub returns-in-Refuse : goal.returns-in-Refuse
 unfolding decision
 returns-in-Refuse c =
     let a = c.args in
-    absurd (refuse-ok (sym (ap (decision a.text.now a.marks.now) c.in-Refuse.is) ∙ c.requires.0.decided))
+    absurd (refuse-ok (sym (ap (decision a.text.now a.marks.now) c.in-Refuse.is) ∙ c.requires.room.decided))
 
 pub returns-in-Keep : goal.returns-in-Keep
 unfolding decision
 returns-in-Keep c = done-as c.before.before.before.before.before.before.before _ _ _ _ c.in-Keep.is done-keep
 
 pub shape_of-rows-in-Root : goal.shape_of-rows-in-Root
-shape_of-rows-in-Root c = c.put_text.auto.0
+shape_of-rows-in-Root c = c.put_text.auto.rows
 
 pub shape_of-names-in-Root : goal.shape_of-names-in-Root
-shape_of-names-in-Root c = c.put_text.auto.1.0
+shape_of-names-in-Root c = c.put_text.auto.names
 
 pub returns-in-Root : goal.returns-in-Root
 unfolding decision
@@ -113,10 +113,10 @@ returns-in-Root c = done-as c.before.before.before.before.before.before.before.b
     c.in-Root.is (done-root _ c.put_text.ensures)
 
 pub shape_of-rows-in-OpenSimple : goal.shape_of-rows-in-OpenSimple
-shape_of-rows-in-OpenSimple c = c.open_type.auto.0
+shape_of-rows-in-OpenSimple c = c.open_type.auto.rows
 
 pub shape_of-names-in-OpenSimple : goal.shape_of-names-in-OpenSimple
-shape_of-names-in-OpenSimple c = c.open_type.auto.1.0
+shape_of-names-in-OpenSimple c = c.open_type.auto.names
 
 pub returns-in-OpenSimple : goal.returns-in-OpenSimple
 unfolding decision open_simple_row rows_after_all namespace_after rows_after
@@ -125,10 +125,10 @@ returns-in-OpenSimple c = done-as c.before.before.before.before.before.before.be
     (done_more (Action.open_simple _ _) (open_simple_row _ _) (λ namespace done last. refl) c.open_type.ensures)
 
 pub shape_of-rows-in-OpenComplex : goal.shape_of-rows-in-OpenComplex
-shape_of-rows-in-OpenComplex c = c.open_type-in-OpenComplex.auto.0
+shape_of-rows-in-OpenComplex c = c.open_type-in-OpenComplex.auto.rows
 
 pub shape_of-names-in-OpenComplex : goal.shape_of-names-in-OpenComplex
-shape_of-names-in-OpenComplex c = c.open_type-in-OpenComplex.auto.1.0
+shape_of-names-in-OpenComplex c = c.open_type-in-OpenComplex.auto.names
 
 pub returns-in-OpenComplex : goal.returns-in-OpenComplex
 unfolding decision open_complex_row rows_after_all namespace_after rows_after
@@ -137,10 +137,10 @@ returns-in-OpenComplex c = done-as c.before.before.before.before.before.before.b
     (done_more (Action.open_complex _ _) (open_complex_row _ _) (λ namespace done last. refl) c.open_type-in-OpenComplex.ensures)
 
 pub shape_of-rows-in-Add : goal.shape_of-rows-in-Add
-shape_of-rows-in-Add c = c.add_row.auto.0
+shape_of-rows-in-Add c = c.add_row.auto.rows
 
 pub shape_of-names-in-Add : goal.shape_of-names-in-Add
-shape_of-names-in-Add c = c.add_row.auto.1.0
+shape_of-names-in-Add c = c.add_row.auto.names
 
 pub returns-in-Add : goal.returns-in-Add
 unfolding decision rows_after_all namespace_after rows_after
@@ -149,10 +149,10 @@ returns-in-Add c = done-as c.before.before.before.before.before.before.before.be
     (done_more (Action.add _) _ (λ namespace done last. refl) c.add_row.ensures)
 
 pub shape_of-rows-in-Characters : goal.shape_of-rows-in-Characters
-shape_of-rows-in-Characters c = c.append_characters.auto.0
+shape_of-rows-in-Characters c = c.append_characters.auto.rows
 
 pub shape_of-names-in-Characters : goal.shape_of-names-in-Characters
-shape_of-names-in-Characters c = c.append_characters.auto.1.0
+shape_of-names-in-Characters c = c.append_characters.auto.names
 
 pub returns-in-Characters : goal.returns-in-Characters
 unfolding decision rows_after_all namespace_after rows_after
@@ -161,10 +161,10 @@ returns-in-Characters c = done-as c.before.before.before.before.before.before.be
     (done_more (Action.add _) _ (λ namespace done last. refl) c.append_characters.ensures)
 
 pub shape_of-rows-in-Digits : goal.shape_of-rows-in-Digits
-shape_of-rows-in-Digits c = c.append_digits.auto.0
+shape_of-rows-in-Digits c = c.append_digits.auto.rows
 
 pub shape_of-names-in-Digits : goal.shape_of-names-in-Digits
-shape_of-names-in-Digits c = c.append_digits.auto.1.0
+shape_of-names-in-Digits c = c.append_digits.auto.names
 
 pub returns-in-Digits : goal.returns-in-Digits
 unfolding decision rows_after_all namespace_after rows_after
@@ -173,10 +173,10 @@ returns-in-Digits c = done-as c.before.before.before.before.before.before.before
     (done_more (Action.add _) _ (λ namespace done last. refl) c.append_digits.ensures)
 
 pub shape_of-rows-in-Content : goal.shape_of-rows-in-Content
-shape_of-rows-in-Content c = c.put_content.auto.0
+shape_of-rows-in-Content c = c.put_content.auto.rows
 
 pub shape_of-names-in-Content : goal.shape_of-names-in-Content
-shape_of-names-in-Content c = c.put_content.auto.1.0
+shape_of-names-in-Content c = c.put_content.auto.names
 
 pub returns-in-Content : goal.returns-in-Content
 unfolding decision
@@ -187,10 +187,10 @@ returns-in-Content c =
     (done-content (content_numbers n _) _ (content_pairs n.follows) _ refl refl (following-used a.text.now a.marks.now n) c.put_content.ensures)
 
 pub shape_of-rows-in-Base : goal.shape_of-rows-in-Base
-shape_of-rows-in-Base c = c.put_text-in-Base.auto.0
+shape_of-rows-in-Base c = c.put_text-in-Base.auto.rows
 
 pub shape_of-names-in-Base : goal.shape_of-names-in-Base
-shape_of-names-in-Base c = c.put_text-in-Base.auto.1.0
+shape_of-names-in-Base c = c.put_text-in-Base.auto.names
 
 pub returns-in-Base : goal.returns-in-Base
 unfolding decision

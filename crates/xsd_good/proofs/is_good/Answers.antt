@@ -32,4 +32,4 @@ count_of-requires c = passes c.before.before
 pub returns : goal.returns
 returns c =
     let a = c.args in
-    good-by-count a.rows.now a.names.now (passes c.before.before.before) c.count_in.ensures c.count_of.ensures.0
+    good-by-count a.rows.now a.names.now (passes c.before.before.before) c.count_in.ensures c.count_of.ensures.count

@@ -46,7 +46,7 @@ few : (c : lts.After-count_refused tie.the-claims reads.Pre reads.Post)
     (at_entry r).args.rows.now
 few c =
     let r = read_at c.before.before.before in
-    count_small (at_entry r).pre (words-before r) r.read_good.ensures c.finished_place-end.ensures.1 (from_is r) (end_is c.before.before.before)
+    count_small (at_entry r).pre (words-before r) r.read_good.ensures c.finished_place-end.ensures.words (from_is r) (end_is c.before.before.before)
     r.before.before.before.before.before.count_in.ensures c.count_refused-more.ensures
 
 pub count_in-before-requires : goal.count_in-before-requires
@@ -70,7 +70,7 @@ finished_place-end-requires c =
 pub count_refused-more-requires : goal.count_refused-more-requires
 count_refused-more-requires c =
     let r = read_at c.before.before.before in
-    room_after (at_entry r).pre (words-before r) r.read_good.ensures c.finished_place-end.ensures.1 (from_is r) (end_is c.before.before.before)
+    room_after (at_entry r).pre (words-before r) r.read_good.ensures c.finished_place-end.ensures.words (from_is r) (end_is c.before.before.before)
 
 pub overflow_add-rows : goal.overflow_add-rows
 overflow_add-rows c = omega (arith, few c.before, (at_entry (read_at c.before.before.before.before)).requires.lent.few_rows)
@@ -91,5 +91,5 @@ shape_of-rows c =
 pub returns : goal.returns
 returns c =
     let r = read_at c.before.before.before.before in
-    read-through-count (at_entry r).pre (words-before r) r.read_good.ensures c.finished_place-end.ensures.1 (from_is r) (end_is c.before.before.before.before)
+    read-through-count (at_entry r).pre (words-before r) r.read_good.ensures c.finished_place-end.ensures.words (from_is r) (end_is c.before.before.before.before)
     r.before.before.before.before.before.count_in.ensures c.count_refused-more.ensures

@@ -29,8 +29,8 @@ mark_all-requires c =
     let long = ap length c.requires.2
     ∙ length-replicate {A = ℕ} 4096 0 in (
       room-first g c.requires.1.distinct
-          c.put_targets.ensures.0
-          (c.put_targets.ensures.1 ∙ length-replicate {A = ℕ} 4096 0)
+          c.put_targets.ensures.targets_put
+          (c.put_targets.ensures.to_len_unchanged ∙ length-replicate {A = ℕ} 4096 0)
           (rw c.requires.2 at
           c.mark-n.ensures) (omega (arith, long, c.mark-n.auto)),
       rows_inside g,
@@ -38,4 +38,4 @@ mark_all-requires c =
     )
 
 pub returns : goal.returns
-returns c = marks-done c.requires.0 c.put_targets.ensures.0 (rw c.requires.2 at c.mark-n.ensures) c.mark_all.ensures
+returns c = marks-done c.requires.0 c.put_targets.ensures.targets_put (rw c.requires.2 at c.mark-n.ensures) c.mark_all.ensures

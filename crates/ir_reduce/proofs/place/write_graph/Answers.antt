@@ -50,15 +50,15 @@ row0_of-row0-requires c =
     let grown = grown-of _ _ _ _ _ _ _ c.put_kept-grown.ensures c.in-To.is in (
       omega (arith, grown.rows_inside, grown.rows_length, c.requires.1.few_rows),
       omega (arith, grown.names_inside, grown.names_length, c.requires.1.few_names),
-      omega (arith, c.count_kept-roots.ensures.1, rows_inside g, g.few),
-      omega (arith, c.count_kept-types.ensures.1, rows_inside g, g.few),
+      omega (arith, c.count_kept-roots.ensures.upper_bound, rows_inside g, g.few),
+      omega (arith, c.count_kept-types.ensures.upper_bound, rows_inside g, g.few),
     )
 
 pub put_row0-requires : goal.put_row0-requires
 put_row0-requires c = omega
-    (arith, c.requires.1.some_rows, c.put_kept-grown.auto.0)
+    (arith, c.requires.1.some_rows, c.put_kept-grown.auto.graph_rows)
 
 pub returns : goal.returns
 returns c =
     let a = c.args in
-    written-to c.requires.1 (grown-of _ _ _ _ _ _ _ c.put_kept-grown.ensures c.in-To.is) (c.count_kept-roots.ensures.0 a.graph_names.now) (c.count_kept-types.ensures.0 a.graph_names.now) c.row0_of-row0.ensures c.put_row0.ensures
+    written-to c.requires.1 (grown-of _ _ _ _ _ _ _ c.put_kept-grown.ensures c.in-To.is) (c.count_kept-roots.ensures.fact a.graph_names.now) (c.count_kept-types.ensures.fact a.graph_names.now) c.row0_of-row0.ensures c.put_row0.ensures

@@ -26,17 +26,17 @@ on c =
     rw now (kept_next a.rows.now a.names.now a.marks.now loop.auto loop.place a.end c.loop-place-test.true)
 
 pub loop-place-init : goal.loop-place-init
-loop-place-init c = (going_start _ c.requires.0, omega arith)
+loop-place-init c = (going_start _ c.requires.room, omega arith)
 
 pub put_if-grown-requires : goal.put_if-grown-requires
 put_if-grown-requires c =
     let loop = c.loop-place in (
       loop.invariant.0.room,
-      c.requires.1.3 loop.place
+      c.requires.rows.3 loop.place
           (omega (arith, loop.invariant.1)) (omega (arith, c.loop-place-test.true)),
       omega (
         arith,
-        c.requires.1.0,
+        c.requires.rows.0,
         c.loop-place-test.true,
       ),
     )

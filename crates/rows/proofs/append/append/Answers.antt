@@ -12,12 +12,12 @@ unfolding row
 returns c =
     let a = c.args in
     let r = row_of a.n (used_texts a.pairs a.first.now a.second.now) in
-    let bytes = used-bytes a.pairs a.first.now a.second.now c.requires.names.1 in
+    let bytes = used-bytes a.pairs a.first.now a.second.now c.requires.pairs in
     let set = c.set_row in
     let stored = c.put_texts-end in
     record {
-      rows_length = set.auto.0;
-      names_length = stored.auto.0;
-      holds = λ z rs h. holds_more r stored.result h c.requires.rows (rw bytes c.requires.names.0.0) (set.ensures a.first.now a.second.now refl refl)
-          (rw bytes stored.ensures.1) (rw bytes stored.ensures.0);
+      rows_length = set.auto.rows;
+      names_length = stored.auto.names;
+      holds = λ z rs h. holds_more r stored.result h c.requires.rows (rw bytes c.requires.names.0) (set.ensures a.first.now a.second.now refl refl)
+          (rw bytes stored.ensures.texts) (rw bytes stored.ensures.end);
     }

@@ -8,4 +8,4 @@ use Rattle.tape.proofs.tests.pairs_ascii.Goals as goal
 pub returns-then-plain : goal.returns-then-plain
 returns-then-plain c =
     let a = c.args in
-    sym (ascii-whole a.text.now (c.requires.1 c.if-plain.true) (pairs_of a.n (drop a.from a.marks.now)))
+    sym (ascii-whole a.text.now (c.requires.text_value c.if-plain.true) (pairs_of a.n (drop a.from a.marks.now)))

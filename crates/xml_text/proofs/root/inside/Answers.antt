@@ -22,7 +22,7 @@ loop-left-init c =
 
 pub turn-requires : goal.turn-requires
 turn-requires c =
-    ((c.requires.0.0, omega (arith, c.requires.0.1, c.loop-left.invariant.6), c.loop-left.invariant.7, c.loop-left.invariant.8, c.loop-left.invariant.9, omega arith), search rules)
+    ((c.requires.text_len_bound.0, omega (arith, c.requires.text_len_bound.1, c.loop-left.invariant.6), c.loop-left.invariant.7, c.loop-left.invariant.8, c.loop-left.invariant.9, omega arith), search rules)
 
 pub returns-in_default : goal.returns-in_default
 returns-in_default c =

@@ -18,7 +18,7 @@ returns-then-not-is_marked c =
     let e = sym c.is_marked.ensures ∙ c.if-not-is_marked.true in
     let f = or-false-left (starts_with (bytes "<!") s) (starts_with (bytes "<?") s) e in (
       rw (
-        c.requires.0,
+        c.requires.text_value,
         starts-longer (bytes "<!") (bytes "--") s f,
         starts-longer (bytes "<!") (bytes "[CDATA[") s f,
         or-false-right (starts_with (bytes "<!") s)
@@ -32,7 +32,7 @@ unfolding markup bytes
 returns-then-starts c =
     let text = c.args.text.now in
     let q = c.passed.ensures text ∙ ap passed_by c.comment.ensures in (
-      rw (c.requires.0, sym c.starts.ensures ∙ c.if-starts.true) q,
+      rw (c.requires.text_value, sym c.starts.ensures ∙ c.if-starts.true) q,
       passed-in text c.args.at c.passed.result _
           (λ e p. inside-text comment-passes text c.args.at e p) q,
     )
@@ -42,7 +42,7 @@ unfolding markup bytes
 returns-then-starts-2 c =
     let text = c.args.text.now in
     let q = c.passed-then-starts-2.ensures text ∙ ap passed_by c.section.ensures in (
-      rw (c.requires.0, sym c.starts.ensures ∙ c.if-starts.false, sym c.starts-2.ensures ∙ c.if-starts-2.true) q,
+      rw (c.requires.text_value, sym c.starts.ensures ∙ c.if-starts.false, sym c.starts-2.ensures ∙ c.if-starts-2.true) q,
       passed-in text c.args.at c.passed-then-starts-2.result _
           (λ e p. inside-text section-passes text c.args.at e p) q,
     )
@@ -52,7 +52,7 @@ unfolding markup bytes
 returns-then-starts-3 c =
     let text = c.args.text.now in
     let q = c.passed-then-starts-3.ensures text ∙ ap passed_by c.instruction.ensures in (
-      rw (c.requires.0, sym c.starts.ensures ∙ c.if-starts.false, sym c.starts-2.ensures ∙ c.if-starts-2.false, sym c.starts-3.ensures ∙ c.if-starts-3.true) q,
+      rw (c.requires.text_value, sym c.starts.ensures ∙ c.if-starts.false, sym c.starts-2.ensures ∙ c.if-starts-2.false, sym c.starts-3.ensures ∙ c.if-starts-3.true) q,
       passed-in text
           c.args.at c.passed-then-starts-3.result _ (λ e p. inside-text instruction-passes text c.args.at e p) q,
     )
@@ -60,4 +60,4 @@ returns-then-starts-3 c =
 pub returns : goal.returns
 unfolding markup bytes
 returns c =
-    (rw (c.requires.0, sym c.starts.ensures ∙ c.if-starts.false, sym c.starts-2.ensures ∙ c.if-starts-2.false, sym c.starts-3.ensures ∙ c.if-starts-3.false), omega arith)
+    (rw (c.requires.text_value, sym c.starts.ensures ∙ c.if-starts.false, sym c.starts-2.ensures ∙ c.if-starts-2.false, sym c.starts-3.ensures ∙ c.if-starts-3.false), omega arith)

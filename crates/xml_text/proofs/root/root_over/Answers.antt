@@ -19,17 +19,17 @@ returns-in_default c =
 
 pub overflow_cast-slots : goal.overflow_cast-slots
 overflow_cast-slots c =
-    let e = tag-to c.args.text.now c.args.at _ _ _ c.in-To.is c.tag.ensures in omega (arith, e.6, e.7, c.requires.0)
+    let e = tag-to c.args.text.now c.args.at _ _ _ c.in-To.is c.tag.ensures in omega (arith, e.6, e.7, c.requires.text_len_bound)
 
 pub inside-requires : goal.inside-requires
 inside-requires c =
-    let p = c.requires.0 in
+    let p = c.requires.text_len_bound in
     let e = tag-to c.args.text.now c.args.at _ _ _ c.in-To.is c.tag.ensures in
     ((p.0, simp length-set (omega (arith, p.1)), omega (arith, e.8), omega (arith, e.9), e.7), search rules)
 
 pub shape_of-slots-then-kind-eq-START : goal.shape_of-slots-then-kind-eq-START
 shape_of-slots-then-kind-eq-START c =
-    c.inside.auto.1.1.0 ∙ length-set c.tag.new.1.1.1.0 0 c.in-To.start ∙ c.tag.auto.1.1.1.0
+    c.inside.auto.marks.1.0 ∙ length-set c.tag.new.1.1.1.0 0 c.in-To.start ∙ c.tag.auto.marks.1.1.0
 
 pub returns-then-kind-eq-START : goal.returns-then-kind-eq-START
 unfolding names_up_to
@@ -39,7 +39,7 @@ returns-then-kind-eq-START c =
     let kind = c.in-To.kind in
     let event = TapeEvent.tag kind e.0 e.1 in
     let level = ap (level_of_tag []) e.2 ∙ open-start a.text.now a.slots.now c.tag.new.1.1.1.0 0 c.in-To.start kind e.0 e.1
-    c.in-To.behind (drop c.in-To.behind a.text.now) c.if-kind-eq-START.true refl (omega (arith, c.requires.0)) in
+    c.in-To.behind (drop c.in-To.behind a.text.now) c.if-kind-eq-START.true refl (omega (arith, c.requires.text_len_bound)) in
     root-joined a.text.now _ _ _ _ (event ∷ []) c.inside.result _ _ (root-found a.at _ _ level) (e.4 ∙ ap (sets a.marks.now 0) (sym (one-event event)))
     (omega (arith, e.3, ap length (one-event event))) c.inside.ensures
 

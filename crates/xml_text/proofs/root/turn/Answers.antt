@@ -18,7 +18,7 @@ returns-in_default c =
 
 pub close_tag-requires : goal.close_tag-requires
 close_tag-requires c =
-    let p = c.requires.0 in
+    let p = c.requires.text_len_bound in
     let m = char-data-moves _ _ _ _ (to-of c.args.text.now c.in-To.is c.char_data.ensures) in
     ((p.0, omega (arith, p), p.5, omega (arith, p, m), omega (arith, p, m), omega (arith, p)), search rules)
 
@@ -36,7 +36,7 @@ markup-requires c = (sym c.starts.ensures ∙ c.if-starts.false, search rules)
 
 pub open_tag-requires : goal.open_tag-requires
 open_tag-requires c =
-    let p = c.requires.0 in
+    let p = c.requires.text_len_bound in
     let m = char-data-moves _ _ _ _ (to-of c.args.text.now c.in-To.is c.char_data.ensures) in
     let i = in-starting (length c.args.text.now) _ c.in-Starting.is c.markup.ensures.1 in
     ((p.0, p.1, omega (arith, p, m, i), omega (arith, p, m, i), omega (arith, p), omega (arith, p)), search rules)
@@ -61,8 +61,8 @@ returns-in-Passed c =
       omega (arith, p, m),
       p.1,
       omega
-          (arith, p, m, c.requires.0),
-      omega (arith, p, m, c.requires.0),
+          (arith, p, m, c.requires.text_len_bound),
+      omega (arith, p, m, c.requires.text_len_bound),
     )
 
 pub returns-in-Starting : goal.returns-in-Starting

@@ -29,49 +29,49 @@ unfolding decision text_at_mark
 needed_text-requires c =
     let a = c.args in
     let found = c.d-1.given in
-    let w = c.requires.0 _ (ap (decision a.text.now a.marks.now) found.1) in
+    let w = c.requires.ready _ (ap (decision a.text.now a.marks.now) found.1) in
     let new = ap length c.pair_part.ensures in
-    (record { names = w.names; spot = _; text = ready-root w.ready }, (c.requires.1.names_used, omega (arith, text_at_mark-bound a.text.now a.marks.now found.0.0)))
+    (record { names = w.names; spot = _; text = ready-root w.ready }, (c.requires.small.names_used, omega (arith, text_at_mark-bound a.text.now a.marks.now found.0.0)))
 
 pub with_row-requires : goal.with_row-requires
 unfolding text_at_mark
 with_row-requires c =
     let a = c.args in
     let new = ap length c.pair_part-in-OpenSimple.ensures in
-    omega (arith, c.requires.1, text_at_mark-bound a.text.now a.marks.now c.in-OpenSimple.n.name)
+    omega (arith, c.requires.small, text_at_mark-bound a.text.now a.marks.now c.in-OpenSimple.n.name)
 
 pub with_row-requires-in-OpenComplex : goal.with_row-requires-in-OpenComplex
 unfolding text_at_mark
 with_row-requires-in-OpenComplex c =
     let a = c.args in
     let new = ap length c.pair_part-in-OpenComplex.ensures in
-    omega (arith, c.requires.1, text_at_mark-bound a.text.now a.marks.now c.in-OpenComplex.n.name)
+    omega (arith, c.requires.small, text_at_mark-bound a.text.now a.marks.now c.in-OpenComplex.n.name)
 
 pub needed_content-requires : goal.needed_content-requires
 unfolding decision Fitting
 needed_content-requires c =
     let a = c.args in
-    let w = c.requires.0 _ (ap (decision a.text.now a.marks.now) c.in-Content.is) in
-    (record { names = w.names; z = w.z; rs = _; name = _; head = ready-head w.ready w.fitting }, c.requires.1)
+    let w = c.requires.ready _ (ap (decision a.text.now a.marks.now) c.in-Content.is) in
+    (record { names = w.names; z = w.z; rs = _; name = _; head = ready-head w.ready w.fitting }, c.requires.small)
 
 pub needed_text-requires-in-Base : goal.needed_text-requires-in-Base
 unfolding decision text_at_mark Fitting
 needed_text-requires-in-Base c =
     let a = c.args in
     let found = c.d-in-Base-1.given in
-    let w = c.requires.0 _ (ap (decision a.text.now a.marks.now) found.1) in
+    let w = c.requires.ready _ (ap (decision a.text.now a.marks.now) found.1) in
     let new = ap length c.pair_part-in-Base.ensures in
-    (record { names = w.names; spot = _; text = ready-base w.ready w.fitting }, (c.requires.1.names_used, omega (arith, text_at_mark-bound a.text.now a.marks.now found.0.0)))
+    (record { names = w.names; spot = _; text = ready-base w.ready w.fitting }, (c.requires.small.names_used, omega (arith, text_at_mark-bound a.text.now a.marks.now found.0.0)))
 
 pub returns-in-Refuse : goal.returns-in-Refuse
 unfolding decision
 returns-in-Refuse c =
-    found_as c.before.before.before.before.before.before _ _ c.in-Refuse.is (needed-refuse _ (omega (arith, c.requires.1)))
+    found_as c.before.before.before.before.before.before _ _ c.in-Refuse.is (needed-refuse _ (omega (arith, c.requires.small)))
 
 pub returns-in-Keep : goal.returns-in-Keep
 unfolding decision
 returns-in-Keep c =
-    found_as c.before.before.before.before.before.before _ _ c.in-Keep.is (needed-keep c.requires.1.rows_used refl)
+    found_as c.before.before.before.before.before.before _ _ c.in-Keep.is (needed-keep c.requires.small.rows_used refl)
 
 pub returns-in-Root : goal.returns-in-Root
 unfolding decision text_at_mark
@@ -79,14 +79,14 @@ returns-in-Root c =
     let a = c.args in
     let t = text_at_mark a.text.now a.marks.now c.in-Root.at in
     let e = c.needed_text.ensures in
-    found_as c.before.before.before.before.before.before.before.before.before _ _ c.in-Root.is (needed-root t c.requires.1.rows_used (rw (ap length c.pair_part.ensures) at e))
+    found_as c.before.before.before.before.before.before.before.before.before _ _ c.in-Root.is (needed-root t c.requires.small.rows_used (rw (ap length c.pair_part.ensures) at e))
 
 pub returns-in-OpenSimple : goal.returns-in-OpenSimple
 unfolding decision text_at_mark rows_after_all namespace_after rows_after
 returns-in-OpenSimple c =
     let a = c.args in
     let t = text_at_mark a.text.now a.marks.now c.in-OpenSimple.n.name in
-    found_as c.before.before.before.before.before.before.before.before.before _ _ c.in-OpenSimple.is (needed-more (Action.open_simple _ t) (open_simple_row _ t) (λ namespace done last. refl) c.requires.1.rows_used
+    found_as c.before.before.before.before.before.before.before.before.before _ _ c.in-OpenSimple.is (needed-more (Action.open_simple _ t) (open_simple_row _ t) (λ namespace done last. refl) c.requires.small.rows_used
     (subst (λ (n : ℕ). RowNeeded a.used n c.with_row.result) (ap length c.pair_part-in-OpenSimple.ensures ∙ sym (open_simple-bytes _ t)) c.with_row.ensures))
 
 pub returns-in-OpenComplex : goal.returns-in-OpenComplex
@@ -94,26 +94,26 @@ unfolding decision text_at_mark rows_after_all namespace_after rows_after
 returns-in-OpenComplex c =
     let a = c.args in
     let t = text_at_mark a.text.now a.marks.now c.in-OpenComplex.n.name in
-    found_as c.before.before.before.before.before.before.before.before.before _ _ c.in-OpenComplex.is (needed-more (Action.open_complex _ t) (open_complex_row _ t) (λ namespace done last. refl) c.requires.1.rows_used
+    found_as c.before.before.before.before.before.before.before.before.before _ _ c.in-OpenComplex.is (needed-more (Action.open_complex _ t) (open_complex_row _ t) (λ namespace done last. refl) c.requires.small.rows_used
     (subst (λ (n : ℕ). RowNeeded a.used n c.with_row-in-OpenComplex.result) (ap length c.pair_part-in-OpenComplex.ensures ∙ sym (open_complex-bytes _ t)) c.with_row-in-OpenComplex.ensures))
 
 pub returns-in-Add : goal.returns-in-Add
 unfolding decision rows_after_all namespace_after rows_after
 returns-in-Add c =
     let e = c.needed_row.ensures in
-    found_as c.before.before.before.before.before.before.before.before _ _ c.in-Add.is (needed-more (Action.add _) _ (λ namespace done last. refl) c.requires.1.rows_used e)
+    found_as c.before.before.before.before.before.before.before.before _ _ c.in-Add.is (needed-more (Action.add _) _ (λ namespace done last. refl) c.requires.small.rows_used e)
 
 pub returns-in-Characters : goal.returns-in-Characters
 unfolding decision rows_after_all namespace_after rows_after row join
 returns-in-Characters c =
     let e = c.with_row-in-Characters.ensures in
-    found_as c.before.before.before.before.before.before.before _ _ c.in-Characters.is (needed-more (Action.add _) _ (λ namespace done last. refl) c.requires.1.rows_used e)
+    found_as c.before.before.before.before.before.before.before _ _ c.in-Characters.is (needed-more (Action.add _) _ (λ namespace done last. refl) c.requires.small.rows_used e)
 
 pub returns-in-Digits : goal.returns-in-Digits
 unfolding decision rows_after_all namespace_after rows_after row join
 returns-in-Digits c =
     let e = c.with_row-in-Digits.ensures in
-    found_as c.before.before.before.before.before.before.before _ _ c.in-Digits.is (needed-more (Action.add _) _ (λ namespace done last. refl) c.requires.1.rows_used e)
+    found_as c.before.before.before.before.before.before.before _ _ c.in-Digits.is (needed-more (Action.add _) _ (λ namespace done last. refl) c.requires.small.rows_used e)
 
 pub returns-in-Content : goal.returns-in-Content
 unfolding decision
@@ -127,4 +127,4 @@ returns-in-Base c =
     let a = c.args in
     let t = text_at_mark a.text.now a.marks.now c.in-Base.at in
     let e = c.needed_text-in-Base.ensures in
-    found_as c.before.before.before.before.before.before.before.before.before _ _ c.in-Base.is (needed-base t c.requires.1.rows_used (rw (ap length c.pair_part-in-Base.ensures) at e))
+    found_as c.before.before.before.before.before.before.before.before.before _ _ c.in-Base.is (needed-base t c.requires.small.rows_used (rw (ap length c.pair_part-in-Base.ensures) at e))

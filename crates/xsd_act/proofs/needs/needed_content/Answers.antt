@@ -10,8 +10,8 @@ use Rattle.xsd_act.proofs.needs.needed_content.Lts as lts
 use Rattle.xsd_act.proofs.needs.needed_content.Reads as reads
 use Rattle.xsd_act.proofs.needs.needed_content.Goals as goal
 
-facts : (c : lts.Start tie.the-claims reads.Pre reads.Post) → HeadNumbers c.args.rows.now c.requires.0.names c.args.used c.args.head c.requires.0.rs c.requires.0.name
-facts c = head-numbers c.requires.0.head
+facts : (c : lts.Start tie.the-claims reads.Pre reads.Post) → HeadNumbers c.args.rows.now c.requires.head_seen.names c.args.used c.args.head c.requires.head_seen.rs c.requires.head_seen.name
+facts c = head-numbers c.requires.head_seen.head
 
 pub name_end-end-requires : goal.name_end-end-requires
 name_end-end-requires c = omega (arith, facts c.before.before.before.before)
@@ -24,7 +24,7 @@ unfolding text_at_mark
 overflow_add-result-then-n c =
     let a = c.args in
     let second = ap length c.pair_part-second.ensures in
-    omega (arith, facts c.before.before.before.before.before.before.before, c.name_end-end.ensures _ _ _ _ _ c.requires.0.head, text_at_mark-bound a.text.now a.marks.now a.n.second)
+    omega (arith, facts c.before.before.before.before.before.before.before, c.name_end-end.ensures _ _ _ _ _ c.requires.head_seen.head, text_at_mark-bound a.text.now a.marks.now a.n.second)
 
 pub returns-then-n : goal.returns-then-n
 unfolding text_at_mark

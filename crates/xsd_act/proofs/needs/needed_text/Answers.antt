@@ -8,15 +8,15 @@ use Rattle.xsd_act.proofs.needs.needed_text.Lts as lts
 use Rattle.xsd_act.proofs.needs.needed_text.Reads as reads
 use Rattle.xsd_act.proofs.needs.needed_text.Goals as goal
 
-facts : (c : lts.Start tie.the-claims reads.Pre reads.Post) → SpotNumbers c.args.rows.now c.requires.0.names c.args.used c.args.place c.args.pair c.requires.0.spot
-facts c = spot-numbers c.requires.0.text
+facts : (c : lts.Start tie.the-claims reads.Pre reads.Post) → SpotNumbers c.args.rows.now c.requires.text_seen.names c.args.used c.args.place c.args.pair c.requires.text_seen.spot
+facts c = spot-numbers c.requires.text_seen.text
 
 pub text_length-old-requires : goal.text_length-old-requires
 text_length-old-requires c = omega (arith, facts c.before.before)
 
 pub overflow_sub-result : goal.overflow_sub-result
 overflow_sub-result c =
-    omega (arith, facts c.before.before.before.before, c.text_length-old.ensures _ _ _ c.requires.0.text)
+    omega (arith, facts c.before.before.before.before, c.text_length-old.ensures _ _ _ c.requires.text_seen.text)
 
 pub returns : goal.returns
 returns c =

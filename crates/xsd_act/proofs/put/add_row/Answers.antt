@@ -12,7 +12,7 @@ append-requires c =
     let bytes = new_row-bytes a.text.now a.marks.now a.n few.result few.ensures.0 few.ensures.1 in
     let first = c.pair_part-first.ensures in
     let second = c.pair_part-second.ensures in
-    (c.requires.0, ((rw (first, second) (rw bytes at c.requires.1.0), c.requires.1.1), few.ensures.0))
+    (c.requires.rows, ((rw (first, second) (rw bytes at c.requires.names.0), c.requires.names.1), few.ensures.0))
 
 pub returns : goal.returns
 unfolding new_row row text_at_mark

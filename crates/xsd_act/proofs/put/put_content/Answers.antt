@@ -6,14 +6,14 @@ use Rattle.xsd_act.proofs.Laws.Contents.{content_pairs-bound}
 use Rattle.xsd_act.proofs.put.put_content.Goals as goal
 
 pub numbers_at-old-requires : goal.numbers_at-old-requires
-numbers_at-old-requires c = omega (arith, head-numbers c.requires.0.head)
+numbers_at-old-requires c = omega (arith, head-numbers c.requires.head.head)
 
 pub replace_head-requires : goal.replace_head-requires
 unfolding text_at_mark
 replace_head-requires c =
     let a = c.args in
     let pairs = c.content_pairs-pairs.ensures in
-    (rw (pairs, c.pair_part-second.ensures) c.requires.0, (rw pairs (content_pairs-bound a.n.follows), c.requires.1))
+    (rw (pairs, c.pair_part-second.ensures) c.requires.head, (rw pairs (content_pairs-bound a.n.follows), c.requires.names))
 
 pub returns : goal.returns
 unfolding text_at_mark

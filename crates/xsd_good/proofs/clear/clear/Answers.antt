@@ -41,10 +41,10 @@ pub put_row-requires : goal.put_row-requires
 put_row-requires c = omega (arith, long-enough c.before.before.before.before.before.before.before.before.before.before.before.before)
 
 pub bounds-rows-10 : goal.bounds-rows-10
-bounds-rows-10 c = omega (arith, long-enough c.before.before.before.before.before.before.before.before.before.before.before.before.before.before.before, c.put_row.auto.0)
+bounds-rows-10 c = omega (arith, long-enough c.before.before.before.before.before.before.before.before.before.before.before.before.before.before.before, c.put_row.auto.rows)
 
 pub shape_of-rows : goal.shape_of-rows
-shape_of-rows c = simp length-set (c.put_row.auto.0 ∙ c.zero_rows.auto.0)
+shape_of-rows c = simp length-set (c.put_row.auto.rows ∙ c.zero_rows.auto.rows)
 
 pub returns : goal.returns
 returns c =

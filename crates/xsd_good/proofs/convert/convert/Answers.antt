@@ -57,10 +57,10 @@ pub returns-then-not-stored-count : goal.returns-then-not-stored-count
 returns-then-not-stored-count c =
     let a = c.args in
     convert-wrong a.rows.now a.names.now (lengths-pass c.before.before.before.before.before.before.before.before.before) (passes c.before.before.before.before.before.before) c.count_in-stored.ensures
-    c.count_of-count.ensures.0 c.if-not-stored-count.true
+    c.count_of-count.ensures.count c.if-not-stored-count.true
 
 pub overflow_cast-rows : goal.overflow_cast-rows
-overflow_cast-rows c = omega (arith, few-rows c.before.before.before.before.before.before.before.before.before, c.count_of-count.ensures.1)
+overflow_cast-rows c = omega (arith, few-rows c.before.before.before.before.before.before.before.before.before, c.count_of-count.ensures.few)
 
 pub bounds-rows-17 : goal.bounds-rows-17
 bounds-rows-17 c = long c.before.before.before.before.before.before
@@ -69,4 +69,4 @@ pub returns : goal.returns
 returns c =
     let a = c.args in
     convert-fills a.rows.now a.names.now (lengths-pass c.before.before.before.before.before.before.before.before.before) (passes c.before.before.before.before.before.before) c.count_in-stored.ensures
-    c.count_of-count.ensures.0 c.if-not-stored-count.false
+    c.count_of-count.ensures.count c.if-not-stored-count.false

@@ -18,7 +18,7 @@ ends : (c : lts.After-finished_place tie.the-claims reads.Pre reads.Post)
     → let a = c.args in c.finished_place.result
     ≡ 2 + length (items_rows (state_of (sheet a.rows.now a.names.now)).reader.schema.items)
 ends c =
-    c.finished_place.ensures.0 ∙ bare-end c.args.rows.now c.args.names.now c.requires c.finished_place.ensures.1
+    c.finished_place.ensures.place ∙ bare-end c.args.rows.now c.args.names.now c.requires c.finished_place.ensures.words
 
 pub finished_place-requires : goal.finished_place-requires
 finished_place-requires c =
@@ -27,13 +27,13 @@ finished_place-requires c =
 
 pub count_refused-requires : goal.count_refused-requires
 count_refused-requires c =
-    bare-room c.args.rows.now c.args.names.now c.requires c.finished_place.ensures.1 (ends c.before)
+    bare-room c.args.rows.now c.args.names.now c.requires c.finished_place.ensures.words (ends c.before)
 
 pub returns : goal.returns
 returns c =
     let rows = c.args.rows.now in
     let names = c.args.names.now in
-    let room = bare-room rows names c.requires c.finished_place.ensures.1 (ends at) in (
-      c.count_refused.ensures ∙ bare-count rows names c.requires c.finished_place.ensures.1 (ends at),
+    let room = bare-room rows names c.requires c.finished_place.ensures.words (ends at) in (
+      c.count_refused.ensures ∙ bare-count rows names c.requires c.finished_place.ensures.words (ends at),
       omega (arith, c.count_refused.ensures, count-few rows names 2 c.finished_place.result, room.1),
     )

@@ -61,15 +61,15 @@ pub returns-then-p-ge-EVENTS : goal.returns-then-p-ge-EVENTS
 returns-then-p-ge-EVENTS c = taken-eight c.if-p-ge-EVENTS.true
 
 pub own_marks-own-requires : goal.own_marks-own-requires
-own_marks-own-requires c = λ other. (c.requires.1 other).marks_inside
+own_marks-own-requires c = λ other. (c.requires.tag_inside other).marks_inside
 
 pub decide_event-decision-requires : goal.decide_event-decision-requires
 decide_event-decision-requires c =
-    λ other. rw (c.own_marks-own.ensures other) (inside-cut c.args.text.now c.args.marks.now c.args.t.pairs c.args.t.count (c.requires.1 other))
+    λ other. rw (c.own_marks-own.ensures other) (inside-cut c.args.text.now c.args.marks.now c.args.t.pairs c.args.t.count (c.requires.tag_inside other))
 
 pub carry_out-requires : goal.carry_out-requires
 carry_out-requires c =
-    due-room c.requires.0 (arrives at) (accepted c.args.text.now c.own_marks-own.result.now _ (not-refused _ c.in_default.in_default-own.keys2))
+    due-room c.requires.event_room (arrives at) (accepted c.args.text.now c.own_marks-own.result.now _ (not-refused _ c.in_default.in_default-own.keys2))
 
 pub returns-in-Refused : goal.returns-in-Refused
 unfolding tags

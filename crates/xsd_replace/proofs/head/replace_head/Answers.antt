@@ -12,12 +12,12 @@ use Rattle.xsd_replace.proofs.head.replace_head.Lts as lts
 use Rattle.xsd_replace.proofs.head.replace_head.Reads as reads
 use Rattle.xsd_replace.proofs.head.replace_head.Goals as goal
 
-facts : (c : lts.Start tie.the-claims reads.Pre reads.Post) → HeadNumbers c.args.rows.now c.args.names.now c.args.used c.args.place c.requires.0.rs c.requires.0.name
-facts c = head-numbers c.requires.0.head
+facts : (c : lts.Start tie.the-claims reads.Pre reads.Post) → HeadNumbers c.args.rows.now c.args.names.now c.args.used c.args.place c.requires.head.rs c.requires.head.name
+facts c = head-numbers c.requires.head.head
 
-room : (c : lts.Start tie.the-claims reads.Pre reads.Post) → used_length c.args.pairs (length c.requires.0.name) (length c.args.second.now)
-    ≡ length c.requires.0.name + used_length (c.args.pairs - 1) (length c.args.second.now) (length c.args.second.now)
-room c = used-rest c.args.pairs (length c.requires.0.name) (length c.args.second.now) c.requires.1.0.0 c.requires.1.0.1
+room : (c : lts.Start tie.the-claims reads.Pre reads.Post) → used_length c.args.pairs (length c.requires.head.name) (length c.args.second.now)
+    ≡ length c.requires.head.name + used_length (c.args.pairs - 1) (length c.args.second.now) (length c.args.second.now)
+room c = used-rest c.args.pairs (length c.requires.head.name) (length c.args.second.now) c.requires.pairs.0 c.requires.pairs.1
 
 pub overflow_mul-place : goal.overflow_mul-place
 overflow_mul-place c = omega (arith, facts c.before.before.before.before.before)
@@ -45,7 +45,7 @@ set_row-requires c =
       c.cut.auto,
       c.requires,
       room c.before.before.before.before.before.before.before.before.before.before.before.before.before.before.before,
-      used-rest c.args.pairs found.result.len (length c.args.second.now) c.requires.1.0.0 c.requires.1.0.1,
+      used-rest c.args.pairs found.result.len (length c.args.second.now) c.requires.pairs.0 c.requires.pairs.1,
     )
 
 pub put_texts-names_end-requires : goal.put_texts-names_end-requires
@@ -76,9 +76,9 @@ returns c =
     let space : found.result.at + found.result.len + used_length (a.pairs - 1) (length a.second.now) (length a.second.now) ≤ length a.names.now = omega
     (arith, facts c.before.before.before.before.before.before.before.before.before.before.before.before.before.before.before.before.before.before.before.before.before.before, found.ensures, c.requires, room c.before.before.before.before.before.before.before.before.before.before.before.before.before.before.before.before.before.before.before.before.before.before) in
     record {
-      rows_length = set.auto.0 ∙ freed.auto.0;
-      names_length = stored.auto.0 ∙ freed.auto.1.0;
-      holds = λ z rs name h. head-replaced h a.n a.pairs a.second.now found.result.at found.result.len stored.result c.requires.1.0.0
-          c.requires.1.0.1 found.ensures.0 found.ensures.1 space freed.ensures.0 freed.ensures.1 set.ensures stored.ensures.1
-          stored.ensures.0;
+      rows_length = set.auto.rows ∙ freed.auto.rows;
+      names_length = stored.auto.names ∙ freed.auto.names;
+      holds = λ z rs name h. head-replaced h a.n a.pairs a.second.now found.result.at found.result.len stored.result c.requires.pairs.0
+          c.requires.pairs.1 found.ensures.0 found.ensures.1 space freed.ensures.rows freed.ensures.names set.ensures stored.ensures.texts
+          stored.ensures.end;
     }

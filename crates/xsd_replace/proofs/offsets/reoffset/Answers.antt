@@ -17,7 +17,7 @@ pub loop-i-preserved : goal.loop-i-preserved
 loop-i-preserved c =
     let call = c.reoffset_row-next in
     let w = c.loop-i.invariant in
-    (call.auto.0 ∙ w.0, λ goal total o. call.ensures goal total (w.1 goal total o))
+    (call.auto.rows ∙ w.0, λ goal total o. call.ensures goal total (w.1 goal total o))
 
 pub shape_of-rows : goal.shape_of-rows
 shape_of-rows c = c.loop-i.invariant.0

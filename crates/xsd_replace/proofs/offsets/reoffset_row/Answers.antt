@@ -13,8 +13,8 @@ use Rattle.xsd_replace.proofs.offsets.reoffset_row.Lts as lts
 use Rattle.xsd_replace.proofs.offsets.reoffset_row.Reads as reads
 use Rattle.xsd_replace.proofs.offsets.reoffset_row.Goals as goal
 
-first : (c : lts.Start tie.the-claims reads.Pre reads.Post) → First c.args.rows.now c.args.place c.args.end c.args.at c.requires.0.goal c.requires.0.total
-first c = offsets-first c.requires.0.offsets c.requires.1
+first : (c : lts.Start tie.the-claims reads.Pre reads.Post) → First c.args.rows.now c.args.place c.args.end c.args.at c.requires.offsets_of.goal c.requires.offsets_of.total
+first c = offsets-first c.requires.offsets_of.offsets c.requires.place_lt_end
 
 facts : (c : lts.Start tie.the-claims reads.Pre reads.Post) → FirstNumbers (first c)
 facts c = first-numbers (first c)
@@ -68,7 +68,7 @@ overflow_add-result c =
 pub returns : goal.returns
 returns c goal total o =
     let a = c.args in
-    let x = offsets-first o c.requires.1 in
+    let x = offsets-first o c.requires.place_lt_end in
     let g = first-numbers x in
     let set = c.set_row.ensures (get_or x.r.texts 0 []) (get_or x.r.texts 1 [])
     (sym (c.pair_at-first.ensures.1 ∙ g.len0))

@@ -12,11 +12,11 @@ use Rattle.xsd_replace.proofs.spot.replace_text.Lts as lts
 use Rattle.xsd_replace.proofs.spot.replace_text.Reads as reads
 use Rattle.xsd_replace.proofs.spot.replace_text.Goals as goal
 
-facts : (c : lts.Start tie.the-claims reads.Pre reads.Post) → SpotNumbers c.args.rows.now c.args.names.now c.args.used c.args.place c.args.pair c.requires.0.spot
-facts c = spot-numbers c.requires.0.text
+facts : (c : lts.Start tie.the-claims reads.Pre reads.Post) → SpotNumbers c.args.rows.now c.args.names.now c.args.used c.args.place c.args.pair c.requires.text.spot
+facts c = spot-numbers c.requires.text.text
 
 bounded : (c : lts.Start tie.the-claims reads.Pre reads.Post) {x : Spot} → TextAt c.args.rows.now c.args.names.now c.args.used c.args.place c.args.pair x → length (names_of (spot_rows x c.args.new.now)) ≤ 65536
-bounded c h = rw (spot-bytes h c.args.new.now) (omega (arith, facts c, spot-numbers h, c.requires.0.room, c.requires.1))
+bounded c h = rw (spot-bytes h c.args.new.now) (omega (arith, facts c, spot-numbers h, c.requires.text.room, c.requires.names))
 
 pub overflow_mul-place : goal.overflow_mul-place
 overflow_mul-place c = omega (arith, facts c.before.before.before.before.before)
@@ -44,11 +44,11 @@ pair_at-old-requires c = omega (arith, facts c.before.before.before.before.befor
 
 pub replace_names-requires : goal.replace_names-requires
 replace_names-requires c =
-    omega (arith, facts c.before.before.before.before.before.before.before.before.before, c.requires.0.room, c.pair_at-old.ensures)
+    omega (arith, facts c.before.before.before.before.before.before.before.before.before, c.requires.text.room, c.pair_at-old.ensures)
 
 pub overflow_cast-rows : goal.overflow_cast-rows
 overflow_cast-rows c =
-    omega (arith, c.requires.0.room, c.requires.1)
+    omega (arith, c.requires.text.room, c.requires.names)
 
 pub overflow_add-rows : goal.overflow_add-rows
 overflow_add-rows c = omega (arith, facts c.before.before.before.before.before.before.before.before.before.before.before.before)
@@ -62,7 +62,7 @@ bounds-rows-i c = omega (arith, facts c.before.before.before.before.before.befor
 pub reoffset-end-requires : goal.reoffset-end-requires
 reoffset-end-requires c =
     let a = c.args in
-    let w = c.requires.0 in
+    let w = c.requires.text in
     record {
       goal = _;
       total = _;
@@ -71,7 +71,7 @@ reoffset-end-requires c =
     }
 
 pub shape_of-rows : goal.shape_of-rows
-shape_of-rows c = c.reoffset-end.auto.0 ∙ simp length-set
+shape_of-rows c = c.reoffset-end.auto.rows ∙ simp length-set
 
 pub returns : goal.returns
 returns c =
@@ -80,11 +80,11 @@ returns c =
     let moved = c.replace_names in
     let set = c.reoffset-end in
     record {
-      rows_length = set.auto.0 ∙ simp length-set;
-      names_length = moved.auto.0;
+      rows_length = set.auto.rows ∙ simp length-set;
+      names_length = moved.auto.names;
       holds = λ x h.
           let g = spot-numbers h in
-          let room : a.used.names - length x.old + length a.new.now ≤ length a.names.now = omega (arith, facts c.before.before.before.before.before.before.before.before.before.before.before.before.before.before.before.before, c.requires.0.room, g) in
+          let room : a.used.names - length x.old + length a.new.now ≤ length a.names.now = omega (arith, facts c.before.before.before.before.before.before.before.before.before.before.before.before.before.before.before.before, c.requires.text.room, g) in
           let done = set.ensures _ _ (spot-offsets h a.new.now
           c.pair_at-first.result.at
           (c.pair_at-first.ensures.0 ∙ g.first) (bounded c.before.before.before.before.before.before.before.before.before.before.before.before.before.before.before.before h)) in

@@ -9,7 +9,7 @@ returns-then-not-root_seen c = finished-rootless _ _ _ _ c.if-not-root_seen.true
 
 pub write_held-requires : goal.write_held-requires
 write_held-requires c =
-    ((omega (arith, c.zero_text.auto.0), search rules, search rules), rw c.zero_text.auto.0 c.zero_text.ensures)
+    ((omega (arith, c.zero_text.auto.text), search rules, search rules), rw c.zero_text.auto.text c.zero_text.ensures)
 
 pub returns-in-At : goal.returns-in-At
 returns-in-At c =
@@ -19,5 +19,5 @@ returns-in-At c =
 pub returns-in-Nothing : goal.returns-in-Nothing
 returns-in-Nothing c =
     finished-held _ _ _ _ c.first_unheld-unheld.result c.if-not-root_seen.false c.first_unheld-unheld.ensures _
-    c.in-Nothing.is c.zero_text.auto.0
+    c.in-Nothing.is c.zero_text.auto.text
     c.write_held.ensures

@@ -21,7 +21,7 @@ ends : (c : lts.After-finished_end tie.the-claims reads.Pre reads.Post)
     → let a = c.args in c.finished_end-end.result
     ≡ 2 + length (items_rows (state_of (sheet a.rows.now a.names.now)).reader.schema.items)
 ends c =
-    c.finished_end-end.ensures.0 ∙ good-end c.args.rows.now c.args.names.now c.requires.0 c.finished_end-end.ensures.1
+    c.finished_end-end.ensures.place ∙ good-end c.args.rows.now c.args.names.now c.requires.0 c.finished_end-end.ensures.words
     (as_row0 c.row0_at-z.result) c.row0_at-z.ensures
 
 pub row0_at-z-requires : goal.row0_at-z-requires
@@ -40,13 +40,13 @@ pub write_finished-requires : goal.write_finished-requires
 write_finished-requires c =
     let rows = c.args.rows.now in
     let names = c.args.names.now in
-    let room = bare-room rows names (good-bare (sheet rows names) c.requires.0) c.finished_end-end.ensures.1 (ends c.before.before.before) in
+    let room = bare-room rows names (good-bare (sheet rows names) c.requires.0) c.finished_end-end.ensures.words (ends c.before.before.before) in
     (c.requires.1, room.0, room.1)
 
 pub returns : goal.returns
 returns c =
     let rows = c.args.rows.now in
     let names = c.args.names.now in
-    let w = c.finished_end-end.ensures.1 in
+    let w = c.finished_end-end.ensures.words in
     c.write_finished.ensures ∙ good-written rows names c.requires.0 w (ends c.before.before.before.before.before.before) _ _
     (good-root rows names c.requires.0 w (as_row0 c.row0_at-z.result) c.row0_at-z.ensures)

@@ -9,4 +9,4 @@ returns-then-text-used c =
 
 pub returns : goal.returns
 returns c =
-    written-whole c.put_schema-used.ensures (omega (arith, c.put_schema-used.ensures.kept, c.if-text-used.false)) c.requires.1
+    written-whole c.put_schema-used.ensures (omega (arith, c.put_schema-used.ensures.kept, c.if-text-used.false)) c.requires.text_value

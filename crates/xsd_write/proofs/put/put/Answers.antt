@@ -22,4 +22,4 @@ returns c =
     let a = c.args in
     let h : a.at + length a.part.now ≤ length a.out.now = omega arith in
     let e = c.copy_text.ensures ∙ paste-sets a.out.now a.at a.part.now h in
-    record { kept = c.copy_text.auto.0; fits = λ _. (refl, e); past = λ k. absurd (omega arith) }
+    record { kept = c.copy_text.auto.names; fits = λ _. (refl, e); past = λ k. absurd (omega arith) }
