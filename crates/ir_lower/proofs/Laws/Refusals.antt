@@ -78,11 +78,11 @@ item-passes row i is after h e = rw h (e ∙ rows-added row (item_rows i) (items
 unknown_row-passes : (row : ℕ) (before after : List Item) → any_unknown (simple_types before) ≡ false → unknown_row row (before ++ after) ≡ unknown_row (row + length (items_rows before)) after
 unfolding any_unknown simple_types refused_item items_rows
 unknown_row-passes row [] after h = ap (λ (n : ℕ). unknown_row n after) (omega arith)
-unknown_row-passes row (Item.element e ∷ is) after h = item-passes row (Item.element e) is after refl (unknown_row-passes _ is after h)
+unknown_row-passes row (Item.element e ∷ is) after h = item-passes row (Item.element e) is after refl (unknown_row-passes (row + length (item_rows (Item.element e))) is after h)
 unknown_row-passes row (Item.simple_type t ∷ is) after h =
     item-passes row (Item.simple_type t) is after (or-false-left (refused_base t) (any_unknown (simple_types is)) h)
-    (unknown_row-passes _ is after (or-false-right (refused_base t) (any_unknown (simple_types is)) h))
-unknown_row-passes row (Item.complex_type t ∷ is) after h = item-passes row (Item.complex_type t) is after refl (unknown_row-passes _ is after h)
+    (unknown_row-passes (row + length (item_rows (Item.simple_type t))) is after (or-false-right (refused_base t) (any_unknown (simple_types is)) h))
+unknown_row-passes row (Item.complex_type t ∷ is) after h = item-passes row (Item.complex_type t) is after refl (unknown_row-passes (row + length (item_rows (Item.complex_type t))) is after h)
 
 pub unknown_row-first : (row : ℕ) (before after : List Item) (t : SimpleType) → any_unknown (simple_types before) ≡ false → refused_base t ≡ true
     → unknown_row row (before ++ (Item.simple_type t ∷ after)) ≡ row + length (items_rows before)

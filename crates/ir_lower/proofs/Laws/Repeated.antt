@@ -1,10 +1,10 @@
 -- Which head is the first whose name came before: there is none exactly where no name stands twice, and the row is that of the first of them, whatever
 -- stands behind it. Assumes nothing.
-use Prim.Native.Nat.{ℕ}
+use Prim.Native.Nat.{◌+◌, ℕ}
 use mathlib.Core.Path.{◌≡◌, refl, ap, ◌∙◌}
 use mathlib.Core.Logic.{◌↔◌, ⊎_elim}
 use mathlib.Core.Bool.{true}
-use mathlib.Core.List.{List, [], ◌∷◌, ◌++◌, map, map-append, append-nil}
+use mathlib.Core.List.{length, List, [], ◌∷◌, ◌++◌, map, map-append, append-nil}
 use mathlib.Core.Option.{some, none, some-injective}
 use native.Mathlib.Omega.{arith}
 use lib.Seq.{append_snoc}
@@ -21,16 +21,16 @@ use Rattle.ir_lower.specs.Repeated.{Head, simple_head, complex_head, heads_of, h
 simple-heads : (row : ℕ) (is : List Item) → head_names (heads_of simple_head row is) ≡ map simple_name (simple_types is)
 unfolding head_names heads_of simple_head simple_types
 simple-heads row [] = refl
-simple-heads row (Item.element e ∷ is) = simple-heads _ is
-simple-heads row (Item.simple_type t ∷ is) = ap (λ (l : List Text). simple_name t ∷ l) (simple-heads _ is)
-simple-heads row (Item.complex_type t ∷ is) = simple-heads _ is
+simple-heads row (Item.element e ∷ is) = simple-heads (row + length (item_rows (Item.element e))) is
+simple-heads row (Item.simple_type t ∷ is) = ap (λ (l : List Text). simple_name t ∷ l) (simple-heads (row + length (item_rows (Item.simple_type t))) is)
+simple-heads row (Item.complex_type t ∷ is) = simple-heads (row + length (item_rows (Item.complex_type t))) is
 
 complex-heads : (row : ℕ) (is : List Item) → head_names (heads_of complex_head row is) ≡ map complex_name (complex_types is)
 unfolding head_names heads_of complex_head complex_types
 complex-heads row [] = refl
-complex-heads row (Item.element e ∷ is) = complex-heads _ is
-complex-heads row (Item.simple_type t ∷ is) = complex-heads _ is
-complex-heads row (Item.complex_type t ∷ is) = ap (λ (l : List Text). complex_name t ∷ l) (complex-heads _ is)
+complex-heads row (Item.element e ∷ is) = complex-heads (row + length (item_rows (Item.element e))) is
+complex-heads row (Item.simple_type t ∷ is) = complex-heads (row + length (item_rows (Item.simple_type t))) is
+complex-heads row (Item.complex_type t ∷ is) = ap (λ (l : List Text). complex_name t ∷ l) (complex-heads (row + length (item_rows (Item.complex_type t))) is)
 
 pub heads-names : (row : ℕ) (s : Schema) → head_names (heads row s.items) ≡ finished_names s
 unfolding heads head_names finished_names
