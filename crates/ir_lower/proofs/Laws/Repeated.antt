@@ -4,10 +4,12 @@ use Prim.Native.Nat.{◌+◌, ℕ}
 use mathlib.Core.Path.{◌≡◌, refl, ap, ◌∙◌}
 use mathlib.Core.Logic.{◌↔◌, ⊎_elim}
 use mathlib.Core.Bool.{true}
-use mathlib.Core.List.{length, List, [], ◌∷◌, ◌++◌, map, map-append, append-nil}
+use lib.ListN.{length}
+use mathlib.Core.List.{List, [], ◌∷◌, ◌++◌, map, map-append, append-nil}
 use mathlib.Core.Option.{some, none, some-injective}
 use native.Mathlib.Omega.{arith}
 use lib.Seq.{append_snoc}
+use Rattle.xsd_types.specs.Rows.{item_rows}
 use Rattle.text.specs.Text.{Text}
 use Rattle.text.proofs.Laws.Tests.{test-cases}
 use Rattle.xsd_types.specs.Types.{Item, Schema, simple_types, complex_types}
