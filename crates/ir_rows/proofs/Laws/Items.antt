@@ -83,16 +83,16 @@ module _ (k : ℕ) (i : Item) (more : List Row) where
 simple-count : (k : ℕ) (is : List Item) → length (places_of is_simple k (items_rows is)) ≡ length (simple_types is)
 unfolding items_rows simple_types simple_item places_of
 simple-count k [] = refl
-simple-count k (Item.element e ∷ is) = rw (simple-places k (Item.element e) (items_rows is)) (simple-count _ is)
-simple-count k (Item.simple_type t ∷ is) = rw (simple-places k (Item.simple_type t) (items_rows is)) (ap suc (simple-count _ is))
-simple-count k (Item.complex_type t ∷ is) = rw (simple-places k (Item.complex_type t) (items_rows is)) (simple-count _ is)
+simple-count k (Item.element e ∷ is) = rw (simple-places k (Item.element e) (items_rows is)) (simple-count (k + length (item_rows (Item.element e))) is)
+simple-count k (Item.simple_type t ∷ is) = rw (simple-places k (Item.simple_type t) (items_rows is)) (ap suc (simple-count (k + length (item_rows (Item.simple_type t))) is))
+simple-count k (Item.complex_type t ∷ is) = rw (simple-places k (Item.complex_type t) (items_rows is)) (simple-count (k + length (item_rows (Item.complex_type t))) is)
 
 complex-count : (k : ℕ) (is : List Item) → length (places_of is_complex k (items_rows is)) ≡ length (complex_types is)
 unfolding items_rows complex_types complex_item places_of
 complex-count k [] = refl
-complex-count k (Item.element e ∷ is) = rw (complex-places k (Item.element e) (items_rows is)) (complex-count _ is)
-complex-count k (Item.simple_type t ∷ is) = rw (complex-places k (Item.simple_type t) (items_rows is)) (complex-count _ is)
-complex-count k (Item.complex_type t ∷ is) = rw (complex-places k (Item.complex_type t) (items_rows is)) (ap suc (complex-count _ is))
+complex-count k (Item.element e ∷ is) = rw (complex-places k (Item.element e) (items_rows is)) (complex-count (k + length (item_rows (Item.element e))) is)
+complex-count k (Item.simple_type t ∷ is) = rw (complex-places k (Item.simple_type t) (items_rows is)) (complex-count (k + length (item_rows (Item.simple_type t))) is)
+complex-count k (Item.complex_type t ∷ is) = rw (complex-places k (Item.complex_type t) (items_rows is)) (ap suc (complex-count (k + length (item_rows (Item.complex_type t))) is))
 
 -- as many places as there are finished types
 pub type_places-count : (k : ℕ) (is : List Item) → length (type_places k (items_rows is)) ≡ length (simple_types is) + length (complex_types is)
@@ -117,12 +117,12 @@ unknown-other k (r ∷ cs) more g e = refused_place-group k r cs more g ∙ rw (
 pub refused_place-items : (k : ℕ) (is : List Item) → refused_place k (items_rows is) ≡ unknown_row k is
 unfolding refused_place items_rows unknown_row refused_item item_rows simple_type_rows head_tag row
 refused_place-items k [] = refl
-refused_place-items k (Item.element e ∷ is) = unknown-other k (item_rows (Item.element e)) (items_rows is) (group-item (Item.element e)) refl ∙ refused_place-items _ is
+refused_place-items k (Item.element e ∷ is) = unknown-other k (item_rows (Item.element e)) (items_rows is) (group-item (Item.element e)) refl ∙ refused_place-items (k + length (item_rows (Item.element e))) is
 refused_place-items k (Item.simple_type t ∷ is) =
     refused_place-group k (row 3 (t.name ∷ t.base ∷ []) 0 0 t.event) (map facet_row t.facets) (items_rows is) (group-item (Item.simple_type t))
     ∙ rw (simple-refused t (items_rows is) (head_first-items is), refused_place-items (k + length (item_rows (Item.simple_type t))) is)
 refused_place-items k (Item.complex_type t ∷ is) =
-    unknown-other k (item_rows (Item.complex_type t)) (items_rows is) (group-item (Item.complex_type t)) (content-others t.event t.name t.content).1 ∙ refused_place-items _ is
+    unknown-other k (item_rows (Item.complex_type t)) (items_rows is) (group-item (Item.complex_type t)) (content-others t.event t.name t.content).1 ∙ refused_place-items (k + length (item_rows (Item.complex_type t))) is
 
 unknown-some : (k : ℕ) (is : List Item) → 1 ≤ k → any_unknown (simple_types is) ≡ true → 1 ≤ refused_place k (items_rows is)
 unknown-some k is h e = rw (refused_place-items k is) (omega (arith, unknown_row-least k is e))
@@ -130,10 +130,10 @@ unknown-some k is h e = rw (refused_place-items k is) (omega (arith, unknown_row
 unknown-none : (k : ℕ) (is : List Item) → any_unknown (simple_types is) ≡ false → unknown_row k is ≡ 0
 unfolding any_unknown simple_types unknown_row refused_item
 unknown-none k [] e = refl
-unknown-none k (Item.element x ∷ is) e = unknown-none _ is e
+unknown-none k (Item.element x ∷ is) e = unknown-none (k + length (item_rows (Item.element x))) is e
 unknown-none k (Item.simple_type t ∷ is) e =
-    rw (or-false-left (refused_base t) (any_unknown (simple_types is)) e) (unknown-none _ is (or-false-right (refused_base t) (any_unknown (simple_types is)) e))
-unknown-none k (Item.complex_type t ∷ is) e = unknown-none _ is e
+    rw (or-false-left (refused_base t) (any_unknown (simple_types is)) e) (unknown-none (k + length (item_rows (Item.simple_type t))) is (or-false-right (refused_base t) (any_unknown (simple_types is)) e))
+unknown-none k (Item.complex_type t ∷ is) e = unknown-none (k + length (item_rows (Item.complex_type t))) is e
 
 -- lowering refuses exactly where the place is not 0
 pub refused_place-refused : (k : ℕ) (s : Schema) → 1 ≤ k → lower s ≡ none → 1 ≤ refused_place k (items_rows s.items)

@@ -67,24 +67,24 @@ module _ (rows names : List ℕ) (end : ℕ) where
   unfolding items_rows simple_types simple_item places_of any_unknown simple_definitions
   simple-matched k [] e u = nothing
   simple-matched k (Item.element x ∷ is) e u =
-      rw (simple-places k (Item.element x) (items_rows is)) (simple-matched _ is (rows_from-behind rows names k end (item_rows (Item.element x)) (items_rows is) e) u)
+      rw (simple-places k (Item.element x) (items_rows is)) (simple-matched (k + length (item_rows (Item.element x))) is (rows_from-behind rows names k end (item_rows (Item.element x)) (items_rows is) e) u)
   simple-matched k (Item.simple_type t ∷ is) e u =
-      let rest = simple-matched _ is (rows_from-behind rows names k end (item_rows (Item.simple_type t)) (items_rows is) e) (or-false-right (refused_base t) (any_unknown (simple_types is)) u) in
+      let rest = simple-matched (k + length (item_rows (Item.simple_type t))) is (rows_from-behind rows names k end (item_rows (Item.simple_type t)) (items_rows is) e) (or-false-right (refused_base t) (any_unknown (simple_types is)) u) in
       rw (simple-places k (Item.simple_type t) (items_rows is))
       (matched-known k t _ _ (λ d q. ap type_rows_of e ∙ simple-rows t (items_rows is) (head_first-items is) d q) (or-false-left (refused_base t) (any_unknown (simple_types is)) u) rest)
   simple-matched k (Item.complex_type t ∷ is) e u =
-      rw (simple-places k (Item.complex_type t) (items_rows is)) (simple-matched _ is (rows_from-behind rows names k end (item_rows (Item.complex_type t)) (items_rows is) e) u)
+      rw (simple-places k (Item.complex_type t) (items_rows is)) (simple-matched (k + length (item_rows (Item.complex_type t))) is (rows_from-behind rows names k end (item_rows (Item.complex_type t)) (items_rows is) e) u)
 
   complex-matched : (k : ℕ) (is : List Item) → rows_from rows names k end ≡ items_rows is → Matched rows names end (places_of is_complex k (items_rows is)) (map lower_complex_type (complex_types is))
   unfolding items_rows complex_types complex_item places_of
   complex-matched k [] e = nothing
   complex-matched k (Item.element x ∷ is) e =
-      rw (complex-places k (Item.element x) (items_rows is)) (complex-matched _ is (rows_from-behind rows names k end (item_rows (Item.element x)) (items_rows is) e))
+      rw (complex-places k (Item.element x) (items_rows is)) (complex-matched (k + length (item_rows (Item.element x))) is (rows_from-behind rows names k end (item_rows (Item.element x)) (items_rows is) e))
   complex-matched k (Item.simple_type t ∷ is) e =
-      rw (complex-places k (Item.simple_type t) (items_rows is)) (complex-matched _ is (rows_from-behind rows names k end (item_rows (Item.simple_type t)) (items_rows is) e))
+      rw (complex-places k (Item.simple_type t) (items_rows is)) (complex-matched (k + length (item_rows (Item.simple_type t))) is (rows_from-behind rows names k end (item_rows (Item.simple_type t)) (items_rows is) e))
   complex-matched k (Item.complex_type t ∷ is) e =
       rw (complex-places k (Item.complex_type t) (items_rows is))
-      (both (ap type_rows_of e ∙ complex-rows t (items_rows is) (head_first-items is)) (complex-matched _ is (rows_from-behind rows names k end (item_rows (Item.complex_type t)) (items_rows is) e)))
+      (both (ap type_rows_of e ∙ complex-rows t (items_rows is) (head_first-items is)) (complex-matched (k + length (item_rows (Item.complex_type t))) is (rows_from-behind rows names k end (item_rows (Item.complex_type t)) (items_rows is) e)))
 
   module _ (s : Schema) (e : rows_from rows names 2 end ≡ items_rows s.items) (g : TypeGraph) (l : lower s ≡ some g) where
     types-matched : Matched rows names end (finished_places rows names end) g.types
@@ -112,23 +112,23 @@ module _ (rows names : List ℕ) (end : ℕ) where
   unfolding items_rows simple_item places_of head_at heads_of simple_head
   simple-heads_at k [] e = refl
   simple-heads_at k (Item.element x ∷ is) e =
-      rw (simple-places k (Item.element x) (items_rows is)) (simple-heads_at _ is (rows_from-behind rows names k end (item_rows (Item.element x)) (items_rows is) e))
+      rw (simple-places k (Item.element x) (items_rows is)) (simple-heads_at (k + length (item_rows (Item.element x))) is (rows_from-behind rows names k end (item_rows (Item.element x)) (items_rows is) e))
   simple-heads_at k (Item.simple_type t ∷ is) e =
       rw (simple-places k (Item.simple_type t) (items_rows is))
-      (rw (item-name k (Item.simple_type t) is e ∙ simple-head-name t, simple-heads_at _ is (rows_from-behind rows names k end (item_rows (Item.simple_type t)) (items_rows is) e)))
+      (rw (item-name k (Item.simple_type t) is e ∙ simple-head-name t, simple-heads_at (k + length (item_rows (Item.simple_type t))) is (rows_from-behind rows names k end (item_rows (Item.simple_type t)) (items_rows is) e)))
   simple-heads_at k (Item.complex_type t ∷ is) e =
-      rw (simple-places k (Item.complex_type t) (items_rows is)) (simple-heads_at _ is (rows_from-behind rows names k end (item_rows (Item.complex_type t)) (items_rows is) e))
+      rw (simple-places k (Item.complex_type t) (items_rows is)) (simple-heads_at (k + length (item_rows (Item.complex_type t))) is (rows_from-behind rows names k end (item_rows (Item.complex_type t)) (items_rows is) e))
 
   complex-heads_at : (k : ℕ) (is : List Item) → rows_from rows names k end ≡ items_rows is → map (head_at rows names) (places_of is_complex k (items_rows is)) ≡ heads_of complex_head k is
   unfolding items_rows complex_item places_of head_at heads_of complex_head
   complex-heads_at k [] e = refl
   complex-heads_at k (Item.element x ∷ is) e =
-      rw (complex-places k (Item.element x) (items_rows is)) (complex-heads_at _ is (rows_from-behind rows names k end (item_rows (Item.element x)) (items_rows is) e))
+      rw (complex-places k (Item.element x) (items_rows is)) (complex-heads_at (k + length (item_rows (Item.element x))) is (rows_from-behind rows names k end (item_rows (Item.element x)) (items_rows is) e))
   complex-heads_at k (Item.simple_type t ∷ is) e =
-      rw (complex-places k (Item.simple_type t) (items_rows is)) (complex-heads_at _ is (rows_from-behind rows names k end (item_rows (Item.simple_type t)) (items_rows is) e))
+      rw (complex-places k (Item.simple_type t) (items_rows is)) (complex-heads_at (k + length (item_rows (Item.simple_type t))) is (rows_from-behind rows names k end (item_rows (Item.simple_type t)) (items_rows is) e))
   complex-heads_at k (Item.complex_type t ∷ is) e =
       rw (complex-places k (Item.complex_type t) (items_rows is))
-      (rw (item-name k (Item.complex_type t) is e ∙ complex-head-name t, complex-heads_at _ is (rows_from-behind rows names k end (item_rows (Item.complex_type t)) (items_rows is) e)))
+      (rw (item-name k (Item.complex_type t) is e ∙ complex-head-name t, complex-heads_at (k + length (item_rows (Item.complex_type t))) is (rows_from-behind rows names k end (item_rows (Item.complex_type t)) (items_rows is) e)))
 
   pub types-heads : (is : List Item) → rows_from rows names 2 end ≡ items_rows is → heads_at rows names end ≡ heads 2 is
   unfolding type_places heads
