@@ -13,44 +13,41 @@ use Rattle.name_index.proofs.enter.Lts as lts
 use Rattle.name_index.proofs.enter.Reads as reads
 use Rattle.name_index.proofs.enter.Goals as goal
 
-abbrev at_entry : lts.After-find_in tie.the-claims reads.Pre reads.Post → lts.Start tie.the-claims reads.Pre reads.Post
-at_entry c = c.before.before.before.before.before.before.before
-
 -- the head's own name
-abbrev NamedAt : lts.After-find_in tie.the-claims reads.Pre reads.Post → Type 0
+abbrev NamedAt : lts.After-find_in tie.the-claims reads.Pre reads.Post tie.handed_clauses → Type 0
 NamedAt c =
-    let a = (at_entry c).args in
+    let a = c.args in
     spelled a.normalised c.name_at-name.result.now ≡ name_of a.rows.now a.names.now a.normalised a.place
 
-named : (c : lts.After-find_in tie.the-claims reads.Pre reads.Post) → NamedAt c
+named : (c : lts.After-find_in tie.the-claims reads.Pre reads.Post tie.handed_clauses) → NamedAt c
 named c =
-    let a = (at_entry c).args in
+    let a = c.args in
     own_name a.rows.now a.names.now a.normalised a.place c.name_at-name.ensures
 
 -- its bucket
-abbrev BucketAt : lts.After-find_in tie.the-claims reads.Pre reads.Post → Type 0
+abbrev BucketAt : lts.After-find_in tie.the-claims reads.Pre reads.Post tie.handed_clauses → Type 0
 BucketAt c =
-    let a = (at_entry c).args in
+    let a = c.args in
     c.bucket_of-bucket.result ≡ bucket_of a.buckets (name_of a.rows.now a.names.now a.normalised a.place)
 
-bucket-is : (c : lts.After-find_in tie.the-claims reads.Pre reads.Post) → BucketAt c
+bucket-is : (c : lts.After-find_in tie.the-claims reads.Pre reads.Post tie.handed_clauses) → BucketAt c
 bucket-is c = c.bucket_of-bucket.ensures ∙ rw (named c)
 
-bucket-there : (c : lts.After-find_in tie.the-claims reads.Pre reads.Post) → c.bucket_of-bucket.result < length (at_entry c).args.table.now
-bucket-there c = bucket-inside _ (at_entry c).requires.0 (bucket-is c)
+bucket-there : (c : lts.After-find_in tie.the-claims reads.Pre reads.Post tie.handed_clauses) → c.bucket_of-bucket.result < length c.args.table.now
+bucket-there c = bucket-inside _ c.requires.index (bucket-is c)
 
 -- what it holds
-last-small : (c : lts.After-find_in tie.the-claims reads.Pre reads.Post) → get_or (at_entry c).args.table.now c.bucket_of-bucket.result 0 ≤ (at_entry c).args.entries
-last-small c = before-bound (at_entry c).requires.0 (at_entry c).requires.1 (bucket-is c)
+last-small : (c : lts.After-find_in tie.the-claims reads.Pre reads.Post tie.handed_clauses) → get_or c.args.table.now c.bucket_of-bucket.result 0 ≤ c.args.entries
+last-small c = before-bound c.requires.index c.requires.entering (bucket-is c)
 
 -- what was looked for
-abbrev FoundAt : lts.After-find_in tie.the-claims reads.Pre reads.Post → Type 0
+abbrev FoundAt : lts.After-find_in tie.the-claims reads.Pre reads.Post tie.handed_clauses → Type 0
 FoundAt c =
-    let a = (at_entry c).args in
+    let a = c.args in
     let name = name_of a.rows.now a.names.now a.normalised in
     c.find_in-found.result ≡ place_of name (name a.place) (places_in a.buckets a.entries a.table.now)
 
-found : (c : lts.After-find_in tie.the-claims reads.Pre reads.Post) → FoundAt c
+found : (c : lts.After-find_in tie.the-claims reads.Pre reads.Post tie.handed_clauses) → FoundAt c
 found c = c.find_in-found.ensures ∙ rw (named c)
 
 pub returns-then-found-ne0 : goal.returns-then-found-ne0
@@ -64,11 +61,11 @@ bounds-table-bucket c = omega (arith, bucket-there c.before.before.before)
 
 pub overflow_mul-table : goal.overflow_mul-table
 overflow_mul-table c =
-    omega (arith, last-small at, (at_entry at).requires.0.inside, (at_entry at).requires.0.small)
+    omega (arith, last-small c.before.before.before, c.requires.index.inside, c.requires.index.small)
 
 pub overflow_add-table : goal.overflow_add-table
 overflow_add-table c =
-    omega (arith, last-small at, (at_entry at).requires.0.inside, (at_entry at).requires.0.small, place-small (at_entry at).requires.0 (at_entry at).requires.1)
+    omega (arith, last-small c.before.before.before, c.requires.index.inside, c.requires.index.small, place-small c.requires.index c.requires.entering)
 
 pub offset_bounds-table-bucket-2 : goal.offset_bounds-table-bucket-2
 offset_bounds-table-bucket-2 c = omega (arith, bucket-there c.before.before.before)
@@ -79,6 +76,6 @@ bounds-table-bucket-2 c = simp length-set (omega (arith, bucket-there c.before.b
 pub returns : goal.returns
 returns c =
     record {
-      place = sym c.if-found-ne0.false ∙ found at;
-      added = λ e. rw (bucket-is at) (enter-added (at_entry at).requires.0 (at_entry at).requires.1);
+      place = sym c.if-found-ne0.false ∙ found c.before.before.before;
+      added = λ e. rw (bucket-is c.before.before.before) (enter-added c.requires.index c.requires.entering);
     }

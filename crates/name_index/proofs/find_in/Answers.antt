@@ -13,12 +13,12 @@ use Rattle.name_index.proofs.find_in.Reads as reads
 use Rattle.name_index.proofs.find_in.Goals as goal
 
 -- what the comparison says of the entry's name
-abbrev ComparedAt : lts.After-same_spelled tie.the-claims reads.Pre reads.Post goal.the-invariant-loop-e goal.the-decreases-loop-e → Type 0
+abbrev ComparedAt : lts.After-same_spelled tie.the-claims reads.Pre reads.Post goal.the-invariant-loop-e goal.the-decreases-loop-e tie.handed_clauses → Type 0
 ComparedAt c =
     let a = c.args in
     c.same_spelled.result ≡ same (name_in a.rows.now a.names.now a.normalised a.table.now a.buckets (c.loop-e.e - 1)) (spelled a.asked_normalised a.asked.now)
 
-compared : (c : lts.After-same_spelled tie.the-claims reads.Pre reads.Post goal.the-invariant-loop-e goal.the-decreases-loop-e) → ComparedAt c
+compared : (c : lts.After-same_spelled tie.the-claims reads.Pre reads.Post goal.the-invariant-loop-e goal.the-decreases-loop-e tie.handed_clauses) → ComparedAt c
 compared c =
     let a = c.args in
     let held = held-name a.rows.now a.names.now a.normalised a.table.now a.buckets (c.loop-e.e - 1) _ c.name_at-held.ensures c.wide-place.ensures in
