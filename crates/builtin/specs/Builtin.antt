@@ -5,10 +5,10 @@
 --     first_match    the type beside the first name of the list that is the word
 --     map_builtin    the type of a name, after its last colon; none where it is no built-in name
 --     reference     paper 01's number of a type reference: 0 named, 1 String, 2 Bool, 3 Decimal, 4 Date, 5 DateTime
-use Rattle.std.specs.Prelude.{ℕ, List, [], ◌∷◌, ◌++◌}
+use Rattle.std.specs.Prelude.{ℕ, List, [], ◌∷◌, ◌++◌, if◌then◌else◌}
 use Prim.Native.String.{String}
 use Rattle.std.proofs.Math.Option.{Option, some, none}
-use Rattle.text.specs.Text.{Text, if◌then◌else◌, is, local_name}
+use Rattle.text.specs.Text.{Text, is, local_name}
 
 pub data RustType : Type 0 where
   string bool decimal date date_time : RustType

@@ -3,8 +3,7 @@
 --     Turned        number, place and target afterwards
 --     turned f      the call that writes f of the source
 --     ColumnsIs, RowsIs    what each call says of itself; the source is lent for reading alone
-use Rattle.std.specs.Prelude.{◌≡◌, ℕ, Bool, ◌&&◌, List, length, ◌==◌}
-use Rattle.text.specs.Text.{if◌then◌else◌}
+use Rattle.std.specs.Prelude.{◌≡◌, ℕ, Bool, ◌&&◌, List, length, ◌==◌, if◌then◌else◌}
 use Rattle.sheet.specs.Lengths.{sheet_lengths}
 use Rattle.sheet.specs.Returned.{accepted, bad_length}
 use Rattle.columns.specs.Columns.{columns_of, rows_of}

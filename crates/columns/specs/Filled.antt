@@ -2,8 +2,7 @@
 --     Filled f k out    the first k numbers are f 0, f 1, .. f (k - 1)
 --     Sized             source and target have ten numbers for each of h rows
 --     above_in           the number above the one at place k of rows, 0 above the first row
-use Rattle.std.specs.Prelude.{◌≡◌, ℕ, ◌-◌, ◌*◌, ◌≤◌, List, length, take, nat_lt, slice_index}
-use Rattle.text.specs.Text.{if◌then◌else◌}
+use Rattle.std.specs.Prelude.{◌≡◌, ℕ, ◌-◌, ◌*◌, ◌≤◌, List, length, take, nat_lt, slice_index, if◌then◌else◌}
 use Rattle.sheet.specs.Limits.{row_numbers}
 use Rattle.columns.specs.Columns.{up_to}
 

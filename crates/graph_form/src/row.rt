@@ -1,6 +1,5 @@
 // The tests of a row of a graph sheet behind row 1.
-ghost use Rattle.std.specs.Prelude.{◌≡◌, ◌+◌, ◌≤◌, eqb};
-ghost use Rattle.text.specs.Text.{if◌then◌else◌};
+ghost use Rattle.std.specs.Prelude.{◌≡◌, ◌+◌, ◌≤◌, eqb, if◌then◌else◌};
 ghost use Rattle.rows.specs.Ten.{as_ten};
 ghost use Rattle.ir_types.specs.Form.{used_pairs, is_type_tag, form_a, form_b, form_c, ten_form, is_child, may_follow, head_after};
 ghost use Rattle.graph_form.specs.Kinds.{IsCount, refers};

@@ -4,8 +4,8 @@
 --     spelled_texts      the text, or none
 --     recipe_row         the row that a recipe gives
 --     orderly           the used texts are the first ones
-use Rattle.std.specs.Prelude.{List, [], ◌∷◌, ◌++◌, Bool, true, false, not, ◌&&◌, ◌||◌}
-use Rattle.text.specs.Text.{Text, if◌then◌else◌}
+use Rattle.std.specs.Prelude.{List, [], ◌∷◌, ◌++◌, Bool, true, false, not, ◌&&◌, ◌||◌, if◌then◌else◌}
+use Rattle.text.specs.Text.{Text}
 use Rattle.names.specs.Names.{normalize_type_name, xml_to_snake_case, code_to_pascal_case}
 use Rattle.sheet.specs.Rows.{Row, row}
 use Rattle.ir_append.specs.declared.Spelling.{Spelling}

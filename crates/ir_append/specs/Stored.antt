@@ -6,9 +6,9 @@
 --     Spreads       what storing them answers and leaves
 --     offset_of      the offset of a row's pair: "an unused pair is 0 0"
 --     row_numbers    the ten numbers of a recipe's row whose texts, so long, stand in the names from `at`
-use Rattle.std.specs.Prelude.{ℕ, ◌+◌, ◌≤◌, ◌<◌, ◌≡◌, List, [], ◌∷◌, ◌++◌, length}
+use Rattle.std.specs.Prelude.{ℕ, ◌+◌, ◌≤◌, ◌<◌, ◌≡◌, List, [], ◌∷◌, ◌++◌, length, if◌then◌else◌}
 use Rattle.std.proofs.Math.Seq.{paste}
-use Rattle.text.specs.Text.{Text, if◌then◌else◌}
+use Rattle.text.specs.Text.{Text}
 use Rattle.names.specs.declared.Written.{Written}
 use Rattle.ir_append.specs.declared.Spelling.{Spelling}
 use Rattle.ir_append.specs.declared.Recipe.{Recipe}

@@ -14,9 +14,9 @@
 --     repeated_kind  the row of the first head of one kind whose name came before
 --     KindIn        the heads of one kind are entries, and their names are new and no two the same
 --     KindEntered   that, or the row of the first whose name came before
-use Rattle.std.specs.Prelude.{ℕ, ◌+◌, ◌*◌, ◌/◌, ◌%◌, ◌≤◌, ◌<◌, ◌≡◌, List, [], ◌∷◌, ◌++◌, map, Bool, true, false, ◌||◌, eqb, length, get_or}
+use Rattle.std.specs.Prelude.{ℕ, ◌+◌, ◌*◌, ◌/◌, ◌%◌, ◌≤◌, ◌<◌, ◌≡◌, List, [], ◌∷◌, ◌++◌, map, Bool, true, false, ◌||◌, eqb, length, get_or, if◌then◌else◌}
 use Rattle.std.proofs.Math.Option.{Option, some, none}
-use Rattle.text.specs.Text.{Text, if◌then◌else◌}
+use Rattle.text.specs.Text.{Text}
 use Rattle.sheet.specs.Rows.{text_at}
 use Rattle.ir_types.specs.Distinct.{among}
 use Rattle.ir_lower.specs.Repeated.{first_repeated}

@@ -9,9 +9,8 @@
 --     lower_finished     the call on a state with scratch enough, from 12 on
 --     lower_state        the call on a state, from 14 on
 --     lowering          the call; LowerIs: what it says of itself
-use Rattle.std.specs.Prelude.{ℕ, ◌≡◌, List, ◌&&◌, leb, length, replicate}
+use Rattle.std.specs.Prelude.{ℕ, ◌≡◌, List, ◌&&◌, leb, length, replicate, if◌then◌else◌}
 use Rattle.std.proofs.Math.Option.{Option, some, none}
-use Rattle.text.specs.Text.{if◌then◌else◌}
 use Rattle.sheet.specs.Rows.{Sheet}
 use Rattle.sheet.specs.Lengths.{Answer, lengths_of, good_lengths}
 use Rattle.sheet.specs.Returned as returned

@@ -7,9 +7,9 @@
 --     first_repeated    the row of the first head whose name came before: among the names seen, or with an earlier head of the list
 --     repeated_row   that of a schema's types
 --     FirstRepeat   the same without a search: before a head of this row no name came twice, and its own name came there
-use Rattle.std.specs.Prelude.{ℕ, ◌+◌, ◌≡◌, true, List, [], ◌∷◌, ◌++◌, map, length}
+use Rattle.std.specs.Prelude.{ℕ, ◌+◌, ◌≡◌, true, List, [], ◌∷◌, ◌++◌, map, length, if◌then◌else◌}
 use Rattle.std.proofs.Math.Option.{Option, some, none}
-use Rattle.text.specs.Text.{Text, if◌then◌else◌}
+use Rattle.text.specs.Text.{Text}
 use Rattle.xsd_types.specs.Types.{Item, Schema}
 use Rattle.xsd_types.specs.Rows.{item_rows}
 use Rattle.ir_types.specs.Distinct.{among, distinct_texts}

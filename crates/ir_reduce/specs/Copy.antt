@@ -2,8 +2,7 @@
 --     bytes_of       how many bytes the texts of a row have
 --     Stands        the pairs of the row at place p stand side by side inside the names
 --     moved_numbers  the ten numbers of a row that uses so many pairs, its texts in the names from `at`
-use Rattle.std.specs.Prelude.{ℕ, ◌+◌, ◌*◌, ◌≤◌, ◌≡◌, true, List, [], ◌∷◌, leb, length, drop}
-use Rattle.text.specs.Text.{if◌then◌else◌}
+use Rattle.std.specs.Prelude.{ℕ, ◌+◌, ◌*◌, ◌≤◌, ◌≡◌, true, List, [], ◌∷◌, leb, length, drop, if◌then◌else◌}
 use Rattle.sheet.specs.Rows.{Ten, ten}
 use Rattle.sheet.specs.Form.{row_covers, end_of}
 use Rattle.ir_types.specs.Form.{used_pairs}

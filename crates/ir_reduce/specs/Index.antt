@@ -7,8 +7,8 @@
 --     asked_pair     where in a row the pair of the name stands that it leads to: 0 where it leads nowhere
 --     TargetsPut    the targets of the rows before a place are stored
 --     target_of      the place of the head that the row at place p leads to: 0 for nowhere
-use Rattle.std.specs.Prelude.{ℕ, zero, suc, ◌+◌, ◌-◌, ◌*◌, ◌≤◌, ◌<◌, ◌≡◌, Bool, true, false, ◌&&◌, ◌||◌, List, [], ◌∷◌, ◌++◌, map, eqb, length, get_or}
-use Rattle.text.specs.Text.{Text, if◌then◌else◌, between}
+use Rattle.std.specs.Prelude.{ℕ, zero, suc, ◌+◌, ◌-◌, ◌*◌, ◌≤◌, ◌<◌, ◌≡◌, Bool, true, false, ◌&&◌, ◌||◌, List, [], ◌∷◌, ◌++◌, map, eqb, length, get_or, if◌then◌else◌}
+use Rattle.text.specs.Text.{Text, between}
 use Rattle.names.specs.Same.{spelled}
 use Rattle.sheet.specs.Rows.{text_at}
 use Rattle.ir_types.specs.Tags.{root_tag, value_with_attributes_tag, field_tag, variant_tag, attribute_tag}

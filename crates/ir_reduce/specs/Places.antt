@@ -4,8 +4,8 @@
 --     keeps         whether a row is kept: a head by its mark, another row with the row before it
 --     kept_rows      those of m rows from place p on that are kept
 --     asked         the names that a row leads to: of a root its type's, normalised, of another row its references
-use Rattle.std.specs.Prelude.{ℕ, zero, suc, ◌*◌, Bool, not, List, [], ◌∷◌, ◌++◌, eqb, get_or, drop}
-use Rattle.text.specs.Text.{Text, if◌then◌else◌}
+use Rattle.std.specs.Prelude.{ℕ, zero, suc, ◌*◌, Bool, not, List, [], ◌∷◌, ◌++◌, eqb, get_or, drop, if◌then◌else◌}
+use Rattle.text.specs.Text.{Text}
 use Rattle.sheet.specs.Rows.{Row, ten, unpack_row}
 use Rattle.ir_types.specs.Tags.{root_tag}
 use Rattle.ir_types.specs.Form.{used_pairs, is_type_tag}

@@ -1,6 +1,6 @@
 // The rows that are kept, copied with their texts behind each other. The texts of a row stand side by side in the names, so they are copied as one.
-ghost use Rattle.std.specs.Prelude.{◌≡◌, true, List, [], ◌∷◌, map, ℕ, ◌+◌, ◌-◌, ◌*◌, ◌≤◌, ◌<◌, length};
-ghost use Rattle.text.specs.Text.{if◌then◌else◌, between};
+ghost use Rattle.std.specs.Prelude.{◌≡◌, true, List, [], ◌∷◌, map, ℕ, ◌+◌, ◌-◌, ◌*◌, ◌≤◌, ◌<◌, length, if◌then◌else◌};
+ghost use Rattle.text.specs.Text.{between};
 ghost use Rattle.sheet.specs.Rows.{Row};
 ghost use Rattle.sheet.specs.Limits.{names_limit};
 ghost use Rattle.rows.specs.Ten.{as_ten};

@@ -9,8 +9,8 @@
 --     Lowers            the recipe gives what lowering makes of a row
 --     IsCount           the tag of a facet that is a count
 --     ten_rows           what lowering makes of a row of numbers, its texts read from the names
-use Rattle.std.specs.Prelude.{ℕ, ◌≡◌, ◌⊎◌, List, [], ◌∷◌, Bool, true, not, ◌&&◌, ◌||◌, eqb}
-use Rattle.text.specs.Text.{Text, if◌then◌else◌, between}
+use Rattle.std.specs.Prelude.{ℕ, ◌≡◌, ◌⊎◌, List, [], ◌∷◌, Bool, true, not, ◌&&◌, ◌||◌, eqb, if◌then◌else◌}
+use Rattle.text.specs.Text.{Text, between}
 use Rattle.builtin.specs.Builtin.{map_builtin, reference}
 use Rattle.sheet.specs.Rows.{Row, text_at}
 use Rattle.xsd_types.specs.Tags.{namespace_tag, simple_type_tag, enumeration_tag, min_length_tag, max_length_tag, total_digits_tag, fraction_digits_tag, simple_content_tag, no_content_tag, bound_element_tag, attribute_tag}

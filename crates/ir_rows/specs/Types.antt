@@ -8,8 +8,8 @@
 --     places_in          those of the first n entries of a scratch
 --     types_rows         the graph's rows for the types at the given places
 --     graph_row_list         the graph's rows behind row 0
-use Rattle.std.specs.Prelude.{ℕ, ◌+◌, ◌%◌, List, [], ◌∷◌, ◌++◌, map, Bool, false, ◌||◌, eqb, take}
-use Rattle.text.specs.Text.{if◌then◌else◌, between}
+use Rattle.std.specs.Prelude.{ℕ, ◌+◌, ◌%◌, List, [], ◌∷◌, ◌++◌, map, Bool, false, ◌||◌, eqb, take, if◌then◌else◌}
+use Rattle.text.specs.Text.{between}
 use Rattle.sheet.specs.Rows.{Row}
 use Rattle.xsd_types.specs.Tags.{simple_type_tag, sequence_tag, any_tag}
 use Rattle.ir_lower.specs.Repeated.{Head}

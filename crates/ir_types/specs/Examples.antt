@@ -1,9 +1,9 @@
 -- Small graphs and rows through the definitions, by computation.
 --     sample        two types that refer to one another, and a root
 --     words         a list of five words
-use Rattle.std.specs.Prelude.{◌≡◌, refl, Bool, true, false, List, [], ◌∷◌, ◌++◌, ℕ}
+use Rattle.std.specs.Prelude.{◌≡◌, refl, Bool, true, false, List, [], ◌∷◌, ◌++◌, ℕ, if◌then◌else◌}
 use Prim.Native.String.{String}
-use Rattle.text.specs.Text.{Text, if◌then◌else◌, bytes}
+use Rattle.text.specs.Text.{Text, bytes}
 use Rattle.text.specs.Unfold.{computes as texts}
 use Rattle.builtin.specs.Builtin.{RustType}
 use Rattle.builtin.specs.Unfold.{computes as builtin_names}

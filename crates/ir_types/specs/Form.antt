@@ -7,8 +7,8 @@
 --     tags_of, count the tags of rows, and how many of them pass a test
 --     row0_form, rows_form, names_form    row 0's zeros; the rows behind it, as many as it says; the used pairs
 --     graph_form     all of it
-use Rattle.std.specs.Prelude.{ℕ, suc, ◌+◌, List, [], ◌∷◌, map, Bool, true, false, ◌&&◌, ◌||◌, eqb, leb, take}
-use Rattle.text.specs.Text.{if◌then◌else◌, every, is_text, between}
+use Rattle.std.specs.Prelude.{ℕ, suc, ◌+◌, List, [], ◌∷◌, map, Bool, true, false, ◌&&◌, ◌||◌, eqb, leb, take, if◌then◌else◌}
+use Rattle.text.specs.Text.{every, is_text, between}
 use Rattle.sheet.specs.Rows.{Ten, Sheet}
 use Rattle.sheet.specs.Form.{is_flag, covers, covered, tens_of, used_parts, zeros_behind}
 use Rattle.ir_types.specs.Tags.{namespace_tag, root_tag, struct_tag, enum_tag, newtype_tag, code_enum_tag, value_with_attributes_tag, opaque_tag, field_tag, variant_tag, pattern_tag, min_length_tag, max_length_tag, total_digits_tag, fraction_digits_tag, code_tag, attribute_tag}

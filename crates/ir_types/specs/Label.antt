@@ -6,8 +6,8 @@
 --     reference_at, reference_length    the reference's pair of a row
 --     label         the call
 --     LabelIs, LabelNumberIs    what the two calls say of themselves
-use Rattle.std.specs.Prelude.{ℕ, zero, suc, ◌+◌, ◌-◌, ◌*◌, ◌%◌, ◌≡◌, List, [], ◌∷◌, Bool, true, false, ◌&&◌, ◌||◌, eqb, leb, ltb, length, get_or, drop}
-use Rattle.text.specs.Text.{Text, if◌then◌else◌, split, StartsAt}
+use Rattle.std.specs.Prelude.{ℕ, zero, suc, ◌+◌, ◌-◌, ◌*◌, ◌%◌, ◌≡◌, List, [], ◌∷◌, Bool, true, false, ◌&&◌, ◌||◌, eqb, leb, ltb, length, get_or, drop, if◌then◌else◌}
+use Rattle.text.specs.Text.{Text, split, StartsAt}
 use Rattle.sheet.specs.Rows.{Ten, ten, text_at}
 
 pub record Labelled : Type 0 where

@@ -2,8 +2,8 @@
 -- is the only place that cites it.
 --     insert        a definition put in: "Each normalised name holds its last definition at the place where it first came."
 --     insert_all     definitions put in one after the other
-use Rattle.std.specs.Prelude.{List, [], ◌∷◌}
-use Rattle.text.specs.Text.{if◌then◌else◌, same}
+use Rattle.std.specs.Prelude.{List, [], ◌∷◌, if◌then◌else◌}
+use Rattle.text.specs.Text.{same}
 use Rattle.ir_types.specs.Types.{TypeDef, name_of}
 
 unfoldable pub insert : TypeDef → List TypeDef → List TypeDef

@@ -9,8 +9,8 @@
 --     Entering      what must be known to enter the head at place p
 --     Added         it is one entry more
 --     Entered       that, or the place of the last entry that has its name
-use Rattle.std.specs.Prelude.{ℕ, zero, suc, ◌+◌, ◌*◌, ◌/◌, ◌%◌, ◌≤◌, ◌<◌, ◌≡◌, List, [], ◌∷◌, ◌++◌, map, Bool, eqb, length, get_or, take, drop}
-use Rattle.text.specs.Text.{Text, if◌then◌else◌, same}
+use Rattle.std.specs.Prelude.{ℕ, zero, suc, ◌+◌, ◌*◌, ◌/◌, ◌%◌, ◌≤◌, ◌<◌, ◌≡◌, List, [], ◌∷◌, ◌++◌, map, Bool, eqb, length, get_or, take, drop, if◌then◌else◌}
+use Rattle.text.specs.Text.{Text, same}
 use Rattle.names.specs.Same.{spelled}
 use Rattle.sheet.specs.Limits.{rows_limit}
 use Rattle.sheet.specs.Rows.{text_at}

@@ -3,8 +3,8 @@
 --     placed t p    what the lent part p holds afterwards: the bytes of t as far as p reaches, and behind them what p held.
 --                   So after "no room" p holds the first bytes of t, as many as p has
 --     Put           the answer and the part after a call that was to write the text t
-use Rattle.std.specs.Prelude.{ℕ, ◌≡◌, List, ◌++◌, leb, length, take, drop}
-use Rattle.text.specs.Text.{Text, if◌then◌else◌}
+use Rattle.std.specs.Prelude.{ℕ, ◌≡◌, List, ◌++◌, leb, length, take, drop, if◌then◌else◌}
+use Rattle.text.specs.Text.{Text}
 use Rattle.names.specs.declared.Written.{Written}
 
 unfoldable pub written : Text → ℕ → Written

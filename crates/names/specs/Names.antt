@@ -5,9 +5,9 @@
 --     snake_from prev s  the snake form of s where prev is the byte before it, 0 where there is none
 --     xml_to_snake_case    an element's or attribute's name as a field's name
 --     code_to_pascal_case  an enumeration's value as a variant's name
-use Rattle.std.specs.Prelude.{ℕ, [], ◌∷◌, map, Bool, ◌&&◌, ◌||◌}
+use Rattle.std.specs.Prelude.{ℕ, [], ◌∷◌, map, Bool, ◌&&◌, ◌||◌, if◌then◌else◌}
 use Prim.Native.Char.{code}
-use Rattle.text.specs.Text.{Text, if◌then◌else◌, is_upper, is_lower, upper, lower, contains, split, join, first}
+use Rattle.text.specs.Text.{Text, is_upper, is_lower, upper, lower, contains, split, join, first}
 
 unfoldable pub capital : (ℕ → ℕ) → Text → Text
 capital rest [] = []

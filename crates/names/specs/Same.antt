@@ -5,9 +5,9 @@
 --     NextByte      from a place on the spelled name has the byte b, and goes on at another place
 --     NextIs        what reading the next byte of a spelled name from a place says
 --     is_end         the answer is the name's end
-use Rattle.std.specs.Prelude.{ℕ, ◌<◌, ◌≤◌, ◌≡◌, [], ◌∷◌, Bool, true, false, ◌&&◌, length, drop}
+use Rattle.std.specs.Prelude.{ℕ, ◌<◌, ◌≤◌, ◌≡◌, [], ◌∷◌, Bool, true, false, ◌&&◌, length, drop, if◌then◌else◌}
 use Prim.Native.Char.{code}
-use Rattle.text.specs.Text.{Text, if◌then◌else◌, contains}
+use Rattle.text.specs.Text.{Text, contains}
 use Rattle.names.specs.Names.{normalize_type_name}
 use Rattle.names.specs.Scans.{segments}
 use Rattle.names.specs.declared.same.Next.{Next}

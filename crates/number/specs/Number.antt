@@ -12,9 +12,9 @@
 --     number_below limit s  what the text s gives below the limit, white space at both ends aside
 --     number w s    what the text s gives at the width w
 --     SpellsBelow limit core v  the core is a text that paper 01 takes for v, or minus zeros, and v is 0; Spells w core v: at the width w
-use Rattle.std.specs.Prelude.{ℕ, ◌+◌, ◌-◌, ◌*◌, ◌^◌, ◌≡◌, ◌⊎◌, [], ◌∷◌, Bool, true, false, ◌&&◌, eqb, ltb}
+use Rattle.std.specs.Prelude.{ℕ, ◌+◌, ◌-◌, ◌*◌, ◌^◌, ◌≡◌, ◌⊎◌, [], ◌∷◌, Bool, true, false, ◌&&◌, eqb, ltb, if◌then◌else◌}
 use Prim.Native.Char.{code}
-use Rattle.text.specs.Text.{Text, if◌then◌else◌, every, is_digit}
+use Rattle.text.specs.Text.{Text, every, is_digit}
 use Rattle.text.specs.Trim.{trimmed}
 
 pub data Parsed : Type 0 where

@@ -1,6 +1,5 @@
 // The forms that are not judged.
-ghost use Rattle.std.specs.Prelude.{◌≡◌, ◌≤◌, eqb, length};
-ghost use Rattle.text.specs.Text.{if◌then◌else◌};
+ghost use Rattle.std.specs.Prelude.{◌≡◌, ◌≤◌, eqb, length, if◌then◌else◌};
 ghost use Rattle.pattern.specs.Call.{is_aside_pair, is_aside};
 
 use sheet::limits;

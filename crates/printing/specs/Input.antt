@@ -3,8 +3,7 @@
 --     number_at i s    the number of the four bytes of s from i on, the first of them the lowest
 --     too_long       a length that was read is too long; a length is read where its four bytes are there
 --     input_of       what the input is: TooLong, Short, or Tape with the lengths of its text and marks
-use Rattle.std.specs.Prelude.{ℕ, ◌+◌, ◌*◌, List, Bool, ◌&&◌, ◌||◌, leb, ltb, length, get_or}
-use Rattle.text.specs.Text.{if◌then◌else◌}
+use Rattle.std.specs.Prelude.{ℕ, ◌+◌, ◌*◌, List, Bool, ◌&&◌, ◌||◌, leb, ltb, length, get_or, if◌then◌else◌}
 use Rattle.printing.specs.declared.Input.{Input}
 
 unfoldable pub number_at : ℕ → List ℕ → ℕ

@@ -1,8 +1,8 @@
 -- A text cut at the first place of a byte.
 --     before_first c s    what stands before the first c of s, or all of it
 --     behind_first c s    what stands behind the first c of s, or nothing
-use Rattle.std.specs.Prelude.{ℕ, [], ◌∷◌, eqb}
-use Rattle.text.specs.Text.{Text, if◌then◌else◌}
+use Rattle.std.specs.Prelude.{ℕ, [], ◌∷◌, eqb, if◌then◌else◌}
+use Rattle.text.specs.Text.{Text}
 
 unfoldable pub before_first : ℕ → Text → Text
 before_first c [] = []

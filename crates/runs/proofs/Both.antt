@@ -3,6 +3,7 @@
 --     Beside        what the handlers give under choice 0, and under 1: the same, or a reader one tag deeper below the schema
 --     Ready         a state under choice 0 with nesting 0 in context 1
 --     Typed         of the accepted events of records none but a start of a type is directly below the schema
+use Rattle.std.specs.Prelude.{if◌then◌else◌}
 use Prim.Native.Nat.{ℕ, zero, suc, ◌+◌}
 use mathlib.Core.Path.{◌≡◌, refl, sym, ap, subst, ◌∙◌}
 use mathlib.Core.Bool.{Bool, true, false, not, ◌&&◌, ◌||◌}
@@ -11,7 +12,7 @@ use mathlib.Core.Option.{none}
 use native.Mathlib.Omega.{arith}
 use lib.Dec.{eqb, ltb}
 use lib.ListN.{length, take}
-use Rattle.text.specs.Text.{Text, if◌then◌else◌}
+use Rattle.text.specs.Text.{Text}
 use Rattle.text.proofs.Laws.Tests.{two, bool_cases, and-true, and-true-left}
 use Rattle.sheet.specs.Rows.{Sheet}
 use Rattle.sheet.specs.Lengths.{sheet_lengths, tape_lengths, Lengths, lengths_of}

@@ -1,5 +1,6 @@
 -- Order 5: the rows of a graph without numbers are the graph's rows with c of every head cleared, so that it takes as many rows and names; with that a lowering
 -- of a state without numbers answers as one of the state, its places among them; and call by call a run. Assumes nothing.
+use Rattle.std.specs.Prelude.{if◌then◌else◌}
 use mathlib.Core.Path.{◌≡◌, refl, sym, ap, ◌∙◌}
 use mathlib.Core.Bool.{Bool, true, false}
 use mathlib.Core.List.{List, [], ◌∷◌, ◌++◌, map, map-append}
@@ -7,7 +8,7 @@ use mathlib.Core.Option.{Option, some, none}
 use Prim.Native.Nat.{ℕ, ◌+◌}
 use lib.Dec.{leb}
 use lib.ListN.{length, length-map}
-use Rattle.text.specs.Text.{Text, if◌then◌else◌, between}
+use Rattle.text.specs.Text.{Text, between}
 use Rattle.text.proofs.Laws.Tests.{bool_cases}
 use Rattle.sheet.specs.Rows.{Row, Sheet, row, names_of}
 use Rattle.sheet.specs.Lengths.{Lengths, tape_lengths, lengths_of, good_lengths}

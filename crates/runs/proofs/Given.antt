@@ -1,12 +1,13 @@
 -- Order 5 in the graph: lowering takes names and numbers of roots and types from the schema's heads, a type's name normalised, so that what the heads of a state pass
 -- its graph passes too. Assumes nothing.
+use Rattle.std.specs.Prelude.{if◌then◌else◌}
 use Prim.Native.Nat.{ℕ}
 use mathlib.Core.Path.{◌≡◌, refl, ◌∙◌}
 use mathlib.Core.Bool.{Bool, true, false}
 use mathlib.Core.List.{List, [], ◌∷◌, ◌++◌, map}
 use mathlib.Core.Option.{Option, some, none}
 use native.Mathlib.Omega.{arith}
-use Rattle.text.specs.Text.{Text, if◌then◌else◌, every}
+use Rattle.text.specs.Text.{Text, every}
 use Rattle.text.proofs.Laws.Tests.{two, and-true, bool_cases}
 use Rattle.builtin.specs.Builtin.{RustType, map_builtin}
 use Rattle.names.specs.Names.{normalize_type_name}

@@ -1,11 +1,12 @@
 -- Order 14: a lookup of one of the nine words passes over the other attributes, so that of a tag without its notes the same is seen; and events of which the
 -- same is seen step alike. Assumes nothing.
+use Rattle.std.specs.Prelude.{if◌then◌else◌}
 use mathlib.Core.Path.{◌≡◌, refl, sym, ap, ◌∙◌}
 use mathlib.Core.Bool.{Bool, true, false, ◌||◌, false≢true}
 use mathlib.Core.List.{List, [], ◌∷◌}
 use mathlib.Core.Option.{Option, some}
 use Prim.Native.String.{String}
-use Rattle.text.specs.Text.{Text, if◌then◌else◌, is, local_name}
+use Rattle.text.specs.Text.{Text, is, local_name}
 use Rattle.sheet.specs.Lengths.{Lengths}
 use Rattle.xsd_types.specs.State.{State}
 use Rattle.xsd_parser.specs.Event.{Attr, Tag, Event, lookup, attr_value}

@@ -1,10 +1,10 @@
 -- Demand 3: the calls of a run, whatever the first sheet, answer what the definition says, and leave its last sheet. By `hold-served` the run begins
 -- with a pair that serves, and each call keeps one. Assumes nothing.
+use Rattle.std.specs.Prelude.{if◌then◌else◌}
 use mathlib.Core.Path.{◌≡◌, refl, sym, ap, ◌∙◌}
 use mathlib.Core.Bool.{Bool, true, false}
 use mathlib.Core.List.{List, []}
 use Rattle.sheet.specs.Lengths.{Answer, lengths_of, good_lengths}
-use Rattle.text.specs.Text.{if◌then◌else◌}
 use Rattle.sheet.specs.Rows.{Sheet}
 use Rattle.sheet.specs.Form.{words}
 use Rattle.xsd_types.specs.Count.{good, state_of}

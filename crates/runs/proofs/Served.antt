@@ -1,11 +1,12 @@
 -- A sheet and what a run holds of it: the sheet is the one held, and a state held is proper and has room. Each call answers from the sheet what the
 -- definition answers from what is held, and leaves such a pair. Assumes nothing.
+use Rattle.std.specs.Prelude.{if◌then◌else◌}
 use Prim.Native.Nat.{ℕ}
 use mathlib.Core.Path.{◌≡◌, refl, sym, ap, ◌∙◌}
 use mathlib.Core.Bool.{Bool, true, false}
 use mathlib.Core.List.{List}
 use lib.ListN.{length}
-use Rattle.text.specs.Text.{Text, if◌then◌else◌, between}
+use Rattle.text.specs.Text.{Text, between}
 use Rattle.sheet.specs.Rows.{Sheet, Ten}
 use Rattle.sheet.specs.Lengths.{tape_lengths, Lengths, lengths_of, good_lengths}
 use Rattle.xsd_types.specs.State.{State, proper}

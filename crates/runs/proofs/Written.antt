@@ -1,5 +1,6 @@
 -- Order 8's round trip on the calls: what an accepted writing wrote is taken by order 1, and its tape is read into a cleared sheet as the finished part, but for marks and
 -- room. The text is the schema's, the cleared sheet holds the first state, and reading it is reading that state. Assumes nothing.
+use Rattle.std.specs.Prelude.{if◌then◌else◌}
 use Prim.Native.Nat.{ℕ, ◌≤◌}
 use native.Mathlib.Omega.{arith}
 use mathlib.Core.Path.{◌≡◌, refl, sym, ap, subst, ◌∙◌}
@@ -9,7 +10,7 @@ use mathlib.Core.Option.{none}
 use lib.Dec.{eqb, leb}
 use lib.ListN.{length, take}
 use borrow.Author.Tests.{leb-true, leb-false, le-leb}
-use Rattle.text.specs.Text.{Text, if◌then◌else◌}
+use Rattle.text.specs.Text.{Text}
 use Rattle.text.proofs.Laws.Tests.{and-true, and-true-left, bool_cases}
 use Rattle.sheet.specs.Rows.{Row, Sheet}
 use Rattle.sheet.specs.Form.{words}

@@ -6,9 +6,9 @@
 --     is_zero, zero_or_later   a head's number is 0; is 0 or that of an event from some number on
 --     Stored        a sheet stored earlier and the last one of a run from it: that is good, and keeps the zeros
 --     AnswersCleared, RunCleared    a run beside one before the order: the same answers, graphs and last sheet but for the numbers
-use Rattle.std.specs.Prelude.{ℕ, ◌≡◌, Bool, true, ◌||◌, List, [], ◌∷◌, eqb, leb, length}
+use Rattle.std.specs.Prelude.{ℕ, ◌≡◌, Bool, true, ◌||◌, List, [], ◌∷◌, eqb, leb, length, if◌then◌else◌}
 use Rattle.std.proofs.Math.Option.{Option}
-use Rattle.text.specs.Text.{Text, if◌then◌else◌, between}
+use Rattle.text.specs.Text.{Text, between}
 use Rattle.sheet.specs.Rows.{Row, Sheet, row}
 use Rattle.sheet.specs.Lengths.{Answer, Lengths, tape_lengths}
 use Rattle.xsd_types.specs.State.{State, heads_pass}

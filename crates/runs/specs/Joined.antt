@@ -6,8 +6,8 @@
 --     joined        the events joined of a run
 --     accepted_events    the events of records that are accepted, which are those that have a number in the run
 --     after_record, after_records    the state after one record; after records, one after the other, with no word of pieces
-use Rattle.std.specs.Prelude.{ℕ, suc, List, [], ◌∷◌, ◌++◌, length, take}
-use Rattle.text.specs.Text.{Text, if◌then◌else◌}
+use Rattle.std.specs.Prelude.{ℕ, suc, List, [], ◌∷◌, ◌++◌, length, take, if◌then◌else◌}
+use Rattle.text.specs.Text.{Text}
 use Rattle.sheet.specs.Rows.{Sheet}
 use Rattle.sheet.specs.Lengths.{tape_lengths, Lengths}
 use Rattle.xsd_types.specs.State.{State}

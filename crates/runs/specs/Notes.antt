@@ -8,10 +8,10 @@
 --     meets_none     no call of a run gives 1, 3, 4 or 5
 --     AlikeAnswers, AlikeRuns    what is equal then
 --     sheets_of      the sheet after each call, by the definition; sheets_made: by the calls made
-use Rattle.std.specs.Prelude.{◌≡◌, Bool, true, false, not, ◌||◌, List, [], ◌∷◌, ℕ, eqb, length}
+use Rattle.std.specs.Prelude.{◌≡◌, Bool, true, false, not, ◌||◌, List, [], ◌∷◌, ℕ, eqb, length, if◌then◌else◌}
 use Prim.Native.String.{String}
 use Rattle.std.proofs.Math.Option.{Option}
-use Rattle.text.specs.Text.{Text, if◌then◌else◌, every, is, between, local_name}
+use Rattle.text.specs.Text.{Text, every, is, between, local_name}
 use Rattle.sheet.specs.Rows.{Sheet}
 use Rattle.sheet.specs.Lengths.{Answer, lengths_of}
 use Rattle.xsd_parser.specs.Event.{Attr, Tag, Event}

@@ -8,9 +8,9 @@
 --     read_held, lower_held    a call on what is held
 --     run_calls      the calls in order
 --     run           the answers of all calls and the last sheet. It packs no sheet in between
-use Rattle.std.specs.Prelude.{ℕ, ◌+◌, List, [], ◌∷◌, length}
+use Rattle.std.specs.Prelude.{ℕ, ◌+◌, List, [], ◌∷◌, length, if◌then◌else◌}
 use Rattle.std.proofs.Math.Option.{Option, some, none}
-use Rattle.text.specs.Text.{Text, if◌then◌else◌, between}
+use Rattle.text.specs.Text.{Text, between}
 use Rattle.sheet.specs.Rows.{Sheet}
 use Rattle.sheet.specs.Lengths.{tape_lengths, Answer, Lengths, lengths_of, good_lengths}
 use Rattle.xsd_types.specs.State.{State}

@@ -7,8 +7,8 @@
 --     rows_used_in, names_used_in    rows used and names used among the ten numbers of row 0
 --     row0_of        row 0 of a sheet as ten numbers; rows_used_of, names_used_of: what it says is used; tens_of: the used rows behind it
 --     used_parts, zeros_behind    the used parts lie inside the buffers, and behind them all is zero
-use Rattle.std.specs.Prelude.{ℕ, ◌+◌, ◌-◌, ◌*◌, ◌^◌, List, [], ◌∷◌, Bool, true, ◌&&◌, eqb, leb, ltb, length, drop}
-use Rattle.text.specs.Text.{if◌then◌else◌, every}
+use Rattle.std.specs.Prelude.{ℕ, ◌+◌, ◌-◌, ◌*◌, ◌^◌, List, [], ◌∷◌, Bool, true, ◌&&◌, eqb, leb, ltb, length, drop, if◌then◌else◌}
+use Rattle.text.specs.Text.{every}
 use Rattle.sheet.specs.Rows.{Ten, Row, ten, tens, all_zero, Sheet}
 use Rattle.sheet.specs.Limits.{row_numbers}
 use Rattle.sheet.specs.Lengths.{fits}

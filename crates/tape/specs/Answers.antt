@@ -6,8 +6,8 @@
 --     IsPlaced        the same for each answer; nothing is said of the end and of a refusal
 --     RecordAt      the answer for the place `at` of the marks
 --     TagAnswer     the same for a record of a good form that is a tag
-use Rattle.std.specs.Prelude.{ℕ, ◌+◌, ◌*◌, ◌≤◌, ◌<◌, ◌≡◌, List, eqb, length, drop}
-use Rattle.text.specs.Text.{Text, if◌then◌else◌}
+use Rattle.std.specs.Prelude.{ℕ, ◌+◌, ◌*◌, ◌≤◌, ◌<◌, ◌≡◌, List, eqb, length, drop, if◌then◌else◌}
+use Rattle.text.specs.Text.{Text}
 use Rattle.sheet.specs.Limits.{attributes_limit}
 use Rattle.sheet.specs.Returned.{refusal_number}
 use Rattle.xsd_parser.specs.Event.{Event}

@@ -5,9 +5,9 @@
 --     kept_first     the places with one more, unless the key has one or is none of the nine
 --     PlacesOf      the places of the nine keys say what the lookups in these attributes give
 --     seen_at        what the code's record says is seen
-use Rattle.std.specs.Prelude.{ℕ, zero, suc, ◌<◌, ◌≡◌, ◌&&◌, List, [], ◌∷◌, eqb, ltb, length, get_or, set}
+use Rattle.std.specs.Prelude.{ℕ, zero, suc, ◌<◌, ◌≡◌, ◌&&◌, List, [], ◌∷◌, eqb, ltb, length, get_or, set, if◌then◌else◌}
 use Rattle.std.proofs.Math.Option.{Option, some, none}
-use Rattle.text.specs.Text.{Text, if◌then◌else◌, same, local_name}
+use Rattle.text.specs.Text.{Text, same, local_name}
 use Rattle.xsd_parser.specs.Event.{Attr}
 use Rattle.xsd_parser.specs.Seen.{Seen}
 use Rattle.xsd_parser.specs.Tape.{pair_text}

@@ -16,14 +16,9 @@
 --     colon         the byte of the colon
 --     local_name     the part after the last colon (000, `local_name`)
 --     StartsAt      where a part starts in a buffer; LocalPart: a part of a name that is its local name
-use Rattle.std.specs.Prelude.{ℕ, ◌+◌, ◌-◌, ◌≡◌, List, [], ◌∷◌, ◌++◌, Bool, true, false, ◌&&◌, ◌||◌, eqb, leb, ltb, length}
+use Rattle.std.specs.Prelude.{ℕ, ◌+◌, ◌-◌, ◌≡◌, List, [], ◌∷◌, ◌++◌, Bool, true, false, ◌&&◌, ◌||◌, eqb, leb, ltb, length, if◌then◌else◌}
 use Prim.Native.String.{String}
 use Prim.Native.Char.{code}
-
-infix 10 if◌then◌else◌
-abbrev pub if◌then◌else◌ {ℓ} : {A : Type ℓ} → Bool → A → A → A
-if true then x else y = x
-if false then x else y = y
 
 abbrev pub Text : Type 0
 Text = List ℕ

@@ -5,8 +5,8 @@
 --     trimmed       the text without white space at both ends
 --     is_solid       no white space: the rest of the bytes
 --     Around        the text is the core with white space before and behind it, or with none
-use Rattle.std.specs.Prelude.{ℕ, ◌≡◌, [], ◌∷◌, ◌++◌, Bool, true, not, ◌||◌, eqb}
-use Rattle.text.specs.Text.{Text, if◌then◌else◌, every}
+use Rattle.std.specs.Prelude.{ℕ, ◌≡◌, [], ◌∷◌, ◌++◌, Bool, true, not, ◌||◌, eqb, if◌then◌else◌}
+use Rattle.text.specs.Text.{Text, every}
 
 unfoldable pub is_white_space : ℕ → Bool
 is_white_space b = eqb b 9 || eqb b 10 || eqb b 13 || eqb b 32

@@ -8,9 +8,9 @@
 --     few_attributes an event that reading does not refuse for its attributes
 --     event_read     the event that reading makes of the bytes under an event's pairs; records_read: the records of a list of events
 --     ReadsThrough  a reading that meets none of 3, 4, 5 and 6, and leaves so many tags open where it is accepted
-use Rattle.std.specs.Prelude.{ℕ, zero, suc, ◌+◌, ◌-◌, ◌≤◌, ◌<◌, ◌≡◌, ◌⊎◌, List, [], ◌∷◌, ◌++◌, Bool, true, false, eqb, leb, length, get_or, drop}
+use Rattle.std.specs.Prelude.{ℕ, zero, suc, ◌+◌, ◌-◌, ◌≤◌, ◌<◌, ◌≡◌, ◌⊎◌, List, [], ◌∷◌, ◌++◌, Bool, true, false, eqb, leb, length, get_or, drop, if◌then◌else◌}
 use Prim.Native.Char.{code}
-use Rattle.text.specs.Text.{Text, if◌then◌else◌, first, contains}
+use Rattle.text.specs.Text.{Text, first, contains}
 use Rattle.sheet.specs.Limits.{attributes_limit}
 use Rattle.sheet.specs.Returned.{accepted, too_many_open}
 use Rattle.xsd_parser.specs.Kinds.{start_kind, empty_kind}

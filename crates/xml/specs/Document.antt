@@ -4,8 +4,8 @@
 --     document      [1]
 --     Taken         number, place and marks afterwards
 --     tape_of        the call
-use Rattle.std.specs.Prelude.{ℕ, List, [], ◌∷◌, leb, length}
-use Rattle.text.specs.Text.{Text, if◌then◌else◌, bytes, is_text}
+use Rattle.std.specs.Prelude.{ℕ, List, [], ◌∷◌, leb, length, if◌then◌else◌}
+use Rattle.text.specs.Text.{Text, bytes, is_text}
 use Rattle.sheet.specs.Rows.{filled}
 use Rattle.sheet.specs.Lengths.{tape_lengths}
 use Rattle.sheet.specs.Returned.{accepted, bad_length, not_ascii, malformed, doctype, short_marks}

@@ -4,9 +4,9 @@
 --     Opt, Many     X? and X*; Run: a byte of a class and as many as there are of another; Without: "- (Char* word Char*)"
 --     is_text_char    [^<&]; is_value_char: [^<&"] or [^<&']; is_hex_digit: [0-9a-fA-F]; number_of: what digits name
 --     Offsets: `at` is where the derived text begins. A tag is derived with the text of its name and its event, attributes with their keys and their pairs.
-use Rattle.std.specs.Prelude.{ℕ, ◌+◌, ◌-◌, ◌*◌, ◌≡◌, List, [], ◌∷◌, ◌++◌, Bool, true, false, not, ◌&&◌, ◌||◌, eqb, length}
+use Rattle.std.specs.Prelude.{ℕ, ◌+◌, ◌-◌, ◌*◌, ◌≡◌, List, [], ◌∷◌, ◌++◌, Bool, true, false, not, ◌&&◌, ◌||◌, eqb, length, if◌then◌else◌}
 use Prim.Native.Char.{code}
-use Rattle.text.specs.Text.{Text, if◌then◌else◌, bytes, every, between, is_digit, same, lower}
+use Rattle.text.specs.Text.{Text, bytes, every, between, is_digit, same, lower}
 use Rattle.text.specs.Trim.{is_white_space}
 use Rattle.xsd_parser.specs.Kinds.{start_kind, empty_kind}
 use Rattle.xml.specs.Classes.{is_char, is_letter, is_name_start, is_name, is_encoding}

@@ -8,8 +8,8 @@
 --     name_of        the name that the bytes left begin with; name: [5]
 --     until         characters up to the first place of a word, and the word
 --     comment       [15]; instruction: [16] with its [17]; section: [18] CDATA
-use Rattle.std.specs.Prelude.{ℕ, suc, ◌+◌, [], ◌∷◌, Bool, true, false, ◌&&◌, eqb, length, drop}
-use Rattle.text.specs.Text.{Text, if◌then◌else◌, bytes, first}
+use Rattle.std.specs.Prelude.{ℕ, suc, ◌+◌, [], ◌∷◌, Bool, true, false, ◌&&◌, eqb, length, drop, if◌then◌else◌}
+use Rattle.text.specs.Text.{Text, bytes, first}
 use Rattle.text.specs.Trim.{is_white_space}
 use Rattle.xml.specs.Grammar.{is_xml}
 use Rattle.xml.specs.Classes.{is_char, is_name_start, is_name}

@@ -6,8 +6,8 @@
 --     attributes    the parts of a tag behind its name up to its end; no key stands twice
 --     Tagged        a whole tag: its event, the text of its name, and what is left; or bad
 --     tag           [40] or [44]
-use Rattle.std.specs.Prelude.{ℕ, zero, suc, ◌+◌, ◌-◌, List, [], ◌∷◌, ◌++◌, eqb, length, drop}
-use Rattle.text.specs.Text.{Text, if◌then◌else◌, bytes, same}
+use Rattle.std.specs.Prelude.{ℕ, zero, suc, ◌+◌, ◌-◌, List, [], ◌∷◌, ◌++◌, eqb, length, drop, if◌then◌else◌}
+use Rattle.text.specs.Text.{Text, bytes, same}
 use Rattle.xsd_parser.specs.Tape.{Pair}
 use Rattle.xsd_parser.specs.Kinds.{start_kind, empty_kind}
 use Rattle.xml.specs.Steps.{Step, bad, behind, starts_with, literal, spaces, name, name_of}

@@ -5,9 +5,9 @@
 --     written_attributes  the attributes, one space before each; tag_end: the end of a start or an empty tag; written_tag: the tag
 --     attribute_places    the pairs of written attributes that stand at an offset
 --     written_event       the event of a tag written at an offset; tagged_as: what it is read as, with what stands behind it
-use Rattle.std.specs.Prelude.{ℕ, ◌+◌, List, [], ◌∷◌, ◌++◌, Bool, true, not, ◌&&◌, eqb, length}
+use Rattle.std.specs.Prelude.{ℕ, ◌+◌, List, [], ◌∷◌, ◌++◌, Bool, true, not, ◌&&◌, eqb, length, if◌then◌else◌}
 use Prim.Native.Char.{code}
-use Rattle.text.specs.Text.{Text, if◌then◌else◌, bytes, first, every, contains}
+use Rattle.text.specs.Text.{Text, bytes, first, every, contains}
 use Rattle.xsd_parser.specs.Kinds.{start_kind}
 use Rattle.xsd_parser.specs.Event.{Attr, Tag}
 use Rattle.xml.specs.Classes.{is_name_start, is_name}

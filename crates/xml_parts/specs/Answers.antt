@@ -5,8 +5,8 @@
 --     Beside        up to where two parts of a text go on beside each other
 --     SameUpTo      where two names have been held against each other; matched: a name that is the name at another place
 --     body_of        the step of a `Body`
-use Rattle.std.specs.Prelude.{ℕ, ◌+◌, ◌-◌, ◌/◌, ◌%◌, ◌^◌, ◌≤◌, ◌<◌, ◌≡◌, ◌⊎◌, List, [], ◌∷◌, Bool, true, get_or, drop, eqb}
-use Rattle.text.specs.Text.{Text, if◌then◌else◌, is_digit, same}
+use Rattle.std.specs.Prelude.{ℕ, ◌+◌, ◌-◌, ◌/◌, ◌%◌, ◌^◌, ◌≤◌, ◌<◌, ◌≡◌, ◌⊎◌, List, [], ◌∷◌, Bool, true, get_or, drop, eqb, if◌then◌else◌}
+use Rattle.text.specs.Text.{Text, is_digit, same}
 use Rattle.text.specs.Trim.{is_white_space}
 use Rattle.xml.specs.Classes.{is_letter, is_name_start, is_name, is_encoding}
 use Rattle.xml.specs.Steps.{Step, bad, behind, many, name, name_of}

@@ -3,10 +3,10 @@
 --     names_up_to     the names at the offsets of the first slots, the last one first
 --     PartIn        where a part of a tag lies in a text of a length, from an offset on; PieceIn: where a piece of content lies
 --     EndsTag, IsTag, GoesOn, IsRoot, FoundIs    an answer with the marks before and behind it says what the definition gives, and where it lies
-use Rattle.std.specs.Prelude.{ℕ, zero, suc, ◌+◌, ◌-◌, ◌*◌, ◌≤◌, ◌<◌, ◌≡◌, List, [], ◌∷◌, length, get_or, take, drop, leb}
+use Rattle.std.specs.Prelude.{ℕ, zero, suc, ◌+◌, ◌-◌, ◌*◌, ◌≤◌, ◌<◌, ◌≡◌, List, [], ◌∷◌, length, get_or, take, drop, leb, if◌then◌else◌}
 use Rattle.sheet.specs.Rows.{filled}
 use Rattle.std.proofs.lemmas.List.Edits.{sets}
-use Rattle.text.specs.Text.{Text, if◌then◌else◌}
+use Rattle.text.specs.Text.{Text}
 use Rattle.xml.specs.Steps.{name_of}
 use Rattle.xsd_parser.specs.Tape.{Pair}
 use Rattle.xml.specs.Tape.{AttributePairs, TapeEvent, attribute_marks, event_marks, tape_marks}

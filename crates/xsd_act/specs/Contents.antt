@@ -1,8 +1,7 @@
 -- The head of another content.
 --     content_pairs  its pairs: the name, and the text that may follow
 --     content_numbers    its numbers, c given
-use Rattle.std.specs.Prelude.{ℕ, Bool}
-use Rattle.text.specs.Text.{if◌then◌else◌}
+use Rattle.std.specs.Prelude.{ℕ, Bool, if◌then◌else◌}
 use Rattle.rows.specs.declared.numbers.RowNumbers.{RowNumbers}
 use Rattle.xsd_actions.specs.declared.NewContent.{NewContent}
 

@@ -8,8 +8,8 @@
 --     mode_after, namespace_after, rows_after    the mode, the namespace and the rows behind row 1 after an event and its action
 --     Fitting       the open type's rows are such that the action can be done to them
 --     Acted         the reader after an event is as the action says
-use Rattle.std.specs.Prelude.{ℕ, suc, ◌-◌, ◌≤◌, ◌≡◌, List, [], ◌∷◌, ◌++◌, Bool, true, false, not, ◌&&◌, ◌||◌, eqb, leb}
-use Rattle.text.specs.Text.{Text, if◌then◌else◌}
+use Rattle.std.specs.Prelude.{ℕ, suc, ◌-◌, ◌≤◌, ◌≡◌, List, [], ◌∷◌, ◌++◌, Bool, true, false, not, ◌&&◌, ◌||◌, eqb, leb, if◌then◌else◌}
+use Rattle.text.specs.Text.{Text}
 use Rattle.sheet.specs.Rows.{Row, row}
 use Rattle.xsd_types.specs.Tags.{simple_type_tag, sequence_tag, choice_tag, simple_content_tag, any_tag, no_content_tag}
 use Rattle.xsd_types.specs.Contexts.{none_context, schema_context, simple_type_context, complex_type_context}

@@ -1,8 +1,8 @@
 -- What a decision of the code, an enum whose texts are places in the marks, says in the terms of Actions.
 --     text_at_mark    the text under the pair at a place of the marks
 --     decision      the action, or the refusal
-use Rattle.std.specs.Prelude.{ℕ, ◌%◌, ◌/◌, ◌^◌, List, [], ◌∷◌}
-use Rattle.text.specs.Text.{Text, if◌then◌else◌}
+use Rattle.std.specs.Prelude.{ℕ, ◌%◌, ◌/◌, ◌^◌, List, [], ◌∷◌, if◌then◌else◌}
+use Rattle.text.specs.Text.{Text}
 use Rattle.sheet.specs.Returned.{refusal_number}
 use Rattle.sheet.specs.Rows.{Row, row}
 use Rattle.xsd_parser.specs.Tape.{pair_text}

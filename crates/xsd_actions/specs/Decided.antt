@@ -2,9 +2,9 @@
 --     decided       for an event
 --     decided_start, decided_empty, decided_close    for each kind, in the order of 000's clauses
 --     Decides       what the handlers do is what was decided
-use Rattle.std.specs.Prelude.{ℕ, suc, ◌≡◌, [], ◌∷◌, Bool, ◌&&◌, eqb}
+use Rattle.std.specs.Prelude.{ℕ, suc, ◌≡◌, [], ◌∷◌, Bool, ◌&&◌, eqb, if◌then◌else◌}
 use Rattle.std.proofs.Math.Option.{Option, some, none}
-use Rattle.text.specs.Text.{Text, if◌then◌else◌}
+use Rattle.text.specs.Text.{Text}
 use Rattle.sheet.specs.Rows.{Row, row}
 use Rattle.xsd_types.specs.Tags.{element_tag, sequence_tag, choice_tag, simple_content_tag, any_tag, no_content_tag}
 use Rattle.xsd_types.specs.Contexts.{none_context, schema_context, simple_type_context}

@@ -1,8 +1,8 @@
 -- Parts of xsd_actions' decided_start and decided_empty that private functions decide.
 --     opened_as      the type with a name is opened by the event of a number, a simple or a complex one
 --     empty_in_schema an empty tag at the top level: an element is kept if it has name and type
-use Rattle.std.specs.Prelude.{ℕ, Bool, true, false, ◌&&◌, eqb}
-use Rattle.text.specs.Text.{Text, if◌then◌else◌}
+use Rattle.std.specs.Prelude.{ℕ, Bool, true, false, ◌&&◌, eqb, if◌then◌else◌}
+use Rattle.text.specs.Text.{Text}
 use Rattle.xsd_parser.specs.declared.words.Word.{Word}
 use Rattle.xsd_parser.specs.Seen.{Seen, tag_is}
 use Rattle.xsd_actions.specs.Actions.{Action}

@@ -2,8 +2,7 @@
 -- type last."
 --     finished_end   the place behind the last finished item's rows: the open type's head in contexts 2 and 3, else the end of the used rows
 --     Held          the buffers are the packing of a proper state's rows behind its row 0
-use Rattle.std.specs.Prelude.{ℕ, ◌≡◌, true, List, [], ◌∷◌, leb}
-use Rattle.text.specs.Text.{if◌then◌else◌}
+use Rattle.std.specs.Prelude.{ℕ, ◌≡◌, true, List, [], ◌∷◌, leb, if◌then◌else◌}
 use Rattle.sheet.specs.Rows.{numbers}
 use Rattle.xsd_types.specs.Contexts.{simple_type_context}
 use Rattle.xsd_types.specs.State.{State, proper}

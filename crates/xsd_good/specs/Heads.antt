@@ -1,7 +1,6 @@
 -- Where the last head stands.
 --     head_row       the last row before row n that is a head, 0 where there is none
-use Rattle.std.specs.Prelude.{ℕ, zero, suc, ◌*◌, List, get_or}
-use Rattle.text.specs.Text.{if◌then◌else◌}
+use Rattle.std.specs.Prelude.{ℕ, zero, suc, ◌*◌, List, get_or, if◌then◌else◌}
 use Rattle.sheet.specs.Limits.{row_numbers}
 use Rattle.xsd_types.specs.Good.{is_head}
 

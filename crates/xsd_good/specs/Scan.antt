@@ -4,8 +4,7 @@
 --     next_passes, next_row      a row behind it
 --     scanned       all rows behind it
 --     scanned_sheet  all rows
-use Rattle.std.specs.Prelude.{ℕ, List, [], ◌∷◌, Bool, true, false, ◌&&◌, eqb, leb}
-use Rattle.text.specs.Text.{if◌then◌else◌}
+use Rattle.std.specs.Prelude.{ℕ, List, [], ◌∷◌, Bool, true, false, ◌&&◌, eqb, leb, if◌then◌else◌}
 use Rattle.sheet.specs.Rows.{Ten}
 use Rattle.sheet.specs.Form.{row_covers, end_of}
 use Rattle.xsd_types.specs.Tags.{namespace_tag}

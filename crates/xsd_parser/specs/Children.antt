@@ -7,9 +7,9 @@
 --     heads (item_head, open_head)    the heads that a reader has kept, the open type last
 --     only_types (only_types_from)    directly below a schema nothing is started but types, so that its own close is the only one that comes in context 1
 --     starts_no_other a start of a type, or no start
-use Rattle.std.specs.Prelude.{ℕ, zero, suc, List, [], ◌∷◌, ◌++◌, map, Bool, true, not, ◌&&◌, ◌||◌, eqb}
+use Rattle.std.specs.Prelude.{ℕ, zero, suc, List, [], ◌∷◌, ◌++◌, map, Bool, true, not, ◌&&◌, ◌||◌, eqb, if◌then◌else◌}
 use Rattle.std.proofs.Math.Option.{Option, some, none}
-use Rattle.text.specs.Text.{Text, if◌then◌else◌}
+use Rattle.text.specs.Text.{Text}
 use Rattle.xsd_types.specs.Types.{Item}
 use Rattle.xsd_types.specs.State.{Context, Reader}
 use Rattle.xsd_parser.specs.declared.words.Word.{Word}

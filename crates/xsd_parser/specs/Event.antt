@@ -5,9 +5,9 @@
 --     event_name     the name that an event carries: the attribute `name` of its tag
 --     or_empty       a value, the empty text where there is none (000, `unwrap_or_default`)
 use Prim.Native.String.{String}
-use Rattle.std.specs.Prelude.{List, [], ◌∷◌}
+use Rattle.std.specs.Prelude.{List, [], ◌∷◌, if◌then◌else◌}
 use Rattle.std.proofs.Math.Option.{Option, some, none}
-use Rattle.text.specs.Text.{Text, if◌then◌else◌, is, local_name}
+use Rattle.text.specs.Text.{Text, is, local_name}
 
 pub record Attr : Type 0 where
   pub key : Text

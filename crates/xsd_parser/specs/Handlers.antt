@@ -4,9 +4,9 @@
 --     n             the event's number in the run, from 0; what gives a name keeps it (order 5: "the event that gave it its name")
 --     9             `MissingAttribute`
 --     10            `InvalidAttributeValue`
-use Rattle.std.specs.Prelude.{ℕ, zero, suc, ◌+◌, List, [], ◌∷◌, ◌++◌, Bool, true, false, ◌&&◌, eqb}
+use Rattle.std.specs.Prelude.{ℕ, zero, suc, ◌+◌, List, [], ◌∷◌, ◌++◌, Bool, true, false, ◌&&◌, eqb, if◌then◌else◌}
 use Rattle.std.proofs.Math.Option.{Option, some, none}
-use Rattle.text.specs.Text.{Text, if◌then◌else◌, is}
+use Rattle.text.specs.Text.{Text, is}
 use Rattle.text.specs.Trim.{trimmed}
 use Rattle.number.specs.Number.{Parsed, parsed, refused, number}
 use Rattle.sheet.specs.Returned.{missing_attribute}

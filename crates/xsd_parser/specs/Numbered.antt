@@ -6,9 +6,9 @@
 --     makes_head     a tag that a head is made of: a start of a type or an element, an empty element
 --     gives_name     the event is such a tag and carries the name (is_name: of the name that it carries, if any)
 --     gave          event n of the list is one that gives the name
-use Rattle.std.specs.Prelude.{ℕ, zero, suc, List, [], ◌∷◌, Bool, false, ◌&&◌, ◌||◌, ltb}
+use Rattle.std.specs.Prelude.{ℕ, zero, suc, List, [], ◌∷◌, Bool, false, ◌&&◌, ◌||◌, ltb, if◌then◌else◌}
 use Rattle.std.proofs.Math.Option.{Option, some, none}
-use Rattle.text.specs.Text.{Text, if◌then◌else◌, same}
+use Rattle.text.specs.Text.{Text, same}
 use Rattle.sheet.specs.Limits.{events_limit}
 use Rattle.sheet.specs.Returned.{too_many_events}
 use Rattle.sheet.specs.Lengths.{Lengths}

@@ -1,9 +1,9 @@
 -- A tape read in pieces over the same text, up to its first refused event.
 --     onward        a reading and, where it refused nothing, the next one behind it: the places add up
 --     read_pieces    the pieces in order, each from the state that the one before left
-use Rattle.std.specs.Prelude.{ℕ, ◌+◌, List, [], ◌∷◌, eqb}
+use Rattle.std.specs.Prelude.{ℕ, ◌+◌, List, [], ◌∷◌, eqb, if◌then◌else◌}
 use Rattle.sheet.specs.Lengths.{Lengths}
-use Rattle.text.specs.Text.{Text, if◌then◌else◌}
+use Rattle.text.specs.Text.{Text}
 use Rattle.xsd_types.specs.State.{State}
 use Rattle.xsd_parser.specs.Read.{Reading, read_state}
 

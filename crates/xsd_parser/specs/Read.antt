@@ -5,8 +5,8 @@
 --     read_state     the reading of a piece on a state
 --     ReadAnswer    a reading's answer and the sheet afterwards
 --     read          the call; ReadIs: what it says of itself
-use Rattle.std.specs.Prelude.{ℕ, suc, ◌≡◌, List, [], ◌∷◌, ◌&&◌, length}
-use Rattle.text.specs.Text.{Text, if◌then◌else◌}
+use Rattle.std.specs.Prelude.{ℕ, suc, ◌≡◌, List, [], ◌∷◌, ◌&&◌, length, if◌then◌else◌}
+use Rattle.text.specs.Text.{Text}
 use Rattle.sheet.specs.Rows.{Sheet}
 use Rattle.sheet.specs.Lengths.{tape_lengths, Answer, Lengths, lengths_of, good_lengths}
 use Rattle.xsd_types.specs.State.{State}

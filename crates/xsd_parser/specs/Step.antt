@@ -4,8 +4,7 @@
 --     counted       the state with one event more done, its choice kept
 --     room_for       the state where it has room; 11 "the state after the event needs more rows or names than lent"
 --     step          the state after the event, or the refusal
-use Rattle.std.specs.Prelude.{ℕ, zero, suc, Bool, ltb}
-use Rattle.text.specs.Text.{if◌then◌else◌}
+use Rattle.std.specs.Prelude.{ℕ, zero, suc, Bool, ltb, if◌then◌else◌}
 use Rattle.sheet.specs.Limits.{events_limit, open_tags_limit}
 use Rattle.sheet.specs.Returned.{no_tag_open, too_many_open, too_many_events, no_room}
 use Rattle.sheet.specs.Lengths.{Lengths}

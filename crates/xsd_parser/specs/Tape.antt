@@ -9,8 +9,8 @@
 --     Recorded      the first record of the marks: none left, a refusal, or an event with the marks behind it
 --     record1       the first record, judged for 3, then 4, then 5 as a whole
 --     records       all records of the marks, up to and with the first refused one
-use Rattle.std.specs.Prelude.{ℕ, zero, suc, ◌+◌, ◌*◌, List, [], ◌∷◌, Bool, true, ◌&&◌, eqb, leb, length, take, drop}
-use Rattle.text.specs.Text.{Text, if◌then◌else◌, every, is_text, between}
+use Rattle.std.specs.Prelude.{ℕ, zero, suc, ◌+◌, ◌*◌, List, [], ◌∷◌, Bool, true, ◌&&◌, eqb, leb, length, take, drop, if◌then◌else◌}
+use Rattle.text.specs.Text.{Text, every, is_text, between}
 use Rattle.sheet.specs.Limits.{attributes_limit}
 use Rattle.sheet.specs.Returned.{bad_record, bad_pair, not_ascii}
 use Rattle.xsd_parser.specs.Kinds.{start_kind, close_kind}

@@ -3,9 +3,9 @@
 --     known_words    each word with what it is; word_of: of a local name, `Other` where 000 knows none
 --     word_number    a number for each word, so that two can be compared; same_word: they are one
 --     facet_word     the facet that a word names, if it names one
-use Rattle.std.specs.Prelude.{ℕ, Bool, List, [], ◌∷◌, eqb}
+use Rattle.std.specs.Prelude.{ℕ, Bool, List, [], ◌∷◌, eqb, if◌then◌else◌}
 use Rattle.std.proofs.Math.Option.{Option, some, none}
-use Rattle.text.specs.Text.{Text, if◌then◌else◌, bytes, same}
+use Rattle.text.specs.Text.{Text, bytes, same}
 use Rattle.xsd_parser.specs.declared.words.Word.{Word}
 use Rattle.xsd_parser.specs.declared.words.FacetWord.{FacetWord}
 

@@ -1,8 +1,7 @@
 -- What the answer for the open tags, which is an enum, says in the terms of xsd_parser's Step.
 --     tags          the number of open tags, or the refusal
 --     event_as       the event of a kind, with its tag where it is no close
-use Rattle.std.specs.Prelude.{ℕ, eqb}
-use Rattle.text.specs.Text.{if◌then◌else◌}
+use Rattle.std.specs.Prelude.{ℕ, eqb, if◌then◌else◌}
 use Rattle.sheet.specs.Returned.{refusal_number}
 use Rattle.xsd_parser.specs.Event.{Tag, Event}
 use Rattle.xsd_parser.specs.Kinds.{close_kind}

@@ -1,8 +1,7 @@
 -- What the private functions compute: the parts of the mode after a decision of the code. No contract of a public function cites it.
 --     context_of, nesting_of (raises_of, opens_of), root_of, flag_of    the parts
 --     decided_mode   the mode of these parts
-use Rattle.std.specs.Prelude.{ℕ, suc, Bool, true, false, not, ◌&&◌, ◌||◌, eqb, leb}
-use Rattle.text.specs.Text.{if◌then◌else◌}
+use Rattle.std.specs.Prelude.{ℕ, suc, Bool, true, false, not, ◌&&◌, ◌||◌, eqb, leb, if◌then◌else◌}
 use Rattle.xsd_types.specs.Contexts.{schema_context, simple_type_context, complex_type_context}
 use Rattle.xsd_actions.specs.declared.Decision.{Decision}
 use Rattle.xsd_actions.specs.declared.Mode.{Mode}

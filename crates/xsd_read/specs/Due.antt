@@ -8,8 +8,8 @@
 --     Refuses, Accepts    the outcome is a refusal, and the sheet is left; it is a state, and the sheet holds its rows
 --     Ended         what an answer says of an outcome
 --     Stepped       the answer for every event that is due: 11, or the state after it
-use Rattle.std.specs.Prelude.{ℕ, ◌+◌, ◌≡◌, true, List, ltb, length}
-use Rattle.text.specs.Text.{Text, if◌then◌else◌}
+use Rattle.std.specs.Prelude.{ℕ, ◌+◌, ◌≡◌, true, List, ltb, length, if◌then◌else◌}
+use Rattle.text.specs.Text.{Text}
 use Rattle.sheet.specs.declared.refusal.Refusal.{Refusal}
 use Rattle.sheet.specs.Returned.{refusal_number}
 use Rattle.xsd_types.specs.Contexts.{simple_type_context}

@@ -9,9 +9,9 @@
 --     context_of     the context, with the open type of the last group
 --     namespace_in, behind_namespace    the text of row 1, and the rows behind it
 --     bare_state_of       the state; state_of_rows: of row 0 and the rows behind it
-use Rattle.std.specs.Prelude.{◌+◌, ◌*◌, ◌^◌, List, [], ◌∷◌, map, Bool, true, false, eqb, leb, get_or}
+use Rattle.std.specs.Prelude.{◌+◌, ◌*◌, ◌^◌, List, [], ◌∷◌, map, Bool, true, false, eqb, leb, get_or, if◌then◌else◌}
 use Rattle.std.proofs.Math.Option.{some, none}
-use Rattle.text.specs.Text.{Text, if◌then◌else◌}
+use Rattle.text.specs.Text.{Text}
 use Rattle.sheet.specs.Rows.{Row, Sheet, unpack_row}
 use Rattle.xsd_types.specs.Types.{Facet, MaxOccurs, SequenceElement, ChoiceVariant, Attribute, Item}
 use Rattle.xsd_types.specs.State.{ComplexContentBuilder, Context, State, finish}

@@ -5,8 +5,8 @@
 --     paper_good     a sheet that paper 01 calls good, by its own sentences: the test with these three in place of what orders 3 and 5 put there
 --     chosen        a state under a choice
 --     sheet_chosen   a sheet with a choice as the last number of row 0
-use Rattle.std.specs.Prelude.{◌+◌, Bool, ◌&&◌, List, eqb, leb, set}
-use Rattle.text.specs.Text.{if◌then◌else◌, every}
+use Rattle.std.specs.Prelude.{◌+◌, Bool, ◌&&◌, List, eqb, leb, set, if◌then◌else◌}
+use Rattle.text.specs.Text.{every}
 use Rattle.sheet.specs.Rows.{Ten, Sheet, bit}
 use Rattle.sheet.specs.Form.{is_flag, tens_of, used_parts, zeros_behind}
 use Rattle.xsd_types.specs.State.{State}

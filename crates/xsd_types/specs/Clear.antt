@@ -2,8 +2,7 @@
 -- Order 3: "Clearing gets a choice, kept as the last number of row 0: 0 as before, 1 by the standard"; "1 also covers a choice above 1".
 --     Cleared       a clearing's answer and the sheet afterwards
 --     clear         the call; ClearIs: what it says of itself
-use Rattle.std.specs.Prelude.{ℕ, ◌≡◌, ◌&&◌, eqb, leb, length}
-use Rattle.text.specs.Text.{if◌then◌else◌}
+use Rattle.std.specs.Prelude.{ℕ, ◌≡◌, ◌&&◌, eqb, leb, length, if◌then◌else◌}
 use Rattle.sheet.specs.Rows.{Sheet}
 use Rattle.sheet.specs.Lengths.{sheet_lengths, Answer}
 use Rattle.sheet.specs.Returned.{accepted, bad_length}

@@ -2,8 +2,7 @@
 --     Converted     a conversion's answer and the sheet afterwards
 --     convertible   with 0 for the count the sheet is good by all other sentences, and the count is 0 or right
 --     convert       the call; ConvertIs: what it says of itself
-use Rattle.std.specs.Prelude.{ℕ, ◌≡◌, Bool, ◌&&◌, ◌||◌, eqb, length}
-use Rattle.text.specs.Text.{if◌then◌else◌}
+use Rattle.std.specs.Prelude.{ℕ, ◌≡◌, Bool, ◌&&◌, ◌||◌, eqb, length, if◌then◌else◌}
 use Rattle.sheet.specs.Rows.{Sheet}
 use Rattle.sheet.specs.Lengths.{sheet_lengths, Answer}
 use Rattle.sheet.specs.Returned.{accepted, bad_length, not_good}

@@ -6,8 +6,7 @@
 --     sheet_of       the sheet of a state
 --     state_of       the state of a good sheet
 --     good          good by all other sentences, and the count is right
-use Rattle.std.specs.Prelude.{ℕ, suc, Bool, ◌&&◌, List, [], ◌∷◌, eqb, get_or, set}
-use Rattle.text.specs.Text.{if◌then◌else◌}
+use Rattle.std.specs.Prelude.{ℕ, suc, Bool, ◌&&◌, List, [], ◌∷◌, eqb, get_or, set, if◌then◌else◌}
 use Rattle.sheet.specs.Rows.{Row, Sheet}
 use Rattle.xsd_types.specs.Types.{Item}
 use Rattle.xsd_types.specs.State.{State}

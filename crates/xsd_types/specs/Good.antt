@@ -9,8 +9,8 @@
 --     names_test, limits, root_test, open_tags_test, nesting_zero, context_test, extension_test    the sentences behind the form; nesting_test: two of them
 --     events_test    order 5's sentence on c
 --     good          all of them
-use Rattle.std.specs.Prelude.{ℕ, ◌+◌, List, [], ◌∷◌, map, Bool, true, false, not, ◌&&◌, ◌||◌, eqb, leb, take}
-use Rattle.text.specs.Text.{if◌then◌else◌, every, is_text, between}
+use Rattle.std.specs.Prelude.{ℕ, ◌+◌, List, [], ◌∷◌, map, Bool, true, false, not, ◌&&◌, ◌||◌, eqb, leb, take, if◌then◌else◌}
+use Rattle.text.specs.Text.{every, is_text, between}
 use Rattle.sheet.specs.Rows.{Ten, Sheet}
 use Rattle.sheet.specs.Form.{is_flag, covers, covered, names_used_of, tens_of, used_parts, zeros_behind}
 use Rattle.xsd_types.specs.Tags.{namespace_tag, element_tag, simple_type_tag, min_length_tag, max_length_tag, total_digits_tag, fraction_digits_tag, sequence_tag, simple_content_tag, any_tag, no_content_tag, bound_element_tag, unbounded_element_tag, attribute_tag}

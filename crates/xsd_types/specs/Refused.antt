@@ -6,9 +6,9 @@
 --     is_code_enum    "Facets all enumerations and not none", of the rows behind a head
 --     refused_row    a row and the rows behind it are those of a simple type that lowering refuses
 --     refused_place  the place of the first such row, 0 where there is none; the list's first row is at place p
-use Rattle.std.specs.Prelude.{ℕ, ◌+◌, List, [], ◌∷◌, Bool, true, false, not, ◌&&◌, eqb}
+use Rattle.std.specs.Prelude.{ℕ, ◌+◌, List, [], ◌∷◌, Bool, true, false, not, ◌&&◌, eqb, if◌then◌else◌}
 use Rattle.std.proofs.Math.Option.{Option, some, none}
-use Rattle.text.specs.Text.{if◌then◌else◌, every, between}
+use Rattle.text.specs.Text.{every, between}
 use Rattle.builtin.specs.Builtin.{map_builtin}
 use Rattle.sheet.specs.Rows.{Row}
 use Rattle.xsd_types.specs.Tags.{simple_type_tag, enumeration_tag, pattern_tag, fraction_digits_tag}

@@ -2,8 +2,7 @@
 --     unnumbered_item, unnumbered_simple, unnumbered_complex, unnumbered_context, unnumbered_schema, unnumbered_reader    the parts
 --     cleared_row    a row with c cleared if it is a head's
 --     unnumbered    a state whose heads have the number 0
-use Rattle.std.specs.Prelude.{map}
-use Rattle.text.specs.Text.{if◌then◌else◌}
+use Rattle.std.specs.Prelude.{map, if◌then◌else◌}
 use Rattle.sheet.specs.Rows.{Row, row}
 use Rattle.xsd_types.specs.Types.{Item, Schema}
 use Rattle.xsd_types.specs.State.{SimpleTypeBuilder, ComplexTypeBuilder, Context, Reader, State}

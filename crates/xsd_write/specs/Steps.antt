@@ -2,9 +2,9 @@
 --     wrote         what a writing leaves, as one value
 --     unheld_of      what the search for a value that XML cannot hold answers, as the definition's answer
 --     held_or_not     22, or the text where it has room; finished: 12 before them
-use Rattle.std.specs.Prelude.{ℕ, Bool, List}
+use Rattle.std.specs.Prelude.{ℕ, Bool, List, if◌then◌else◌}
 use Rattle.std.proofs.Math.Option.{Option, some, none}
-use Rattle.text.specs.Text.{Text, if◌then◌else◌}
+use Rattle.text.specs.Text.{Text}
 use Rattle.sheet.specs.Returned.{no_root}
 use Rattle.sheet.specs.Returned.{unheld_value}
 use Rattle.xsd_written.specs.Call.{Wrote, zeroed, written}

@@ -4,8 +4,8 @@
 --     named         an opening that ends before the name's value, the name, and the type
 --     content_text   what a complex type opens behind its name
 --     row_text       a row behind a head of the tag `pending`: a head first closes that one; schema_rows: the whole
-use Rattle.std.specs.Prelude.{ℕ, List, [], ◌∷◌, ◌++◌, eqb}
-use Rattle.text.specs.Text.{Text, if◌then◌else◌, bytes}
+use Rattle.std.specs.Prelude.{ℕ, List, [], ◌∷◌, ◌++◌, eqb, if◌then◌else◌}
+use Rattle.text.specs.Text.{Text, bytes}
 use Rattle.sheet.specs.Rows.{Row, unpack_row}
 use Rattle.rows.specs.declared.ten.Ten.{Ten as Numbers}
 use Rattle.rows.specs.Ten.{as_ten}

@@ -8,9 +8,9 @@
 --     close_text          what the head of a tag closes behind its children
 --     rows_text           the rows behind a head of the tag `pending`, 0 where there is none, and the last close
 --     schema_by_rows       the whole
-use Rattle.std.specs.Prelude.{ℕ, ◌+◌, ◌*◌, ◌^◌, List, [], ◌∷◌, ◌++◌, ◌||◌, eqb}
+use Rattle.std.specs.Prelude.{ℕ, ◌+◌, ◌*◌, ◌^◌, List, [], ◌∷◌, ◌++◌, ◌||◌, eqb, if◌then◌else◌}
 use Prim.Native.String.{String}
-use Rattle.text.specs.Text.{Text, if◌then◌else◌, bytes, between}
+use Rattle.text.specs.Text.{Text, bytes, between}
 use Rattle.sheet.specs.Rows.{Row}
 use Rattle.xsd_types.specs.Types.{Schema}
 use Rattle.xsd_types.specs.Tags.{element_tag, simple_type_tag, enumeration_tag, pattern_tag, min_length_tag, max_length_tag, min_inclusive_tag, max_inclusive_tag, total_digits_tag, fraction_digits_tag, sequence_tag, choice_tag, simple_content_tag, any_tag, bound_element_tag, unbounded_element_tag, choice_variant_tag}

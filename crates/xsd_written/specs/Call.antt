@@ -5,9 +5,9 @@
 --     Wrote         number, place and text afterwards
 --     unchanged, zeroed    a refusal that leaves the text, that makes it zero
 --     write_back     the call; WriteIs: what it says of itself
-use Rattle.std.specs.Prelude.{ℕ, suc, ◌≡◌, List, [], ◌∷◌, Bool, ◌&&◌, leb, length}
+use Rattle.std.specs.Prelude.{ℕ, suc, ◌≡◌, List, [], ◌∷◌, Bool, ◌&&◌, leb, length, if◌then◌else◌}
 use Rattle.std.proofs.Math.Option.{Option, some, none}
-use Rattle.text.specs.Text.{Text, if◌then◌else◌, every}
+use Rattle.text.specs.Text.{Text, every}
 use Rattle.sheet.specs.Rows.{Row, Sheet, filled}
 use Rattle.sheet.specs.Lengths.{lengths_of, good_lengths}
 use Rattle.sheet.specs.Limits.{text_limit}

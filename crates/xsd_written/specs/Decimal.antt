@@ -1,7 +1,7 @@
 -- Order 8: "numbers are plain".
 --     decimal_up f n    the decimal digits of n, at most f + 1 of them; decimal: those of a number of 64 bits, with no sign and no leading zero
-use Rattle.std.specs.Prelude.{ℕ, zero, suc, ◌+◌, ◌/◌, ◌%◌, [], ◌∷◌, ◌++◌, ltb}
-use Rattle.text.specs.Text.{Text, if◌then◌else◌}
+use Rattle.std.specs.Prelude.{ℕ, zero, suc, ◌+◌, ◌/◌, ◌%◌, [], ◌∷◌, ◌++◌, ltb, if◌then◌else◌}
+use Rattle.text.specs.Text.{Text}
 
 unfoldable pub decimal_up : ℕ → ℕ → Text
 decimal_up zero n = (48 + n) ∷ []

@@ -8,8 +8,8 @@
 --     SameNumbers   the same of their buffers, number by number and byte by byte
 --     read_written   the reading of a text, over its tape, into a cleared sheet
 --     RoundTrip     tape and reading accept the text and give the sheet back; but for marks or room, where they give 19 or 11
-use Rattle.std.specs.Prelude.{ℕ, ◌+◌, ◌*◌, ◌≤◌, ◌<◌, ◌≡◌, List, [], ◌∷◌, ◌++◌, map, true, false, length, take}
-use Rattle.text.specs.Text.{Text, if◌then◌else◌}
+use Rattle.std.specs.Prelude.{ℕ, ◌+◌, ◌*◌, ◌≤◌, ◌<◌, ◌≡◌, List, [], ◌∷◌, ◌++◌, map, true, false, length, take, if◌then◌else◌}
+use Rattle.text.specs.Text.{Text}
 use Rattle.sheet.specs.Rows.{Ten, Sheet}
 use Rattle.sheet.specs.Form.{names_used_of, tens_of}
 use Rattle.sheet.specs.Returned.{accepted, no_room, short_marks}

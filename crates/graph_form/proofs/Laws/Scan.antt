@@ -1,6 +1,7 @@
 -- Laws of the pass over the rows (specs/Scan.antt): it gives what `rows_form` and `names_form` ask, each over all rows, in one pass.
 -- A row whose pairs end behind the limit fails at once, since the ends only grow and the last one must be the limit.
 -- Assumes nothing.
+use Rattle.std.specs.Prelude.{if◌then◌else◌}
 use mathlib.Core.Path.{◌≡◌, refl, sym, ap, ap₂, ◌∙◌}
 use mathlib.Core.Bool.{Bool, true, false, ◌&&◌, false≢true, and_assoc, and_comm, and-false}
 use mathlib.Core.List.{List, [], ◌∷◌}
@@ -11,7 +12,7 @@ use lib.Dec.{eqb, leb}
 use lib.ListN.{length, take, drop}
 use borrow.Author.Rules.{zero≤}
 use borrow.Author.Tests.{leb-true}
-use Rattle.text.specs.Text.{if◌then◌else◌, every}
+use Rattle.text.specs.Text.{every}
 use Rattle.text.proofs.Laws.Tests.{and-true-right, if-in}
 use Rattle.text.proofs.Laws.Table.{part-from}
 use Rattle.sheet.specs.Rows.{Ten, ten, tens, bit}

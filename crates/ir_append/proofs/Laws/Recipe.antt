@@ -1,11 +1,12 @@
 -- The row that a recipe gives: its bytes are those of the three texts, and its ten numbers are `row_numbers`. By cases on which texts there are; an unused
 -- text is empty. Assumes nothing.
+use Rattle.std.specs.Prelude.{if◌then◌else◌}
 use Prim.Native.Nat.{ℕ, ◌+◌}
 use mathlib.Core.Path.{◌≡◌, refl, sym, ap, ◌∙◌}
 use mathlib.Core.Bool.{Bool, true, false, not, ◌&&◌, ◌||◌, false≢true}
 use mathlib.Core.List.{List, [], ◌∷◌, ◌++◌, append-nil}
 use lib.ListN.{length}
-use Rattle.text.specs.Text.{Text, join, if◌then◌else◌}
+use Rattle.text.specs.Text.{Text, join}
 use Rattle.sheet.specs.Rows.{row, numbers, pack_row, pairs}
 use Rattle.rows.specs.Packing.{numbers_of}
 use Rattle.ir_append.specs.declared.Spelling.{Spelling}

@@ -1,5 +1,6 @@
 -- A text that a writer was to put into the part of the names from a place on is stored there or has no room, and three texts stored one behind the other
 -- are one text stored. By the definitions of `placed` and `paste`. Assumes nothing.
+use Rattle.std.specs.Prelude.{if◌then◌else◌}
 use Prim.Native.Nat.{ℕ, ◌+◌, ◌-◌, ◌≤◌, ◌<◌}
 use mathlib.Core.Path.{◌≡◌, refl, ap, ◌∙◌}
 use mathlib.Core.Bool.{Bool, true, false}
@@ -10,7 +11,7 @@ use lib.ListN.{length, take, drop, length-drop, length-append, drop_of_length-le
 use lib.Seq.{paste, paste-zero, take_all, take-length, drop-drop, length-paste}
 use borrow.Author.Tests.{leb-true, leb-false}
 use borrow.Rule.Slice.PartMut.{mid_of, put_mid}
-use Rattle.text.specs.Text.{Text, if◌then◌else◌}
+use Rattle.text.specs.Text.{Text}
 use Rattle.names.specs.declared.Written.{Written}
 use Rattle.names.specs.Answers.{Put, written, placed}
 use Rattle.buffer.proofs.Laws.Copy.{paste-paste}

@@ -1,4 +1,5 @@
 -- How many types and elements a list of rows has, by its first row. A tag is not that of a simple and of a complex type at once. Assumes nothing.
+use Rattle.std.specs.Prelude.{if◌then◌else◌}
 use Prim.Native.Nat.{ℕ, ◌+◌, ◌*◌, ◌<◌, ◌≤◌}
 use mathlib.Core.Path.{◌≡◌, refl, sym, ap}
 use mathlib.Core.Bool.{Bool, true, false, ◌||◌, false≢true}
@@ -7,7 +8,7 @@ use native.Mathlib.Omega.{arith}
 use lib.Dec.{eqb}
 use lib.ListN.{length, get_or, length-append}
 use borrow.Author.Tests.{eqb-true, ne_eqb}
-use Rattle.text.specs.Text.{if◌then◌else◌, between}
+use Rattle.text.specs.Text.{between}
 use Rattle.sheet.specs.Rows.{Row}
 use Rattle.xsd_types.specs.Places.{row_at, rows_from}
 use Rattle.ir_rows.specs.Lowered.{lowered_as, lowered_row, root_rows}

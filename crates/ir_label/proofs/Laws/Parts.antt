@@ -1,11 +1,12 @@
 -- What was found is the part of the names or of the word list that is the label. Assumes nothing.
+use Rattle.std.specs.Prelude.{if◌then◌else◌}
 use Prim.Native.Nat.{ℕ, ◌+◌, ◌-◌, ◌≤◌}
 use mathlib.Core.Path.{◌≡◌, sym, ap, subst, ◌∙◌}
 use mathlib.Core.Bool.{Bool}
 use mathlib.Core.List.{List}
 use native.Mathlib.Omega.{arith}
 use lib.ListN.{length, take, drop}
-use Rattle.text.specs.Text.{if◌then◌else◌, StartsAt}
+use Rattle.text.specs.Text.{StartsAt}
 use Rattle.text.proofs.Laws.Tests.{if-cases}
 use Rattle.sheet.specs.Rows.{text_at}
 use Rattle.ir_types.specs.Label.{label}

@@ -1,4 +1,5 @@
 -- Where a label stands, by the tests that lead to it. Assumes nothing.
+use Rattle.std.specs.Prelude.{if◌then◌else◌}
 use Prim.Native.Nat.{ℕ, ◌+◌, ◌-◌, ◌*◌, ◌%◌, ◌/◌, ◌≤◌, ◌<◌}
 use mathlib.Core.Path.{◌≡◌, refl, ap, ◌∙◌}
 use mathlib.Core.Bool.{Bool, true, false, ◌||◌, not}
@@ -6,7 +7,6 @@ use mathlib.Core.List.{List, []}
 use native.Mathlib.Omega.{arith}
 use lib.ListN.{length, get_or, drop}
 use borrow.Author.Tests.{eq-eqb, ne_eqb, le-leb, lt-leb, lt-ltb, le-ltb}
-use Rattle.text.specs.Text.{if◌then◌else◌}
 use Rattle.sheet.specs.Rows.{Ten}
 use Rattle.sheet.proofs.Laws.Unpacks.{length-text_at}
 use Rattle.ir_types.specs.Label.{no_label, words_of, good_words, word_at, row_ten, has_reference, reference_at, reference_length, named_label, word_label, row_label, label}

@@ -1,5 +1,6 @@
 -- Which occurs give which cardinality. Paper 01: "unbounded gives vec; max above 1 bounded; min 0 and max 1 optional; all else required."
 -- Assumes nothing.
+use Rattle.std.specs.Prelude.{if◌then◌else◌}
 use Prim.Native.Nat.{ℕ, ◌≤◌, ◌<◌}
 use mathlib.Core.Path.{◌≡◌, refl, ap}
 use mathlib.Core.Logic.{◌↔◌}
@@ -7,7 +8,6 @@ use mathlib.Core.Bool.{Bool, true, false, ◌&&◌}
 use native.Mathlib.Omega.{arith}
 use lib.Dec.{eqb, ltb}
 use borrow.Author.Tests.{ltb-true, ltb-false, lt-ltb, le-ltb, eqb-true}
-use Rattle.text.specs.Text.{if◌then◌else◌}
 use Rattle.xsd_types.specs.Types.{MaxOccurs}
 use Rattle.ir_types.specs.Types.{Cardinality}
 use Rattle.ir_lower.specs.Lower.{lower_cardinality}

@@ -1,5 +1,6 @@
 -- Lowering a schema whose texts and numbers are within their widths gives such a graph, where the three name conversions keep texts.
 -- Assumes nothing: what is asked of the conversions are the section's parameters.
+use Rattle.std.specs.Prelude.{if◌then◌else◌}
 use Prim.Native.Nat.{ℕ, ◌^◌}
 use mathlib.Core.Path.{◌≡◌, refl}
 use mathlib.Core.Bool.{Bool, true, false, ◌&&◌}
@@ -7,7 +8,7 @@ use mathlib.Core.List.{List, [], ◌∷◌, map}
 use mathlib.Core.Option.{Option, some, none}
 use mathlib.Core.Logic.{⊎_elim}
 use lib.Dec.{eqb, ltb}
-use Rattle.text.specs.Text.{Text, if◌then◌else◌, every, is_text}
+use Rattle.text.specs.Text.{Text, every, is_text}
 use Rattle.builtin.specs.Builtin.{RustType, map_builtin}
 use Rattle.names.specs.Names.{normalize_type_name}
 use Rattle.xsd_types.specs.Types.{Element, Facet, SimpleType, MaxOccurs, SequenceElement, ChoiceVariant, Attribute, ComplexContent, ComplexType, Item, Schema, elements, simple_types, complex_types}

@@ -1,5 +1,6 @@
 -- Each definition of a lowered graph is that of a finished type, and its named references are normalised type names.
 -- Assumes nothing.
+use Rattle.std.specs.Prelude.{if◌then◌else◌}
 use Prim.Native.Nat.{ℕ}
 use mathlib.Core.Path.{◌≡◌, refl, sym, ap, ◌∙◌}
 use mathlib.Core.Logic.{◌⊎◌, inl, inr, ⊎_elim}
@@ -9,7 +10,7 @@ use mathlib.Core.List.{List, [], ◌∷◌, map, Memᴰ}
 use mathlib.Core.Option.{Option, some, none, some-injective}
 use native.Mathlib.Omega.{arith}
 use lib.ListN.{get_or, get_or-map}
-use Rattle.text.specs.Text.{Text, if◌then◌else◌}
+use Rattle.text.specs.Text.{Text}
 use Rattle.builtin.specs.Builtin.{RustType, map_builtin}
 use Rattle.names.specs.Names.{normalize_type_name}
 use Rattle.xsd_types.specs.Types.{SimpleType, ComplexContent, ComplexType, Schema, simple_types, complex_types}

@@ -1,11 +1,12 @@
 -- The types of a lowered graph: those of all finished types in lowering's order, under their normalised names. Assumes nothing.
+use Rattle.std.specs.Prelude.{if◌then◌else◌}
 use mathlib.Core.Path.{◌≡◌, refl, sym, ap, ◌∙◌}
 use mathlib.Core.Bool.{true, false, true≢false}
 use mathlib.Core.List.{List, [], ◌∷◌, map, map-append}
 use mathlib.Core.Option.{Option, some, none, some-injective}
 use Prim.Native.Nat.{ℕ}
 use native.Mathlib.Omega.{arith}
-use Rattle.text.specs.Text.{Text, if◌then◌else◌}
+use Rattle.text.specs.Text.{Text}
 use Rattle.text.proofs.Laws.Tests.{or-false-left, or-false-right}
 use Rattle.names.specs.Names.{normalize_type_name}
 use Rattle.builtin.specs.Builtin.{RustType, map_builtin}

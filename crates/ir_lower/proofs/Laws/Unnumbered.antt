@@ -1,11 +1,12 @@
 -- Lowering looks at no number: of a schema whose numbers are cleared it gives what it gives of the schema, with the numbers cleared. Assumes nothing.
+use Rattle.std.specs.Prelude.{if◌then◌else◌}
 use Prim.Native.Nat.{ℕ, ◌+◌}
 use mathlib.Core.Path.{◌≡◌, refl, sym, ap, ap₂, ◌∙◌}
 use mathlib.Core.Bool.{Bool}
 use mathlib.Core.List.{List, [], ◌∷◌, ◌++◌, map, map-append}
 use mathlib.Core.Option.{Option, some, none}
 use lib.ListN.{length, length-map}
-use Rattle.text.specs.Text.{Text, if◌then◌else◌}
+use Rattle.text.specs.Text.{Text}
 use Rattle.text.proofs.Laws.Tests.{if-in}
 use Rattle.builtin.specs.Builtin.{RustType, map_builtin}
 use Rattle.names.specs.Names.{normalize_type_name}

@@ -1,5 +1,6 @@
 -- What a row asks for, by its numbers: the texts under the pairs that a root, a value with attributes, a field, a variant and an attribute use. And so the place that
 -- is stored for a row is that of the head that it leads to. By the tags. Assumes nothing.
+use Rattle.std.specs.Prelude.{if◌then◌else◌}
 use mathlib.Core.Path.{◌≡◌, refl, sym, ap, ◌∙◌}
 use mathlib.Core.Bool.{Bool, true, false, not, ◌&&◌, ◌||◌, false≢true}
 use mathlib.Core.List.{List, [], ◌∷◌, ◌++◌, map}
@@ -9,7 +10,7 @@ use lib.Dec.{eqb, leb}
 use lib.ListN.{length, get_or, take, drop}
 use lib.Seq.{get_or-drop}
 use borrow.Author.Tests.{eqb-true, eqb-false, ne_eqb, eq-eqb, leb-true, lt-leb}
-use Rattle.text.specs.Text.{Text, if◌then◌else◌, between}
+use Rattle.text.specs.Text.{Text, between}
 use Rattle.text.proofs.Laws.Tests.{and-true-left, and-true-right, two}
 use Rattle.names.specs.Names.{normalize_type_name}
 use Rattle.names.specs.Same.{spelled}

@@ -1,5 +1,6 @@
 -- The steps of the call put together: the marks are those of what chains reach, so the rows that are kept are those of the reduced graph, and they are written into
 -- a target of zeros or have no room. Assumes nothing.
+use Rattle.std.specs.Prelude.{if◌then◌else◌}
 use mathlib.Core.Path.{◌≡◌, refl, sym, ap, subst, ◌∙◌}
 use mathlib.Core.Logic.{◌⊎◌, inl, inr}
 use mathlib.Core.Bool.{Bool, true, false, not, ◌&&◌, false≢true, and-false}
@@ -10,7 +11,7 @@ use native.Mathlib.Omega.{arith}
 use lib.Dec.{eqb, leb}
 use lib.ListN.{length, get_or, replicate, length-replicate, replicate-append-replicate}
 use borrow.Author.Tests.{eqb-true, eqb-false, eq-eqb, ne_eqb, leb-true, leb-false, le-leb}
-use Rattle.text.specs.Text.{if◌then◌else◌, between}
+use Rattle.text.specs.Text.{between}
 use Rattle.text.proofs.Laws.Tests.{and-true-left, and-true-right, and-true, two, not-true-false}
 use Rattle.sheet.specs.Rows.{Row, Sheet, bit, numbers, pack, names_of, filled, sheet_of_rows}
 use Rattle.sheet.specs.Lengths.{sheet_lengths, fits, Answer}

@@ -1,5 +1,6 @@
 -- A row's texts are one part of the names, and the row with its texts elsewhere has the same numbers but for the offsets. By how many pairs it uses.
 -- Assumes nothing.
+use Rattle.std.specs.Prelude.{if◌then◌else◌}
 use mathlib.Core.Path.{◌≡◌, refl, sym, ap, ◌∙◌}
 use mathlib.Core.Bool.{Bool, true, false}
 use mathlib.Core.List.{List, [], ◌∷◌, ◌++◌}
@@ -9,7 +10,7 @@ use lib.Dec.{leb}
 use lib.ListN.{length, take, drop, length-append, length-drop}
 use lib.Seq.{take_at}
 use borrow.Author.Tests.{le-leb, leb-true, leb-false}
-use Rattle.text.specs.Text.{Text, if◌then◌else◌, join}
+use Rattle.text.specs.Text.{Text, join}
 use Rattle.sheet.specs.Rows.{Ten, Row, Pairs, ten, pairs, pack_row, unpack_row, numbers}
 use Rattle.sheet.specs.Form.{pair_form, row_covers, end_of, counted}
 use Rattle.sheet.proofs.Laws.Packs.{counted-used, counted-small, end_of-pack}

@@ -1,5 +1,6 @@
 -- What is known of a graph sheet in the form: how many rows are used, that their texts stand in the names, the order of the rows, and the rows with their texts by
 -- their places. Assumes nothing.
+use Rattle.std.specs.Prelude.{if◌then◌else◌}
 use mathlib.Core.Path.{◌≡◌, refl, sym, ap, ◌∙◌}
 use mathlib.Core.Bool.{Bool, true, false, not, ◌&&◌, ◌||◌, false≢true}
 use mathlib.Core.List.{List, [], ◌∷◌, map}
@@ -9,7 +10,7 @@ use lib.Dec.{eqb, leb}
 use lib.ListN.{length, get_or, take, drop}
 use lib.Seq.{get_or-drop}
 use borrow.Author.Tests.{eqb-true, eqb-false, leb-true, le-leb}
-use Rattle.text.specs.Text.{Text, if◌then◌else◌, every, is_text, between}
+use Rattle.text.specs.Text.{Text, every, is_text, between}
 use Rattle.text.proofs.Laws.Tests.{and-true-left, and-true-right, and-true, two}
 use Rattle.text.proofs.Laws.Every.{every-weaken}
 use Rattle.sheet.specs.Rows.{Ten, Row, ten, tens}

@@ -1,4 +1,5 @@
 -- The index of the heads: a name is found at its one head, and what is found is a head of that name. Assumes nothing.
+use Rattle.std.specs.Prelude.{if◌then◌else◌}
 use mathlib.Core.Path.{◌≡◌, refl, sym, ap, subst, ◌∙◌}
 use mathlib.Core.Logic.{◌⊎◌, inl, inr}
 use mathlib.Core.Bool.{Bool, true, false, not, ◌&&◌, ◌||◌, false≢true}
@@ -9,7 +10,7 @@ use lib.Dec.{eqb, ltb}
 use lib.ListN.{length, get_or, set}
 use lib.Seq.{get_or-set_same, get_or-set_other}
 use borrow.Author.Tests.{eqb-true, eqb-false, ne_eqb, not-true, lt-ltb}
-use Rattle.text.specs.Text.{Text, if◌then◌else◌, same, between}
+use Rattle.text.specs.Text.{Text, same, between}
 use Rattle.text.proofs.Laws.Texts.{same_refl}
 use Rattle.text.proofs.Laws.Tests.{and-true-left, and-true-right, or-false-left, or-false-right, not-true-false}
 use Rattle.names.specs.Same.{spelled}

@@ -1,4 +1,5 @@
 -- The rows that are kept, one after the other. What is left to do at a place is the row there, if it is kept, and what is left behind it. Assumes nothing.
+use Rattle.std.specs.Prelude.{if◌then◌else◌}
 use mathlib.Core.Path.{◌≡◌, refl, sym, ap, ◌∙◌}
 use mathlib.Core.Bool.{Bool, true, false, ◌&&◌}
 use mathlib.Core.List.{List, [], ◌∷◌, ◌++◌, map}
@@ -7,7 +8,7 @@ use native.Mathlib.Nat.{add-zero}
 use native.Mathlib.Omega.{arith}
 use lib.ListN.{length, get_or, drop}
 use lib.Seq.{get_or-drop}
-use Rattle.text.specs.Text.{if◌then◌else◌, between}
+use Rattle.text.specs.Text.{between}
 use Rattle.sheet.specs.Rows.{Row, ten, unpack_row}
 use Rattle.ir_types.specs.Form.{count}
 use Rattle.rows.specs.declared.numbers.Used.{Used}

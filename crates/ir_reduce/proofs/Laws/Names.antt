@@ -1,10 +1,11 @@
 -- The names of the types of a graph's rows are those of the definitions that the rows hold. Both read the rows from the last to the first. Assumes nothing.
+use Rattle.std.specs.Prelude.{if◌then◌else◌}
 use Prim.Native.Nat.{ℕ}
 use mathlib.Core.Path.{◌≡◌, refl, sym, ap, ◌∙◌}
 use mathlib.Core.Bool.{Bool, true, false}
 use mathlib.Core.List.{List, [], ◌∷◌, map}
 use lib.Dec.{eqb}
-use Rattle.text.specs.Text.{Text, if◌then◌else◌}
+use Rattle.text.specs.Text.{Text}
 use Rattle.sheet.specs.Rows.{Row, Sheet}
 use Rattle.ir_types.specs.Tags.{struct_tag, enum_tag, newtype_tag, code_enum_tag, value_with_attributes_tag}
 use Rattle.ir_types.specs.Types.{TypeDef, TypeGraph, name_of}

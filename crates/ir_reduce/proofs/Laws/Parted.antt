@@ -1,8 +1,9 @@
 -- Rows parted and put together again. Assumes nothing.
+use Rattle.std.specs.Prelude.{if◌then◌else◌}
 use mathlib.Core.Path.{◌≡◌, refl, sym, ap, ◌∙◌}
 use mathlib.Core.Bool.{Bool, true, false, not, ◌&&◌}
 use mathlib.Core.List.{List, [], ◌∷◌, ◌++◌, append-nil}
-use Rattle.text.specs.Text.{if◌then◌else◌, every}
+use Rattle.text.specs.Text.{every}
 use Rattle.text.proofs.Laws.Tests.{and-true-left, and-true-right, and-true}
 use Rattle.sheet.specs.Rows.{Row}
 use Rattle.ir_types.specs.Form.{is_type_tag}

@@ -1,9 +1,10 @@
 -- What a marking that is closed holds, and that reducing twice is reducing once. Assumes nothing.
+use Rattle.std.specs.Prelude.{if◌then◌else◌}
 use mathlib.Core.Path.{◌≡◌, refl, sym, ap, ◌∙◌}
 use mathlib.Core.Logic.{◌↔◌}
 use mathlib.Core.Bool.{Bool, true, false, false≢true}
 use mathlib.Core.List.{List, [], ◌∷◌}
-use Rattle.text.specs.Text.{Text, if◌then◌else◌}
+use Rattle.text.specs.Text.{Text}
 use Rattle.sheet.specs.Rows.{Row}
 use Rattle.ir_types.specs.Tags.{root_tag}
 use Rattle.ir_reduce.specs.Groups.{GraphType, Parted, type_name, root_type, references}

@@ -1,10 +1,11 @@
 -- What each recipe gives is what lowering makes of the row of its tag. By the definitions; a reference's text by its number. Assumes nothing.
+use Rattle.std.specs.Prelude.{if◌then◌else◌}
 use Prim.Native.Nat.{ℕ}
 use mathlib.Core.Path.{◌≡◌, refl, sym, ap, ap₂, ◌∙◌}
 use mathlib.Core.List.{List, [], ◌∷◌, append-nil}
 use mathlib.Core.Bool.{Bool, true, false, not}
 use lib.Dec.{eqb}
-use Rattle.text.specs.Text.{Text, if◌then◌else◌, between}
+use Rattle.text.specs.Text.{Text, between}
 use Rattle.text.proofs.Laws.Tests.{or_right}
 use Rattle.names.specs.Names.{normalize_type_name, xml_to_snake_case}
 use Rattle.builtin.specs.Builtin.{map_builtin, reference}

@@ -1,4 +1,5 @@
 -- What lowering makes of a row that has no recipe: nothing, or a count's row. By the tests of the tag, one after the other. Assumes nothing.
+use Rattle.std.specs.Prelude.{if◌then◌else◌}
 use Prim.Native.Nat.{ℕ, ◌*◌, ◌/◌, ◌%◌, ◌^◌}
 use mathlib.Core.Path.{◌≡◌, refl, sym, ap, ◌∙◌}
 use mathlib.Core.Logic.{◌⊎◌, inl, inr, ⊎_elim}
@@ -7,7 +8,7 @@ use mathlib.Core.Bool.{Bool, true, false, false≢true}
 use lib.Dec.{eqb}
 use lib.ListN.{take, drop}
 use borrow.Author.Tests.{ne_eqb}
-use Rattle.text.specs.Text.{Text, if◌then◌else◌, between}
+use Rattle.text.specs.Text.{Text, between}
 use Rattle.sheet.specs.Rows.{Row, row, ten, text_at}
 use Rattle.rows.specs.declared.ten.Ten.{Ten as Numbers}
 use Rattle.rows.specs.Ten.{as_ten}

@@ -1,5 +1,6 @@
 -- The rows of a finished type are lowered to the rows of its definition, whatever finished items stand behind it. Child by child; the head's row says
 -- the name. Assumes nothing.
+use Rattle.std.specs.Prelude.{if◌then◌else◌}
 use Prim.Native.Nat.{ℕ}
 use mathlib.Core.Path.{◌≡◌, refl, sym, ap, ◌∙◌}
 use mathlib.Core.Bool.{Bool, true, false, not, false≢true}
@@ -7,7 +8,7 @@ use mathlib.Core.List.{List, [], ◌∷◌, ◌++◌, map}
 use mathlib.Core.Option.{Option, some, none, some-injective}
 use native.Mathlib.Omega.{arith}
 use lib.Dec.{eqb}
-use Rattle.text.specs.Text.{Text, if◌then◌else◌, every, between}
+use Rattle.text.specs.Text.{Text, every, between}
 use Rattle.text.proofs.Laws.Tests.{and-true-right}
 use Rattle.names.specs.Names.{normalize_type_name}
 use Rattle.builtin.specs.Builtin.{RustType, string, bool, decimal, date, date_time, map_builtin, reference}

@@ -1,5 +1,6 @@
 -- Lowering's scans of a schema sheet's rows, over a head with its children: no child is a head, so a scan looks at the head alone and goes on behind
 -- the children. Assumes nothing.
+use Rattle.std.specs.Prelude.{if◌then◌else◌}
 use Prim.Native.Nat.{ℕ, ◌+◌}
 use mathlib.Core.Path.{◌≡◌, refl, sym, ap, ◌∙◌}
 use mathlib.Core.Bool.{Bool, true, false, false≢true}
@@ -7,7 +8,7 @@ use mathlib.Core.List.{List, [], ◌∷◌, ◌++◌}
 use native.Mathlib.Omega.{arith}
 use lib.Dec.{eqb}
 use lib.ListN.{length}
-use Rattle.text.specs.Text.{if◌then◌else◌, every, between}
+use Rattle.text.specs.Text.{every, between}
 use Rattle.text.proofs.Laws.Tests.{and-true-right, not-true-false, or_right}
 use borrow.Author.Tests.{eqb-true}
 use Rattle.text.proofs.Laws.Every.{EachFrom, between-each, every-head, every-tail}

@@ -1,5 +1,6 @@
 -- What lowering's scans make of the rows of finished items: how many types there are, where the first refused one stands, and the elements' rows.
 -- Item by item, each a head with its children. Assumes nothing.
+use Rattle.std.specs.Prelude.{if◌then◌else◌}
 use Prim.Native.Nat.{ℕ, suc, ◌+◌, ◌≤◌}
 use mathlib.Core.Path.{◌≡◌, refl, sym, ap, ◌∙◌}
 use mathlib.Core.Bool.{Bool, true, false, not, ◌&&◌, false≢true}
@@ -8,7 +9,7 @@ use mathlib.Core.Option.{some, none}
 use native.Mathlib.Omega.{arith}
 use lib.Dec.{eqb}
 use lib.ListN.{length, length-append}
-use Rattle.text.specs.Text.{Text, if◌then◌else◌, every, between}
+use Rattle.text.specs.Text.{Text, every, between}
 use Rattle.text.proofs.Laws.Tests.{and-true-left, or-false-left, or-false-right}
 use Rattle.sheet.specs.Rows.{Row, row}
 use Rattle.builtin.specs.Builtin.{map_builtin}

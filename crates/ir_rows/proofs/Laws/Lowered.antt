@@ -1,5 +1,6 @@
 -- What lowering makes of a row of numbers: its tag, a, b and the texts of its first two pairs. A row that uses fewer pairs is lowered without the
 -- others' texts. By the tags, one after the other. Assumes nothing.
+use Rattle.std.specs.Prelude.{if◌then◌else◌}
 use Prim.Native.Nat.{ℕ, zero, suc, ◌≤◌}
 use mathlib.Core.Path.{◌≡◌, refl, ap, ap₂}
 use mathlib.Core.Logic.{⊎_elim}
@@ -9,7 +10,7 @@ use native.Mathlib.Omega.{arith}
 use lib.Dec.{eqb}
 use lib.ListN.{get_or, take}
 use borrow.Author.Tests.{eqb-true}
-use Rattle.text.specs.Text.{Text, if◌then◌else◌, between}
+use Rattle.text.specs.Text.{Text, between}
 use Rattle.text.proofs.Laws.Tests.{test-cases, or_cases}
 use Rattle.text.proofs.Laws.Every.{EachFrom, between-each}
 use Rattle.names.specs.Names.{normalize_type_name, xml_to_snake_case}

@@ -1,4 +1,5 @@
 -- The tags of a graph's rows: roots before types, children behind their head, as many as row 0 says. Assumes nothing.
+use Rattle.std.specs.Prelude.{if◌then◌else◌}
 use Prim.Native.Nat.{ℕ, suc, ◌+◌}
 use mathlib.Core.Path.{◌≡◌, refl, ap, ◌∙◌}
 use mathlib.Core.Bool.{Bool, true, false, not, ◌&&◌}
@@ -8,7 +9,7 @@ use native.Mathlib.Omega.{arith}
 use lib.Dec.{eqb}
 use lib.ListN.{length}
 use borrow.Author.Tests.{not-true}
-use Rattle.text.specs.Text.{if◌then◌else◌, every, between, join}
+use Rattle.text.specs.Text.{every, between, join}
 use Rattle.sheet.specs.Rows.{Row, row, pack_row, pack}
 use Rattle.ir_types.specs.Types.{Constraint, TypeDef, RootElement}
 use Rattle.ir_types.specs.Rows.{field_row, variant_row, constraint_row, code_row, attr_row, type_rows, types_rows, root_row}

@@ -1,4 +1,5 @@
 -- The rows of a graph whose texts and numbers are within their widths are rows that the form allows. Assumes nothing.
+use Rattle.std.specs.Prelude.{if◌then◌else◌}
 use Prim.Native.Nat.{ℕ, ◌<◌, ◌%◌, ◌/◌, ◌^◌}
 use mathlib.Core.Path.{◌≡◌, refl}
 use mathlib.Core.Bool.{Bool, true, false, ◌&&◌}
@@ -7,7 +8,7 @@ use mathlib.Core.Option.{some, none}
 use native.Mathlib.Omega.{arith}
 use lib.Dec.{eqb, leb, ltb}
 use borrow.Author.Tests.{ltb-true, lt-ltb, leb-true, le-leb}
-use Rattle.text.specs.Text.{Text, if◌then◌else◌, every, is_text, between}
+use Rattle.text.specs.Text.{Text, every, is_text, between}
 use Rattle.builtin.specs.Builtin.{RustType, rust_type_number}
 use Rattle.sheet.specs.Rows.{Row, row, bit}
 use Rattle.sheet.specs.Form.{is_flag, counted}

@@ -1,5 +1,6 @@
 -- What the label call tells: a refusal gives the empty text, an accepted label is a part of the names or one of the five words.
 -- Assumes nothing.
+use Rattle.std.specs.Prelude.{if◌then◌else◌}
 use Prim.Native.Nat.{ℕ, ◌+◌, ◌-◌, ◌*◌, ◌%◌, ◌≤◌, ◌<◌}
 use mathlib.Core.Path.{◌≡◌, refl}
 use mathlib.Core.Logic.{◌⊎◌, inl, inr, ⊎_elim}
@@ -9,7 +10,6 @@ use native.Mathlib.Omega.{arith}
 use lib.Dec.{eqb, leb, ltb}
 use lib.ListN.{length, get_or}
 use borrow.Author.Tests.{leb-true, eqb-false}
-use Rattle.text.specs.Text.{if◌then◌else◌}
 use Rattle.sheet.specs.Rows.{Ten, text_at}
 use Rattle.ir_types.specs.Label.{Labelled, no_label, words_of, good_words, word_at, row_ten, has_reference, reference_at, reference_length, named_label, word_label, row_label, label}
 use Rattle.text.proofs.Laws.Tests.{and-true-left, and-true-right, test-cases}

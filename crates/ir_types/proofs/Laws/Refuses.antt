@@ -1,4 +1,5 @@
 -- The label call's number is 16 exactly under the table's conditions, and else 0. Assumes nothing.
+use Rattle.std.specs.Prelude.{if◌then◌else◌}
 use Prim.Native.Nat.{ℕ, ◌+◌, ◌-◌, ◌*◌, ◌%◌}
 use mathlib.Core.Path.{◌≡◌, refl}
 use mathlib.Core.Logic.{⊎_elim}
@@ -8,7 +9,7 @@ use native.Mathlib.Omega.{arith}
 use lib.Dec.{eqb, leb, ltb}
 use lib.ListN.{length, get_or}
 use borrow.Author.Tests.{eqb-true, eqb-false, le-leb, lt-leb}
-use Rattle.text.specs.Text.{if◌then◌else◌, between}
+use Rattle.text.specs.Text.{between}
 use Rattle.sheet.specs.Rows.{Ten, text_at}
 use Rattle.ir_types.specs.Label.{Labelled, no_label, words_of, good_words, word_at, row_ten, has_reference, reference_at, reference_length, named_label, word_label, row_label, label}
 use Rattle.ir_types.specs.Refuses.{has_tag, row_refuses, refuses}

@@ -1,4 +1,5 @@
 -- Every label comes under one case of the table: the call's tests are taken apart one by one, and which number they give is known already. Assumes nothing.
+use Rattle.std.specs.Prelude.{if◌then◌else◌}
 use Prim.Native.Nat.{ℕ, ◌+◌, ◌-◌, ◌*◌, ◌%◌}
 use mathlib.Core.Path.{◌≡◌, refl, sym, ◌∙◌, ap}
 use mathlib.Core.Logic.{⊎_elim}
@@ -8,7 +9,6 @@ use native.Mathlib.Omega.{arith}
 use lib.Dec.{eqb, leb, ltb}
 use lib.ListN.{length}
 use borrow.Author.Tests.{eqb-true, eqb-false}
-use Rattle.text.specs.Text.{if◌then◌else◌}
 use Rattle.ir_types.specs.Label.{Labelled, no_label, good_words, row_ten, has_reference, reference_at, reference_length, named_label, word_label, row_label, label}
 use Rattle.ir_types.specs.Refuses.{refuses}
 use Rattle.ir_types.specs.Table.{LabelTable}

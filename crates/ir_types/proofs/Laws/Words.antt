@@ -1,4 +1,5 @@
 -- A word of the word list is the part of the list where it starts. Assumes nothing.
+use Rattle.std.specs.Prelude.{if◌then◌else◌}
 use Prim.Native.Nat.{ℕ, zero, suc, ◌+◌, ◌≤◌, ◌<◌}
 use mathlib.Core.Path.{◌≡◌, refl, sym, ap, ◌∙◌}
 use mathlib.Core.Bool.{true, false}
@@ -8,7 +9,7 @@ use native.Mathlib.Omega.{arith}
 use lib.Dec.{eqb}
 use lib.ListN.{length, get_or}
 use borrow.Author.Tests.{eqb-true}
-use Rattle.text.specs.Text.{Text, if◌then◌else◌, in_front, split}
+use Rattle.text.specs.Text.{Text, in_front, split}
 use Rattle.sheet.specs.Rows.{text_at}
 use Rattle.sheet.proofs.Laws.Unpacks.{length-text_at}
 use Rattle.ir_types.specs.Label.{newline, words_of, good_words, word_at, label}

@@ -1,11 +1,11 @@
 -- The rest of the rows from a place on, as the writing loops meet it. By the rows from a place on. Assumes nothing.
+use Rattle.std.specs.Prelude.{if◌then◌else◌}
 use Prim.Native.Nat.{ℕ, ◌+◌, ◌*◌, ◌≤◌, ◌<◌}
 use mathlib.Core.Path.{◌≡◌, refl}
 use mathlib.Core.Bool.{Bool, true, false}
 use mathlib.Core.List.{List, [], ◌∷◌, ◌++◌, append-nil}
 use lib.Dec.{eqb}
 use lib.ListN.{get_or}
-use Rattle.text.specs.Text.{if◌then◌else◌}
 use Rattle.sheet.specs.Rows.{Row}
 use Rattle.xsd_types.specs.Good.{is_head}
 use Rattle.xsd_types.specs.Places.{row_at, rows_from}

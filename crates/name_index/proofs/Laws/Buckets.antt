@@ -1,6 +1,7 @@
 -- What a table says of the names entered. Why a name is found by its bucket alone: behind the last entry of its bucket a name does not stand, so the place of
 -- a name among the first n entries is its place among the first as many as the last entry of its bucket counts. A walk along a bucket keeps that, and its
 -- count falls. Assumes nothing.
+use Rattle.std.specs.Prelude.{if◌then◌else◌}
 use Prim.Native.Nat.{ℕ, zero, suc, ◌+◌, ◌-◌, ◌*◌, ◌/◌, ◌%◌, ◌≤◌, ◌<◌}
 use mathlib.Core.Path.{◌≡◌, refl, sym, ap, ◌∙◌}
 use mathlib.Core.Bool.{Bool, true, false}
@@ -12,7 +13,7 @@ use lib.Dec.{eqb}
 use lib.ListN.{length, get_or, drop, set, replicate, get_or-append, length-set, length-replicate, get_or-replicate}
 use lib.Seq.{paste, length-paste, take_all, get_or-set_same, get_or-set_other}
 use borrow.Author.Tests.{eqb-true, eqb-false, eq-eqb}
-use Rattle.text.specs.Text.{Text, if◌then◌else◌, same}
+use Rattle.text.specs.Text.{Text, same}
 use Rattle.text.proofs.Laws.Tests.{if-cases, bool_cases}
 use Rattle.text.proofs.Laws.Texts.{same-eq, same_refl, same-differ}
 use Rattle.names.specs.Same.{spelled}

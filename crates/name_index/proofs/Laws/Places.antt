@@ -1,4 +1,5 @@
 -- The places entered, entry by entry, and the last of them that has a name. Assumes nothing.
+use Rattle.std.specs.Prelude.{if◌then◌else◌}
 use Prim.Native.Nat.{ℕ, suc, ◌+◌, ◌%◌, ◌≤◌, ◌<◌}
 use mathlib.Core.Path.{◌≡◌, refl, sym, ap, ◌∙◌}
 use mathlib.Core.Bool.{Bool, true, false, ◌||◌, or-false}
@@ -9,7 +10,7 @@ use native.Mathlib.Numerals.{add-one}
 use lib.Dec.{ltb}
 use lib.ListN.{length, get_or, take, drop, set, length-map, length-drop, get_or-map}
 use lib.Seq.{length-take-le, get_or-take, get_or-drop, take-suc, take-suc-set, drop-set-lt, drop-set-add}
-use Rattle.text.specs.Text.{Text, if◌then◌else◌, same, every}
+use Rattle.text.specs.Text.{Text, same, every}
 use Rattle.text.proofs.Laws.Tests.{and-true-left, and-true-right, or_right}
 use Rattle.text.proofs.Laws.Texts.{same-eq}
 use Rattle.ir_types.specs.Distinct.{among}

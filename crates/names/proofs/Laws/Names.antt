@@ -1,5 +1,6 @@
 -- Laws of specs/Names.antt: each conversion is the scan that the code makes, no conversion gives more than twice the bytes, each gives a
 -- text again, and two of them change nothing the second time. Assumes nothing.
+use Rattle.std.specs.Prelude.{if◌then◌else◌}
 use mathlib.Core.Path.{◌≡◌, refl, sym, ap, ◌∙◌}
 use mathlib.Core.Bool.{Bool, true, false, not}
 use mathlib.Core.List.{List, [], ◌∷◌, ◌++◌, map}
@@ -9,7 +10,7 @@ use native.Mathlib.Omega.{arith}
 use lib.Dec.{eqb}
 use lib.ListN.{length}
 use borrow.Author.Tests.{eqb-false, ne_eqb, lt-leb, not-true}
-use Rattle.text.specs.Text.{Text, if◌then◌else◌, between, is_upper, is_lower, upper, lower, contains, in_front, split, join, first, every, is_text_byte, is_text}
+use Rattle.text.specs.Text.{Text, between, is_upper, is_lower, upper, lower, contains, in_front, split, join, first, every, is_text_byte, is_text}
 use Rattle.text.proofs.Laws.Tests.{and-true-left, and-true-right, if-cases, if-in, and-true, or-false-left, or-false-right}
 use Rattle.text.proofs.Laws.Texts.{between-low, between-high, between-above, lower-of-other, upper-text, lower-text}
 use Rattle.names.specs.Names.{capital, normalize_type_name, starts_word, snake_from, xml_to_snake_case, code_to_pascal_case}

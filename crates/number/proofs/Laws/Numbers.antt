@@ -1,5 +1,6 @@
 -- Laws of specs/Number.antt, over the limit and never one for each width. No contract cites them. Assumes nothing.
 --     from limit v d    what the digits d behind the value v give below the limit
+use Rattle.std.specs.Prelude.{if◌then◌else◌}
 use mathlib.Core.Path.{◌≡◌, refl, ◌∙◌}
 use mathlib.Core.Bool.{Bool, true, false}
 use mathlib.Core.List.{[], ◌∷◌}
@@ -12,7 +13,7 @@ use lib.Pow.{pow_pos}
 use lib.ListN.{length, get_or, drop, drop_of_length-le}
 use lib.Seq.{drop-cons}
 use borrow.Author.Tests.{ltb-true, lt-ltb, le-ltb, eq-eqb, ne_eqb}
-use Rattle.text.specs.Text.{Text, if◌then◌else◌, every, is_digit}
+use Rattle.text.specs.Text.{Text, every, is_digit}
 use Rattle.text.specs.Trim.{trimmed}
 use Rattle.text.proofs.Laws.Texts.{between-low, between-high}
 use Rattle.number.specs.Number.{Parsed, parsed, refused, after_plus, is_numeral, value, below, numeral, plain_below, is_minus_zeros, number_below, number}

@@ -1,5 +1,6 @@
 -- Laws of the spellings that order 2 adds (specs/Number.antt): a text that paper 01 takes keeps its value, and what is taken is white space around such a
 -- text or around minus zeros, and nothing else. Such a core has no white space, so trimming gives it back whole. No contract cites them. Assumes nothing.
+use Rattle.std.specs.Prelude.{if◌then◌else◌}
 use mathlib.Core.Path.{◌≡◌, refl, sym}
 use mathlib.Core.Logic.{◌↔◌, inl, inr}
 use mathlib.Core.Bool.{Bool, true, false, false≢true}
@@ -12,7 +13,7 @@ use lib.Dec.{eqb}
 use lib.ListN.{length, get_or, drop, drop_of_length-le}
 use lib.Seq.{drop-cons}
 use borrow.Author.Tests.{eqb-true, eq-eqb, ne_eqb}
-use Rattle.text.specs.Text.{Text, if◌then◌else◌, every, between, is_digit}
+use Rattle.text.specs.Text.{Text, every, between, is_digit}
 use Rattle.text.specs.Trim.{is_white_space, is_solid, trimmed, Around}
 use Rattle.text.proofs.Laws.Tests.{and-true-left, and-true-right, bool_cases}
 use Rattle.text.proofs.Laws.Every.{every-cons, every-weaken}

@@ -1,4 +1,5 @@
 -- A pattern has one number, and the scan is the grammar. Assumes nothing.
+use Rattle.std.specs.Prelude.{if◌then◌else◌}
 use Prim.Native.Nat.{ℕ, ◌<◌, ◌≤◌}
 use native.Mathlib.Omega.{arith}
 use mathlib.Core.Path.{◌≡◌, refl, sym, ap, ◌∙◌}
@@ -8,7 +9,7 @@ use mathlib.Core.List.{[], append-nil}
 use lib.Dec.{ltb}
 use lib.ListN.{length}
 use borrow.Author.Tests.{lt-ltb, le-ltb, ltb-true, ltb-false}
-use Rattle.text.specs.Text.{Text, if◌then◌else◌, is_text, first, contains, bytes}
+use Rattle.text.specs.Text.{Text, is_text, first, contains, bytes}
 use Rattle.text.proofs.Laws.Tests.{if-cases}
 use Rattle.pattern.specs.Grammar.{is_mark, Derives, reg_exp}
 use Rattle.pattern.specs.Scan.{start, go, scan, final}

@@ -1,4 +1,5 @@
 -- The scan from a place of a pattern on, as the code reads it. Assumes nothing.
+use Rattle.std.specs.Prelude.{if◌then◌else◌}
 use Prim.Native.Nat.{ℕ, suc, ◌+◌, ◌≤◌, ◌<◌}
 use Prim.Native.Char.{code}
 use native.Mathlib.Numerals.{add-one}
@@ -10,7 +11,7 @@ use lib.Dec.{eqb, ltb}
 use lib.ListN.{length, drop, get_or, drop_of_length-le}
 use lib.Seq.{drop-cons}
 use borrow.Author.Tests.{ltb-true, ltb-false, ne_eqb}
-use Rattle.text.specs.Text.{Text, if◌then◌else◌, between, first, contains, bytes}
+use Rattle.text.specs.Text.{Text, between, first, contains, bytes}
 use Rattle.text.proofs.Laws.Tests.{bool_cases, or-false-left, or-false-right}
 use Rattle.text.proofs.Laws.Texts.{first-drop}
 use Rattle.xml.specs.Classes.{is_char}

@@ -1,5 +1,6 @@
 -- Laws of a pass that asks all that a sheet's form asks of its rows at once: the ends of the pairs only grow, so that a row whose pairs end behind the
 -- last end fails at once, and the tests of a row and of the rows behind it come apart. Assumes nothing.
+use Rattle.std.specs.Prelude.{if◌then◌else◌}
 use mathlib.Core.Path.{◌≡◌, refl, sym}
 use mathlib.Core.Bool.{Bool, true, false, ◌&&◌, false≢true, and-false}
 use mathlib.Core.List.{List, [], ◌∷◌}
@@ -7,7 +8,6 @@ use Prim.Native.Nat.{ℕ, ◌+◌, ◌≤◌}
 use native.Mathlib.Omega.{arith}
 use lib.Dec.{eqb, leb}
 use borrow.Author.Tests.{le-leb, eqb-true}
-use Rattle.text.specs.Text.{if◌then◌else◌}
 use Rattle.sheet.specs.Rows.{Ten}
 use Rattle.sheet.specs.Form.{end_of, covered}
 

@@ -1,5 +1,6 @@
 -- The name and the attributes of a tag by their places in the marks, and a lookup one attribute after the other. Laws of xsd_parser's Tape and
 -- Event and of specs/Lookup.antt. No contract cites them. Assumes nothing.
+use Rattle.std.specs.Prelude.{if◌then◌else◌}
 use Prim.Native.String.{String}
 use mathlib.Core.Path.{◌≡◌, refl, sym, ap, ◌∙◌}
 use mathlib.Core.Bool.{true, false}
@@ -11,7 +12,7 @@ use native.Mathlib.Numerals.{one-add}
 use native.Mathlib.Omega.{arith}
 use lib.ListN.{length, get_or, drop}
 use lib.Seq.{get_or-drop, drop-drop}
-use Rattle.text.specs.Text.{Text, if◌then◌else◌, bytes, same, is, local_name}
+use Rattle.text.specs.Text.{Text, bytes, same, is, local_name}
 use Rattle.xsd_parser.specs.Event.{Attr, Tag, attr_value, lookup}
 use Rattle.xsd_parser.specs.Tape.{pairs_of, pair_text, pair_count, attrs_of, tag_of}
 use Rattle.tape.specs.Pairs.{pair_at, tag_at}

@@ -1,11 +1,12 @@
 -- The parts of `form_test` one after the other, and what a good form says. Laws of xsd_parser's Tape. No contract cites them. Assumes nothing.
+use Rattle.std.specs.Prelude.{if◌then◌else◌}
 use mathlib.Core.Path.{◌≡◌}
 use mathlib.Core.Bool.{true, false, ◌&&◌}
 use Prim.Native.Nat.{ℕ, ◌*◌, ◌≤◌, ◌<◌}
 use native.Mathlib.Omega.{arith}
 use lib.Dec.{leb, eqb}
 use borrow.Author.Tests.{leb-true, le-leb, lt-leb, ne_eqb}
-use Rattle.text.specs.Text.{if◌then◌else◌, between}
+use Rattle.text.specs.Text.{between}
 use Rattle.text.proofs.Laws.Tests.{and-true-left, and-true-right}
 use Rattle.xsd_parser.specs.Tape.{pair_count, form_test}
 

@@ -1,4 +1,5 @@
 -- The places of the nine keys as the attributes are passed one after the other. Laws of specs/Lookup.antt. No contract cites them. Assumes nothing.
+use Rattle.std.specs.Prelude.{if◌then◌else◌}
 use Prim.Native.String.{String}
 use mathlib.Core.Path.{◌≡◌, refl, sym, ap, ◌∙◌}
 use mathlib.Core.Bool.{Bool, true, false, ◌&&◌}
@@ -10,7 +11,7 @@ use lib.Dec.{eqb, ltb}
 use lib.ListN.{length, get_or, set, replicate, drop, length-set, get_or-replicate}
 use lib.Seq.{get_or-set_same, get_or-set_other}
 use borrow.Author.Tests.{lt-ltb, eqb-true, eqb-false, eq-eqb}
-use Rattle.text.specs.Text.{Text, if◌then◌else◌, bytes, same, local_name}
+use Rattle.text.specs.Text.{Text, bytes, same, local_name}
 use Rattle.text.proofs.Laws.Tests.{bool_cases}
 use Rattle.xsd_parser.specs.Event.{Attr, Tag, attr_value}
 use Rattle.xsd_parser.specs.Tape.{pairs_of, pair_text, attrs_of}

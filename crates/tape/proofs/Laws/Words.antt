@@ -2,6 +2,7 @@
 -- Words and of specs/Keys.antt. No contract cites them. Assumes nothing.
 --     sized         the words of a length
 --     differ        no two of the words are the same
+use Rattle.std.specs.Prelude.{if◌then◌else◌}
 use mathlib.Core.Path.{◌≡◌, refl, sym, ap, ◌∙◌}
 use mathlib.Core.Bool.{Bool, true, false, not, ◌&&◌}
 use mathlib.Core.List.{List, [], ◌∷◌, map}
@@ -12,7 +13,7 @@ use native.Mathlib.Omega.{arith}
 use lib.Dec.{eqb}
 use lib.ListN.{length, get_or}
 use borrow.Author.Tests.{eq-eqb, ne_eqb, eqb-false, not-true}
-use Rattle.text.specs.Text.{Text, if◌then◌else◌, bytes, every, same}
+use Rattle.text.specs.Text.{Text, bytes, every, same}
 use Rattle.text.proofs.Laws.Texts.{same-eq, same-differ}
 use Rattle.text.proofs.Laws.Tests.{two, bool_cases}
 use Rattle.text.specs.Text.{contains, colon, after_last, local_name}

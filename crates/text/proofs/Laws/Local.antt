@@ -1,5 +1,6 @@
 -- The local name of a local name is itself: behind its last colon no colon is left. A word without a colon is the local name of a name that ends with
 -- it and has nothing or a colon before it. Laws of specs/Text.antt. Assumes nothing.
+use Rattle.std.specs.Prelude.{if◌then◌else◌}
 use mathlib.Core.Path.{◌≡◌, refl, sym, ap, ◌∙◌}
 use mathlib.Core.Bool.{Bool, true, false, ◌||◌, false≢true}
 use mathlib.Core.Logic.{◌⊎◌, inl, inr}
@@ -13,7 +14,7 @@ use lib.Seq.{drop-append-add, get_or-append_seam}
 use lib.Dec.{eqb}
 use Rattle.text.proofs.Laws.Tests.{or-false-left, or-false-right, bool_cases}
 use Rattle.text.proofs.Laws.Texts.{same_refl, same-differ}
-use Rattle.text.specs.Text.{Text, if◌then◌else◌, contains, same, after_last, colon, local_name}
+use Rattle.text.specs.Text.{Text, contains, same, after_last, colon, local_name}
 
 -- where the separator does not stand in s, what is kept stays
 pub after_last-none : (c : ℕ) (kept s : Text) → contains c s ≡ false → after_last c kept s ≡ kept

@@ -1,8 +1,8 @@
 -- Laws of tests: `◌&&◌`, `◌||◌` and `if◌then◌else◌`. Assumes nothing.
+use Rattle.std.specs.Prelude.{if◌then◌else◌}
 use mathlib.Core.Path.{◌≡◌, refl, sym, ◌∙◌}
 use mathlib.Core.Logic.{◌⊎◌, inl, inr}
 use mathlib.Core.Bool.{Bool, true, false, ◌&&◌, ◌||◌, false≢true}
-use Rattle.text.specs.Text.{if◌then◌else◌}
 
 -- a conjunction that holds
 pub and-true-left : (a b : Bool) → a && b ≡ true → a ≡ true

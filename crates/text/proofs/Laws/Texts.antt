@@ -1,4 +1,5 @@
 -- Laws of specs/Text.antt. No contract cites them. Assumes nothing.
+use Rattle.std.specs.Prelude.{if◌then◌else◌}
 use mathlib.Core.Path.{◌≡◌, refl, ap}
 use mathlib.Core.Bool.{Bool, true, false, ◌&&◌, ◌||◌, false≢true, and_assoc, and-true, or_assoc, or-false}
 use mathlib.Core.List.{[], ◌∷◌}
@@ -9,7 +10,7 @@ use lib.ListN.{length, get_or, take, drop, drop_of_length-le}
 use lib.Seq.{drop-cons, drop-nil, take-nil}
 use borrow.Author.Tests.{leb-true, lt-leb, le-leb, eqb-true, eq-eqb, ne_eqb, ltb-true, lt-ltb}
 use Rattle.text.proofs.Laws.Tests.{and-true-left, and-true-right, not-true-false, if-cases}
-use Rattle.text.specs.Text.{Text, if◌then◌else◌, between, is_upper, is_lower, upper, lower, is_text_byte, contains, first, same, after_last, every, is_text}
+use Rattle.text.specs.Text.{Text, between, is_upper, is_lower, upper, lower, is_text_byte, contains, first, same, after_last, every, is_text}
 
 pub between-low : (low high b : ℕ) → between low high b ≡ true → low ≤ b
 unfolding between

@@ -1,4 +1,5 @@
 -- Where a step ends, what is left is the rest of the text from there on (`Here`). Assumes nothing.
+use Rattle.std.specs.Prelude.{if◌then◌else◌}
 use Prim.Native.Nat.{ℕ, zero, suc, ◌+◌}
 use mathlib.Core.Path.{◌≡◌, ap, ◌∙◌}
 use mathlib.Core.List.{List, [], ◌∷◌}
@@ -8,7 +9,7 @@ use lib.Dec.{eqb}
 use lib.ListN.{length, drop}
 use lib.Seq.{drop-drop}
 use Prim.Native.Char.{code}
-use Rattle.text.specs.Text.{Text, if◌then◌else◌, bytes, first, is_digit}
+use Rattle.text.specs.Text.{Text, bytes, first, is_digit}
 use Rattle.text.proofs.Laws.Tests.{if-either}
 use Rattle.text.specs.Trim.{is_white_space}
 use Rattle.xml.specs.Classes.{is_char, is_name_start, is_name, is_letter, is_encoding}

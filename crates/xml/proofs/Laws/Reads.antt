@@ -1,5 +1,6 @@
 -- The tape of a well-formed text, read whole with its text, meets none of 3, 4, 5 and 6, and leaves as many tags open as before: its records are events, and
 -- each close of them has its open tag. Assumes nothing.
+use Rattle.std.specs.Prelude.{if◌then◌else◌}
 use Prim.Native.Nat.{ℕ, zero, suc, ◌+◌, ◌-◌, ◌≤◌, ◌<◌}
 use mathlib.Core.Path.{◌≡◌, refl, sym, ap, ◌∙◌}
 use mathlib.Core.Logic.{◌⊎◌, inl, inr}
@@ -9,7 +10,7 @@ use native.Mathlib.Omega.{arith}
 use lib.Dec.{eqb, leb, ltb}
 use lib.ListN.{length, take, replicate}
 use lib.Seq.{take-append_seam}
-use Rattle.text.specs.Text.{Text, if◌then◌else◌, every, is_text}
+use Rattle.text.specs.Text.{Text, every, is_text}
 use Rattle.text.proofs.Laws.Tests.{bool_cases}
 use Rattle.sheet.specs.Lengths.{Lengths, tape_lengths}
 use Rattle.sheet.specs.Rows.{filled}

@@ -1,5 +1,6 @@
 -- The tape of a well-formed text is read as its events: its pairs lie inside the text and rise, all bytes are below 128, and each record has its numbers.
 -- Assumes nothing.
+use Rattle.std.specs.Prelude.{if◌then◌else◌}
 use Prim.Native.Nat.{ℕ, zero, suc, ◌+◌, ◌*◌, ◌≤◌, ◌<◌}
 use mathlib.Core.Path.{◌≡◌, refl, sym, ap, ◌∙◌}
 use mathlib.Core.List.{List, [], ◌∷◌, ◌++◌}
@@ -9,7 +10,7 @@ use lib.Dec.{eqb, leb}
 use lib.ListN.{length, take, drop, length-append}
 use lib.Seq.{drop_at}
 use borrow.Author.Tests.{le-leb, ne_eqb}
-use Rattle.text.specs.Text.{Text, if◌then◌else◌, every, is_text, is_text_byte, between}
+use Rattle.text.specs.Text.{Text, every, is_text, is_text_byte, between}
 use Rattle.text.proofs.Laws.Tests.{and-true, two}
 use Rattle.text.proofs.Laws.Every.{every_take, every_drop}
 use Rattle.xsd_parser.specs.Event.{Event}

@@ -1,4 +1,5 @@
 -- A written tag is read as that tag: each step ends where its part of the written text ends. Assumes nothing.
+use Rattle.std.specs.Prelude.{if◌then◌else◌}
 use Prim.Native.Nat.{ℕ, zero, suc, ◌+◌, ◌-◌, ◌*◌, ◌≤◌, ◌<◌}
 use Prim.Native.Char.{code}
 use mathlib.Core.Path.{◌≡◌, refl, sym, ap, ◌∙◌}
@@ -10,7 +11,7 @@ use lib.Dec.{eqb, ltb}
 use lib.ListN.{length, drop, length-append, length-drop}
 use lib.Seq.{drop-append-le}
 use borrow.Author.Tests.{eqb-true, eqb-false, eq-eqb, ne_eqb, not-true}
-use Rattle.text.specs.Text.{Text, if◌then◌else◌, bytes, first, every, contains, between}
+use Rattle.text.specs.Text.{Text, bytes, first, every, contains, between}
 use Rattle.text.proofs.Laws.Tests.{bool_cases, two, four, or_left, or_right, or_cases, if-cases, if-keeps, and-true}
 use Rattle.text.proofs.Laws.Every.{every-head, every-tail}
 use Rattle.xsd_parser.specs.Event.{Attr, Tag}

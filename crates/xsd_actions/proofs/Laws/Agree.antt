@@ -1,10 +1,11 @@
 -- Two outcomes side by side: the handlers' and the decision's. They go by the same tests, so they agree arm by arm. Assumes nothing.
 --     Agree R o p   the outcomes o and p are values with R, or both refuse with the same number
+use Rattle.std.specs.Prelude.{if◌then◌else◌}
 use mathlib.Core.Path.{◌≡◌}
 use mathlib.Core.Bool.{Bool, true, false}
 use mathlib.Core.Option.{Option, some, none}
 use Prim.Native.Nat.{ℕ}
-use Rattle.text.specs.Text.{Text, if◌then◌else◌}
+use Rattle.text.specs.Text.{Text}
 use Rattle.xsd_types.specs.State.{Reader}
 use Rattle.xsd_types.specs.Types.{Facet}
 use Rattle.xsd_parser.specs.declared.words.FacetWord.{FacetWord}

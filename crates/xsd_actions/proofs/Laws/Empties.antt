@@ -1,9 +1,9 @@
 -- What an empty tag does is what was decided, context by context. Assumes nothing.
+use Rattle.std.specs.Prelude.{if◌then◌else◌}
 use mathlib.Core.Path.{refl}
 use mathlib.Core.Bool.{Bool, ◌&&◌}
 use Prim.Native.Nat.{ℕ, zero, suc}
 use lib.Dec.{eqb, eqb-suc-zero}
-use Rattle.text.specs.Text.{if◌then◌else◌}
 use Prim.Native.Nat.{ℕ}
 use Rattle.xsd_types.specs.State.{Context, Reader}
 use Rattle.xsd_types.specs.Rows.{context_number, nesting, extension_flag}

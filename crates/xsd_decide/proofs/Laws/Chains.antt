@@ -1,7 +1,7 @@
 -- One test of a chain: the arm that it picks. No contract cites them. Assumes nothing.
+use Rattle.std.specs.Prelude.{if◌then◌else◌}
 use mathlib.Core.Path.{◌≡◌}
 use mathlib.Core.Bool.{Bool, true, false}
-use Rattle.text.specs.Text.{if◌then◌else◌}
 use Rattle.xsd_parser.specs.Handlers.{Outcome}
 use Rattle.xsd_actions.specs.Actions.{Action}
 

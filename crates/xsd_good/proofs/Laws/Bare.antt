@@ -1,4 +1,5 @@
 -- A sheet with its count, and the same sheet with 0 there: the tests and places that the code takes from the one are those of the other. Assumes nothing.
+use Rattle.std.specs.Prelude.{if◌then◌else◌}
 use Prim.Native.Nat.{ℕ, zero, suc, ◌+◌, ◌-◌, ◌*◌, ◌<◌, ◌≤◌}
 use mathlib.Core.Path.{◌≡◌, refl, sym, ap, subst, ◌∙◌}
 use mathlib.Core.Bool.{Bool, true, false, ◌&&◌}
@@ -7,7 +8,7 @@ use native.Mathlib.Omega.{arith}
 use lib.Dec.{eqb, leb}
 use lib.ListN.{length, get_or, set, take, drop, length-set, length-drop}
 use lib.Seq.{get_or-set_same, get_or-set_other, drop-set-add, drop-set-lt}
-use Rattle.text.specs.Text.{if◌then◌else◌, every, is_text}
+use Rattle.text.specs.Text.{every, is_text}
 use Rattle.sheet.specs.Rows.{Ten, ten, tens, all_zero}
 use Rattle.sheet.specs.Calls.{sheet}
 use Rattle.sheet.specs.Form.{words, rows_used_in}

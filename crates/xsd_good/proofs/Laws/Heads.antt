@@ -1,5 +1,6 @@
 -- Laws of the last head's row: going back from the last row finds the row whose tag the pass over the rows ends with.
 -- Assumes nothing.
+use Rattle.std.specs.Prelude.{if◌then◌else◌}
 use mathlib.Core.Path.{◌≡◌, refl, sym, ap, ◌∙◌}
 use mathlib.Core.Bool.{Bool, true, false}
 use mathlib.Core.List.{List, [], ◌∷◌, ◌++◌}
@@ -11,7 +12,6 @@ use lib.Dec.{eqb}
 use lib.ListN.{get_or, drop}
 use lib.Seq.{get_or-drop}
 use borrow.Author.Tests.{ne_eqb}
-use Rattle.text.specs.Text.{if◌then◌else◌}
 use Rattle.text.proofs.Laws.Tests.{if-in}
 use Rattle.sheet.specs.Rows.{ten, tens}
 use Rattle.xsd_types.specs.Good.{is_head, head_after, last_head, head_of}

@@ -1,6 +1,7 @@
 -- Laws of the pass over the rows (specs/Scan.antt): it gives what `rows_form`, `names_form` and `head_of` ask, each over all rows, in one pass.
 -- A row whose pairs end behind the limit fails at once, since the ends only grow and the last one must be the limit.
 -- Assumes nothing.
+use Rattle.std.specs.Prelude.{if◌then◌else◌}
 use mathlib.Core.Path.{◌≡◌, refl, sym, ap, ◌∙◌}
 use mathlib.Core.Bool.{Bool, true, false, ◌&&◌, ◌||◌, false≢true, and_assoc, and-false, and-true as and-nothing}
 use mathlib.Core.List.{List, [], ◌∷◌, map}
@@ -10,7 +11,7 @@ use lib.Dec.{eqb, leb, ltb}
 use lib.ListN.{length, set, take, drop}
 use borrow.Author.Rules.{zero≤}
 use borrow.Author.Tests.{leb-true, eqb-true}
-use Rattle.text.specs.Text.{if◌then◌else◌, every, between}
+use Rattle.text.specs.Text.{every, between}
 use Rattle.text.proofs.Laws.Tests.{and-true-left, and-true-right, if-in}
 use Rattle.sheet.specs.Rows.{Ten, ten, tens}
 use Rattle.sheet.specs.Form.{row_covers, end_of, covers, covered}

@@ -1,5 +1,6 @@
 -- A record with more marks behind it is the same record, unless the marks ended within it. Assumes nothing.
 --     longer m r    the record r with the marks m behind the rest
+use Rattle.std.specs.Prelude.{if◌then◌else◌}
 use mathlib.Core.Path.{◌≡◌, refl, sym, ap, ◌∙◌}
 use mathlib.Core.Bool.{Bool, true, false, ◌&&◌, and-false, true≢false, false≢true}
 use mathlib.Core.List.{List, [], ◌∷◌, ◌++◌}
@@ -9,7 +10,7 @@ use lib.Dec.{eqb, leb, ltb}
 use lib.ListN.{length, drop, length-append}
 use lib.Seq.{drop-append-le}
 use borrow.Author.Tests.{leb-true, leb-false, le-leb, lt-leb, lt-ltb, ltb-true, eqb-false, ne_eqb}
-use Rattle.text.specs.Text.{Text, if◌then◌else◌, between}
+use Rattle.text.specs.Text.{Text, between}
 use Rattle.text.proofs.Laws.Tests.{not-true-false, and-true, three, if-either}
 use Rattle.text.proofs.Laws.Texts.{between-low, between-high}
 use Rattle.xsd_parser.specs.Event.{Event}

@@ -1,12 +1,13 @@
 -- What an outcome gives. Assumes nothing.
 --     Gives P Q o   the outcome o is a value with P or a refusal with Q
 --     Kept p o      a value, if the outcome is one, passes the test p
+use Rattle.std.specs.Prelude.{if◌then◌else◌}
 use mathlib.Core.Path.{◌≡◌, refl, subst}
 use mathlib.Core.Bool.{Bool, true, false}
 use mathlib.Core.Option.{Option, some, none}
 use Prim.Native.Nat.{ℕ}
 use native.Mathlib.Omega.{arith}
-use Rattle.text.specs.Text.{Text, if◌then◌else◌}
+use Rattle.text.specs.Text.{Text}
 use Rattle.number.specs.Number.{Parsed, parsed, refused}
 use Rattle.xsd_types.specs.Types.{Facet}
 use Rattle.xsd_parser.specs.declared.words.FacetWord.{FacetWord}

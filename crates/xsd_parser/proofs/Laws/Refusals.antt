@@ -1,5 +1,6 @@
 -- The numbers of refusals: a record's are 3 to 5, an event's 6 to 11, of which 9 and 10 are the handlers'. Assumes nothing.
 --     Within low high k    the number k is one of low to high
+use Rattle.std.specs.Prelude.{if◌then◌else◌}
 use mathlib.Core.Path.{◌≡◌}
 use mathlib.Core.Bool.{Bool, true, false}
 use mathlib.Core.List.{List, [], ◌∷◌}
@@ -9,7 +10,7 @@ use native.Mathlib.Omega.{arith}
 use lib.Dec.{eqb, ltb}
 use lib.ListN.{length, drop}
 use Rattle.sheet.specs.Lengths.{Lengths}
-use Rattle.text.specs.Text.{Text, if◌then◌else◌}
+use Rattle.text.specs.Text.{Text}
 use Rattle.text.specs.Trim.{trimmed}
 use Rattle.number.specs.Number.{Parsed, parsed, refused, number, number_below, plain_below, is_minus_zeros, numeral, below, is_numeral, value as digits_value, after_plus}
 use Rattle.xsd_types.specs.Types.{MaxOccurs, SequenceElement}

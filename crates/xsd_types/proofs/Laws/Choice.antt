@@ -1,5 +1,6 @@
 -- With 0 as the last number of row 0 its tests are the paper's and the state reads as before. A state's sheet under a choice differs in that number only.
 -- Assumes nothing.
+use Rattle.std.specs.Prelude.{if◌then◌else◌}
 use mathlib.Core.Path.{◌≡◌, refl, sym, ap, ◌∙◌}
 use mathlib.Core.Logic.{◌↔◌}
 use mathlib.Core.Bool.{Bool, true, false, ◌&&◌, ◌||◌}
@@ -8,7 +9,6 @@ use native.Mathlib.Omega.{arith}
 use mathlib.Core.List.{List}
 use lib.Dec.{eqb, leb, ltb, leb-zero, eqb-suc-zero}
 use borrow.Author.Tests.{le-leb, eqb-true}
-use Rattle.text.specs.Text.{if◌then◌else◌}
 use Rattle.text.proofs.Laws.Tests.{and-true-left, and-true-right, eleven}
 use Rattle.text.proofs.Laws.Every.{every-weaken}
 use Rattle.sheet.specs.Rows.{Ten, Sheet, bit, numbers, filled, sheet_of_rows}

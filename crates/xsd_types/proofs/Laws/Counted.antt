@@ -1,4 +1,5 @@
 -- How many simple types lowering refuses, by the rows of the items: children are passed over, and each head counts as its item does. Assumes nothing.
+use Rattle.std.specs.Prelude.{if◌then◌else◌}
 use Prim.Native.Nat.{ℕ, suc, ◌+◌, ◌<◌}
 use mathlib.Core.Path.{◌≡◌, refl, sym, ap, ◌∙◌}
 use mathlib.Core.Logic.{◌↔◌}
@@ -8,7 +9,7 @@ use native.Mathlib.Omega.{arith}
 use lib.Dec.{eqb}
 use lib.ListN.{length, length-append}
 use borrow.Author.Tests.{eqb-true}
-use Rattle.text.specs.Text.{Text, if◌then◌else◌, every, between}
+use Rattle.text.specs.Text.{Text, every, between}
 use Rattle.text.proofs.Laws.Tests.{and-true-right, not-true-false, if-cases}
 use Rattle.text.proofs.Laws.Every.{every-head, every-tail}
 use Rattle.sheet.specs.Rows.{Row, row}

@@ -1,4 +1,5 @@
 -- What a good sheet says, part by part, of its numbers. Assumes nothing.
+use Rattle.std.specs.Prelude.{if◌then◌else◌}
 use mathlib.Core.Path.{◌≡◌, refl}
 use mathlib.Core.Bool.{Bool, true, false, ◌&&◌, ◌||◌, false≢true}
 use mathlib.Core.List.{List, [], ◌∷◌, map}
@@ -7,7 +8,7 @@ use native.Mathlib.Omega.{arith}
 use lib.Dec.{eqb, leb}
 use lib.ListN.{length, drop}
 use borrow.Author.Tests.{eqb-true, leb-true, le-leb}
-use Rattle.text.specs.Text.{every, between, if◌then◌else◌}
+use Rattle.text.specs.Text.{every, between}
 use Rattle.text.proofs.Laws.Tests.{two, six, eleven, and-true-left, and-true-right, and-true}
 use Rattle.sheet.specs.Rows.{Ten, Sheet, all_zero}
 use Rattle.sheet.specs.Form.{is_flag, covers, covered, rows_used_of, names_used_of, tens_of, used_parts, zeros_behind}

@@ -1,10 +1,10 @@
 -- Row 0 of a schema sheet: from ten numbers and back nothing is lost, either way round; its tests of nesting and open tags by context.
 -- Assumes nothing.
+use Rattle.std.specs.Prelude.{if◌then◌else◌}
 use mathlib.Core.Path.{◌≡◌, refl}
 use mathlib.Core.Bool.{Bool, ◌&&◌, and-true}
 use Prim.Native.Nat.{ℕ, ◌+◌}
 use lib.Dec.{eqb, leb}
-use Rattle.text.specs.Text.{if◌then◌else◌}
 use Rattle.text.proofs.Laws.Tests.{bool_cases}
 use Rattle.sheet.specs.Rows.{Ten}
 use Rattle.xsd_types.specs.State.{schema_nesting_ok}

@@ -1,4 +1,5 @@
 -- What the steps of a writing leave is the definition's (specs/Steps.antt; the crate `xsd_written`, specs/Call.antt). Assumes nothing.
+use Rattle.std.specs.Prelude.{if◌then◌else◌}
 use Prim.Native.Nat.{ℕ, ◌+◌, ◌-◌, ◌≤◌, ◌<◌}
 use native.Mathlib.Omega.{arith}
 use mathlib.Core.Path.{◌≡◌, refl, sym, ap, ◌∙◌}
@@ -9,7 +10,7 @@ use lib.Dec.{eqb, leb}
 use lib.ListN.{length, set, take, drop}
 use lib.Seq.{sets, sets-eq}
 use borrow.Author.Tests.{le-leb, lt-leb, leb-true, leb-false}
-use Rattle.text.specs.Text.{Text, if◌then◌else◌, every, between}
+use Rattle.text.specs.Text.{Text, every, between}
 use Rattle.text.proofs.Laws.Tests.{bool_cases}
 use Rattle.sheet.specs.Rows.{Ten, Row, ten, row, unpack_row, filled}
 use Rattle.sheet.specs.Lengths.{sheet_lengths, lengths_of, good_lengths}

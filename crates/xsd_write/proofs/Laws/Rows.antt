@@ -1,5 +1,6 @@
 -- The text of a row as the code writes it is the definition's (specs/Texts.antt; the crate `xsd_written`, specs/ByRows.antt): by the tests of the tag, one
 -- after the other. Assumes nothing.
+use Rattle.std.specs.Prelude.{if◌then◌else◌}
 use Prim.Native.Nat.{ℕ, zero, suc, ◌+◌, ◌*◌, ◌^◌, ◌≤◌, ◌<◌}
 use mathlib.Core.Path.{◌≡◌, refl, sym, ap, ◌∙◌}
 use mathlib.Core.Bool.{Bool, true, false}
@@ -7,7 +8,7 @@ use mathlib.Core.List.{List, [], ◌∷◌, ◌++◌, append_assoc}
 use native.Mathlib.Omega.{arith}
 use lib.Dec.{eqb}
 use lib.ListN.{get_or, take, drop}
-use Rattle.text.specs.Text.{Text, if◌then◌else◌, bytes, between}
+use Rattle.text.specs.Text.{Text, bytes, between}
 use Rattle.text.proofs.Laws.Tests.{if-in, bool_cases}
 use Rattle.sheet.specs.Rows.{Row, Ten, ten, text_at, unpack_row}
 use Rattle.rows.specs.declared.ten.Ten.{Ten as Numbers}

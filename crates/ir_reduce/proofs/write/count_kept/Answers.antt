@@ -1,10 +1,11 @@
 -- `ir_reduce::write::count_kept` meets its contract. The invariant: the count so far and that of the kept rows from the place at hand on are that of all. Assumes nothing.
+use Rattle.std.specs.Prelude.{if◌then◌else◌}
 use Prim.Native.Nat.{◌+◌, ◌-◌, ◌*◌}
 use mathlib.Core.Path.{ap, ◌∙◌}
 use mathlib.Core.Bool.{Bool, true, ◌&&◌}
 use native.Mathlib.Omega.{arith}
 use lib.ListN.{get_or}
-use Rattle.text.specs.Text.{if◌then◌else◌, between}
+use Rattle.text.specs.Text.{between}
 use Rattle.ir_reduce.specs.Places.{keeps}
 use Rattle.ir_reduce.proofs.Laws.Kept.{kept-none, count-rest, count-end, count-bound as at_most}
 use Rattle.ir_reduce.proofs.write.count_kept.Goals as goal
