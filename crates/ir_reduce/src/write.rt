@@ -151,7 +151,7 @@ fn one_more(n: usize, test: bool) -> usize
 // How many of the rows that are kept have a tag from low to high.
 pub fn count_kept(rows: &[u32], end: usize, marks: &[u8], low: u32, high: u32) -> usize
     requires { (10 * end ≤ length rows.now) × (end ≤ length marks.now) × (1 ≤ end) × (end ≤ 4096) }
-    ensures* fact { λ r. ⌜ ((names : List ℕ) → r ≡ count (between low high) (map (λ (r : Row). r.tag) (kept_rows (row_at rows.now names) marks.now true 1 (end - 1)))) ⌝ }
+    ensures fact { (names : List ℕ) → result ≡ count (between low high) (map (λ (r : Row). r.tag) (kept_rows (row_at rows.now names) marks.now true 1 (end - 1))) }
     ensures upper_bound { result ≤ end }
 {
     let mut n = 0;
