@@ -83,7 +83,7 @@ inside-at limit end marks from zero i h e l = absurd (not-suc-le-zero l)
 inside-at limit end marks from (suc n) zero h e l = rw (add-zero from) (inside-head limit end marks from n (omega arith) e)
 inside-at limit end marks from (suc n) (suc i) h e l =
     let further : from + 2 * suc i ≡ from + 2 + 2 * i = omega arith in
-    rw further (inside-at limit _ marks (from + 2) n i (omega arith) (inside-tail limit end marks from n (omega arith) e) (omega arith))
+    rw further (inside-at limit ((pair_at marks from).offset + (pair_at marks from).size) marks (from + 2) n i (omega arith) (inside-tail limit end marks from n (omega arith) e) (omega arith))
 
 pub inside-each : (text : Text) (marks : List ℕ) (from n : ℕ) → from + 2 * n ≤ length marks → all_inside (length text) 0 (pairs_of n (drop from marks)) ≡ true → PairsInside text marks from n
 unfolding PairsInside

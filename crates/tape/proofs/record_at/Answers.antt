@@ -44,7 +44,7 @@ tag_at-requires c =
     let count = c.wide-count.result in
     let left = length a.marks.now - a.at - 2 in
     let form = sym c.has_form.ensures ∙ c.if-not-has_form.false in
-    ((c.if-kind-eq-CLOSE.false, form-count kind count left form, omega (arith, form-room kind count left form c.if-kind-eq-CLOSE.false)), c.requires)
+    record { fact = (c.if-kind-eq-CLOSE.false, form-count kind count left form, omega (arith, form-room kind count left form c.if-kind-eq-CLOSE.false)); text_value = c.requires }
 
 pub returns : goal.returns
 returns c =

@@ -23,7 +23,7 @@ returns-then-not-pairs_inside c =
 
 pub pairs_ascii-requires : goal.pairs_ascii-requires
 unfolding pair_count
-pairs_ascii-requires c = let pre = c.requires in (pre.0.2, pre.1)
+pairs_ascii-requires c = record { n_in_bounds = c.requires.fact.2; text_value = c.requires.text_value }
 
 pub returns-then-not-pairs_ascii : goal.returns-then-not-pairs_ascii
 unfolding recorded IsPlaced pair_count

@@ -1,0 +1,141 @@
+-- `expression`, `branch`, `piece` and `atom` of `pattern::expression` meet their contracts, together. Assumes nothing.
+use native.Mathlib.Omega.{arith}
+use Prim.Native.Nat.{ℕ, suc, ◌+◌}
+use mathlib.Core.Path.{◌≡◌, refl, sym, ap, ◌∙◌}
+use mathlib.Core.Bool.{true}
+use lib.Dec.{eqb}
+use lib.ListN.{drop}
+use borrow.Author.Tests.{eqb-true}
+use Rattle.pattern.specs.Scan as scanning
+use Rattle.pattern.specs.Scan.{is_escaped, go, scan, step, fresh, leave, final, start}
+use Rattle.pattern.specs.Answers.{is_close, is_tail, any_byte}
+use Rattle.pattern.proofs.Laws.Places.{end-at, to_at, off_at, byte-to, before, open-final, close-byte, fresh-off, unmarked-at, unmarked-end, mark-at, escaped-on}
+use Rattle.pattern.proofs.Laws.Places.{escaped-off, escaped-inside}
+use Rattle.pattern.proofs.Laws.Derived.{plain-fresh}
+use Rattle.pattern.proofs.expression.+atom_branch_expression_piece.Goals as goal
+
+closing : (b : ℕ) → is_close b ≡ true → b ≡ 41
+unfolding is_close
+closing b e = eqb-true b 41 e
+
+pub atom-returns-in_default : goal.atom-returns-in_default
+unfolding step fresh
+atom-returns-in_default t c = λ d. byte-to (go d start) c.args.s.now c.args.at 40 c.requires.0 c.if-b-eq40.true refl ∙ c.in_default.ensures (suc d)
+
+pub atom-returns-then-s-e : goal.atom-returns-then-s-e
+unfolding step fresh
+atom-returns-then-s-e t c =
+    let s = c.args.s.now in
+    λ d. byte-to (go d start) s c.args.at 40 c.requires.0 c.if-b-eq40.true refl ∙ c.in-At.ensures.reads (suc d)
+    ∙ end-at (go (suc d) start) s c.in-At.e c.if-s-e.true ∙ open-final d
+
+pub atom-returns-then-b-eq40 : goal.atom-returns-then-b-eq40
+unfolding step fresh leave
+atom-returns-then-b-eq40 t c =
+    let s = c.args.s.now in
+    let g = c.in-At.ensures in
+    let e = c.in-At.e in
+    record {
+      onward = omega (arith, g.onward);
+      within = omega arith;
+      stops = λ _. refl;
+      reads = λ d. byte-to (go d start) s c.args.at 40 c.requires.0 c.if-b-eq40.true refl ∙ g.reads (suc d)
+          ∙ byte-to (go (suc d) start) s e 41 c.if-s-e.false (closing _ (g.stops c.if-s-e.false)) refl;
+    }
+
+pub atom-returns-then-b-eq91 : goal.atom-returns-then-b-eq91
+unfolding step fresh
+atom-returns-then-b-eq91 t c =
+    let s = c.args.s.now in
+    let at = c.args.at in
+    before s start scanning.opened at (at + 1) scanning.atom (at + 1) any_byte
+    (λ d. byte-to (go d start) s at 91 c.requires.0 c.if-b-eq91.true refl) c.class_end.result c.class_end.ensures
+
+pub atom-returns-then-is_escaped : goal.atom-returns-then-is_escaped
+unfolding step fresh final
+atom-returns-then-is_escaped t c =
+    let s = c.args.s.now in
+    let at = c.args.at in
+    let x = sym (c.is_escaped.ensures ∙ ap is_escaped c.byte_at.ensures) ∙ c.if-is_escaped.true in
+    let two : at + 1 + 1 ≡ at + 2 = omega arith in
+    record {
+      onward = omega arith;
+      within = omega (arith, escaped-inside s (at + 1) x);
+      stops = λ _. refl;
+      reads = λ d. byte-to (go d start) s at 92 c.requires.0 c.if-b-eq92.true refl
+          ∙ escaped-on scanning.escape scanning.atom (λ d b. refl) (λ d. refl) s (at + 1) x d ∙ ap (λ (k : ℕ). scan (go d scanning.atom) (drop k s)) two;
+    }
+
+pub atom-returns-then-b-eq92 : goal.atom-returns-then-b-eq92
+unfolding step fresh final
+atom-returns-then-b-eq92 t c =
+    let s = c.args.s.now in
+    let at = c.args.at in
+    let x = sym (c.is_escaped.ensures ∙ ap is_escaped c.byte_at.ensures) ∙ c.if-is_escaped.false in
+    λ d. byte-to (go d start) s at 92 c.requires.0 c.if-b-eq92.true refl ∙ escaped-off scanning.escape scanning.atom (λ d b. refl) (λ d. refl) s (at + 1) x d
+
+pub atom-returns-then-is_plain : goal.atom-returns-then-is_plain
+unfolding step
+atom-returns-then-is_plain t c =
+    let g = c.plain_end.ensures in
+    record {
+      onward = omega (arith, g.onward);
+      within = g.within;
+      stops = λ _. refl;
+      reads = λ d. to_at (go d start) c.args.s.now c.args.at c.requires.0 (plain-fresh d _ (sym c.is_plain.ensures ∙ c.if-is_plain.true)) ∙ g.reads d;
+    }
+
+pub atom-returns : goal.atom-returns
+unfolding step
+atom-returns t c =
+    λ d. off_at (go d start) c.args.s.now c.args.at c.requires.0
+    (fresh-off d _ c.if-b-eq40.false c.requires.1 c.if-b-eq91.false c.if-b-eq92.false (sym c.is_plain.ensures ∙ c.if-is_plain.false))
+
+pub branch-returns-then-s-i : goal.branch-returns-then-s-i
+unfolding is_tail
+branch-returns-then-s-i t c =
+    let z = c.loop-i.invariant in
+    record { onward = z.0; within = z.1; stops = λ _. c.if-s-i.true; reads = z.2 }
+
+pub branch-piece-requires : goal.branch-piece-requires
+unfolding is_tail
+branch-piece-requires t c = (omega arith, (omega arith, c.if-s-i.false))
+
+pub expression-returns-then-s-e-ne124 : goal.expression-returns-then-s-e-ne124
+expression-returns-then-s-e-ne124 t c =
+    let g = c.in_At-e.ensures in
+    record {
+      onward = omega (arith, g.onward);
+      within = g.within;
+      stops = λ h. close-byte _ (g.stops h) c.if-s-e-ne124.true;
+      reads = λ d. c.loop-e.invariant.2 d ∙ g.reads d;
+    }
+
+pub expression-loop-e-preserved : goal.expression-loop-e-preserved
+unfolding step fresh
+expression-loop-e-preserved t c =
+    let g = c.in_At-e.ensures in (
+      omega (arith, g.onward),
+      omega arith,
+      λ d. c.loop-e.invariant.2 d ∙ g.reads d ∙ byte-to (go d start) c.args.s.now c.in_At-e.e 124 c.if-s-e.false c.if-s-e-ne124.false refl,
+    )
+
+pub piece-returns-then-s-e : goal.piece-returns-then-s-e
+piece-returns-then-s-e t c =
+    let g = c.in-At.ensures in
+    record { onward = g.onward; within = g.within; stops = λ _. refl; reads = λ d. g.reads d ∙ unmarked-end d c.args.s.now c.in-At.e c.if-s-e.true }
+
+pub piece-returns-then-is_mark : goal.piece-returns-then-is_mark
+piece-returns-then-is_mark t c =
+    let g = c.in-At.ensures in
+    record {
+      onward = omega (arith, g.onward);
+      within = omega arith;
+      stops = λ _. refl;
+      reads = λ d. g.reads d ∙ mark-at d c.args.s.now c.in-At.e c.if-s-e.false (sym c.is_mark.ensures ∙ c.if-is_mark.true);
+    }
+
+pub piece-returns-else-is_mark : goal.piece-returns-else-is_mark
+piece-returns-else-is_mark t c =
+    let g = c.in-At.ensures in
+    record { onward = g.onward; within = g.within; stops = λ _. refl; reads = λ d. g.reads d ∙ unmarked-at d c.args.s.now c.in-At.e (sym c.is_mark.ensures ∙ c.if-is_mark.false) }
