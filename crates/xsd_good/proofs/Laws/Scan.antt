@@ -5,11 +5,10 @@ use Rattle.std.specs.Prelude.{if◌then◌else◌}
 use mathlib.Core.Path.{◌≡◌, refl, sym, ap, ◌∙◌}
 use mathlib.Core.Bool.{Bool, true, false, ◌&&◌, ◌||◌, false≢true, and_assoc, and-false, and-true as and-nothing}
 use mathlib.Core.List.{List, [], ◌∷◌, map}
-use Prim.Native.Nat.{ℕ, ◌+◌, ◌-◌, ◌≤◌, ◌<◌}
+use Prim.Native.Nat.{ℕ, ◌+◌, ◌-◌, ◌≤◌, ◌<◌, zero-le}
 use native.Mathlib.Omega.{arith}
 use lib.Dec.{eqb, leb, ltb}
 use lib.ListN.{length, set, take, drop}
-use borrow.Author.Rules.{zero≤}
 use borrow.Author.Tests.{leb-true, eqb-true}
 use Rattle.text.specs.Text.{every, between}
 use Rattle.text.proofs.Laws.Tests.{and-true-left, and-true-right, if-in}
@@ -44,7 +43,7 @@ next-passes limit s t f m v e l test = rw (f, m, v, e, l) at test
 
 pub passed-end : (limit k head : ℕ) (b : Bool) → (b ≡ true → k ≤ limit) → (if b then record { ok = true; end = k; head = head } else failed).end ≤ limit
 unfolding failed
-passed-end limit k head false h = zero≤
+passed-end limit k head false h = zero-le
 passed-end limit k head true h = h refl
 
 pub next-end : (limit : ℕ) (s : Scan) (t : Ten) → (next_row limit s t).end ≤ limit

@@ -22,4 +22,7 @@ pub returns : goal.returns
 unfolding progress_of
 returns c =
     let rows = c.args.rows.now in
-    (progress-read rows (as_row0 c.row0_at-z.result) c.open_head-head.result c.row0_at-z.ensures c.open_head-head.ensures, words-each rows (λ i. (c.shared_slice_known-1.given i).fits))
+    record {
+      numbers = progress-read rows (as_row0 c.row0_at-z.result) c.open_head-head.result c.row0_at-z.ensures c.open_head-head.ensures;
+      words = words-each rows (λ i. (c.shared_slice_known-1.given i).fits);
+    }

@@ -24,8 +24,8 @@ loop-p-preserved c =
     let passed = count-not-at args.rows.now args.names.now c.loop-p.p args.end (omega arith) in (
       omega arith,
       omega arith,
-      ⊎_elim (λ w. omega (arith, c.loop-p.invariant, counted (sym told ∙ w.if-is_refused.true), w.1))
-          (λ w. omega (arith, c.loop-p.invariant, passed (sym told ∙ w.if-is_refused.false), w.1)) c.if-is_refused.branch-raw,
+      ⊎_elim (λ w. omega (arith, c.loop-p.invariant, counted (sym told ∙ w.if-is_refused.true), w.n-is))
+          (λ w. omega (arith, c.loop-p.invariant, passed (sym told ∙ w.if-is_refused.false), w.n-is)) c.if-is_refused.branch-raw,
     )
 
 pub returns : goal.returns

@@ -15,17 +15,14 @@ use Rattle.sheet.specs.Lengths.{sheet_lengths}
 use Rattle.buffer.proofs.Laws.Buffer.{zeros-whole}
 use Rattle.xsd_types.specs.Row0.{Row0, row0_ten}
 use Rattle.xsd_good.proofs.Laws.Clear.{lengths-rows, clear-refused, clear-done}
-use Rattle.xsd_good.proofs.clear.clear.Tie as tie
-use Rattle.xsd_good.proofs.clear.clear.Lts as lts
-use Rattle.xsd_good.proofs.clear.clear.Reads as reads
 use Rattle.xsd_good.proofs.clear.clear.Goals as goal
 
 -- behind the test the lengths are as the paper has them, and the choice is 0 or 1
-passes : (p : lts.Else1 tie.the-claims reads.Pre reads.Post) → let a = p.before.before.before.before.args in sheet_lengths (length a.rows.now) (length a.names.now) && leb a.choice 1 ≡ true
-passes p = sym (ap (λ (b : Bool). b && leb p.before.before.before.before.args.choice 1) p.before.sheet_lengths.ensures) ∙ not-false _ p.if1.false
+passes : (rows names choice : ℕ) {s : Bool} → s ≡ sheet_lengths rows names → s && leb choice 1 ≡ true → sheet_lengths rows names && leb choice 1 ≡ true
+passes rows names choice e h = sym (ap (λ (b : Bool). b && leb choice 1) e) ∙ h
 
-long-enough : (p : lts.Else1 tie.the-claims reads.Pre reads.Post) → 20 ≤ length p.before.before.before.before.args.rows.now
-long-enough p = lengths-rows _ (length p.before.before.before.before.args.names.now) (and-true-left _ _ (passes p))
+long-enough : (rows names choice : ℕ) {s : Bool} → s ≡ sheet_lengths rows names → s && leb choice 1 ≡ true → 20 ≤ rows
+long-enough rows names choice e h = lengths-rows rows names (and-true-left _ _ (passes rows names choice e h))
 
 pub returns-then-not-sheet_lengths-choice : goal.returns-then-not-sheet_lengths-choice
 returns-then-not-sheet_lengths-choice c =
@@ -35,13 +32,13 @@ returns-then-not-sheet_lengths-choice c =
 pub cleared_row0-requires : goal.cleared_row0-requires
 cleared_row0-requires c =
     let a = c.args in
-    leb-true a.choice 1 (and-true-right (sheet_lengths (length a.rows.now) (length a.names.now)) _ (passes c.before.before.before.before.before.before.before.before.before.before))
+    leb-true a.choice 1 (and-true-right (sheet_lengths (length a.rows.now) (length a.names.now)) _ (passes (length c.args.rows.now) (length c.args.names.now) c.args.choice c.sheet_lengths.ensures c.if-not-sheet_lengths-choice.false))
 
 pub put_row-requires : goal.put_row-requires
-put_row-requires c = omega (arith, long-enough c.before.before.before.before.before.before.before.before.before.before.before.before)
+put_row-requires c = omega (arith, long-enough (length c.args.rows.now) (length c.args.names.now) c.args.choice c.sheet_lengths.ensures c.if-not-sheet_lengths-choice.false)
 
 pub bounds-rows-10 : goal.bounds-rows-10
-bounds-rows-10 c = omega (arith, long-enough c.before.before.before.before.before.before.before.before.before.before.before.before.before.before.before, c.put_row.auto.rows)
+bounds-rows-10 c = omega (arith, long-enough (length c.args.rows.now) (length c.args.names.now) c.args.choice c.sheet_lengths.ensures c.if-not-sheet_lengths-choice.false, c.put_row.auto.rows)
 
 pub shape_of-rows : goal.shape_of-rows
 shape_of-rows c = simp length-set (c.put_row.auto.rows ∙ c.zero_rows.auto.rows)
@@ -51,4 +48,4 @@ returns c =
     let a = c.args in
     let row = c.row0_numbers.ensures ∙ ap (λ (z : Row0). numbers (row0_ten z ∷ [])) c.cleared_row0.ensures in
     let rows = c.put_row.ensures ∙ ap₂ (λ (d s : List ℕ). paste d 0 s 10) (c.zero_rows.ensures ∙ zeros-whole a.rows.now) row in
-    rw (rows, c.zero_names.ensures ∙ zeros-whole a.names.now) (clear-done a.choice a.rows.now a.names.now (passes c.before.before.before.before.before.before.before.before.before.before.before.before.before.before.before))
+    rw (rows, c.zero_names.ensures ∙ zeros-whole a.names.now) (clear-done a.choice a.rows.now a.names.now (passes (length c.args.rows.now) (length c.args.names.now) c.args.choice c.sheet_lengths.ensures c.if-not-sheet_lengths-choice.false))

@@ -1,24 +1,26 @@
 -- `xsd_good::count::count_of` meets its contract: the finished items' rows count as the items do. Assumes nothing.
-use Prim.Native.Nat.{◌+◌}
+use Prim.Native.Nat.{ℕ, ◌+◌}
+use mathlib.Core.Bool.{true}
+use mathlib.Core.List.{List}
 use mathlib.Core.Path.{◌≡◌, ◌∙◌}
 use native.Mathlib.Omega.{arith}
 use lib.ListN.{length}
+use Rattle.sheet.specs.Rows.{ten}
 use Rattle.sheet.specs.Calls.{sheet}
+use Rattle.sheet.specs.Form.{words, rows_used_in}
+use Rattle.xsd_types.specs.Row0.{row0_from}
+use Rattle.xsd_types.specs.Good.{bare_good}
 use Rattle.xsd_types.specs.Rows.{items_rows}
-use Rattle.xsd_types.specs.Count.{state_of}
+use Rattle.xsd_types.specs.Count.{state_of, bare}
+use Rattle.xsd_good.specs.End.{finished_end}
 use Rattle.xsd_refused.proofs.Laws.Count.{count-few}
 use Rattle.xsd_good.proofs.Laws.Bare.{bare-used, bare-end, bare-room, bare-count}
-use Rattle.xsd_good.proofs.count.count_of.Tie as tie
-use Rattle.xsd_good.proofs.count.count_of.Lts as lts
-use Rattle.xsd_good.proofs.count.count_of.Reads as reads
 use Rattle.xsd_good.proofs.count.count_of.Goals as goal
 
 -- the finished items end where the call says
-ends : (c : lts.After-finished_place tie.the-claims reads.Pre reads.Post)
-    → let a = c.args in c.finished_place.result
-    ≡ 2 + length (items_rows (state_of (sheet a.rows.now a.names.now)).reader.schema.items)
-ends c =
-    c.finished_place.ensures.place ∙ bare-end c.args.rows.now c.args.names.now c.requires c.finished_place.ensures.words
+ends : (rows names : List ℕ) {p : ℕ} → bare_good (bare (sheet rows names)) ≡ true → p ≡ finished_end rows (row0_from (ten rows)).context (rows_used_in (ten rows)) → words rows ≡ true
+    → p ≡ 2 + length (items_rows (state_of (sheet rows names)).reader.schema.items)
+ends rows names good place w = place ∙ bare-end rows names good w
 
 pub finished_place-requires : goal.finished_place-requires
 finished_place-requires c =
@@ -27,13 +29,13 @@ finished_place-requires c =
 
 pub count_refused-requires : goal.count_refused-requires
 count_refused-requires c =
-    bare-room c.args.rows.now c.args.names.now c.requires c.finished_place.ensures.words (ends c.before)
+    bare-room c.args.rows.now c.args.names.now c.requires c.finished_place.ensures.words (ends c.args.rows.now c.args.names.now c.requires c.finished_place.ensures.place c.finished_place.ensures.words)
 
 pub returns : goal.returns
 returns c =
     let rows = c.args.rows.now in
     let names = c.args.names.now in
-    let room = bare-room rows names c.requires c.finished_place.ensures.words (ends at) in (
-      c.count_refused.ensures ∙ bare-count rows names c.requires c.finished_place.ensures.words (ends at),
-      omega (arith, c.count_refused.ensures, count-few rows names 2 c.finished_place.result, room.1),
-    )
+    let room = bare-room rows names c.requires c.finished_place.ensures.words (ends c.args.rows.now c.args.names.now c.requires c.finished_place.ensures.place c.finished_place.ensures.words) in record {
+      count = c.count_refused.ensures ∙ bare-count rows names c.requires c.finished_place.ensures.words (ends c.args.rows.now c.args.names.now c.requires c.finished_place.ensures.place c.finished_place.ensures.words);
+      few = omega (arith, c.count_refused.ensures, count-few rows names 2 c.finished_place.result, room.1);
+    }

@@ -10,4 +10,4 @@ finished_end-requires c = rw (ap (λ (z : Row0). z.rows_used) c.row0_at-z.ensure
 pub returns : goal.returns
 returns c =
     let rows = c.args.rows.now in
-    (c.finished_end.ensures.place ∙ ap (λ (z : Row0). finished_end rows z.context z.rows_used) c.row0_at-z.ensures, c.finished_end.ensures.words)
+    record { place = c.finished_end.ensures.place ∙ ap (λ (z : Row0). finished_end rows z.context z.rows_used) c.row0_at-z.ensures; words = c.finished_end.ensures.words }

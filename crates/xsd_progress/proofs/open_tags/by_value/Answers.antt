@@ -8,9 +8,9 @@ use Rattle.xsd_progress.proofs.open_tags.by_value.Goals as goal
 
 pub mode_after-m-requires : goal.mode_after-m-requires
 unfolding mode_with
-mode_after-m-requires c = omega (arith, ap (λ (m : Mode). m.nesting) c.Mode-of.ensures)
+mode_after-m-requires c = omega (arith, ap (λ (m : Mode). m.nesting) c.mode_of.ensures)
 
 pub returns : goal.returns
 returns c =
     let a = c.args.a in
-    changed (subst (λ (m : Mode). ModeAfter a.by_standard a.kind a.decision m c.mode_after-m.result) c.Mode-of.ensures c.mode_after-m.ensures)
+    changed (subst (λ (m : Mode). ModeAfter a.by_standard a.kind a.decision m c.mode_after-m.result) c.mode_of.ensures c.mode_after-m.ensures)

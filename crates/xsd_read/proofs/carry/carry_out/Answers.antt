@@ -11,7 +11,7 @@ pub stands_after-requires : goal.stands_after-requires
 stands_after-requires c = due-counters c.requires
 
 pub returns-in-Keep : goal.returns-in-Keep
-returns-in-Keep c = stepped_kept c.requires c.in-Keep.is c.Stands-after.ensures
+returns-in-Keep c = stepped_kept c.requires c.in-Keep.is c.stands_after.ensures
 
 pub needed-need-requires : goal.needed-need-requires
 needed-need-requires c = let q = c.requires in (ready_for q, due-small q)

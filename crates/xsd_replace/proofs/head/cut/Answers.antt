@@ -3,4 +3,4 @@
 use Rattle.xsd_replace.proofs.head.cut.Goals as goal
 
 pub returns : goal.returns
-returns c = (c.zero_rows.ensures, c.zero_names.ensures)
+returns c = record { rows = c.zero_rows.ensures; names = c.zero_names.ensures }

@@ -11,7 +11,10 @@ loop-i-init c = (refl, λ goal total o. o)
 pub reoffset_row-next-requires : goal.reoffset_row-next-requires
 reoffset_row-next-requires c =
     let p = c.requires in
-    (record { goal = p.goal; total = p.total; offsets = c.loop-i.invariant.1 p.goal p.total p.offsets }, c.loop-i-test.true)
+    record {
+      offsets_of = record { goal = p.goal; total = p.total; offsets = c.loop-i.invariant.1 p.goal p.total p.offsets };
+      place_lt_end = c.loop-i-test.true;
+    }
 
 pub loop-i-preserved : goal.loop-i-preserved
 loop-i-preserved c =

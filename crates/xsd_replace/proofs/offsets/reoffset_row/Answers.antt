@@ -1,69 +1,55 @@
 -- `xsd_replace::offsets::reoffset_row` meets its contract: the first row whose offsets are still to be set is read, and stored anew with its texts from `at` on.
 -- Assumes nothing.
-use Prim.Native.Nat.{ℕ, ◌+◌, ◌≤◌}
-use mathlib.Core.Path.{◌≡◌, sym, ap, ◌∙◌}
+use Prim.Native.Nat.{ℕ, ◌+◌, ◌<◌}
+use mathlib.Core.Path.{sym, ap, ◌∙◌}
 use mathlib.Core.List.{List, []}
-use lib.ListN.{length, get_or}
-use Rattle.text.specs.Text.{join}
-use Rattle.rows.specs.Texts.{used_length}
+use lib.ListN.{get_or}
 use native.Mathlib.Omega.{arith}
+use Rattle.xsd_replace.specs.Offsets.{OffsetsOf}
 use Rattle.xsd_replace.proofs.Laws.Offsets.{First, FirstNumbers, offsets-first, first-numbers, first-row, first-bytes, offsets-next}
-use Rattle.xsd_replace.proofs.offsets.reoffset_row.Tie as tie
-use Rattle.xsd_replace.proofs.offsets.reoffset_row.Lts as lts
-use Rattle.xsd_replace.proofs.offsets.reoffset_row.Reads as reads
 use Rattle.xsd_replace.proofs.offsets.reoffset_row.Goals as goal
 
-first : (c : lts.Start tie.the-claims reads.Pre reads.Post) → First c.args.rows.now c.args.place c.args.end c.args.at c.requires.offsets_of.goal c.requires.offsets_of.total
-first c = offsets-first c.requires.offsets_of.offsets c.requires.place_lt_end
+first : {rows : List ℕ} {i end at : ℕ} (o : OffsetsOf rows i end at) → i < end → First rows i end at o.goal o.total
+first o h = offsets-first o.offsets h
 
-facts : (c : lts.Start tie.the-claims reads.Pre reads.Post) → FirstNumbers (first c)
-facts c = first-numbers (first c)
-
-read : {goal : List ℕ} {total : ℕ} (c : lts.After-used_pairs tie.the-claims reads.Pre reads.Post)
-    (x : First c.args.rows.now
-    c.args.place c.args.end
-    c.args.at goal total)
-    → (used_length c.used_pairs-pairs.result c.pair_at-first.result.len c.pair_at-second.result.len ≡ length (join x.r.texts)) × (c.used_pairs-pairs.result ≤ 2)
-read c x =
-    first-bytes x c.numbers_at-n.result c.used_pairs-pairs.result c.pair_at-first.result.len
-    c.pair_at-second.result.len c.numbers_at-n.ensures c.used_pairs-pairs.ensures
-    c.pair_at-first.ensures.1 c.pair_at-second.ensures.1
+facts : {rows : List ℕ} {i end at : ℕ} (o : OffsetsOf rows i end at) (h : i < end) → FirstNumbers (first o h)
+facts o h = first-numbers (first o h)
 
 pub numbers_at-n-requires : goal.numbers_at-n-requires
-numbers_at-n-requires c = omega (arith, facts c.before.before.before)
+numbers_at-n-requires c = omega (arith, facts c.requires.offsets_of c.requires.place_lt_end)
 
 pub overflow_mul-place : goal.overflow_mul-place
-overflow_mul-place c = omega (arith, facts c.before.before.before.before.before)
+overflow_mul-place c = omega (arith, facts c.requires.offsets_of c.requires.place_lt_end)
 
 pub overflow_add-place : goal.overflow_add-place
-overflow_add-place c = omega (arith, facts c.before.before.before.before.before)
+overflow_add-place c = omega (arith, facts c.requires.offsets_of c.requires.place_lt_end)
 
 pub pair_at-first-requires : goal.pair_at-first-requires
-pair_at-first-requires c = omega (arith, facts c.before.before.before.before.before)
+pair_at-first-requires c = omega (arith, facts c.requires.offsets_of c.requires.place_lt_end)
 
 pub overflow_mul-place-2 : goal.overflow_mul-place-2
-overflow_mul-place-2 c = omega (arith, facts c.before.before.before.before.before.before.before)
+overflow_mul-place-2 c = omega (arith, facts c.requires.offsets_of c.requires.place_lt_end)
 
 pub overflow_add-place-2 : goal.overflow_add-place-2
-overflow_add-place-2 c = omega (arith, facts c.before.before.before.before.before.before.before)
+overflow_add-place-2 c = omega (arith, facts c.requires.offsets_of c.requires.place_lt_end)
 
 pub pair_at-second-requires : goal.pair_at-second-requires
-pair_at-second-requires c = omega (arith, facts c.before.before.before.before.before.before.before)
+pair_at-second-requires c = omega (arith, facts c.requires.offsets_of c.requires.place_lt_end)
 
 pub set_row-requires : goal.set_row-requires
 set_row-requires c =
-    let x = first c.before.before.before.before.before.before.before.before.before.before in
-    omega (arith, read c.before.before x, first-numbers x, x.bytes, x.room)
+    let x = first c.requires.offsets_of c.requires.place_lt_end in
+    omega (arith, first-bytes x c.numbers_at-n.result c.used_pairs-pairs.result c.pair_at-first.result.len c.pair_at-second.result.len c.numbers_at-n.ensures c.used_pairs-pairs.ensures c.pair_at-first.ensures.1 c.pair_at-second.ensures.1, first-numbers x, x.bytes, x.room)
 
 pub texts_length-requires : goal.texts_length-requires
 texts_length-requires c =
-    let x = first c.before.before.before.before.before.before.before.before.before.before.before.before.before in
-    omega (arith, read c.before.before.before.before.before x, x.bytes, x.room)
+    let x = first c.requires.offsets_of c.requires.place_lt_end in
+    omega (arith, first-bytes x c.numbers_at-n.result c.used_pairs-pairs.result c.pair_at-first.result.len c.pair_at-second.result.len c.numbers_at-n.ensures c.used_pairs-pairs.ensures c.pair_at-first.ensures.1 c.pair_at-second.ensures.1, x.bytes, x.room)
 
 pub overflow_add-result : goal.overflow_add-result
 overflow_add-result c =
-    let x = first c.before.before.before.before.before.before.before.before.before.before.before.before.before.before in
-    omega (arith, read c.before.before.before.before.before.before x, x.bytes, x.room, c.texts_length.ensures)
+    let x = first c.requires.offsets_of c.requires.place_lt_end in
+    omega (arith, first-bytes x c.numbers_at-n.result c.used_pairs-pairs.result c.pair_at-first.result.len c.pair_at-second.result.len c.numbers_at-n.ensures c.used_pairs-pairs.ensures c.pair_at-first.ensures.1 c.pair_at-second.ensures.1, x.bytes, x.room, c.texts_length.ensures)
 
 pub returns : goal.returns
 returns c goal total o =
@@ -77,4 +63,4 @@ returns c goal total o =
     c.used_pairs-pairs.result
     c.numbers_at-n.ensures
     c.used_pairs-pairs.ensures in
-    offsets-next x (a.at + c.texts_length.result) (rw same at set) (ap (λ (n : ℕ). a.at + n) (c.texts_length.ensures ∙ (read c.before.before.before.before.before.before x).0))
+    offsets-next x (a.at + c.texts_length.result) (rw same at set) (ap (λ (n : ℕ). a.at + n) (c.texts_length.ensures ∙ (first-bytes x c.numbers_at-n.result c.used_pairs-pairs.result c.pair_at-first.result.len c.pair_at-second.result.len c.numbers_at-n.ensures c.used_pairs-pairs.ensures c.pair_at-first.ensures.1 c.pair_at-second.ensures.1).0))
