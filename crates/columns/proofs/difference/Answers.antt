@@ -4,4 +4,4 @@ use Rattle.columns.proofs.Laws.Filled.{minus-wraps}
 use Rattle.columns.proofs.difference.Goals as goal
 
 pub returns : goal.returns
-returns c = minus-wraps _ _ _ (search rules) (search rules) c.wrapping_sub_u32.ensures
+returns c = minus-wraps _ _ _ (search rules) (search rules) c.wrapping_sub_u32.ensures.value

@@ -4,4 +4,4 @@ use Rattle.columns.proofs.sum.Goals as goal
 
 pub returns : goal.returns
 unfolding plus
-returns c = c.wrapping_add_u32.ensures
+returns c = c.wrapping_add_u32.ensures.value

@@ -5,12 +5,11 @@ use Rattle.std.specs.Prelude.{if◌then◌else◌}
 use mathlib.Core.Path.{◌≡◌, refl, sym, ap, ap₂, ◌∙◌}
 use mathlib.Core.Bool.{Bool, true, false, ◌&&◌, false≢true, and_assoc, and_comm, and-false}
 use mathlib.Core.List.{List, [], ◌∷◌}
-use Prim.Native.Nat.{ℕ, suc, ◌+◌, ◌-◌, ◌≤◌, ◌<◌}
+use Prim.Native.Nat.{ℕ, suc, ◌+◌, ◌-◌, ◌≤◌, ◌<◌, zero-le}
 use native.Mathlib.Nat.{add-zero, zero-add}
 use native.Mathlib.Omega.{arith}
 use lib.Dec.{eqb, leb}
 use lib.ListN.{length, take, drop}
-use borrow.Author.Rules.{zero≤}
 use borrow.Author.Tests.{leb-true}
 use Rattle.text.specs.Text.{every}
 use Rattle.text.proofs.Laws.Tests.{and-true-right, if-in}
@@ -58,7 +57,7 @@ pub record Small (limit r y : ℕ) (s : Scan) : Type 0 where
 pub passed-small : (limit k head r y : ℕ) (b : Bool) → (b ≡ true → k ≤ limit)
     → Small limit r y (if b then record { ok = true; end = k; head = head; roots = r; types = y } else failed)
 unfolding failed
-passed-small limit k head r y false h = record { end = zero≤; roots = zero≤; types = zero≤ }
+passed-small limit k head r y false h = record { end = zero-le; roots = zero-le; types = zero-le }
 passed-small limit k head r y true h = record { end = h refl; roots = omega arith; types = omega arith }
 
 pub next_small : (limit : ℕ) (s : Scan) (t : Ten) → Small limit (s.roots + 1) (s.types + 1) (next_row limit s t)

@@ -5,4 +5,4 @@ use Rattle.ir_append.proofs.put_pascal.Goals as goal
 pub returns : goal.returns
 returns c =
     let call = c.code_to_pascal_case in
-    stores-part c.args.names.now c.args.at c.requires _ call.new.1.0 call.result call.ensures
+    stores-part c.args.names.now c.args.at c.requires _ call.new.out call.result call.ensures

@@ -12,7 +12,7 @@ returns-in_default c =
 pub overflow_add-behind : goal.overflow_add-behind
 overflow_add-behind c =
     let s = rw c.in-Bytes.is at c.put_spelled.ensures in
-    omega (arith, s.inside, c.well-formed.0)
+    omega (arith, s.inside)
 
 pub put_spelled-requires-2 : goal.put_spelled-requires-2
 put_spelled-requires-2 c =
@@ -29,7 +29,7 @@ pub overflow_add-last : goal.overflow_add-last
 overflow_add-last c =
     let s = rw c.in-Bytes.is at c.put_spelled.ensures in
     let k = rw c.in-Bytes-put_spelled.is at c.put_spelled-2.ensures in
-    omega (arith, k.inside, stored-length s, c.well-formed.0)
+    omega (arith, k.inside, stored-length s)
 
 pub put_spelled-requires-3 : goal.put_spelled-requires-3
 put_spelled-requires-3 c =

@@ -1,33 +1,22 @@
 -- `ir_index::enter_kind` meets its contract. The loop's invariant: what is stored with what is left is what was stored at the start with all, the first
 -- name that came before is the same, and there is room. The measure is how many rows are left. Assumes nothing.
-use Prim.Native.Nat.{◌*◌, ◌-◌}
+use Prim.Native.Nat.{ℕ, ◌*◌}
 use mathlib.Core.Path.{◌≡◌, refl, sym, ap, ◌∙◌}
 use mathlib.Core.Logic.{⊎_elim}
 use native.Mathlib.Omega.{arith}
 use lib.ListN.{get_or}
-use borrow.Author.Tests.{not-false}
-use mathlib.Core.Bool.{true}
+use mathlib.Core.Bool.{Bool, true}
+use mathlib.Core.List.{List}
 use Rattle.ir_index.specs.Entries.{is_kind, HeadAt}
 use Rattle.ir_index.proofs.Laws.Heads.{kind-type}
 use Rattle.ir_index.proofs.Laws.Entries.{added_of, came-of}
 use Rattle.ir_index.proofs.Laws.Walk.{walk_start, walk-room, walk-in, walk-on, walk-came, walk_end}
-use Rattle.ir_index.proofs.enter_kind.Tie as tie
-use Rattle.ir_index.proofs.enter_kind.Lts as lts
-use Rattle.ir_index.proofs.enter_kind.Reads as reads
 use Rattle.ir_index.proofs.enter_kind.Goals as goal
 
 -- the row at hand is a head of the kind
-is-kind-at : (c : lts.Then1 tie.the-claims reads.Pre reads.Post goal.the-invariant-loop-place goal.the-decreases-loop-place)
-    → is_kind c.args.complex
-    (get_or c.args.rows.now (10 * c.loop-place.place) 0) ≡ true
-is-kind-at c = sym (c.is_kind.ensures ∙ ap (is_kind _) c.row_tag.ensures) ∙ c.if-is_kind.true
-
--- the call of `enter`, from behind it
-abbrev entered : lts.After-slice_known4 tie.the-claims reads.Pre reads.Post goal.the-invariant-loop-place goal.the-decreases-loop-place → lts.After-enter tie.the-claims reads.Pre reads.Post goal.the-invariant-loop-place goal.the-decreases-loop-place
-entered c = c.before.before.before.before
-
-abbrev kind_at : lts.After-slice_known4 tie.the-claims reads.Pre reads.Post goal.the-invariant-loop-place goal.the-decreases-loop-place → lts.Then1 tie.the-claims reads.Pre reads.Post goal.the-invariant-loop-place goal.the-decreases-loop-place
-kind_at c = (entered c).before.before.before
+is-kind-at : (complex : Bool) (rows : List ℕ) (place : ℕ) {r : Bool} {tag : ℕ} → r ≡ is_kind complex tag → tag ≡ get_or rows (10 * place) 0 → r ≡ true
+    → is_kind complex (get_or rows (10 * place) 0) ≡ true
+is-kind-at complex rows place e t true-is = sym (e ∙ ap (is_kind complex) t) ∙ true-is
 
 pub loop-place-init : goal.loop-place-init
 loop-place-init c = (refl, refl, walk_start _ _ c.requires.known)
@@ -45,39 +34,40 @@ enter-requires c =
       is_head = kind-type
           c.args.complex _ e;
     } in
-    (w.known, (head, (c.requires.end_in_bounds.1, omega (arith, room, c.requires.end_in_bounds.2, c.loop-place.invariant.0))))
+    record {
+      known = w.known;
+      head_at = head;
+      rows_len_bound = (c.requires.end_in_bounds.1, omega (arith, room, c.requires.end_in_bounds.2, c.loop-place.invariant.0));
+    }
 
 pub shape_of-scratch-then-not-enter : goal.shape_of-scratch-then-not-enter
-shape_of-scratch-then-not-enter c = (entered c.before.before).enter.kept.1.1.1.0 ∙ (kind_at c.before.before).before.before.before.before.loop.inv.0
+shape_of-scratch-then-not-enter c = c.enter.auto.scratch ∙ c.loop-place.invariant.0
 
 pub shape_of-flags-then-not-enter : goal.shape_of-flags-then-not-enter
-shape_of-flags-then-not-enter c = (entered c.before.before).enter.kept.1.1.1.1.1.0 ∙ (kind_at c.before.before).before.before.before.before.loop.inv.1
+shape_of-flags-then-not-enter c = c.enter.auto.flags ∙ c.loop-place.invariant.1
 
 pub returns-then-not-enter : goal.returns-then-not-enter
 returns-then-not-enter c =
-    let kind = kind_at c.before.before in
-    let at = kind.before.before.before.before in
-    walk-came at.loop.inv.2 kind.before.before.before.loop-test.taken (is-kind-at kind)
-    (came-of _ _ _ _ _ _ _ (entered c.before.before).enter.result (entered c.before.before).enter.ensures c.if-not-enter.true)
+    let k = is-kind-at c.args.complex c.args.rows.now c.loop-place.place c.is_kind.ensures c.row_tag.ensures c.if-is_kind.true in
+    walk-came c.loop-place.invariant.2 c.loop-place-test.true k
+    (came-of _ _ _ _ _ _ _ c.enter.result c.enter.ensures c.if-not-enter.true)
 
 pub overflow_add-count : goal.overflow_add-count
 overflow_add-count c =
-    let kind = kind_at c.before.before in
-    let at = kind.before.before.before.before in
-    let start = at.before.before.before.before.before in
-    omega (arith, walk-room at.loop.inv.2 kind.before.before.before.loop-test.taken (is-kind-at kind), start.pre.1.2)
+    let k = is-kind-at c.args.complex c.args.rows.now c.loop-place.place c.is_kind.ensures c.row_tag.ensures c.if-is_kind.true in
+    omega (arith, walk-room c.loop-place.invariant.2 c.loop-place-test.true k, c.requires.end_in_bounds.2)
 
 pub loop-place-preserved : goal.loop-place-preserved
 loop-place-preserved c =
     let w = c.loop-place.invariant.2 in
     ⊎_elim
-    (λ v. rw (v.9, v.10, v.11) (
-      v.3.kept.1.1.1.0 ∙ c.loop-place.invariant.0,
-      v.3.kept.1.1.1.1.1.0 ∙ c.loop-place.invariant.1,
+    (λ v. rw (v.scratch-is, v.flags-is, v.count-is) (
+      v.enter.auto.scratch ∙ c.loop-place.invariant.0,
+      v.enter.auto.flags ∙ c.loop-place.invariant.1,
       walk-in w (omega arith) (sym (c.is_kind.ensures ∙ ap (is_kind _) c.row_tag.ensures) ∙ v.if-is_kind.true)
-          (added_of _ _ _ _ _ _ _ v.3.result v.3.ensures (not-false _ v.8.left)),
+          (added_of _ _ _ _ _ _ _ v.enter.result v.enter.ensures v.if-not-enter.false),
     ))
-    (λ v. rw (v.1, v.2, v.3) (c.loop-place.invariant.0, c.loop-place.invariant.1, walk-on w (omega arith) (sym (c.is_kind.ensures ∙ ap (is_kind _) c.row_tag.ensures) ∙ v.if-is_kind.false)))
+    (λ v. rw (v.scratch-is, v.flags-is, v.count-is) (c.loop-place.invariant.0, c.loop-place.invariant.1, walk-on w (omega arith) (sym (c.is_kind.ensures ∙ ap (is_kind _) c.row_tag.ensures) ∙ v.if-is_kind.false)))
     c.if-is_kind.branch-raw
 
 pub shape_of-scratch : goal.shape_of-scratch

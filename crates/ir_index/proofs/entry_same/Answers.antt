@@ -12,7 +12,7 @@ use Rattle.ir_index.proofs.entry_same.Goals as goal
 pub returns-then-entry-print : goal.returns-then-entry-print
 returns-then-entry-print c =
     let p = c.requires in
-    sym (prints-differ _ _ (λ e. c.if-entry-print.true (p.0.print ∙ e ∙ sym p.1.1)))
+    sym (prints-differ _ _ (λ e. c.if-entry-print.true (p.entry_of.print ∙ e ∙ sym p.print_value)))
 
 pub returns : goal.returns
 returns c =

@@ -19,7 +19,11 @@ bounds-scratch-k c = omega (arith, c.requires.entries)
 
 pub entry_same-requires : goal.entry_same-requires
 entry_same-requires c =
-    (c.requires.entries.each c.loop-k.k c.loop-k-test.true, (c.requires.head_at, c.requires.print_value))
+    record {
+      entry_of = c.requires.entries.each c.loop-k.k c.loop-k-test.true;
+      head_at = c.requires.head_at;
+      print_value = c.requires.print_value;
+    }
 
 pub returns-then-entry_same : goal.returns-then-entry_same
 returns-then-entry_same c =

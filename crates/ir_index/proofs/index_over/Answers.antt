@@ -7,13 +7,19 @@ use Rattle.ir_index.proofs.index_over.Goals as goal
 pub enter_kind-simple-requires : goal.enter_kind-simple-requires
 enter_kind-simple-requires c =
     let a = c.args in
-    (known-none a.rows.now a.names.now a.scratch.now a.flags.now, (c.requires.0, c.requires.1, omega (arith, c.requires.2, types-length a.rows.now a.names.now a.end)))
+    record {
+      known = known-none a.rows.now a.names.now a.scratch.now a.flags.now;
+      end_in_bounds = (c.requires.0, c.requires.1, omega (arith, c.requires.2, types-length a.rows.now a.names.now a.end));
+    }
 
 pub enter_kind-requires : goal.enter_kind-requires
 enter_kind-requires c =
     let a = c.args in
     let g = kind-in-of _ _ _ _ _ _ _ _ c.enter_kind-simple.result c.enter_kind-simple.ensures _ c.in-All.is in
-    (g.known, (c.requires.0, c.requires.1, omega (arith, c.requires.2, types-length a.rows.now a.names.now a.end, g.room, c.enter_kind-simple.auto.flags.1.1.1.0)))
+    record {
+      known = g.known;
+      end_in_bounds = (c.requires.0, c.requires.1, omega (arith, c.requires.2, types-length a.rows.now a.names.now a.end, g.room, c.enter_kind-simple.auto.scratch));
+    }
 
 pub returns-in-All : goal.returns-in-All
 returns-in-All c =

@@ -24,8 +24,8 @@ loop-i-preserved c =
     let up = c.loop-i.up in
     let i = c.loop-i.i in
     ⊎_elim
-    (λ v. rw (v.1, v.2, add-one i) (c.loop-i.invariant.0, sym (print-passed h up name i (omega arith) v.if-b-eq95.true) ∙ c.loop-i.invariant.1))
-    (λ v. rw (v.3, v.4, v.2.ensures, v.1.ensures, add-one i) (mixed-below _ _, sym (print-kept h up name i (omega arith) v.if-b-eq95.false) ∙ c.loop-i.invariant.1))
+    (λ v. rw (v.up-is, v.h-is, add-one i) (c.loop-i.invariant.0, sym (print-passed h up name i (omega arith) v.if-b-eq95.true) ∙ c.loop-i.invariant.1))
+    (λ v. rw (v.up-is, v.h-is, v.mix-h.ensures, v.cased.ensures, add-one i) (mixed-below _ _, sym (print-kept h up name i (omega arith) v.if-b-eq95.false) ∙ c.loop-i.invariant.1))
     c.if-b-eq95.branch-raw
 
 pub returns : goal.returns

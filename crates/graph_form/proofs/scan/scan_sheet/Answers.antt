@@ -9,10 +9,11 @@ pub scan_rows-requires : goal.scan_rows-requires
 scan_rows-requires c =
     let a = c.args in
     let small = first_small a.names_used (as_ten c.ten_at.result) in
-    let e = c.first_row-first.ensures in (
-      (simp (length-take, length-drop) (omega arith), omega arith),
-      (rw e (omega (arith, small.end)), rw e (omega (arith, small.roots)), rw e (omega (arith, small.types))),
-    )
+    let e = c.first_row-first.ensures in
+    record {
+      rows = (simp (length-take, length-drop) (omega arith), omega arith);
+      from = (rw e (omega (arith, small.end)), rw e (omega (arith, small.roots)), rw e (omega (arith, small.types)));
+    }
 
 pub returns : goal.returns
 returns c =
