@@ -25,7 +25,7 @@ is-inside : (c : lts.Then2 tie.the-claims reads.Pre reads.Post goal.the-invarian
 is-inside c = inside-some c.args.text.now c.loop-i.i 12 (is-return c)
 
 pub loop-i-init : goal.loop-i-init
-loop-i-init c = ⊎_elim (λ v. rw v.2 (many-over v.1.ensures is_in_text text-run)) (λ v. rw v.1) c.if-byte_at-ne13.branch-raw
+loop-i-init c = ⊎_elim (λ v. rw v.i-is (many-over v.skip_text-i.ensures is_in_text text-run)) (λ v. rw v.i-is) c.if-byte_at-ne13.branch-raw
 
 pub overflow_add-i : goal.overflow_add-i
 overflow_add-i c = omega (arith, is-inside c.before.before)

@@ -23,4 +23,4 @@ returns c =
     (sym c.is_quote.ensures ∙ c.if-not-is_quote.false))
 
 pub value_end-requires : goal.value_end-requires
-value_end-requires c = (sym c.is_quote.ensures ∙ c.if-not-is_quote.false, search rules)
+value_end-requires c = record { quote_value = sym c.is_quote.ensures ∙ c.if-not-is_quote.false; classes_value = search rules }

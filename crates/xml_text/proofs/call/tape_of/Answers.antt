@@ -26,7 +26,7 @@ returns-then-not-is_text c =
 pub document-found-requires : goal.document-found-requires
 unfolding tape_lengths class_table
 document-found-requires c =
-    (leb-true (length c.args.text.now) 65536 (and-true-left _ _ (sym c.tape_lengths.ensures ∙ c.if-not-tape_lengths.false)), refl)
+    record { text_len_bound = leb-true (length c.args.text.now) 65536 (and-true-left _ _ (sym c.tape_lengths.ensures ∙ c.if-not-tape_lengths.false)); classes_value = refl }
 
 pub returns : goal.returns
 unfolding tape_of

@@ -38,17 +38,15 @@ returns-in_default-literal c =
 
 pub overflow_add-used : goal.overflow_add-used
 overflow_add-used c =
-    omega (arith, c.pre)
+    omega (arith, c.requires)
 
--- TODO no goal of this name
-pub sub-t17 : goal.sub-t17
-sub-t17 c =
-    omega (arith, c.pre)
+pub overflow_sub-result : goal.overflow_sub-result
+overflow_sub-result c =
+    omega (arith, c.requires)
 
--- TODO no goal of this name
-pub add-t18 : goal.add-t18
-add-t18 c =
-    omega (arith, c.pre)
+pub overflow_add-result : goal.overflow_add-result
+overflow_add-result c =
+    omega (arith, c.requires)
 
 pub returns : goal.returns
 unfolding bytes

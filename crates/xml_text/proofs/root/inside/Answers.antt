@@ -17,12 +17,12 @@ pub loop-left-init : goal.loop-left-init
 unfolding tape_marks
 loop-left-init c =
     let a = c.args in
-    let p = c.requires in
-    (suc (length (drop a.at a.text.now)), [], omega (arith, length-drop a.at a.text.now), add_none _, omega arith, refl, refl, p.0.2, p.0.3, p.0.4, refl)
+    let p = c.requires.text_len_bound in
+    (suc (length (drop a.at a.text.now)), [], omega (arith, length-drop a.at a.text.now), add_none _, omega arith, refl, refl, p.2, p.3, p.4, refl)
 
 pub turn-requires : goal.turn-requires
 turn-requires c =
-    ((c.requires.text_len_bound.0, omega (arith, c.requires.text_len_bound.1, c.loop-left.invariant.6), c.loop-left.invariant.7, c.loop-left.invariant.8, c.loop-left.invariant.9, omega arith), search rules)
+    record { text_len_bound = (c.requires.text_len_bound.0, omega (arith, c.requires.text_len_bound.1, c.loop-left.invariant.6), c.loop-left.invariant.7, c.loop-left.invariant.8, c.loop-left.invariant.9, omega arith); classes_value = search rules }
 
 pub returns-in_default : goal.returns-in_default
 returns-in_default c =

@@ -24,15 +24,15 @@ pub slice_bounds-tag-start : goal.slice_bounds-tag-start
 slice_bounds-tag-start c = omega (arith, c.requires)
 
 pub tag-requires : goal.tag-requires
-tag-requires c = (
-  (
+tag-requires c = record {
+  text_len_bound = (
     omega (arith, c.requires),
     simp (length-take, length-drop) (omega (arith, c.requires)),
     omega
         (arith, c.requires),
-  ),
-  search rules,
-)
+  );
+  classes_value = search rules
+}
 
 pub returns-in_default : goal.returns-in_default
 returns-in_default c = ap (level_of_tag _) (tag-bad c.args.text.now _ _ _ _ c.in_default.is
@@ -69,11 +69,11 @@ returns-then-kind-eq-START c =
           (put_mid c.args.count
           (length c.args.slots.now - c.args.count)
           c.args.slots.now
-          c.tag.new.1.1.1.0) a.count _ kind e.0 e.1 _ _ c.if-kind-eq-START.true
+          c.tag.new.keys) a.count _ kind e.0 e.1 _ _ c.if-kind-eq-START.true
           (take_put c.args.count
           (length c.args.slots.now - c.args.count)
           c.args.slots.now
-          c.tag.new.1.1.1.0 (omega
+          c.tag.new.keys (omega
           (arith, c.requires))) (search rules),
       omega (arith, e.3, ap length (one-event event)),
       e.4 ∙ ap (sets a.marks.now a.used) (sym (one-event event)),
@@ -96,11 +96,11 @@ returns c =
           (put_mid c.args.count
           (length c.args.slots.now - c.args.count)
           c.args.slots.now
-          c.tag.new.1.1.1.0) a.count c.in-To.start kind e.0 e.1 _ _ c.if-kind-eq-START.false
+          c.tag.new.keys) a.count c.in-To.start kind e.0 e.1 _ _ c.if-kind-eq-START.false
           (take_put c.args.count
           (length c.args.slots.now - c.args.count)
           c.args.slots.now
-          c.tag.new.1.1.1.0 (omega
+          c.tag.new.keys (omega
           (arith, c.requires))),
       omega (arith, e.3, ap length (one-event event)),
       e.4 ∙ ap (sets a.marks.now a.used) (sym (one-event event)),

@@ -4,4 +4,4 @@ use native.Mathlib.Omega.{arith}
 use Rattle.xml_text.proofs.root.root.Goals as goal
 
 pub root_over-requires-2 : goal.root_over-requires-2
-root_over-requires-2 c = ((omega arith, omega arith), search rules)
+root_over-requires-2 c = record { text_len_bound = (omega arith, omega arith); classes_value = search rules }

@@ -25,11 +25,11 @@ pub inside-requires : goal.inside-requires
 inside-requires c =
     let p = c.requires.text_len_bound in
     let e = tag-to c.args.text.now c.args.at _ _ _ c.in-To.is c.tag.ensures in
-    ((p.0, simp length-set (omega (arith, p.1)), omega (arith, e.8), omega (arith, e.9), e.7), search rules)
+    record { text_len_bound = (p.0, simp length-set (omega (arith, p.1)), omega (arith, e.8), omega (arith, e.9), e.7); classes_value = search rules }
 
 pub shape_of-slots-then-kind-eq-START : goal.shape_of-slots-then-kind-eq-START
 shape_of-slots-then-kind-eq-START c =
-    c.inside.auto.marks.1.0 ∙ length-set c.tag.new.1.1.1.0 0 c.in-To.start ∙ c.tag.auto.marks.1.1.0
+    c.inside.auto.slots ∙ length-set c.tag.new.keys 0 c.in-To.start ∙ c.tag.auto.keys
 
 pub returns-then-kind-eq-START : goal.returns-then-kind-eq-START
 unfolding names_up_to
@@ -38,7 +38,7 @@ returns-then-kind-eq-START c =
     let e = tag-to c.args.text.now c.args.at _ _ _ c.in-To.is c.tag.ensures in
     let kind = c.in-To.kind in
     let event = TapeEvent.tag kind e.0 e.1 in
-    let level = ap (level_of_tag []) e.2 ∙ open-start a.text.now a.slots.now c.tag.new.1.1.1.0 0 c.in-To.start kind e.0 e.1
+    let level = ap (level_of_tag []) e.2 ∙ open-start a.text.now a.slots.now c.tag.new.keys 0 c.in-To.start kind e.0 e.1
     c.in-To.behind (drop c.in-To.behind a.text.now) c.if-kind-eq-START.true refl (omega (arith, c.requires.text_len_bound)) in
     root-joined a.text.now _ _ _ _ (event ∷ []) c.inside.result _ _ (root-found a.at _ _ level) (e.4 ∙ ap (sets a.marks.now 0) (sym (one-event event)))
     (omega (arith, e.3, ap length (one-event event))) c.inside.ensures
@@ -50,7 +50,7 @@ returns c =
     let e = tag-to c.args.text.now c.args.at _ _ _ c.in-To.is c.tag.ensures in
     let kind = c.in-To.kind in
     let event = TapeEvent.tag kind e.0 e.1 in
-    let level = ap (level_of_tag []) e.2 ∙ open-empty a.text.now a.slots.now c.tag.new.1.1.1.0 0 c.in-To.start kind e.0 e.1 _ _
+    let level = ap (level_of_tag []) e.2 ∙ open-empty a.text.now a.slots.now c.tag.new.keys 0 c.in-To.start kind e.0 e.1 _ _
     c.if-kind-eq-START.false refl in (
       event ∷ [],
       root-found a.at _ _ level ∙ ap (add_events (event ∷ [])) (inside-end _ a.text.now a.slots.now 0 _ _ (omega arith) (omega arith)) ∙ add-end (event ∷ []) _ _,

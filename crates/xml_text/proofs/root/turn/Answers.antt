@@ -20,7 +20,7 @@ pub close_tag-requires : goal.close_tag-requires
 close_tag-requires c =
     let p = c.requires.text_len_bound in
     let m = char-data-moves _ _ _ _ (to-of c.args.text.now c.in-To.is c.char_data.ensures) in
-    ((p.0, omega (arith, p), p.5, omega (arith, p, m), omega (arith, p, m), omega (arith, p)), search rules)
+    record { text_len_bound = (p.0, omega (arith, p), p.5, omega (arith, p, m), omega (arith, p, m), omega (arith, p)); classes_value = search rules }
 
 pub returns-then-starts : goal.returns-then-starts
 unfolding bytes
@@ -32,14 +32,14 @@ returns-then-starts c =
 
 pub markup-requires : goal.markup-requires
 unfolding bytes
-markup-requires c = (sym c.starts.ensures ∙ c.if-starts.false, search rules)
+markup-requires c = record { text_value = sym c.starts.ensures ∙ c.if-starts.false; classes_value = search rules }
 
 pub open_tag-requires : goal.open_tag-requires
 open_tag-requires c =
     let p = c.requires.text_len_bound in
     let m = char-data-moves _ _ _ _ (to-of c.args.text.now c.in-To.is c.char_data.ensures) in
     let i = in-starting (length c.args.text.now) _ c.in-Starting.is c.markup.ensures.1 in
-    ((p.0, p.1, omega (arith, p, m, i), omega (arith, p, m, i), omega (arith, p), omega (arith, p)), search rules)
+    record { text_len_bound = (p.0, p.1, omega (arith, p, m, i), omega (arith, p, m, i), omega (arith, p), omega (arith, p)); classes_value = search rules }
 
 pub returns-in-Wrong : goal.returns-in-Wrong
 returns-in-Wrong c =

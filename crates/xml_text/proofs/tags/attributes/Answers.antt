@@ -41,7 +41,7 @@ returns-in-Last c =
 
 pub is_among-requires : goal.is_among-requires
 is_among-requires c =
-    (omega (arith, part-in-more (length c.args.text.now) c.loop-kind.i c.in-More.is c.part_of.ensures.1, c.loop-kind.invariant.6, c.loop-kind.invariant.7, c.requires), search rules)
+    record { count_in_bounds = omega (arith, part-in-more (length c.args.text.now) c.loop-kind.i c.in-More.is c.part_of.ensures.1, c.loop-kind.invariant.6, c.loop-kind.invariant.7, c.requires); classes_value = search rules }
 
 pub returns-then-is_among : goal.returns-then-is_among
 returns-then-is_among c =
@@ -93,7 +93,7 @@ pub loop-kind-preserved : goal.loop-kind-preserved
 loop-kind-preserved c =
     let a = c.args in
     let xs = c.loop-kind.invariant.1 in
-    let x = (attribute_from c.in-More.is c.in-More.key_end c.in-More.quote c.in-More.behind) in
+    let x = (attribute_from c.in-More.key c.in-More.key_end c.in-More.quote c.in-More.behind) in
     let p = part-in-more (length c.args.text.now) c.loop-kind.i c.in-More.is c.part_of.ensures.1 in
     let next = attributes-on (length a.text.now) c.loop-kind.invariant.0 _ xs c.loop-kind.i _ x _ _ _ _ c.loop-kind.invariant.2 (omega (arith, p)) p.4
     (part-more c.args.text.now c.in-More.is c.part_of.ensures.0) (sym c.is_among.ensures ∙ c.if-is_among.false) c.loop-kind.invariant.3 in
@@ -102,11 +102,11 @@ loop-kind-preserved c =
       next.0,
       xs ++ x ∷ [],
       next.1,
-      rw (add-one c.loop-kind.count, names-push a.text.now c.loop-kind.keys c.loop-kind.count c.in-More.is (omega (arith, p, c.loop-kind.invariant.6, c.loop-kind.invariant.7, c.requires)))
+      rw (add-one c.loop-kind.count, names-push a.text.now c.loop-kind.keys c.loop-kind.count c.in-More.key (omega (arith, p, c.loop-kind.invariant.6, c.loop-kind.invariant.7, c.requires)))
           next.2,
       simp length-append (omega (arith, c.loop-kind.invariant.4)),
       stored,
       omega (arith, p, c.loop-kind.invariant.6),
-      length-set c.loop-kind.keys c.loop-kind.count c.in-More.is ∙ c.loop-kind.invariant.7,
+      length-set c.loop-kind.keys c.loop-kind.count c.in-More.key ∙ c.loop-kind.invariant.7,
       ap length stored ∙ length-sets a.marks.now a.from (attribute_marks (xs ++ x ∷ [])),
     )

@@ -12,9 +12,8 @@ use Rattle.xml.proofs.Laws.Moves.{spaces-moves}
 use Rattle.xml_text.proofs.Laws.Tags.{part-weaken}
 use Rattle.xml_text.proofs.tags.part_of.Goals as goal
 
--- TODO no goal of this name
-pub add-t10 : goal.add-t10
-add-t10 c =
+pub overflow_add-result : goal.overflow_add-result
+overflow_add-result c =
     let at = c.spaces-start.result in
     omega (arith, starts-length _ _ (sym c.starts.ensures ∙ c.if-starts.true), length-drop at c.args.text.now)
 

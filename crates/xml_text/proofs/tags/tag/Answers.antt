@@ -38,8 +38,8 @@ overflow_add-used c =
     )
 
 pub attributes-requires : goal.attributes-requires
-attributes-requires c = (
-  (
+attributes-requires c = record {
+  text_len_bound = (
     omega (
       arith,
       inside-text (literal-passes (60 ∷ []) (omega arith)) c.args.text.now c.args.at _
@@ -64,9 +64,9 @@ attributes-requires c = (
           (to-of c.args.text.now c.in-To-name.is c.name.ensures),
       c.requires,
     ),
-  ),
-  search rules,
-)
+  );
+  classes_value = search rules
+}
 
 pub returns-in_default-attributes : goal.returns-in_default-attributes
 unfolding tag bytes

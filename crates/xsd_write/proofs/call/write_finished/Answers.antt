@@ -9,7 +9,7 @@ returns-then-not-root_seen c = finished-rootless _ _ _ _ c.if-not-root_seen.true
 
 pub write_held-requires : goal.write_held-requires
 write_held-requires c =
-    ((omega (arith, c.zero_text.auto.text), search rules, search rules), rw c.zero_text.auto.text c.zero_text.ensures)
+    record { text_len_bound = (omega (arith, c.zero_text.auto.text), search rules, search rules); text_value = rw c.zero_text.auto.text c.zero_text.ensures }
 
 pub returns-in-At : goal.returns-in-At
 returns-in-At c =

@@ -11,18 +11,7 @@ use Rattle.xsd_good.specs.Row0.{as_row0}
 use Rattle.xsd_types.proofs.Laws.Count.{good-bare}
 use Rattle.xsd_good.proofs.Laws.Bare.{bare-used, bare-room}
 use Rattle.xsd_write.proofs.Laws.Calls.{good-end, good-root, good-written}
-use Rattle.xsd_write.proofs.call.write_good.Tie as tie
-use Rattle.xsd_write.proofs.call.write_good.Lts as lts
-use Rattle.xsd_write.proofs.call.write_good.Reads as reads
 use Rattle.xsd_write.proofs.call.write_good.Goals as goal
-
--- the finished items end where the call says
-ends : (c : lts.After-finished_end tie.the-claims reads.Pre reads.Post)
-    → let a = c.args in c.finished_end-end.result
-    ≡ 2 + length (items_rows (state_of (sheet a.rows.now a.names.now)).reader.schema.items)
-ends c =
-    c.finished_end-end.ensures.place ∙ good-end c.args.rows.now c.args.names.now c.requires.0 c.finished_end-end.ensures.words
-    (as_row0 c.row0_at-z.result) c.row0_at-z.ensures
 
 pub row0_at-z-requires : goal.row0_at-z-requires
 row0_at-z-requires c =
@@ -40,7 +29,8 @@ pub write_finished-requires : goal.write_finished-requires
 write_finished-requires c =
     let rows = c.args.rows.now in
     let names = c.args.names.now in
-    let room = bare-room rows names (good-bare (sheet rows names) c.requires.0) c.finished_end-end.ensures.words (ends c.before.before.before) in
+    let end = c.finished_end-end.ensures.place ∙ good-end rows names c.requires.0 c.finished_end-end.ensures.words (as_row0 c.row0_at-z.result) c.row0_at-z.ensures in
+    let room = bare-room rows names (good-bare (sheet rows names) c.requires.0) c.finished_end-end.ensures.words end in
     (c.requires.1, room.0, room.1)
 
 pub returns : goal.returns
@@ -48,5 +38,6 @@ returns c =
     let rows = c.args.rows.now in
     let names = c.args.names.now in
     let w = c.finished_end-end.ensures.words in
-    c.write_finished.ensures ∙ good-written rows names c.requires.0 w (ends c.before.before.before.before.before.before) _ _
+    let end = c.finished_end-end.ensures.place ∙ good-end rows names c.requires.0 c.finished_end-end.ensures.words (as_row0 c.row0_at-z.result) c.row0_at-z.ensures in
+    c.write_finished.ensures ∙ good-written rows names c.requires.0 w end _ _
     (good-root rows names c.requires.0 w (as_row0 c.row0_at-z.result) c.row0_at-z.ensures)

@@ -6,4 +6,4 @@ use Rattle.xsd_write.proofs.held.first_unheld.Goals as goal
 
 pub unheld_from-requires : goal.unheld_from-requires
 unfolding class_table
-unheld_from-requires c = (refl, search rules)
+unheld_from-requires c = record { classes_value = refl; end_in_bounds = search rules }

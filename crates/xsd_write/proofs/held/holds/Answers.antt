@@ -8,7 +8,7 @@ use Rattle.xsd_write.proofs.held.holds.Goals as goal
 
 pub is_value-requires : goal.is_value-requires
 unfolding is_quote
-is_value-requires c = (refl, search rules)
+is_value-requires c = record { quote_value = refl; classes_value = search rules }
 
 pub returns-then-has_byte : goal.returns-then-has_byte
 unfolding holds quote_of
@@ -16,7 +16,7 @@ returns-then-has_byte c = rw (sym c.has_byte.ensures ∙ c.if-has_byte.true) c.i
 
 pub is_value-requires-2 : goal.is_value-requires-2
 unfolding is_quote
-is_value-requires-2 c = (refl, search rules)
+is_value-requires-2 c = record { quote_value = refl; classes_value = search rules }
 
 pub returns : goal.returns
 unfolding holds quote_of

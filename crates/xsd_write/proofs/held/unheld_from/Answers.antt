@@ -18,7 +18,7 @@ pub row_holds-requires : goal.row_holds-requires
 row_holds-requires c =
     let clear = c.value_run-clear.result in
     let names = c.args.names.now in
-    (search rules, many-every is_in_value 0 names clear (drop clear names) clear c.value_run-clear.ensures (omega arith))
+    record { classes_value = search rules; names_value = many-every is_in_value 0 names clear (drop clear names) clear c.value_run-clear.ensures (omega arith) }
 
 pub returns-then-not-row_holds : goal.returns-then-not-row_holds
 returns-then-not-row_holds c =
