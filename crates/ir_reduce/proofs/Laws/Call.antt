@@ -136,7 +136,7 @@ pub record ReducedRows (p : Parted) (rs : List Row) : Type 0 where
   pub reduced : Reduced p graph
   pub rows_are : rs ≡ rows_of graph
 
-placed-reduction : {x target y : Sheet} {p : Parted} {rs : List Row} {a : Answer} → graph_in x ≡ p → in_form x ≡ true → lengths_fit x target ≡ true → ReducedRows p rs
+placed-reduction : {x target : Sheet} {p : Parted} {rs : List Row} {y : Sheet} {a : Answer} → graph_in x ≡ p → in_form x ≡ true → lengths_fit x target ≡ true → ReducedRows p rs
     → Placed rs target a y → Reduction x target a y
 placed-reduction {x} {target} e f l w (Placed.tight h) = Reduction.tight l f w.graph (rw e w.reduced) (rw w.rows_are at h)
 placed-reduction {x} {target} e f l w (Placed.fitting h) = rw w.rows_are (Reduction.fitting l f w.graph (rw e w.reduced) (rw w.rows_are at h))

@@ -78,6 +78,7 @@ module _ (name : ℕ → Text) (t : Text) where
 
   found_from : (found q : ℕ) (ps : List ℕ) → In q ps → name q ≡ t → distinct_texts (map name ps) ≡ true → place_from found name t ps ≡ q
   unfolding place_from distinct_texts
+  found_from found q [] i e d = elim i [ ]
   found_from found q (p ∷ ps) In.here e d =
       let new = not-true (among (name p) (map name ps)) (and-true-left (not (among (name p) (map name ps))) (distinct_texts (map name ps)) d) in
       rw (← e, same_refl (name p)) (rw e (not_found p ps (rw e at new)))

@@ -55,12 +55,14 @@ kept-once (Kept.leave c k) (Kept.leave d l) = kept-once k l
 
 -- ---- reducing again changes nothing
 kept_in : {P : GraphType → Type 0} {ts us : List GraphType} {t : GraphType} → Kept P ts us → In t ts → P t → In t us
+kept_in Kept.end i h = elim i [ ]
 kept_in (Kept.keep c k) In.here h = In.here
 kept_in (Kept.keep c k) (In.there i) h = In.there (kept_in k i h)
 kept_in (Kept.leave c k) In.here h = absurd (c h)
 kept_in (Kept.leave c k) (In.there i) h = kept_in k i h
 
 kept-each : {P : GraphType → Type 0} {ts us : List GraphType} {t : GraphType} → Kept P ts us → In t us → P t
+kept-each Kept.end i = elim i [ ]
 kept-each (Kept.keep c k) In.here = c
 kept-each (Kept.keep c k) (In.there i) = kept-each k i
 kept-each (Kept.leave c k) i = kept-each k i

@@ -3,7 +3,7 @@ use Prim.Native.Nat.{ℕ}
 use mathlib.Core.Path.{ap, ◌∙◌}
 use native.Mathlib.Omega.{arith}
 use lib.ListN.{length, length-replicate}
-use Rattle.ir_reduce.proofs.Laws.Facts.{at_least, rows_inside}
+use Rattle.ir_reduce.proofs.Laws.Facts.{at_least, rows_inside_lem}
 use Rattle.ir_reduce.proofs.Laws.Begin.{targets-start, room-first, marks-done}
 use Rattle.ir_reduce.proofs.call.mark_reached.Goals as goal
 
@@ -11,9 +11,9 @@ pub put_targets-requires : goal.put_targets-requires
 put_targets-requires c =
     let g = c.requires.0 in (
       c.requires.1,
-      rows_inside g,
+      rows_inside_lem g,
       g.few,
-      omega (arith, rows_inside g, g.few, length-replicate {A = ℕ} 4096 0),
+      omega (arith, rows_inside_lem g, g.few, length-replicate {A = ℕ} 4096 0),
       omega (arith, at_least g),
       targets-start _ _ _ 4096,
     )
@@ -33,8 +33,8 @@ mark_all-requires c =
           (c.put_targets.ensures.to_len_unchanged ∙ length-replicate {A = ℕ} 4096 0)
           (rw c.requires.2 at
           c.mark-n.ensures) (omega (arith, long, c.mark-n.auto)),
-      rows_inside g,
-      omega (arith, rows_inside g, g.few),
+      rows_inside_lem g,
+      omega (arith, rows_inside_lem g, g.few),
     )
 
 pub returns : goal.returns

@@ -3,7 +3,7 @@ use Prim.Native.Nat.{ℕ}
 use native.Mathlib.Omega.{arith}
 use lib.ListN.{length-replicate}
 use Rattle.ir_reduce.specs.Call.{Reduction}
-use Rattle.ir_reduce.proofs.Laws.Facts.{at_least, rows_inside}
+use Rattle.ir_reduce.proofs.Laws.Facts.{at_least, rows_inside_lem}
 use Rattle.ir_reduce.proofs.Laws.Call.{repeated-form}
 use Rattle.ir_reduce.proofs.Laws.Begin.{all_of, repeated-of}
 use Rattle.ir_reduce.proofs.call.reduce_form.Goals as goal
@@ -11,7 +11,7 @@ use Rattle.ir_reduce.proofs.call.reduce_form.Goals as goal
 pub index_heads-indexed-requires : goal.index_heads-indexed-requires
 index_heads-indexed-requires c =
     let g = c.requires.0 in
-    (rows_inside g, g.few, length-replicate {A = ℕ} 8192 0, omega (arith, at_least g))
+    (rows_inside_lem g, g.few, length-replicate {A = ℕ} 8192 0, omega (arith, at_least g))
 
 pub returns-in_default : goal.returns-in_default
 returns-in_default c = rw c.answer.ensures

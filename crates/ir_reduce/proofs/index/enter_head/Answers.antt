@@ -25,7 +25,7 @@ returns c = head-new c.requires.index
     ∙ sym c.is_type.ensures ∙ c.if-not-is_type.false)
 
 pub enter-requires : goal.enter-requires
-enter-requires c = (
-  c.requires.index,
-  record { above = c.requires.place_nonzero.0; inside = c.requires.place_nonzero.1; small = c.requires.place_nonzero.2; room = c.requires.place_nonzero.3 },
-)
+enter-requires c = record {
+  index = c.requires.index;
+  entering = record { above = c.requires.place_nonzero.0; inside = c.requires.place_nonzero.1; small = c.requires.place_nonzero.2; room = c.requires.place_nonzero.3 };
+}

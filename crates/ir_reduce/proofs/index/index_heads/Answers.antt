@@ -11,9 +11,9 @@ loop-place-init c = let a = c.args in
 
 pub enter_head-entered-requires : goal.enter_head-entered-requires
 enter_head-entered-requires c =
-    let loop = c.loop-place in (
-      loop.invariant.0.index,
-      (
+    let loop = c.loop-place in record {
+      index = loop.invariant.0.index;
+      place_nonzero = (
         omega (arith, loop.invariant.0.few),
         omega (arith, c.requires.0, c.loop-place-test.true),
         c.requires.1,
@@ -26,8 +26,8 @@ enter_head-entered-requires c =
           c.requires.1,
           c.loop-place-test.true,
         ),
-      ),
-    )
+      );
+    }
 
 pub returns-in_default : goal.returns-in_default
 returns-in_default c =

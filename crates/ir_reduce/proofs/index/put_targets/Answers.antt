@@ -32,4 +32,4 @@ loop-place-preserved c =
     )
 
 pub returns : goal.returns
-returns c = (targets-end c.loop-place.invariant.0 (omega arith), c.loop-place.invariant.3)
+returns c = record { targets_put = targets-end c.loop-place.invariant.0 (omega arith); to_len_unchanged = c.loop-place.invariant.3 }

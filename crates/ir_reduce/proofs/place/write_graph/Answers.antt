@@ -1,16 +1,16 @@
 -- `ir_reduce::place::write_graph` meets its contract: the kept rows are added to a sheet of zeros, and row 0 is set. Assumes nothing.
 use native.Mathlib.Omega.{arith}
 use Rattle.ir_append.proofs.Laws.Grows.{grown-of, short-of}
-use Rattle.ir_reduce.proofs.Laws.Facts.{at_least, rows_inside, rows-stand}
+use Rattle.ir_reduce.proofs.Laws.Facts.{at_least, rows_inside_lem, rows-stand}
 use Rattle.ir_reduce.proofs.Laws.Call.{first-room, written-full, written-to}
 use Rattle.ir_reduce.proofs.place.write_graph.Goals as goal
 
 pub put_kept-grown-requires : goal.put_kept-grown-requires
 put_kept-grown-requires c =
-    let g = c.requires.0 in (
-      first-room c.requires.1,
-      (rows_inside g, omega (arith, rows_inside g, g.few, c.requires.2), omega (arith, at_least g), rows-stand g),
-    )
+    let g = c.requires.0 in record {
+      room = first-room c.requires.1;
+      rows = (rows_inside_lem g, omega (arith, rows_inside_lem g, g.few, c.requires.2), omega (arith, at_least g), rows-stand g);
+    }
 
 pub returns-in_default : goal.returns-in_default
 returns-in_default c = written-full c.requires.1
@@ -19,29 +19,29 @@ returns-in_default c = written-full c.requires.1
 pub count_kept-roots-requires : goal.count_kept-roots-requires
 count_kept-roots-requires c =
     let g = c.requires.0 in (
-      rows_inside g,
+      rows_inside_lem g,
       omega (
         arith,
-        rows_inside g,
+        rows_inside_lem g,
         g.few,
         c.requires.2,
       ),
       omega (arith, at_least g),
-      omega (arith, rows_inside g, g.few),
+      omega (arith, rows_inside_lem g, g.few),
     )
 
 pub count_kept-types-requires : goal.count_kept-types-requires
 count_kept-types-requires c =
     let g = c.requires.0 in (
-      rows_inside g,
+      rows_inside_lem g,
       omega (
         arith,
-        rows_inside g,
+        rows_inside_lem g,
         g.few,
         c.requires.2,
       ),
       omega (arith, at_least g),
-      omega (arith, rows_inside g, g.few),
+      omega (arith, rows_inside_lem g, g.few),
     )
 
 pub row0_of-row0-requires : goal.row0_of-row0-requires
@@ -50,8 +50,8 @@ row0_of-row0-requires c =
     let grown = grown-of _ _ _ _ _ _ _ c.put_kept-grown.ensures c.in-To.is in (
       omega (arith, grown.rows_inside, grown.rows_length, c.requires.1.few_rows),
       omega (arith, grown.names_inside, grown.names_length, c.requires.1.few_names),
-      omega (arith, c.count_kept-roots.ensures.upper_bound, rows_inside g, g.few),
-      omega (arith, c.count_kept-types.ensures.upper_bound, rows_inside g, g.few),
+      omega (arith, c.count_kept-roots.ensures.upper_bound, rows_inside_lem g, g.few),
+      omega (arith, c.count_kept-types.ensures.upper_bound, rows_inside_lem g, g.few),
     )
 
 pub put_row0-requires : goal.put_row0-requires

@@ -55,7 +55,7 @@ returns c =
     let part = rw (read, start) at c.part_of.ensures in
     let whole = part ∙ part-whole a.rows.now a.names.now a.place s in
     let bytes = bytes-length a.rows.now a.names.now a.place s in
-    let numbers = c.Moved-row.ensures
+    let numbers = c.moved_row-row.ensures
     ∙ ap (λ (u : ℕ). moved_numbers (as_ten
     c.ten_at-t.result) u a.used.names)
     c.used_pairs.ensures ∙ ap (λ (t : Ten). moved_numbers t (used_pairs t.tag t.a) a.used.names) ten

@@ -18,21 +18,21 @@ loop-place-preserved c =
     let a = c.args in
     let loop = c.loop-place in
     let tag = c.row_tag-tag.ensures in
-    let now = c.keeps_row-kept.ensures ∙ ap (λ t. keeps loop.auto t (get_or a.marks.now loop.place 0)) tag in
+    let now = c.keeps_row-kept.ensures ∙ ap (λ t. keeps loop.kept t (get_or a.marks.now loop.place 0)) tag in
     let more = c.one_more-n.ensures
     ∙ ap (λ (t : Bool). if c.keeps_row-kept.result && t then loop.n + 1 else loop.n)
     (c.in_range.ensures ∙ ap (between a.low a.high) tag) in (
       at_most (c.keeps_row-kept.result && between a.low a.high (get_or a.rows.now (10 * loop.place) 0)) loop.n loop.place loop.invariant.0 more,
       omega arith,
-      λ names. count-rest names a.rows.now a.marks.now a.low a.high loop.n loop.auto loop.place a.end
+      λ names. count-rest names a.rows.now a.marks.now a.low a.high loop.n loop.kept loop.place a.end
           c.loop-place-test.true now more ∙ loop.invariant.2 names,
     )
 
 pub returns : goal.returns
 returns c =
     let a = c.args in
-    let loop = c.loop-place in (
-      λ names. count-end (between a.low a.high) loop.n (kept-none a.rows.now names a.marks.now loop.auto loop.place a.end c.loop-place-test.false)
-          (loop.invariant.2 names),
-      omega (arith, loop.invariant.0, loop.invariant.1),
-    )
+    let loop = c.loop-place in record {
+      fact = λ names. count-end (between a.low a.high) loop.n (kept-none a.rows.now names a.marks.now loop.kept loop.place a.end c.loop-place-test.false)
+          (loop.invariant.2 names);
+      upper_bound = omega (arith, loop.invariant.0, loop.invariant.1);
+    }

@@ -7,5 +7,4 @@ pub returns-then-not-kept : goal.returns-then-not-kept
 returns-then-not-kept c = rw c.if-not-kept.true (grows_none c.requires.0)
 
 pub returns : goal.returns
-returns c = rw (not-false c.args.kept
-    c.if-not-kept.false) c.append_same.ensures
+returns c = rw c.if-not-kept.false c.append_same.ensures

@@ -14,16 +14,16 @@ use Rattle.ir_reduce.proofs.write.put_kept.Reads as reads
 use Rattle.ir_reduce.proofs.write.put_kept.Goals as goal
 
 -- the rest is the row at hand, where it is kept, and what is behind it
-on : (c : lts.After-keeps_row tie.the-claims reads.Pre reads.Post goal.the-invariant-loop-place goal.the-decreases-loop-place)
+on : (c : lts.After-keeps_row tie.the-claims reads.Pre reads.Post goal.the-invariant-loop-place goal.the-decreases-loop-place tie.handed_clauses)
     → let a = c.args in let loop = c.loop-place in
-    kept_rows (row_at a.rows.now a.names.now) a.marks.now loop.auto loop.place (a.end - loop.place)
+    kept_rows (row_at a.rows.now a.names.now) a.marks.now loop.kept loop.place (a.end - loop.place)
     ≡ one_if c.keeps_row-kept.result (row_at a.rows.now a.names.now loop.place)
     ++ kept_rows (row_at a.rows.now a.names.now) a.marks.now c.keeps_row-kept.result (loop.place + 1) (a.end - (loop.place + 1))
 on c =
     let a = c.args in
     let loop = c.loop-place in
-    let now = c.keeps_row-kept.ensures ∙ ap (λ t. keeps loop.auto t (get_or a.marks.now loop.place 0)) c.row_tag.ensures in
-    rw now (kept_next a.rows.now a.names.now a.marks.now loop.auto loop.place a.end c.loop-place-test.true)
+    let now = c.keeps_row-kept.ensures ∙ ap (λ t. keeps loop.kept t (get_or a.marks.now loop.place 0)) c.row_tag.ensures in
+    rw now (kept_next a.rows.now a.names.now a.marks.now loop.kept loop.place a.end c.loop-place-test.true)
 
 pub loop-place-init : goal.loop-place-init
 loop-place-init c = (going_start _ c.requires.room, omega arith)
@@ -44,13 +44,13 @@ put_if-grown-requires c =
 pub returns-in_default : goal.returns-in_default
 returns-in_default c =
     going-full _ _ c.loop-place.invariant.0
-    (on c.before.before.before.before.before.before.before.before.before.before)
+    (on c.before.before.before.before.before.before.before.before.before)
     (short-of _ _ _ _ _ _ _ c.put_if-grown.ensures c.in_default.is)
 
 pub loop-place-preserved : goal.loop-place-preserved
 loop-place-preserved c = (
   going_step _ _ c.loop-place.invariant.0
-      (on c.before.before.before.before.before.before.before.before.before.before.before)
+      (on c.before.before.before.before.before.before.before.before.before)
       (grown-of _ _ _ _ _ _ _ c.put_if-grown.ensures c.in-To.is),
   omega arith,
 )
@@ -58,7 +58,7 @@ loop-place-preserved c = (
 pub returns : goal.returns
 returns c =
     let a = c.args in
-    going_end c.loop-place.invariant.0 (kept-none a.rows.now a.names.now a.marks.now c.loop-place.auto c.loop-place.place a.end c.loop-place-test.false)
+    going_end c.loop-place.invariant.0 (kept-none a.rows.now a.names.now a.marks.now c.loop-place.kept c.loop-place.place a.end c.loop-place-test.false)
 
 pub shape_of-graph_rows : goal.shape_of-graph_rows
 shape_of-graph_rows c = c.loop-place.invariant.0.rows_length
