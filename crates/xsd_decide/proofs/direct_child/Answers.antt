@@ -1,21 +1,14 @@
 -- `xsd_decide::direct_child` meets its contract: the word picks what the child becomes. Assumes nothing.
 use mathlib.Core.Path.{refl}
-use types.Run.{miss}
-use mathlib.Core.List.{List, [], ◌∷◌}
-use Prim.Native.Nat.{ℕ}
 use Rattle.xsd_parser.specs.declared.words.Word.{Word}
-use Rattle.xsd_parser.specs.Words.{word_number, same_word}
+use Rattle.xsd_parser.specs.Words.{word_number, same_word, facet_word}
 use Rattle.tape.specs.Lookup.{seen_at}
 use Rattle.xsd_actions.specs.Answers.{decision}
 use Rattle.xsd_actions.specs.Decided.{direct_child}
 use Rattle.xsd_decide.specs.Schema.{opened_as}
-use Rattle.xsd_decide.proofs.Laws.Values.{word-told, word-left}
+use Rattle.xsd_decide.proofs.Laws.Values.{word-told, word-not}
 use Rattle.xsd_decide.proofs.Laws.Chains.{if-true, if-false, whole}
 use Rattle.xsd_decide.proofs.direct_child.Goals as goal
-
--- the keys of the last arm
-abbrev others : List ℕ
-others = 0 ∷ 4 ∷ 5 ∷ 6 ∷ 7 ∷ 8 ∷ 9 ∷ 10 ∷ 11 ∷ 12 ∷ []
 
 pub returns-in-SimpleType : goal.returns-in-SimpleType
 unfolding direct_child same_word word_number seen_at opened_as
@@ -42,10 +35,10 @@ returns-in-Element c =
     (if-true whole _ _ (word-told t Word.Element c.in-Element.is) c.top_element.ensures))
 
 pub returns-in_default : goal.returns-in_default
-unfolding decision direct_child same_word word_number seen_at
+unfolding decision direct_child facet_word seen_at
 returns-in_default c =
     let a = c.args in
     let t = seen_at a.text.now a.marks.now a.t in
-    if-false whole _ _ (word-left t Word.SimpleType others refl c.in_default.in_default-own.keys4 (miss others 1 tt))
-    (if-false whole _ _ (word-left t Word.ComplexType others refl c.in_default.in_default-own.keys4 (miss others 2 tt))
-    (if-false whole _ _ (word-left t Word.Element others refl c.in_default.in_default-own.keys4 (miss others 3 tt)) refl))
+    if-false whole _ _ (word-not t Word.SimpleType refl c.in_default.not-SimpleType)
+    (if-false whole _ _ (word-not t Word.ComplexType refl c.in_default.not-ComplexType)
+    (if-false whole _ _ (word-not t Word.Element refl c.in_default.not-Element) refl))

@@ -4,23 +4,16 @@ use mathlib.Core.Bool.{◌&&◌, and-false}
 use lib.Dec.{eqb}
 use borrow.Author.Tests.{eq-eqb, ne_eqb}
 use Rattle.text.proofs.Laws.Tests.{and-true}
-use types.Run.{miss}
-use mathlib.Core.List.{List, [], ◌∷◌}
-use Prim.Native.Nat.{ℕ}
 use Rattle.xsd_parser.specs.declared.words.Word.{Word}
-use Rattle.xsd_parser.specs.Words.{word_number, same_word}
+use Rattle.xsd_parser.specs.Words.{word_number, same_word, facet_word}
 use Rattle.tape.specs.Lookup.{seen_at}
 use Rattle.xsd_parser.specs.Handlers.{ok}
 use Rattle.xsd_parser.specs.Seen.{tag_is}
 use Rattle.xsd_actions.specs.Answers.{decision}
 use Rattle.xsd_decide.specs.Schema.{empty_in_schema}
-use Rattle.xsd_decide.proofs.Laws.Values.{word-told, word-left}
+use Rattle.xsd_decide.proofs.Laws.Values.{word-told, word-not}
 use Rattle.xsd_decide.proofs.Laws.Chains.{if-true, if-false}
 use Rattle.xsd_decide.proofs.empty_in_schema.Goals as goal
-
--- the keys of the last arm
-abbrev others : List ℕ
-others = 0 ∷ 1 ∷ 2 ∷ 4 ∷ 5 ∷ 6 ∷ 7 ∷ 8 ∷ 9 ∷ 10 ∷ 11 ∷ 12 ∷ []
 
 pub returns-then-nesting-ne0 : goal.returns-then-nesting-ne0
 unfolding decision empty_in_schema
@@ -37,9 +30,9 @@ returns-in-Element c =
     if-true ok _ _ (and-true (eq-eqb a.nesting 0 c.if-nesting-ne0.false) (word-told t Word.Element c.in-Element.is)) c.top_element.ensures
 
 pub returns-in_default : goal.returns-in_default
-unfolding decision empty_in_schema same_word word_number seen_at
+unfolding decision empty_in_schema facet_word seen_at
 returns-in_default c =
     let a = c.args in
     let t = seen_at a.text.now a.marks.now a.t in
-    let other = (word-left t Word.Element others refl c.in_default.in_default-own.keys2 (miss others 3 tt)) in
+    let other = word-not t Word.Element refl c.in_default.not-Element in
     if-false ok _ _ (ap (λ b. eqb a.nesting 0 && b) other ∙ and-false (eqb a.nesting 0)) refl

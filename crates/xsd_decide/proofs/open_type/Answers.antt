@@ -20,16 +20,14 @@ pub returns-then-simple : goal.returns-then-simple
 unfolding decision opened_as seen_at
 returns-then-simple c =
     let a = c.args in
-    let found = c.name-1.given in
     λ text marks.
-    let name = value-at text marks a.t.name (c.place_found.ensures text marks) found.1 in
-    sym (require_name-some (seen_at text marks a.t) (opened_as a.event a.simple) name ∙ ap (λ (b : Bool). ok (opened_as a.event b (text_at_mark text marks found.0.0))) c.if-simple.true)
+    let name = value-at text marks a.t.name (c.place_found.ensures text marks) c.in-At.is in
+    sym (require_name-some (seen_at text marks a.t) (opened_as a.event a.simple) name ∙ ap (λ (b : Bool). ok (opened_as a.event b (text_at_mark text marks c.in-At.name))) c.if-simple.true)
 
 pub returns : goal.returns
 unfolding decision opened_as seen_at
 returns c =
     let a = c.args in
-    let found = c.name-1.given in
     λ text marks.
-    let name = value-at text marks a.t.name (c.place_found.ensures text marks) found.1 in
-    sym (require_name-some (seen_at text marks a.t) (opened_as a.event a.simple) name ∙ ap (λ (b : Bool). ok (opened_as a.event b (text_at_mark text marks found.0.0))) c.if-simple.false)
+    let name = value-at text marks a.t.name (c.place_found.ensures text marks) c.in-At.is in
+    sym (require_name-some (seen_at text marks a.t) (opened_as a.event a.simple) name ∙ ap (λ (b : Bool). ok (opened_as a.event b (text_at_mark text marks c.in-At.name))) c.if-simple.false)

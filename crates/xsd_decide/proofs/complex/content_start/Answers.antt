@@ -2,24 +2,18 @@
 use mathlib.Core.Path.{refl, ap}
 use native.Mathlib.Nat.{le_refl}
 use lib.ListN.{length}
-use types.Run.{miss}
-use mathlib.Core.List.{List, [], ◌∷◌}
-use Prim.Native.Nat.{ℕ}
+use mathlib.Core.List.{[], ◌∷◌}
 use Rattle.xsd_parser.specs.declared.words.Word.{Word}
-use Rattle.xsd_parser.specs.Words.{word_number, same_word}
+use Rattle.xsd_parser.specs.Words.{word_number, same_word, facet_word}
 use Rattle.tape.specs.Lookup.{seen_at}
 use Rattle.tape.proofs.Laws.Pairs.{pair-past}
 use Rattle.xsd_parser.specs.Handlers.{ok}
 use Rattle.xsd_actions.specs.Actions.{Action}
 use Rattle.xsd_actions.specs.Answers.{text_at_mark, following, decision}
 use Rattle.xsd_actions.specs.Decided.{content_start}
-use Rattle.xsd_decide.proofs.Laws.Values.{word-told, word-left}
+use Rattle.xsd_decide.proofs.Laws.Values.{word-told, word-not}
 use Rattle.xsd_decide.proofs.Laws.Chains.{if-true, if-false}
 use Rattle.xsd_decide.proofs.complex.content_start.Goals as goal
-
--- the keys of the last arm
-abbrev others : List ℕ
-others = 0 ∷ 1 ∷ 2 ∷ 3 ∷ 4 ∷ 5 ∷ 9 ∷ 10 ∷ 11 ∷ 12 ∷ []
 
 pub returns-in-Sequence : goal.returns-in-Sequence
 unfolding content_start same_word word_number seen_at
@@ -47,10 +41,10 @@ returns-in-SimpleContent c =
     (if-true ok _ _ (word-told t Word.SimpleContent e) (ap (λ v. ok (Action.content 14 (v ∷ []) 0)) (pair-past text m (length m) (le_refl (length m))))))
 
 pub returns-in_default : goal.returns-in_default
-unfolding decision content_start same_word word_number seen_at
+unfolding decision content_start facet_word seen_at
 returns-in_default c =
     let a = c.args in
     λ text. let t = seen_at text a.marks.now a.t in
-    if-false ok _ _ (word-left t Word.Sequence others refl c.in_default.in_default-own.keys4 (miss others 6 tt))
-    (if-false ok _ _ (word-left t Word.Choice others refl c.in_default.in_default-own.keys4 (miss others 7 tt))
-    (if-false ok _ _ (word-left t Word.SimpleContent others refl c.in_default.in_default-own.keys4 (miss others 8 tt)) refl))
+    if-false ok _ _ (word-not t Word.Sequence refl c.in_default.not-Sequence)
+    (if-false ok _ _ (word-not t Word.Choice refl c.in_default.not-Choice)
+    (if-false ok _ _ (word-not t Word.SimpleContent refl c.in_default.not-SimpleContent) refl))

@@ -1,20 +1,13 @@
 -- `xsd_decide::complex::empty_in_complex_type` meets its contract: the word picks the handler. Assumes nothing.
 use mathlib.Core.Path.{refl}
-use types.Run.{miss}
-use mathlib.Core.List.{List, [], ◌∷◌}
-use Prim.Native.Nat.{ℕ}
 use Rattle.xsd_parser.specs.declared.words.Word.{Word}
-use Rattle.xsd_parser.specs.Words.{word_number, same_word}
+use Rattle.xsd_parser.specs.Words.{word_number, same_word, facet_word}
 use Rattle.tape.specs.Lookup.{seen_at}
 use Rattle.xsd_actions.specs.Answers.{decision}
 use Rattle.xsd_actions.specs.Decided.{empty_in_complex_type}
-use Rattle.xsd_decide.proofs.Laws.Values.{word-told, word-left}
+use Rattle.xsd_decide.proofs.Laws.Values.{word-told, word-not}
 use Rattle.xsd_decide.proofs.Laws.Chains.{if-true, if-false, whole}
 use Rattle.xsd_decide.proofs.complex.empty_in_complex_type.Goals as goal
-
--- the keys of the last arm
-abbrev others : List ℕ
-others = 0 ∷ 1 ∷ 2 ∷ 4 ∷ 5 ∷ 6 ∷ 7 ∷ 8 ∷ 9 ∷ 12 ∷ []
 
 pub returns-in-Element : goal.returns-in-Element
 unfolding empty_in_complex_type same_word word_number seen_at
@@ -41,10 +34,10 @@ returns-in-Attribute c =
     (if-true whole _ _ (word-told t Word.Attribute c.in-Attribute.is) c.attribute_inside.ensures))
 
 pub returns-in_default : goal.returns-in_default
-unfolding decision empty_in_complex_type same_word word_number seen_at
+unfolding decision empty_in_complex_type facet_word seen_at
 returns-in_default c =
     let a = c.args in
     let t = seen_at a.text.now a.marks.now a.t in
-    if-false whole _ _ (word-left t Word.Element others refl c.in_default.in_default-own.keys4 (miss others 3 tt))
-    (if-false whole _ _ (word-left t Word.Any others refl c.in_default.in_default-own.keys4 (miss others 10 tt))
-    (if-false whole _ _ (word-left t Word.Attribute others refl c.in_default.in_default-own.keys4 (miss others 11 tt)) refl))
+    if-false whole _ _ (word-not t Word.Element refl c.in_default.not-Element)
+    (if-false whole _ _ (word-not t Word.Any refl c.in_default.not-Any)
+    (if-false whole _ _ (word-not t Word.Attribute refl c.in_default.not-Attribute) refl))

@@ -1,6 +1,7 @@
 -- `xsd_decide::rows::max_added` meets its contract: an upper bound gives tag 17, none gives tag 18. Assumes nothing.
 use mathlib.Core.Path.{sym, ap, ◌∙◌}
 use Rattle.xsd_types.specs.Rows.{occurs_row}
+use Rattle.xsd_parser.specs.Handlers.{◌and_then◌}
 use Rattle.xsd_actions.specs.Answers.{text_at_mark, decision}
 use Rattle.xsd_decide.specs.Reads.{max_answer}
 use Rattle.xsd_decide.specs.Rows.{typed_row, max_added}

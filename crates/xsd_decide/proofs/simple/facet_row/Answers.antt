@@ -4,7 +4,7 @@ use Rattle.number.specs.Number.{number}
 use Rattle.xsd_types.specs.Types.{Facet}
 use Rattle.xsd_types.specs.Rows.{facet_row}
 use Rattle.xsd_parser.specs.declared.words.FacetWord.{FacetWord}
-use Rattle.xsd_parser.specs.Handlers.{facet_of}
+use Rattle.xsd_parser.specs.Handlers.{◌and_then◌, facet_of}
 use Rattle.xsd_actions.specs.Answers.{text_at_mark}
 use Rattle.xsd_actions.specs.Decided.{facet_added}
 use Rattle.xsd_decide.specs.Facets.{text_added, length_added, digits_added, facet_read}
