@@ -16,80 +16,76 @@ use Rattle.xsd_act.proofs.Laws.Parts.{open_simple-bytes, open_complex-bytes}
 use Rattle.xsd_act.proofs.Laws.Needs.{refuse-ok}
 use Rattle.xsd_act.specs.Contents.{content_pairs, content_numbers}
 use Rattle.xsd_act.proofs.Laws.Contents.{content_pairs-bound, following-used}
-use Rattle.xsd_act.specs.Acts.{Done}
+use Rattle.xsd_act.specs.Acts.{ActRoom, Done}
 use Rattle.xsd_act.proofs.Laws.Room.{RoomFor, room_for, more_room, root-room, base-room, content-room}
 use Rattle.xsd_act.proofs.Laws.Done.{done_more, done-root, done-base, done-content, done-keep}
-use Rattle.xsd_act.proofs.act.Tie as tie
-use Rattle.xsd_act.proofs.act.Lts as lts
-use Rattle.xsd_act.proofs.act.Reads as reads
 use Rattle.xsd_act.proofs.act.Goals as goal
 
 -- the room and what is left to show, the decision as its arm found it
-room_as : (c : lts.Start tie.the-claims reads.Pre reads.Post) (x : Decision) (a : Action) → c.args.d ≡ x → decision c.args.text.now c.args.marks.now x ≡ ok a
-    → RoomFor c.args.rows.now c.args.names.now c.args.used c.args.head a
-room_as c x a e f = room_for c.requires.room a (ap (decision c.args.text.now c.args.marks.now) e ∙ f)
+room_as : {rows names : List ℕ} {used : Used} {head : ℕ} (text marks : List ℕ) {d : Decision} → ActRoom rows names used head (decision text marks d)
+    → (x : Decision) (a : Action) → d ≡ x → decision text marks x ≡ ok a → RoomFor rows names used head a
+room_as text marks room x a e f = room_for room a (ap (decision text marks) e ∙ f)
 
-done-as : (c : lts.Start tie.the-claims reads.Pre reads.Post) (x : Decision) (rows' names' : List ℕ) (r : Used) → c.args.d ≡ x
-    → Done c.args.rows.now c.args.names.now c.args.used c.args.head (decision c.args.text.now c.args.marks.now x) rows' names' r
-    → Done c.args.rows.now c.args.names.now c.args.used c.args.head (decision c.args.text.now c.args.marks.now c.args.d) rows' names' r
-done-as c x rows' names' r e h =
-    subst (λ (y : Decision). Done c.args.rows.now c.args.names.now c.args.used c.args.head (decision c.args.text.now c.args.marks.now y) rows' names' r) (sym e) h
+done-as : {rows names : List ℕ} {used : Used} {head : ℕ} (text marks : List ℕ) {d : Decision} (x : Decision) (rows' names' : List ℕ) (r : Used) → d ≡ x
+    → Done rows names used head (decision text marks x) rows' names' r → Done rows names used head (decision text marks d) rows' names' r
+done-as {rows} {names} {used} {head} text marks {d} x rows' names' r e h =
+    subst (λ (y : Decision). Done rows names used head (decision text marks y) rows' names' r) (sym e) h
 
 pub put_text-requires : goal.put_text-requires
 unfolding decision
 put_text-requires c =
-    let w = room_as c.before.before.before.before.before.before.before.before.before.before _ _ c.in-Root.is refl in
-    (root-room w.ready _ w.roomy, c.requires.names)
+    let w = room_as c.args.text.now c.args.marks.now c.requires.room _ _ c.in-Root.is refl in
+    record { text = root-room w.ready _ w.roomy; names = c.requires.names }
 
 pub open_type-requires : goal.open_type-requires
 unfolding decision rows_after_all namespace_after rows_after
 open_type-requires c =
-    let w = room_as c.before.before.before.before.before.before.before.before.before.before _ _ c.in-OpenSimple.is refl in
+    let w = room_as c.args.text.now c.args.marks.now c.requires.room _ _ c.in-OpenSimple.is refl in
     let room = more_room w.ready _ w.roomy in
-    (room.0, ((rw (open_simple-bytes _ _) at room.1, c.requires.names), (omega arith, omega arith)))
+    record { rows = room.0; names = (rw (open_simple-bytes _ _) at room.1, c.requires.names); pairs = (omega arith, omega arith) }
 
 pub open_type-requires-in-OpenComplex : goal.open_type-requires-in-OpenComplex
 unfolding decision rows_after_all namespace_after rows_after
 open_type-requires-in-OpenComplex c =
-    let w = room_as c.before.before.before.before.before.before.before.before.before.before _ _ c.in-OpenComplex.is refl in
+    let w = room_as c.args.text.now c.args.marks.now c.requires.room _ _ c.in-OpenComplex.is refl in
     let room = more_room w.ready _ w.roomy in
-    (room.0, ((rw (open_complex-bytes _ _) at room.1, c.requires.names), (omega arith, omega arith)))
+    record { rows = room.0; names = (rw (open_complex-bytes _ _) at room.1, c.requires.names); pairs = (omega arith, omega arith) }
 
 pub add_row-requires : goal.add_row-requires
 unfolding decision rows_after_all namespace_after rows_after
 add_row-requires c =
-    let w = room_as c.before.before.before.before.before.before.before.before.before.before _ _ c.in-Add.is refl in
+    let w = room_as c.args.text.now c.args.marks.now c.requires.room _ _ c.in-Add.is refl in
     let room = more_room w.ready _ w.roomy in
-    (room.0, (room.1, c.requires.names))
+    record { rows = room.0; names = (room.1, c.requires.names) }
 
 pub append_characters-requires : goal.append_characters-requires
 unfolding decision row join rows_after_all namespace_after rows_after
 append_characters-requires c =
-    let w = room_as c.before.before.before.before.before.before.before.before.before.before _ _ c.in-Characters.is refl in
+    let w = room_as c.args.text.now c.args.marks.now c.requires.room _ _ c.in-Characters.is refl in
     let room = more_room w.ready _ w.roomy in
-    (room.0, (rw add-zero at room.1, c.requires.names))
+    record { rows = room.0; names = (rw add-zero at room.1, c.requires.names) }
 
 pub append_digits-requires : goal.append_digits-requires
 unfolding decision row join rows_after_all namespace_after rows_after
 append_digits-requires c =
-    let w = room_as c.before.before.before.before.before.before.before.before.before.before _ _ c.in-Digits.is refl in
+    let w = room_as c.args.text.now c.args.marks.now c.requires.room _ _ c.in-Digits.is refl in
     let room = more_room w.ready _ w.roomy in
-    (room.0, (rw add-zero at room.1, c.requires.names))
+    record { rows = room.0; names = (rw add-zero at room.1, c.requires.names) }
 
 pub put_content-requires : goal.put_content-requires
 unfolding decision Fitting
 put_content-requires c =
     let a = c.args in
     let n = c.in-Content.n in
-    let w = room_as c.before.before.before.before.before.before.before.before.before.before _ _ c.in-Content.is refl in
+    let w = room_as c.args.text.now c.args.marks.now c.requires.room _ _ c.in-Content.is refl in
     let texts = following-used a.text.now a.marks.now n w.fitting.name in
-    (content-room w.ready n.tag n.a _ w.fitting (content_pairs n.follows) _ (content_pairs-bound n.follows).1 texts w.roomy, c.requires.names)
+    record { head = content-room w.ready n.tag n.a _ w.fitting (content_pairs n.follows) _ (content_pairs-bound n.follows).1 texts w.roomy; names = c.requires.names }
 
 pub put_text-requires-in-Base : goal.put_text-requires-in-Base
 unfolding decision Fitting
 put_text-requires-in-Base c =
-    let w = room_as c.before.before.before.before.before.before.before.before.before.before _ _ c.in-Base.is refl in
-    (base-room w.ready _ w.fitting w.roomy, c.requires.names)
+    let w = room_as c.args.text.now c.args.marks.now c.requires.room _ _ c.in-Base.is refl in
+    record { text = base-room w.ready _ w.fitting w.roomy; names = c.requires.names }
 
 pub returns-in-Refuse : goal.returns-in-Refuse
 unfolding decision
@@ -99,7 +95,7 @@ returns-in-Refuse c =
 
 pub returns-in-Keep : goal.returns-in-Keep
 unfolding decision
-returns-in-Keep c = done-as c.before.before.before.before.before.before.before _ _ _ _ c.in-Keep.is done-keep
+returns-in-Keep c = done-as c.args.text.now c.args.marks.now _ _ _ _ c.in-Keep.is done-keep
 
 pub shape_of-rows-in-Root : goal.shape_of-rows-in-Root
 shape_of-rows-in-Root c = c.put_text.auto.rows
@@ -109,7 +105,7 @@ shape_of-names-in-Root c = c.put_text.auto.names
 
 pub returns-in-Root : goal.returns-in-Root
 unfolding decision
-returns-in-Root c = done-as c.before.before.before.before.before.before.before.before.before.before.before.before.before.before.before _ _ _ _
+returns-in-Root c = done-as c.args.text.now c.args.marks.now _ _ _ _
     c.in-Root.is (done-root _ c.put_text.ensures)
 
 pub shape_of-rows-in-OpenSimple : goal.shape_of-rows-in-OpenSimple
@@ -120,7 +116,7 @@ shape_of-names-in-OpenSimple c = c.open_type.auto.names
 
 pub returns-in-OpenSimple : goal.returns-in-OpenSimple
 unfolding decision open_simple_row rows_after_all namespace_after rows_after
-returns-in-OpenSimple c = done-as c.before.before.before.before.before.before.before.before.before.before.before.before.before.before.before _ _ _ _
+returns-in-OpenSimple c = done-as c.args.text.now c.args.marks.now _ _ _ _
     c.in-OpenSimple.is
     (done_more (Action.open_simple _ _) (open_simple_row _ _) (λ namespace done last. refl) c.open_type.ensures)
 
@@ -132,7 +128,7 @@ shape_of-names-in-OpenComplex c = c.open_type-in-OpenComplex.auto.names
 
 pub returns-in-OpenComplex : goal.returns-in-OpenComplex
 unfolding decision open_complex_row rows_after_all namespace_after rows_after
-returns-in-OpenComplex c = done-as c.before.before.before.before.before.before.before.before.before.before.before.before.before.before.before _ _ _ _
+returns-in-OpenComplex c = done-as c.args.text.now c.args.marks.now _ _ _ _
     c.in-OpenComplex.is
     (done_more (Action.open_complex _ _) (open_complex_row _ _) (λ namespace done last. refl) c.open_type-in-OpenComplex.ensures)
 
@@ -144,7 +140,7 @@ shape_of-names-in-Add c = c.add_row.auto.names
 
 pub returns-in-Add : goal.returns-in-Add
 unfolding decision rows_after_all namespace_after rows_after
-returns-in-Add c = done-as c.before.before.before.before.before.before.before.before.before.before.before.before.before.before.before _ _ _ _
+returns-in-Add c = done-as c.args.text.now c.args.marks.now _ _ _ _
     c.in-Add.is
     (done_more (Action.add _) _ (λ namespace done last. refl) c.add_row.ensures)
 
@@ -156,7 +152,7 @@ shape_of-names-in-Characters c = c.append_characters.auto.names
 
 pub returns-in-Characters : goal.returns-in-Characters
 unfolding decision rows_after_all namespace_after rows_after
-returns-in-Characters c = done-as c.before.before.before.before.before.before.before.before.before.before.before.before.before.before.before _ _ _ _
+returns-in-Characters c = done-as c.args.text.now c.args.marks.now _ _ _ _
     c.in-Characters.is
     (done_more (Action.add _) _ (λ namespace done last. refl) c.append_characters.ensures)
 
@@ -168,7 +164,7 @@ shape_of-names-in-Digits c = c.append_digits.auto.names
 
 pub returns-in-Digits : goal.returns-in-Digits
 unfolding decision rows_after_all namespace_after rows_after
-returns-in-Digits c = done-as c.before.before.before.before.before.before.before.before.before.before.before.before.before.before.before _ _ _ _
+returns-in-Digits c = done-as c.args.text.now c.args.marks.now _ _ _ _
     c.in-Digits.is
     (done_more (Action.add _) _ (λ namespace done last. refl) c.append_digits.ensures)
 
@@ -183,7 +179,7 @@ unfolding decision
 returns-in-Content c =
     let a = c.args in
     let n = c.in-Content.n in
-    done-as c.before.before.before.before.before.before.before.before.before.before.before.before.before.before.before _ _ _ _ c.in-Content.is
+    done-as c.args.text.now c.args.marks.now _ _ _ _ c.in-Content.is
     (done-content (content_numbers n _) _ (content_pairs n.follows) _ refl refl (following-used a.text.now a.marks.now n) c.put_content.ensures)
 
 pub shape_of-rows-in-Base : goal.shape_of-rows-in-Base
@@ -194,5 +190,5 @@ shape_of-names-in-Base c = c.put_text-in-Base.auto.names
 
 pub returns-in-Base : goal.returns-in-Base
 unfolding decision
-returns-in-Base c = done-as c.before.before.before.before.before.before.before.before.before.before.before.before.before.before.before _ _ _ _
+returns-in-Base c = done-as c.args.text.now c.args.marks.now _ _ _ _
     c.in-Base.is (done-base _ c.put_text-in-Base.ensures)

@@ -1,30 +1,31 @@
 -- `xsd_act::needs::needed_content` meets its contract: the names end behind the head's name, or behind the text that follows it. Assumes nothing.
+use Prim.Native.Nat.{ℕ}
 use mathlib.Core.Path.{ap}
+use mathlib.Core.List.{List}
 use native.Mathlib.Omega.{arith}
 use lib.ListN.{length}
 use Rattle.xsd_actions.specs.Answers.{text_at_mark}
+use Rattle.rows.specs.declared.numbers.Used.{Used}
+use Rattle.xsd_act.specs.Needs.{HeadSeen}
 use Rattle.xsd_replace.proofs.Laws.Head.{HeadNumbers, head-numbers}
 use Rattle.xsd_act.proofs.Laws.Parts.{text_at_mark-bound, following-bytes, following-end}
-use Rattle.xsd_act.proofs.needs.needed_content.Tie as tie
-use Rattle.xsd_act.proofs.needs.needed_content.Lts as lts
-use Rattle.xsd_act.proofs.needs.needed_content.Reads as reads
 use Rattle.xsd_act.proofs.needs.needed_content.Goals as goal
 
-facts : (c : lts.Start tie.the-claims reads.Pre reads.Post) → HeadNumbers c.args.rows.now c.requires.head_seen.names c.args.used c.args.head c.requires.head_seen.rs c.requires.head_seen.name
-facts c = head-numbers c.requires.head_seen.head
+facts : {rows : List ℕ} {used : Used} {head : ℕ} (h : HeadSeen rows used head) → HeadNumbers rows h.names used head h.rs h.name
+facts h = head-numbers h.head
 
 pub name_end-end-requires : goal.name_end-end-requires
-name_end-end-requires c = omega (arith, facts c.before.before.before.before)
+name_end-end-requires c = omega (arith, facts c.requires.head_seen)
 
 pub overflow_add-result : goal.overflow_add-result
-overflow_add-result c = omega (arith, facts c.before.before.before.before.before.before.before)
+overflow_add-result c = omega (arith, facts c.requires.head_seen)
 
 pub overflow_add-result-then-n : goal.overflow_add-result-then-n
 unfolding text_at_mark
 overflow_add-result-then-n c =
     let a = c.args in
     let second = ap length c.pair_part-second.ensures in
-    omega (arith, facts c.before.before.before.before.before.before.before, c.name_end-end.ensures _ _ _ _ _ c.requires.head_seen.head, text_at_mark-bound a.text.now a.marks.now a.n.second)
+    omega (arith, facts c.requires.head_seen, c.name_end-end.ensures _ _ _ _ _ c.requires.head_seen.head, text_at_mark-bound a.text.now a.marks.now a.n.second)
 
 pub returns-then-n : goal.returns-then-n
 unfolding text_at_mark
@@ -33,21 +34,21 @@ returns-then-n c =
     let second = ap length c.pair_part-second.ensures in
     let more = following-bytes a.text.now a.marks.now a.n c.if-n.true in
     record {
-      few = omega (arith, facts c.before.before.before.before.before.before.before);
+      few = omega (arith, facts c.requires.head_seen);
       counted = λ names z rs name h.
           let end = c.name_end-end.ensures names a.used z rs name h in
           (omega (arith, h.here), omega arith);
     }
 
 pub overflow_add-result-2 : goal.overflow_add-result-2
-overflow_add-result-2 c = omega (arith, facts c.before.before.before.before.before.before)
+overflow_add-result-2 c = omega (arith, facts c.requires.head_seen)
 
 pub returns : goal.returns
 returns c =
     let a = c.args in
     let more = following-end a.text.now a.marks.now a.n c.if-n.false in
     record {
-      few = omega (arith, facts c.before.before.before.before.before.before);
+      few = omega (arith, facts c.requires.head_seen);
       counted = λ names z rs name h.
           let end = c.name_end-end.ensures names a.used z rs name h in
           (omega (arith, h.here), omega arith);

@@ -12,7 +12,7 @@ append-requires c =
     let bytes = new_row-bytes a.text.now a.marks.now a.n few.result few.ensures.0 few.ensures.1 in
     let first = c.pair_part-first.ensures in
     let second = c.pair_part-second.ensures in
-    (c.requires.rows, ((rw (first, second) (rw bytes at c.requires.names.0), c.requires.names.1), few.ensures.0))
+    record { rows = c.requires.rows; names = (rw (first, second) (rw bytes at c.requires.names.0), c.requires.names.1); pairs = few.ensures.0 }
 
 pub returns : goal.returns
 unfolding new_row row text_at_mark

@@ -13,7 +13,7 @@ unfolding text_at_mark
 replace_head-requires c =
     let a = c.args in
     let pairs = c.content_pairs-pairs.ensures in
-    (rw (pairs, c.pair_part-second.ensures) c.requires.head, (rw pairs (content_pairs-bound a.n.follows), c.requires.names))
+    record { head = rw (pairs, c.pair_part-second.ensures) c.requires.head; pairs = rw pairs (content_pairs-bound a.n.follows); names = c.requires.names }
 
 pub returns : goal.returns
 unfolding text_at_mark
