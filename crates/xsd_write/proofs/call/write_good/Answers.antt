@@ -1,12 +1,8 @@
 -- `xsd_write::call::write_good` meets its contract: the sheet holds its state, whose finished items end where row 0 says. Assumes nothing.
-use Prim.Native.Nat.{◌+◌}
-use mathlib.Core.Path.{◌≡◌, ap, ◌∙◌}
+use mathlib.Core.Path.{ap, ◌∙◌}
 use native.Mathlib.Omega.{arith}
-use lib.ListN.{length}
 use Rattle.sheet.specs.Calls.{sheet}
 use Rattle.xsd_types.specs.Row0.{Row0}
-use Rattle.xsd_types.specs.Rows.{items_rows}
-use Rattle.xsd_types.specs.Count.{state_of}
 use Rattle.xsd_good.specs.Row0.{as_row0}
 use Rattle.xsd_types.proofs.Laws.Count.{good-bare}
 use Rattle.xsd_good.proofs.Laws.Bare.{bare-used, bare-room}
