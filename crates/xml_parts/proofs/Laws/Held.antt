@@ -3,7 +3,7 @@ use Prim.Native.Nat.{ℕ, zero, suc, ◌+◌, ◌≤◌, ◌<◌}
 use native.Mathlib.Omega.{arith}
 use Prim.Native.Char.{code}
 use mathlib.Core.Path.{◌≡◌, refl, sym, ap, ◌∙◌}
-use mathlib.Core.List.{List, [], ◌∷◌}
+use mathlib.Core.List.{[], ◌∷◌}
 use mathlib.Core.Bool.{Bool, true, false, not}
 use lib.Dec.{eqb}
 use lib.ListN.{length, get_or, take, drop, drop_of_length-le}
@@ -13,7 +13,7 @@ use Rattle.text.specs.Text.{Text, every}
 use Rattle.text.proofs.Laws.Tests.{bool_cases, four, and-true}
 use Rattle.text.proofs.Laws.Every.{every-head, every-tail}
 use Rattle.xml.specs.Classes.{is_char}
-use Rattle.xml.specs.Steps.{Step, bad, behind, many}
+use Rattle.xml.specs.Steps.{behind, many}
 use Rattle.xml.specs.Values.{is_plain, is_quote, is_in_value}
 use Rattle.xml.specs.Written.{is_value}
 use Rattle.xml.proofs.Laws.Names.{behind-at, behind-rest}

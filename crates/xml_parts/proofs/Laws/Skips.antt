@@ -5,7 +5,7 @@ use mathlib.Core.List.{◌∷◌}
 use mathlib.Core.Bool.{Bool, true}
 use native.Mathlib.Omega.{arith}
 use lib.ListN.{length, get_or, drop}
-use Rattle.text.specs.Text.{Text, same}
+use Rattle.text.specs.Text.{Text}
 use Rattle.plain_bytes.specs.Scan.{Skips}
 use Rattle.xml.specs.Classes.{is_char}
 use Rattle.xml.specs.Steps.{many, until}

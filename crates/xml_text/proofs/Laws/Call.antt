@@ -11,7 +11,7 @@ use Rattle.text.proofs.Laws.Tests.{bool_cases}
 use lib.Seq.{sets, sets-eq, paste, take_at, take_all, length-take-le}
 use Rattle.text.specs.Text.{Text}
 use Rattle.xml.specs.Tape.{TapeEvent, tape_marks}
-use Rattle.xml.specs.Root.{Rooted, unrooted, rooted, root}
+use Rattle.xml.specs.Root.{Rooted, unrooted, rooted}
 use Rattle.xml.specs.Document.{Document, written, taken_of}
 use Rattle.xml_text.specs.Answers.{IsRoot, FoundIs, answer_of}
 use Rattle.xml_text.specs.declared.call.Found.{Found}

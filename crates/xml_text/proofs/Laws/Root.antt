@@ -13,8 +13,8 @@ use Rattle.text.proofs.Laws.Tests.{bool_cases}
 use Rattle.xsd_parser.specs.Tape.{Pair}
 use Rattle.xml.specs.Steps.{Step, bad, behind, name, name_of}
 use Rattle.xml.specs.Tape.{AttributePairs, TapeEvent, tape_marks, event_marks}
-use Rattle.xml.specs.Tags.{Tagged, untagged, tagged, tag}
-use Rattle.xml.specs.Root.{Piece, passed, starting, passed_by, ending_by, close, piece, Level, stop, on, opened, level_of_tag, level_of_close, level_of, turn, Rooted, rooted, add_events, none_open, inside}
+use Rattle.xml.specs.Tags.{Tagged, untagged, tagged}
+use Rattle.xml.specs.Root.{Piece, passed, starting, passed_by, ending_by, Level, stop, on, opened, level_of_tag, level_of_close, level_of, Rooted, rooted, add_events, none_open, inside}
 use Rattle.xml_parts.specs.Answers.{matched}
 use Rattle.xml_text.specs.Answers.{names_up_to, next_piece, PieceIn, IsTag, GoesOn, IsRoot}
 use Rattle.xml_text.specs.declared.root.WholeRoot.{WholeRoot}

@@ -7,9 +7,9 @@ use native.Mathlib.Omega.{arith}
 use lib.ListN.{length, get_or, set, take, drop}
 use lib.Seq.{sets, get_or-set_same, get_or-set_other, get_or-take}
 use Rattle.text.specs.Text.{Text, same}
-use Rattle.xml.specs.Steps.{behind, name_of}
+use Rattle.xml.specs.Steps.{name_of}
 use Rattle.xml.specs.Tape.{AttributePairs, attribute_marks}
-use Rattle.xml.specs.Tags.{Part, wrong, last, more, attribute_from, Ended, unended, tag}
+use Rattle.xml.specs.Tags.{Part, wrong, last, more, attribute_from, Ended, unended}
 use Rattle.xml.specs.Grammar.{is_among}
 use Rattle.xml_text.specs.Answers.{names_up_to, next_part, PartIn, EndsTag}
 use Rattle.xml_text.specs.declared.tags.EndOfTag.{EndOfTag}

@@ -1,6 +1,6 @@
 -- What the reader does at each tag of a written type: facets, elements, variants and attributes are kept as they were. Assumes nothing.
 --     reader        a reader in a context, the root seen
-use Prim.Native.Nat.{ℕ, ◌+◌, ◌^◌, ◌<◌}
+use Prim.Native.Nat.{ℕ, ◌^◌, ◌<◌}
 use native.Mathlib.Omega.{arith}
 use mathlib.Core.Path.{◌≡◌, refl, sym}
 use mathlib.Core.Bool.{Bool, true, false, false≢true}

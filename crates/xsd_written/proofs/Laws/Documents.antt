@@ -11,7 +11,7 @@ use Rattle.text.proofs.Laws.Tests.{and-true-left, and-true-right, three}
 use Rattle.text.specs.Trim.{is_white_space}
 use Rattle.xsd_parser.specs.Event.{Tag}
 use Rattle.xml.specs.Classes.{is_name_start, is_name, is_letter}
-use Rattle.xml.specs.Steps.{starts_with, literal, many, spaces, name}
+use Rattle.xml.specs.Steps.{starts_with, literal, many, spaces}
 use Rattle.xml.specs.Values.{char_data}
 use Rattle.xml.specs.Prolog.{misc, misc_from, is_misc, prolog, is_declaration}
 use Rattle.xml.specs.Tape.{TapeEvent}

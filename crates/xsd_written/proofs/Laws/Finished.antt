@@ -17,7 +17,7 @@ use Rattle.xsd_types.specs.Types.{Item, Schema}
 use Rattle.xsd_types.specs.Good.{bare_good}
 use Rattle.xsd_types.specs.Back.{rows_in, bare_state_of}
 use Rattle.xsd_types.specs.Refused.{refused_item, refused_base}
-use Rattle.xsd_types.specs.Count.{refused_types, count_in, bare, good, state_of}
+use Rattle.xsd_types.specs.Count.{refused_types, bare, good, state_of}
 use Rattle.xsd_types.specs.Unnumbered.{cleared_row, unnumbered_item, unnumbered_schema}
 use Rattle.xsd_types.proofs.Laws.Parts.{parts-of}
 use Rattle.xsd_types.proofs.Laws.Read.{names-length, sheet-again}

@@ -1,7 +1,7 @@
 -- `xml_parts::prolog::misc` meets its contract. The loop's invariant: the parts from i on end where the whole ends, with turns enough for the bytes left. The measure is
 -- how much is left. Assumes nothing.
 use native.Mathlib.Omega.{arith}
-use Prim.Native.Nat.{suc, ◌-◌}
+use Prim.Native.Nat.{suc}
 use mathlib.Core.Path.{sym, ap, ◌∙◌}
 use lib.ListN.{length, drop, length-drop}
 use Rattle.xml.specs.Steps.{Step, ◌and_then◌}

@@ -1,6 +1,5 @@
 -- `xml_parts::steps::many` meets its contract. The loop's invariant: the run from i on ends where the run from the start on ends. The measure is how much is left. Assumes nothing.
 use native.Mathlib.Omega.{arith}
-use Prim.Native.Nat.{◌-◌}
 use mathlib.Core.Path.{sym, ◌∙◌}
 use native.Mathlib.Numerals.{add-one}
 use Rattle.xml_parts.specs.Answers.{class_of}

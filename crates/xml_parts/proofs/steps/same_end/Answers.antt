@@ -1,7 +1,7 @@
 -- `xml_parts::steps::same_end` meets its contract. The loop's invariant: both places have gone on alike, from them on the names are the same where the whole
 -- names are, and the run of the first goes on. The measure is how much is left up to the end. Assumes nothing.
 use native.Mathlib.Omega.{arith}
-use Prim.Native.Nat.{◌-◌, ◌<◌}
+use Prim.Native.Nat.{◌<◌}
 use mathlib.Core.Path.{◌≡◌, refl, sym, ap, ◌∙◌}
 use mathlib.Core.Bool.{true, false≢true}
 use mathlib.Core.Logic.{⊎_elim}

@@ -1,7 +1,6 @@
 -- `xml_parts::steps::same_name` meets its contract. The loop's invariant: the names from both places on are the same where the whole names are. The measure is how much
 -- is left behind the first. Assumes nothing.
 use native.Mathlib.Omega.{arith}
-use Prim.Native.Nat.{◌-◌}
 use mathlib.Core.Path.{◌≡◌, sym, ap, ◌∙◌}
 use mathlib.Core.Bool.{true, false, not}
 use native.Mathlib.Numerals.{add-one}

@@ -1,7 +1,6 @@
 -- `xml_parts::steps::starts` meets its contract. The loop's invariant: the rest of the word stands at i where the word stands at the start. The measure is how much of
 -- the word is left. Assumes nothing.
 use native.Mathlib.Omega.{arith}
-use Prim.Native.Nat.{◌-◌}
 use mathlib.Core.Path.{refl, sym, ◌∙◌}
 use native.Mathlib.Numerals.{add-one}
 use lib.ListN.{drop}

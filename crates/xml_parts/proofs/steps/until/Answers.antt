@@ -1,6 +1,5 @@
 -- `xml_parts::steps::until` meets its contract. The loop's invariant: the search from i on ends where the search from the start on ends. The measure is how much is left. Assumes nothing.
 use native.Mathlib.Omega.{arith}
-use Prim.Native.Nat.{◌-◌}
 use mathlib.Core.Path.{sym, ◌∙◌}
 use native.Mathlib.Numerals.{add-one}
 use Rattle.xml.proofs.Laws.Steps.{until-hit, until-wrong, until-on, until_end}

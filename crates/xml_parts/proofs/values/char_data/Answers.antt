@@ -1,7 +1,7 @@
 -- `xml_parts::values::char_data` meets its contract: a run of bytes that need no look, then the byte that does. The loop's invariant: the character data from i on ends
 -- where that from the start on ends. The measure is how much is left. Assumes nothing.
 use native.Mathlib.Omega.{arith}
-use Prim.Native.Nat.{◌+◌, ◌-◌}
+use Prim.Native.Nat.{◌+◌}
 use mathlib.Core.Path.{sym, ap, ◌∙◌}
 use native.Mathlib.Numerals.{add-one}
 use lib.ListN.{drop}

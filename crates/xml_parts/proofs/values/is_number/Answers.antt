@@ -1,7 +1,7 @@
 -- `xml_parts::values::is_number` meets its contract. The loop's invariant: the value so far, with what is left from i on, answers for the whole. A value past the last
 -- code point stays past it. The measure is how much is left. Assumes nothing.
 use native.Mathlib.Omega.{arith}
-use Prim.Native.Nat.{suc, ◌-◌, ◌≤◌, ◌<◌, ◌*◌, ◌+◌}
+use Prim.Native.Nat.{suc, ◌≤◌, ◌<◌, ◌*◌, ◌+◌}
 use mathlib.Core.Path.{refl, sym, ◌∙◌}
 use native.Mathlib.Numerals.{add-one}
 use lib.ListN.{get_or, drop}

@@ -1,7 +1,7 @@
 -- `xml_parts::values::is_value` meets its contract: a run of bytes that need no look, then the byte that does. The loop's invariant: the part from i on may
 -- be written where the whole part may. The measure is how much is left. Assumes nothing.
 use native.Mathlib.Omega.{arith}
-use Prim.Native.Nat.{◌+◌, ◌-◌}
+use Prim.Native.Nat.{◌+◌}
 use mathlib.Core.Path.{sym, ◌∙◌}
 use native.Mathlib.Numerals.{add-one}
 use lib.ListN.{drop}

@@ -1,7 +1,7 @@
 -- `xml_parts::values::skip_lines` meets its contract: what is passed over is of the class. The loop's invariant: the run from i on ends where the run from the
 -- start on ends. The measure is how much is left. Assumes nothing.
 use native.Mathlib.Omega.{arith}
-use Prim.Native.Nat.{◌-◌, ◌<◌}
+use Prim.Native.Nat.{◌<◌}
 use mathlib.Core.Path.{◌≡◌, sym, ap, ◌∙◌}
 use mathlib.Core.Bool.{true}
 use mathlib.Core.Logic.{⊎_elim}

@@ -1,5 +1,5 @@
 -- `xml_text::tags::is_among` meets its contract. The loop's invariant: the names below k answer for all. The measure is k. Assumes nothing.
-use Prim.Native.Nat.{◌-◌, ◌≤◌}
+use Prim.Native.Nat.{◌≤◌}
 use mathlib.Core.Path.{◌≡◌}
 use lib.ListN.{drop}
 use Rattle.xml.specs.Steps.{name_of}

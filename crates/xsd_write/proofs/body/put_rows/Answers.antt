@@ -1,7 +1,7 @@
 -- `xsd_write::body::put_rows` meets its contract. The invariant: all rows are put where those from the row at hand on are, behind the last head (`Going`). The
 -- measure is how many rows are left. Assumes nothing.
 use native.Mathlib.Omega.{arith}
-use Prim.Native.Nat.{◌+◌, ◌-◌}
+use Prim.Native.Nat.{◌+◌}
 use Rattle.xsd_types.specs.Places.{rows_from}
 use Rattle.xsd_written.specs.ByRows.{rows_text}
 use Rattle.xsd_write.specs.Texts.{row_of, row_text}
