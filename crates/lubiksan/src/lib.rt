@@ -9,6 +9,6 @@ mod leaves;
 mod lowering;
 mod reading;
 mod reducing;
-mod tape;
+mod text_tape;
 mod version;
 mod writing;

@@ -43,6 +43,11 @@ records-alike : (lent : Lengths) (n : ℕ) (s : State) (js js' : List Judged) �
     → read_records lent n s js ≡ read_records lent n s js'
 unfolding read_records
 records-alike lent n s [] [] AlikeRecords.end m = refl
+records-alike lent n s [] (_ ∷ js') w m = elim w [ ]
+records-alike lent n s (event e ∷ js) [] w m = elim w [ ]
+records-alike lent n s (event e ∷ js) (refused r' ∷ js') w m = elim w [ ]
+records-alike lent n s (refused r ∷ js) [] w m = elim w [ ]
+records-alike lent n s (refused r ∷ js) (event e' ∷ js') w m = elim w [ ]
 records-alike lent n s (event e ∷ js) (event e' ∷ js') (AlikeRecords.alike h w) m =
     outcome-cases (step lent s e)
     (λ x q. read_ok lent n s x e js q ∙ records-alike lent (suc n) x js js' w (rw (read_ok lent n s x e js q) at m) ∙ sym (read_ok lent n s x e' js' (sym (step-alike lent s h) ∙ q)))

@@ -6,7 +6,7 @@ ghost use Rattle.xsd_actions.specs.Answers.{decision};
 ghost use Rattle.xsd_actions.specs.Decided.{content_start, extended, start_at_two, start_in_complex_type, any_content, empty_in_complex_type};
 ghost use Rattle.tape.specs.Lookup.{value_at, seen_at};
 
-use crate::rows::{attribute_inside, base_set, content_alone, element_inside};
+use crate::shared::{attribute_inside, base_set, content_alone, element_inside};
 use crate::values::{Found, place_found};
 use tape::attributes::SeenTag;
 use xsd_actions::{Decision, NewContent};

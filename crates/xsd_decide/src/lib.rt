@@ -1,9 +1,9 @@
 // What an event decides, by the mode and the tag of the open head: 000, `on_start`, `on_empty` and `on_end`. `values`: what a tag says;
-// `rows`: decisions that several handlers share; `simple`, `complex`: inside a simple, a complex type.
+// `shared`: decisions that several handlers share; `simple`, `complex`: inside a simple, a complex type.
 #![tactic(auto)]
 
 pub mod complex;
-pub mod rows;
+pub mod shared;
 pub mod simple;
 pub mod values;
 
@@ -16,7 +16,7 @@ ghost use Rattle.tape.specs.Lookup.{seen_at};
 ghost use Rattle.xsd_decide.specs.Schema.{opened_as, empty_in_schema};
 
 use crate::complex::{empty_in_complex_type, start_in_complex_type};
-use crate::rows::{content_alone, top_element};
+use crate::shared::{content_alone, top_element};
 use crate::simple::{empty_in_simple_type, start_in_simple_type};
 use crate::values::{Found, place_found, value_place};
 use sheet::refusal::Refusal;

@@ -8,7 +8,7 @@ ghost use Rattle.xsd_actions.specs.Decided.{start_in_simple_type, empty_in_simpl
 ghost use Rattle.tape.specs.Lookup.{seen_at};
 ghost use Rattle.xsd_decide.specs.Facets.{text_added, length_added, digits_added, facet_read};
 
-use crate::rows::base_set;
+use crate::shared::base_set;
 use crate::values::value_place;
 use number::counts::{Characters, Digits, character_count, digit_count};
 use sheet::refusal::Refusal;

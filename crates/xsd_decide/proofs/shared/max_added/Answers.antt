@@ -1,11 +1,11 @@
--- `xsd_decide::rows::max_added` meets its contract: an upper bound gives tag 17, none gives tag 18. Assumes nothing.
+-- `xsd_decide::shared::max_added` meets its contract: an upper bound gives tag 17, none gives tag 18. Assumes nothing.
 use mathlib.Core.Path.{sym, ap, ◌∙◌}
 use Rattle.xsd_types.specs.Rows.{occurs_row}
 use Rattle.xsd_parser.specs.Handlers.{◌and_then◌}
 use Rattle.xsd_actions.specs.Answers.{text_at_mark, decision}
 use Rattle.xsd_decide.specs.Reads.{max_answer}
 use Rattle.xsd_decide.specs.Rows.{typed_row, max_added}
-use Rattle.xsd_decide.proofs.rows.max_added.Goals as goal
+use Rattle.xsd_decide.proofs.shared.max_added.Goals as goal
 
 pub returns-in-Bounded : goal.returns-in-Bounded
 unfolding max_added max_answer ◌and_then◌ occurs_row typed_row

@@ -1,4 +1,4 @@
--- `xsd_decide::rows::attribute_inside` meets its contract: the flag is tested first, then name and type, then use. Assumes nothing.
+-- `xsd_decide::shared::attribute_inside` meets its contract: the flag is tested first, then name and type, then use. Assumes nothing.
 use mathlib.Core.Path.{refl, sym, ap, ◌∙◌}
 use Rattle.sheet.specs.Rows.{bit}
 use Rattle.xsd_parser.specs.Handlers.{ok, is_required}
@@ -9,7 +9,7 @@ use Rattle.xsd_decide.specs.Reads.{typed_values}
 use Rattle.xsd_decide.specs.Rows.{typed_row}
 use Rattle.xsd_decide.proofs.Laws.Typed.{for_both, typed-told}
 use Rattle.xsd_decide.proofs.Laws.Attribute.{attribute-off, attribute-on}
-use Rattle.xsd_decide.proofs.rows.attribute_inside.Goals as goal
+use Rattle.xsd_decide.proofs.shared.attribute_inside.Goals as goal
 
 pub returns-then-not-flag : goal.returns-then-not-flag
 unfolding decision seen_at

@@ -1,4 +1,4 @@
--- `xsd_decide::rows::named_row` meets its contract: a row is added where name and type are found, else nothing is done. Assumes nothing.
+-- `xsd_decide::shared::named_row` meets its contract: a row is added where name and type are found, else nothing is done. Assumes nothing.
 use mathlib.Core.Path.{sym, ap, ◌∙◌}
 use Rattle.xsd_parser.specs.Handlers.{ok}
 use Rattle.xsd_actions.specs.Answers.{decision}
@@ -7,7 +7,7 @@ use Rattle.tape.specs.Lookup.{seen_at}
 use Rattle.xsd_decide.specs.Reads.{typed_values}
 use Rattle.xsd_decide.specs.Rows.{typed_row}
 use Rattle.xsd_decide.proofs.Laws.Typed.{for_both, typed-told}
-use Rattle.xsd_decide.proofs.rows.named_row.Goals as goal
+use Rattle.xsd_decide.proofs.shared.named_row.Goals as goal
 
 pub returns-in-Both : goal.returns-in-Both
 unfolding named typed_values for_both seen_at

@@ -1,10 +1,10 @@
--- `xsd_decide::rows::occurs_added` meets its contract: where name or type is absent no number is read. Assumes nothing.
+-- `xsd_decide::shared::occurs_added` meets its contract: where name or type is absent no number is read. Assumes nothing.
 use mathlib.Core.Path.{sym, ◌∙◌}
 use Rattle.xsd_actions.specs.Answers.{decision}
 use Rattle.tape.specs.Lookup.{seen_at}
 use Rattle.xsd_decide.specs.Reads.{typed_values}
 use Rattle.xsd_decide.proofs.Laws.Typed.{for_both, occurs-told}
-use Rattle.xsd_decide.proofs.rows.occurs_added.Goals as goal
+use Rattle.xsd_decide.proofs.shared.occurs_added.Goals as goal
 
 pub returns-in-Both : goal.returns-in-Both
 unfolding typed_values for_both seen_at

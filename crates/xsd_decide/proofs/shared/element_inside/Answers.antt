@@ -1,4 +1,4 @@
--- `xsd_decide::rows::element_inside` meets its contract: the head's tag tells a sequence from a choice. Assumes nothing.
+-- `xsd_decide::shared::element_inside` meets its contract: the head's tag tells a sequence from a choice. Assumes nothing.
 use mathlib.Core.Path.{refl}
 use borrow.Author.Tests.{eq-eqb, ne_eqb}
 use Rattle.xsd_types.specs.Rows.{variant_row}
@@ -6,7 +6,7 @@ use Rattle.xsd_actions.specs.Answers.{decision}
 use Rattle.xsd_actions.specs.Decided.{element_inside}
 use Rattle.xsd_decide.specs.Rows.{typed_row}
 use Rattle.xsd_decide.proofs.Laws.Chains.{if-true, if-false, whole}
-use Rattle.xsd_decide.proofs.rows.element_inside.Goals as goal
+use Rattle.xsd_decide.proofs.shared.element_inside.Goals as goal
 
 pub returns-then-head-eq-SEQUENCE : goal.returns-then-head-eq-SEQUENCE
 unfolding element_inside

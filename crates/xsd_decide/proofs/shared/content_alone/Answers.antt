@@ -1,7 +1,7 @@
--- `xsd_decide::rows::content_alone` meets its contract: no text follows, whatever the place. Assumes nothing.
+-- `xsd_decide::shared::content_alone` meets its contract: no text follows, whatever the place. Assumes nothing.
 use mathlib.Core.Path.{refl}
 use Rattle.xsd_actions.specs.Answers.{decision, following}
-use Rattle.xsd_decide.proofs.rows.content_alone.Goals as goal
+use Rattle.xsd_decide.proofs.shared.content_alone.Goals as goal
 
 pub returns : goal.returns
 unfolding decision following

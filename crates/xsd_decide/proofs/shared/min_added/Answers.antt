@@ -1,4 +1,4 @@
--- `xsd_decide::rows::min_added` meets its contract: a lower bound that is no number refuses before the upper is read. Assumes nothing.
+-- `xsd_decide::shared::min_added` meets its contract: a lower bound that is no number refuses before the upper is read. Assumes nothing.
 use mathlib.Core.Path.{sym, ap, ◌∙◌}
 use Rattle.number.specs.Number.{Parsed}
 use Rattle.number.specs.Answers.{of_u32}
@@ -7,7 +7,7 @@ use Rattle.xsd_actions.specs.Answers.{text_at_mark, decision}
 use Rattle.xsd_actions.specs.Decided.{occurs_added}
 use Rattle.tape.specs.Lookup.{seen_at}
 use Rattle.xsd_decide.specs.Rows.{max_added}
-use Rattle.xsd_decide.proofs.rows.min_added.Goals as goal
+use Rattle.xsd_decide.proofs.shared.min_added.Goals as goal
 
 pub returns-in-Value : goal.returns-in-Value
 unfolding occurs_added max_added ◌and_then◌ on_parsed
