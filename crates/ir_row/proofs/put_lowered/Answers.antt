@@ -1,13 +1,16 @@
 -- `ir_row::put_lowered` meets its contract: each arm adds the row that lowering makes of its tag, by what the call ensures. Assumes nothing.
 use mathlib.Core.Path.{refl}
 use mathlib.Core.Logic.{inl, inr}
+use native.Mathlib.Omega.{arith}
 use Rattle.ir_row.proofs.Laws.Rest.{not-count, lowered-read, characters-read, digits-read}
 use Rattle.ir_row.proofs.put_lowered.Goals as goal
 
 pub put_spelled-requires : goal.put_spelled-requires
 put_spelled-requires c =
-    let rest = c.in_default.in_default-own.rest in
-    (c.requires.0, not-count rest.0.0.0.1 rest.0.0.1 rest.0.1 rest.1)
+    record {
+      room = c.requires.0;
+      tag = not-count (λ e. omega arith) (λ e. omega arith) (λ e. omega arith) (λ e. omega arith);
+    }
 
 pub returns-in-6 : goal.returns-in-6
 returns-in-6 c =

@@ -1,28 +1,25 @@
 -- `ir_write::put_children` meets its contract. The invariant: the children from the first place on are added where those from the place at hand on are (`Onward`). Assumes nothing.
-use Prim.Native.Nat.{◌+◌, ◌-◌}
+use Prim.Native.Nat.{ℕ, ◌+◌, ◌*◌, ◌<◌}
 use mathlib.Core.Path.{◌≡◌, refl, sym, ap, ◌∙◌}
-use mathlib.Core.List.{◌++◌}
+use mathlib.Core.Bool.{Bool, false}
+use mathlib.Core.List.{List, ◌++◌}
+use lib.ListN.{get_or}
 use borrow.Author.Rules.{rules}
 use Rattle.ir_append.proofs.Laws.Grows.{grown-of, short-of}
 use Rattle.xsd_types.specs.Good.{is_head}
 use Rattle.xsd_types.specs.Places.{row_at, rows_from}
 use Rattle.ir_rows.specs.Lowered.{lowered_row, child_rows}
+use Rattle.ir_write.specs.declared.Children.{Children}
 use Rattle.ir_write.proofs.Laws.Onward.{onward-start, onward-step, onward-end, onward-full}
 use Rattle.ir_write.proofs.Laws.Rest.{children-end, children-head, children-on}
-use Rattle.ir_write.proofs.put_children.Tie as tie
-use Rattle.ir_write.proofs.put_children.Lts as lts
-use Rattle.ir_write.proofs.put_children.Reads as reads
 use Rattle.ir_write.proofs.put_children.Goals as goal
 
 -- the rest is the row at hand, which is no head, and what is behind it
-on : (c : lts.Else2 tie.the-claims reads.Pre reads.Post goal.the-invariant-loop-place goal.the-decreases-loop-place) → let a = c.args in
-    child_rows a.children.code_enum (rows_from a.rows.now a.names.now c.loop-place.place a.children.end)
-    ≡ lowered_row a.children.code_enum (row_at a.rows.now a.names.now c.loop-place.place)
-    ++ child_rows a.children.code_enum (rows_from a.rows.now a.names.now (c.loop-place.place + 1) a.children.end)
-on c =
-    let a = c.args in
-    children-on a.rows.now a.names.now a.children.code_enum c.loop-place.place a.children.end c.loop-place-test.true
-    (sym (c.is_head.ensures ∙ ap is_head c.row_tag.ensures) ∙ c.if-is_head.false)
+on : (rows names : List ℕ) (place : ℕ) (children : Children) {tag : ℕ} {head : Bool} → place < children.end → head ≡ is_head tag → tag ≡ get_or rows (10 * place) 0
+    → head ≡ false → child_rows children.code_enum (rows_from rows names place children.end)
+    ≡ lowered_row children.code_enum (row_at rows names place) ++ child_rows children.code_enum (rows_from rows names (place + 1) children.end)
+on rows names place children inside e t none =
+    children-on rows names children.code_enum place children.end inside (sym (e ∙ ap is_head t) ∙ none)
 
 pub loop-place-init : goal.loop-place-init
 loop-place-init c = (onward-start _ c.requires.0, refl, refl)
@@ -42,14 +39,14 @@ returns-in_default c =
     let a = c.args in
     onward-full (lowered_row a.children.code_enum (row_at a.rows.now a.names.now c.loop-place.place))
     (child_rows a.children.code_enum (rows_from a.rows.now a.names.now (c.loop-place.place + 1) a.children.end))
-    c.loop-place.invariant.0 (on c.before.before.before.before.before.before.before.before.before.before) (short-of _ _ _ _ _ _ _ c.put_lowered-grown.ensures c.in_default.is)
+    c.loop-place.invariant.0 (on a.rows.now a.names.now c.loop-place.place a.children c.loop-place-test.true c.is_head.ensures c.row_tag.ensures c.if-is_head.false) (short-of _ _ _ _ _ _ _ c.put_lowered-grown.ensures c.in_default.is)
 
 pub loop-place-preserved : goal.loop-place-preserved
 loop-place-preserved c =
     let a = c.args in (
       onward-step (lowered_row a.children.code_enum (row_at a.rows.now a.names.now c.loop-place.place))
           (child_rows a.children.code_enum (rows_from a.rows.now a.names.now (c.loop-place.place + 1) a.children.end))
-          c.loop-place.invariant.0 (on c.before.before.before.before.before.before.before.before.before.before.before) (grown-of _ _ _ _ _ _ _ c.put_lowered-grown.ensures c.in-To.is),
+          c.loop-place.invariant.0 (on a.rows.now a.names.now c.loop-place.place a.children c.loop-place-test.true c.is_head.ensures c.row_tag.ensures c.if-is_head.false) (grown-of _ _ _ _ _ _ _ c.put_lowered-grown.ensures c.in-To.is),
       search rules,
       search rules,
     )

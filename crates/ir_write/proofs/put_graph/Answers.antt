@@ -37,7 +37,10 @@ returns-in_default-roots c =
 pub put_types-requires : goal.put_types-requires
 put_types-requires c =
     let room = room_after c.requires.room.0 (grown-of _ _ _ _ _ _ _ c.put_lowered-namespace.ensures c.in-To.is) in
-    ((room_after room (grown-of _ _ _ _ _ _ _ c.put_roots-roots.ensures c.in-To-roots.is), search rules), c.requires.places)
+    record {
+      room = (room_after room (grown-of _ _ _ _ _ _ _ c.put_roots-roots.ensures c.in-To-roots.is), search rules);
+      places = c.requires.places;
+    }
 
 pub returns : goal.returns
 returns c =
@@ -49,4 +52,4 @@ returns c =
     (grown-of _ _ _ _ _ _ _ c.put_lowered-namespace.ensures c.in-To.is) in
     let o₂ = onward-step rs ts o refl (grown-of _ _ _ _ _ _ _ c.put_roots-roots.ensures c.in-To-roots.is) in
     let last = c.put_types in
-    o₂.on last.new.0 last.new.1.0 last.result last.ensures
+    o₂.on last.new.graph_rows last.new.graph_names last.result last.ensures

@@ -28,4 +28,4 @@ returns c =
     (onward-start _ c.requires.0) (type-on a.rows.now a.names.now e a.place a.end c.requires.2 (c.is_code_enum-code_enum.ensures a.names.now))
     (grown-of _ _ _ _ _ _ _ c.put_lowered-head.ensures c.in-To.is) in
     let last = c.put_children in
-    o.on last.new.0 last.new.1.0 last.result last.ensures
+    o.on last.new.graph_rows last.new.graph_names last.result last.ensures
