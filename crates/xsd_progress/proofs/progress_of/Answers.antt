@@ -24,5 +24,5 @@ returns c =
     let rows = c.args.rows.now in
     record {
       numbers = progress-read rows (as_row0 c.row0_at-z.result) c.open_head-head.result c.row0_at-z.ensures c.open_head-head.ensures;
-      words = words-each rows (λ i. (c.shared_slice_known-1.given i).fits);
+      words = words-each rows (λ i. (c.type_inv.rows i).fits);
     }

@@ -31,7 +31,7 @@ use Rattle.xsd_progress.specs.Change.{EventAfter}
 use Rattle.xsd_act.specs.Ready.{rows_after_all}
 use Rattle.xsd_act.specs.Needs.{Needed}
 use Rattle.xsd_act.specs.Acts.{Done}
-use Rattle.xsd_act.proofs.Laws.Goals.{needed-keep}
+use Rattle.xsd_act.proofs.Laws.Needs.{needed-keep}
 use Rattle.xsd_act.proofs.Laws.Done.{done-keep}
 use Rattle.xsd_act.proofs.Laws.Room.{counted-fits}
 use Rattle.xsd_progress.specs.declared.Progress.{Progress}

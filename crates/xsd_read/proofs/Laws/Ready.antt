@@ -19,7 +19,7 @@ use Rattle.xsd_actions.specs.Actions.{Action, Fitting, mode_of}
 use Rattle.xsd_actions.specs.Answers.{decision}
 use Rattle.xsd_act.specs.Ready.{Ready, ReadyFor}
 use Rattle.xsd_act.specs.Needs.{Small}
-use Rattle.xsd_act.proofs.Laws.Goals.{ok-back}
+use Rattle.xsd_act.proofs.Laws.Needs.{ok-back}
 use Rattle.xsd_progress.specs.declared.open_tags.Arrival.{Arrival}
 use Rattle.xsd_progress.proofs.Laws.Pairs.{paired-rows}
 use Rattle.xsd_progress.proofs.Laws.Bounds.{proper-events, proper-nesting}

@@ -1,53 +1,36 @@
 -- `xsd_read::read_counted` meets its contract: what was counted before and what is counted behind the old items is the count of the state reached. Assumes nothing.
-use Prim.Native.Nat.{◌+◌, ◌≤◌}
+use Prim.Native.Nat.{ℕ, ◌+◌}
 use mathlib.Core.Path.{◌≡◌, ◌∙◌}
 use mathlib.Core.Bool.{true}
+use mathlib.Core.List.{List}
 use native.Mathlib.Omega.{arith}
-use lib.ListN.{length, length-set}
+use lib.ListN.{length, set, length-set}
+use Rattle.text.specs.Text.{Text}
+use Rattle.sheet.specs.Rows.{ten}
+use Rattle.sheet.specs.Lengths.{Answer}
 use Rattle.sheet.specs.Calls.{sheet}
-use Rattle.sheet.specs.Form.{words}
+use Rattle.sheet.specs.Form.{words, rows_used_in}
+use Rattle.xsd_types.specs.Row0.{row0_from}
 use Rattle.xsd_types.specs.Rows.{items_rows}
 use Rattle.xsd_types.specs.Count.{state_of}
+use Rattle.xsd_good.specs.End.{finished_end}
 use Rattle.xsd_parser.specs.Read.{read_state}
 use Rattle.xsd_progress.specs.Progress.{lent_to}
+use Rattle.xsd_read.specs.Good.{GoodRead, CountedSheet}
 use Rattle.xsd_read.proofs.Laws.Counted.{counted-used, taken_out, place-before, length-after, used-after, place_after, room_after, count_small, read-through-count}
-use Rattle.xsd_read.proofs.read_counted.Tie as tie
-use Rattle.xsd_read.proofs.read_counted.Lts as lts
-use Rattle.xsd_read.proofs.read_counted.Reads as reads
 use Rattle.xsd_read.proofs.read_counted.Goals as goal
 
--- the function's entry, and where the finished items ended then, from behind the reading
-abbrev at_entry : lts.After-read_good tie.the-claims reads.Pre reads.Post → lts.Start tie.the-claims reads.Pre reads.Post
-at_entry r = r.before.before.before.before.before.before.before.before.before.before.before
+-- where the finished items ended before the reading, and where they end behind it
+from_is : {rows names : List ℕ} {text : Text} {p : ℕ} (q : CountedSheet rows names text) → words rows ≡ true
+    → p ≡ finished_end rows (row0_from (ten rows)).context (rows_used_in (ten rows))
+    → p ≡ 2 + length (items_rows (state_of (sheet rows names)).reader.schema.items)
+from_is q w place = place ∙ place-before q w
 
-abbrev place_at : lts.After-read_good tie.the-claims reads.Pre reads.Post → lts.After-finished_place tie.the-claims reads.Pre reads.Post
-place_at r = r.before.before.before
-
-words-before : (r : lts.After-read_good tie.the-claims reads.Pre reads.Post) → words (at_entry r).args.rows.now ≡ true
-words-before r = (place_at r).finished_place.ensures.1
-
-from_is : (r : lts.After-read_good tie.the-claims reads.Pre reads.Post) → let a = (at_entry r).args in (place_at r).finished_place.result ≡ 2 + length (items_rows (state_of (sheet a.rows.now a.names.now)).reader.schema.items)
-from_is r = (place_at r).finished_place.ensures.0 ∙ place-before (at_entry r).requires (words-before r)
-
--- the reading, from behind the second place
-abbrev read_at : lts.After-finished_place2 tie.the-claims reads.Pre reads.Post → lts.After-read_good tie.the-claims reads.Pre reads.Post
-read_at p = p.before.before.before.before.before.before
-
-end_is : (p : lts.After-finished_place2 tie.the-claims reads.Pre reads.Post) → let a = (at_entry (read_at p)).args in
-    p.finished-place2.result ≡ 2 + length
-    (items_rows (read_state (lent_to a.rows.now a.names.now) (state_of (sheet a.rows.now a.names.now)) a.text.now
-    a.marks.now).state.reader.schema.items)
-end_is p =
-    let r = read_at p in
-    p.finished-place2.ensures.0 ∙ place_after (at_entry r).pre (words-before r) r.read_good.ensures p.finished-place2.ensures.1
-
-few : (c : lts.After-count_refused tie.the-claims reads.Pre reads.Post)
-    → let r = read_at c.before.before.before in r.before.before.before.before.before.count_in.result + c.count_refused-more.result ≤ length
-    (at_entry r).args.rows.now
-few c =
-    let r = read_at c.before.before.before in
-    count_small (at_entry r).pre (words-before r) r.read_good.ensures c.finished_place-end.ensures.words (from_is r) (end_is c.before.before.before)
-    r.before.before.before.before.before.count_in.ensures c.count_refused-more.ensures
+end_is : {rows names rows' names' : List ℕ} {text : Text} {marks : List ℕ} {a : Answer} {p : ℕ} (q : CountedSheet rows names text) → words rows ≡ true
+    → GoodRead (set rows 17 0) names text marks a (sheet rows' names') → words rows' ≡ true
+    → p ≡ finished_end rows' (row0_from (ten rows')).context (rows_used_in (ten rows'))
+    → p ≡ 2 + length (items_rows (read_state (lent_to rows names) (state_of (sheet rows names)) text marks).state.reader.schema.items)
+end_is q w read w' place = place ∙ place_after q w read w'
 
 pub count_in-before-requires : goal.count_in-before-requires
 count_in-before-requires c = (counted-used c.requires).0
@@ -64,32 +47,51 @@ pub read_good-answer-requires : goal.read_good-answer-requires
 read_good-answer-requires c = taken_out c.requires
 
 pub finished_place-end-requires : goal.finished_place-end-requires
-finished_place-end-requires c =
-    used-after (at_entry c.before.before.before.before.before.before).requires (words-before c.before.before.before.before.before.before) c.read_good-answer.ensures
+finished_place-end-requires c = used-after c.requires c.finished_place-from.ensures.words c.read_good-answer.ensures
 
 pub count_refused-more-requires : goal.count_refused-more-requires
 count_refused-more-requires c =
-    let r = read_at c.before.before.before in
-    room_after (at_entry r).pre (words-before r) r.read_good.ensures c.finished_place-end.ensures.words (from_is r) (end_is c.before.before.before)
+    let q = c.requires in
+    let from = c.finished_place-from.ensures in
+    let end = c.finished_place-end.ensures in
+    let read = c.read_good-answer.ensures in
+    room_after q from.words read end.words (from_is q from.words from.place) (end_is q from.words read end.words end.place)
 
 pub overflow_add-rows : goal.overflow_add-rows
-overflow_add-rows c = omega (arith, few c.before, (at_entry (read_at c.before.before.before.before)).requires.lent.few_rows)
+overflow_add-rows c =
+    let q = c.requires in
+    let from = c.finished_place-from.ensures in
+    let end = c.finished_place-end.ensures in
+    let read = c.read_good-answer.ensures in
+    omega (
+      arith,
+      count_small q from.words read end.words (from_is q from.words from.place) (end_is q from.words read end.words end.place) c.count_in-before.ensures c.count_refused-more.ensures,
+      q.lent.few_rows,
+    )
 
 pub overflow_cast-rows : goal.overflow_cast-rows
-overflow_cast-rows c = omega (arith, few c.before, (at_entry (read_at c.before.before.before.before)).requires.lent.few_rows)
+overflow_cast-rows c =
+    let q = c.requires in
+    let from = c.finished_place-from.ensures in
+    let end = c.finished_place-end.ensures in
+    let read = c.read_good-answer.ensures in
+    omega (
+      arith,
+      count_small q from.words read end.words (from_is q from.words from.place) (end_is q from.words read end.words end.place) c.count_in-before.ensures c.count_refused-more.ensures,
+      q.lent.few_rows,
+    )
 
 pub bounds-rows-17-2 : goal.bounds-rows-17-2
-bounds-rows-17-2 c =
-    let r = read_at c.before.before.before.before in
-    omega (arith, (counted-used (at_entry r).pre).0, length-after (at_entry r).pre (words-before r) r.read_good.ensures)
+bounds-rows-17-2 c = omega (arith, (counted-used c.requires).0, length-after c.requires c.finished_place-from.ensures.words c.read_good-answer.ensures)
 
 pub shape_of-rows : goal.shape_of-rows
-shape_of-rows c =
-    let r = read_at c.before.before.before.before in
-    simp length-set (length-after (at_entry r).pre (words-before r) r.read_good.ensures)
+shape_of-rows c = simp length-set (length-after c.requires c.finished_place-from.ensures.words c.read_good-answer.ensures)
 
 pub returns : goal.returns
 returns c =
-    let r = read_at c.before.before.before.before in
-    read-through-count (at_entry r).pre (words-before r) r.read_good.ensures c.finished_place-end.ensures.words (from_is r) (end_is c.before.before.before.before)
-    r.before.before.before.before.before.count_in.ensures c.count_refused-more.ensures
+    let q = c.requires in
+    let from = c.finished_place-from.ensures in
+    let end = c.finished_place-end.ensures in
+    let read = c.read_good-answer.ensures in
+    read-through-count q from.words read end.words (from_is q from.words from.place) (end_is q from.words read end.words end.place) c.count_in-before.ensures
+    c.count_refused-more.ensures

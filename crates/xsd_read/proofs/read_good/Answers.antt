@@ -10,12 +10,12 @@ progress_of-from-requires c = good-used _ c.args.names.now c.requires.is_good
 pub read_records-to-requires : goal.read_records-to-requires
 read_records-to-requires c =
     let from = c.progress_of-from.ensures in
-    standing-first c.requires from.1 from.0
+    standing-first c.requires from.words from.numbers
 
 pub row0_of-row0-requires : goal.row0_of-row0-requires
 row0_of-row0-requires c =
     let from = c.progress_of-from.ensures in
-    reached-small c.requires from.1 from.0
+    reached-small c.requires from.words from.numbers
     c.read_records-to.ensures
 
 pub put_row0-requires : goal.put_row0-requires
@@ -26,5 +26,5 @@ pub returns : goal.returns
 returns c =
     let from = c.progress_of-from.ensures in
     good-read c.requires
-    from.1 from.0 c.read_records-to.ensures
+    from.words from.numbers c.read_records-to.ensures
     c.row0_of-row0.ensures c.put_row0.ensures

@@ -2,10 +2,10 @@
 -- how many rows are left. Assumes nothing.
 use Prim.Native.Nat.{◌-◌}
 use mathlib.Core.Path.{sym, ◌∙◌}
-use mathlib.Core.Logic.{⊎_elim}
 use native.Mathlib.Omega.{arith}
 use Rattle.xsd_refused.proofs.Laws.Count.{count-end, count_at, count-not-at, count-few}
 use Rattle.xsd_refused.proofs.count_refused.Goals as goal
+use Rattle.xsd_refused.proofs.count_refused.Goals.{then-is_refused, else-is_refused}
 
 pub loop-p-init : goal.loop-p-init
 loop-p-init c = (omega arith, omega arith, omega arith)
@@ -24,8 +24,10 @@ loop-p-preserved c =
     let passed = count-not-at args.rows.now args.names.now c.loop-p.p args.end (omega arith) in (
       omega arith,
       omega arith,
-      ⊎_elim (λ w. omega (arith, c.loop-p.invariant, counted (sym told ∙ w.if-is_refused.true), w.n-is))
-          (λ w. omega (arith, c.loop-p.invariant, passed (sym told ∙ w.if-is_refused.false), w.n-is)) c.if-is_refused.branch-raw,
+      elim c.if-is_refused.branch [
+        then-is_refused w ↦ omega (arith, c.loop-p.invariant, counted (sym told ∙ w.if-is_refused.true), w.n-is)
+      | else-is_refused w ↦ omega (arith, c.loop-p.invariant, passed (sym told ∙ w.if-is_refused.false), w.n-is)
+      ],
     )
 
 pub returns : goal.returns

@@ -11,10 +11,10 @@ pub returns-then-context-ge-SIMPLE_TYPE : goal.returns-then-context-ge-SIMPLE_TY
 unfolding finished_end
 returns-then-context-ge-SIMPLE_TYPE c =
     let t = le-leb 2 c.args.context c.if-context-ge-SIMPLE_TYPE.true in
-    record { place = rw t c.open_head.ensures; words = words-each _ (λ i. (c.shared_slice_known-1.given i).fits) }
+    record { place = rw t c.open_head.ensures; words = words-each _ (λ i. (c.type_inv.rows i).fits) }
 
 pub returns-else-context-ge-SIMPLE_TYPE : goal.returns-else-context-ge-SIMPLE_TYPE
 unfolding finished_end
 returns-else-context-ge-SIMPLE_TYPE c =
     let t : leb 2 c.args.context ≡ false = lt-leb _ _ c.if-context-ge-SIMPLE_TYPE.false in
-    record { place = rw t; words = words-each _ (λ i. (c.shared_slice_known-1.given i).fits) }
+    record { place = rw t; words = words-each _ (λ i. (c.type_inv.rows i).fits) }

@@ -14,7 +14,7 @@ pub returns-in-Keep : goal.returns-in-Keep
 returns-in-Keep c = stepped_kept c.requires c.in-Keep.is c.stands_after.ensures
 
 pub needed-need-requires : goal.needed-need-requires
-needed-need-requires c = let q = c.requires in (ready_for q, due-small q)
+needed-need-requires c = let q = c.requires in record { ready = ready_for q; small = due-small q }
 
 pub has_room-requires : goal.has_room-requires
 has_room-requires c = omega (arith, c.needed-need.ensures.few)
@@ -24,11 +24,11 @@ returns-then-not-has_room c = stepped-refused c.needed-need.ensures (sym c.has_r
 
 pub act-used-requires : goal.act-used-requires
 act-used-requires c =
-    let q = c.requires in (
-      act-room c.needed-need.ensures (ready_at q.due.at) q.due.decided q.due.acted.fitting
-          (sym c.has_room.ensures ∙ c.if-not-has_room.false),
-      q.lent.few_names,
-    )
+    let q = c.requires in record {
+      room = act-room c.needed-need.ensures (ready_at q.due.at) q.due.decided q.due.acted.fitting
+          (sym c.has_room.ensures ∙ c.if-not-has_room.false);
+      names = q.lent.few_names;
+    }
 
 pub stands_after-requires-2 : goal.stands_after-requires-2
 stands_after-requires-2 c = due-counters c.requires

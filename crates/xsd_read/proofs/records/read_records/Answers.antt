@@ -36,7 +36,7 @@ returns-in-Bad c = rw c.stopped_at.ensures
 pub on_event-requires : goal.on_event-requires
 on_event-requires c =
     let f = followed _ c.record_at.ensures c.in-Event.is in
-    (event-room c.requires c.loop-refusal.invariant f, f.inside)
+    record { event_room = event-room c.requires c.loop-refusal.invariant f; tag_inside = f.inside }
 
 pub shape_of-rows-in-Refused : goal.shape_of-rows-in-Refused
 shape_of-rows-in-Refused c = c.on_event.ensures.rows_length
@@ -63,7 +63,7 @@ overflow_add-place c =
       w.counted,
       f.later,
       f.within,
-      c.well-formed,
+      c.well_formed,
     )
 
 pub loop-refusal-smaller : goal.loop-refusal-smaller

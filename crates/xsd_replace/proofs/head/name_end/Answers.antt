@@ -6,7 +6,7 @@ use Rattle.xsd_replace.proofs.head.name_end.Goals as goal
 
 pub overflow_add-result : goal.overflow_add-result
 overflow_add-result c =
-    let known = c.shared_slice_known-1.given in
+    let known = c.type_inv.rows in
     let i = 10 * c.args.place + 1 in
     omega (arith, known i, known (i + 1), c.pair_at-first.ensures)
 
