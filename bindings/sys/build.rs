@@ -2,15 +2,14 @@
 //!
 //! 1. in the folder that `LUBIKSAN_LIB_DIR` names, from the folder above this one on where it is no full path;
 //! 2. in `../../lib`, as in a delivery;
-//! 3. in `../../target/staticlib` of the repository, made anew by `rt staticlib lubiksan` where it is missing or older
-//!    than the sources.
+//! 3. in `../../target/staticlib` of the repository, made anew by `.ci/archive` where it is missing or was made of other
+//!    sources.
 
 use std::env;
 use std::error::Error;
 use std::fs;
 use std::path::{Path, PathBuf};
 use std::process::Command;
-use std::time::SystemTime;
 
 const ARCHIVE: &str = "liblubiksan.a";
 
@@ -45,55 +44,39 @@ fn folder_of_archive(manifest: &Path) -> Result<PathBuf, Box<dyn Error>> {
     made_in(root)
 }
 
-/// The archive of the repository `root`, made by the toolchain where it is missing or old.
+/// The archive of the repository `root`, made by its script where it is missing or was made of other sources.
 fn made_in(root: &Path) -> Result<PathBuf, Box<dyn Error>> {
-    let crates = root.join("crates");
-    if !crates.is_dir() {
+    let script = root.join(".ci").join("archive");
+    if !script.is_file() {
         return Err(
             "no static library is here: set LUBIKSAN_LIB_DIR to the folder with liblubiksan.a"
                 .into(),
         );
     }
-    println!("cargo:rerun-if-changed={}", crates.display());
-    let folder = root.join("target").join("staticlib");
-    let made = changed(&folder.join(ARCHIVE));
-    let sources = newest(&crates).max(changed(&root.join("crates.txt")));
-    if made.is_none() || made < sources {
-        make(root)?;
+    for source in sources(root)? {
+        println!("cargo:rerun-if-changed={}", source.display());
     }
-    Ok(folder)
-}
-
-fn make(root: &Path) -> Result<(), Box<dyn Error>> {
-    let run = Command::new("rt")
-        .args(["staticlib", "lubiksan"])
+    let output = Command::new(&script)
         .current_dir(root)
-        .output();
-    let output = run.map_err(|error| {
-        format!("`rt staticlib lubiksan` can't be run ({error}): install the toolchain or set LUBIKSAN_LIB_DIR")
-    })?;
-    if output.status.success() {
-        return Ok(());
+        .output()
+        .map_err(|error| format!("{} can't be run: {error}", script.display()))?;
+    if !output.status.success() {
+        let said = String::from_utf8_lossy(&output.stderr);
+        return Err(format!(
+            ".ci/archive failed; install the toolchain or set LUBIKSAN_LIB_DIR: {said}"
+        )
+        .into());
     }
-    let said = String::from_utf8_lossy(&output.stdout);
-    Err(format!("`rt staticlib lubiksan` failed: {said}").into())
+    Ok(root.join("target").join("staticlib"))
 }
 
-/// When the file was last changed, none where it is not there.
-fn changed(file: &Path) -> Option<SystemTime> {
-    fs::metadata(file).ok()?.modified().ok()
-}
-
-/// When the newest source below the folder was changed.
-fn newest(folder: &Path) -> Option<SystemTime> {
-    let entries = fs::read_dir(folder).ok()?;
-    let times = entries.flatten().map(|entry| {
-        let path = entry.path();
-        if path.is_dir() {
-            newest(&path)
-        } else {
-            changed(&path)
-        }
-    });
-    times.max().flatten()
+/// What the archive is made of, without what the toolchain leaves beside it.
+fn sources(root: &Path) -> Result<Vec<PathBuf>, Box<dyn Error>> {
+    let mut found = vec![root.join("crates.txt")];
+    for entry in fs::read_dir(root.join("crates"))? {
+        let folder = entry?.path();
+        let parts = ["src", "specs", "proofs"].map(|part| folder.join(part));
+        found.extend(parts.into_iter().filter(|part| part.is_dir()));
+    }
+    Ok(found)
 }

@@ -1,5 +1,5 @@
 //! Benchmark of `lubiksan_columns` and `lubiksan_rows` against a copy of as many bytes, in one run, the least of 2,001 times each.
-//! Made by `rt staticlib lubiksan`; run by `cargo bench --features ours --bench columns`.
+//! Made by `.ci/archive`; run by `cargo bench --features ours --bench columns`.
 
 use std::hint::black_box;
 use std::time::{Duration, Instant};

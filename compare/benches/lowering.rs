@@ -1,7 +1,7 @@
 //! Benchmark of the lowering call: the unchanged `lower` of the Rust and `lubiksan_lower` on the same schema, in one run, medians; with buffers as long as
 //! needed and, for information, of the largest lengths. Then the time for a type in a schema of 4,094 types against one of 100, and that of a schema that
 //! is refused because its last type has the name of its first.
-//! Made by `rt staticlib lubiksan`; run by
+//! Made by `.ci/archive`; run by
 //! `cargo bench --features ours --bench lowering -- SCHEMA..`.
 
 use std::env;

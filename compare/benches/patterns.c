@@ -1,4 +1,4 @@
-/* Benchmark of `lubiksan_pattern` against the same recursive descent in C, in one run; the least of nine times each. Not in the gate. In this folder, after `rt staticlib lubiksan`:
+/* Benchmark of `lubiksan_pattern` against the same recursive descent in C, in one run; the least of nine times each. Not in the gate. In this folder, after `.ci/archive`:
  *     cc -O2 -I../../crates/lubiksan/include patterns.c ../../target/staticlib/liblubiksan.a -o patterns && ./patterns */
 #define _POSIX_C_SOURCE 199309L
 #include <stdint.h>

@@ -1,6 +1,6 @@
 //! Benchmark of the reading call: the events of a schema through the unchanged handlers of the Rust and
 //! through `lubiksan_read`, in one run; the time of one event on a sheet of 100 and of 4,000 rows; a
-//! reading of nothing. Made by `rt staticlib lubiksan`; run by
+//! reading of nothing. Made by `.ci/archive`; run by
 //! `cargo bench --features ours --bench reading -- SCHEMA..`.
 //!
 //! `-- once SCHEMA..` measures nothing: it reads each schema one time, for a count of instructions.

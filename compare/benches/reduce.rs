@@ -1,5 +1,5 @@
 //! Benchmark of `lubiksan_reduce` and `lubiksan_graph_form` on chains of types that run forwards and backwards, in the largest room, the
-//! least of 2,001 times each. Made by `rt staticlib lubiksan`; run by `cargo bench --features ours --bench reduce`.
+//! least of 2,001 times each. Made by `.ci/archive`; run by `cargo bench --features ours --bench reduce`.
 
 use std::hint::black_box;
 use std::time::{Duration, Instant};

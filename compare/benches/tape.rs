@@ -1,6 +1,6 @@
 //! Benchmark of the tape of a text, in one run, medians: `lubiksan_tape` against quick-xml's events with the
 //! attributes of each tag cut; the way from text to graph (tape, clear, read, lower) against `parse_str` and
-//! `lower`; the slowest texts. Made by `rt staticlib lubiksan`; run by
+//! `lower`; the slowest texts. Made by `.ci/archive`; run by
 //! `cargo bench --features ours --bench tape -- SCHEMA..`.
 //!
 //! A schema must be ASCII, up to 65,536 bytes long, and one that quick-xml reads; others are passed over.

@@ -1,5 +1,5 @@
 //! Benchmark of the schema written back, in one run, medians: `lubiksan_write`, which tests the sheet, against `lubiksan_tape` on the text that it
-//! writes and against a plain writer in Rust over the same rows; the test of the sheet alone, by reading nothing. Made by `rt staticlib lubiksan`;
+//! writes and against a plain writer in Rust over the same rows; the test of the sheet alone, by reading nothing. Made by `.ci/archive`;
 //! run by `cargo bench --features ours --bench writing -- SCHEMA..`.
 //!
 //! The sheet has about the room that it needs and the text exactly, as a caller who knows the schema lends; then both have the largest lengths.

@@ -12,29 +12,26 @@ const LONG_RUN: usize = 8;
 
 /// The first lines of a file of cases.
 pub const HEADER: &str = "\
-use mathlib.Core.Path.{_≡_, refl}
-use mathlib.Core.Option.{some, none}
-use mathlib.Core.Bool.{true, false}
-use mathlib.Core.List.{List, [], _∷_, _++_}
-use lib.ListN.{replicate}
-use Rattle·text.specs.Text.{bytes}
-use Rattle·text.specs.Unfold.{computes as texts}
-use Rattle·number.specs.Unfold.{computes as numbers}
-use Rattle·builtin.specs.Unfold.{computes as builtins}
-use Rattle·names.specs.Unfold.{computes as conversions}
-use Rattle·sheet.specs.Rows.{Sheet}
-use Rattle·sheet.specs.Lengths.{Answer}
-use Rattle·sheet.specs.Unfold.{computes as sheets}
-use Rattle·xsd_types.specs.Unfold.{computes as schemas}
-use Rattle·xsd_types.specs.Clear.{Cleared, clear}
-use Rattle·xsd_parser.specs.Unfold.{computes as readings}
-use Rattle·xsd_parser.specs.Read.{ReadAnswer, read}
-use Rattle·ir_types.specs.Unfold.{computes as graphs}
-use Rattle·ir_types.specs.Label.{Labelled, label}
-use Rattle·ir_lower.specs.Unfold.{computes as lowerings}
-use Rattle·ir_lower.specs.Call.{Lowered, lowering}
-use Rattle·runs.specs.Unfold.{computes as runs}
-use Rattle·runs.specs.Runs.{Call, Answered, Ran, run}
+use Rattle.std.specs.Prelude.{◌≡◌, refl, true, false, List, [], ◌∷◌, ◌++◌, replicate}
+use Rattle.std.proofs.Math.Option.{some, none}
+use Rattle.text.specs.Text.{bytes}
+use Rattle.text.specs.Unfold.{computes as texts}
+use Rattle.number.specs.Unfold.{computes as numbers}
+use Rattle.builtin.specs.Unfold.{computes as builtins}
+use Rattle.names.specs.Unfold.{computes as conversions}
+use Rattle.sheet.specs.Rows.{Sheet}
+use Rattle.sheet.specs.Lengths.{Answer}
+use Rattle.sheet.specs.Unfold.{computes as sheets}
+use Rattle.xsd_types.specs.Unfold.{computes as schemas}
+use Rattle.xsd_types.specs.Clear.{Cleared, clear}
+use Rattle.xsd_parser.specs.Unfold.{computes as readings}
+use Rattle.xsd_parser.specs.Read.{ReadAnswer, read}
+use Rattle.ir_types.specs.Unfold.{computes as graphs}
+use Rattle.ir_types.specs.Label.{Labelled, label}
+use Rattle.ir_lower.specs.Unfold.{computes as lowerings}
+use Rattle.ir_lower.specs.Call.{Lowered, lowering}
+use Rattle.runs.specs.Unfold.{computes as runs}
+use Rattle.runs.specs.Runs.{Call, Answered, Ran, run}
 ";
 
 const BUNDLES: &str =
@@ -105,9 +102,9 @@ fn answered(a: &Answered) -> String {
     match a {
         Answered::Read(a, refused) => {
             let number = refused.map_or("none".to_owned(), |number| format!("(some {number})"));
-            format!("Answered.readAs ({}) {number}", answer(a))
+            format!("Answered.read_as ({}) {number}", answer(a))
         }
-        Answered::Lowered(l) => format!("Answered.loweredAs ({})", lowered(l)),
+        Answered::Lowered(l) => format!("Answered.lowered_as ({})", lowered(l)),
     }
 }
 
@@ -125,7 +122,7 @@ fn given_term(given: &Given) -> String {
         Given::Sheet(a, x) => format!("record {{ answer = {}; sheet = {} }}", answer(a), sheet(x)),
         Given::Lowered(l) => lowered(l),
         Given::Label(l) => format!(
-            "record {{ number = {}; inWords = {}; at = {}; text = {} }}",
+            "record {{ number = {}; in_words = {}; at = {}; text = {} }}",
             l.number,
             l.in_words,
             l.at,

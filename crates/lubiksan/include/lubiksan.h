@@ -1,4 +1,4 @@
-/* The calls of the static library lubiksan (rt staticlib lubiksan): the text leaves; the tape of a schema text; a schema sheet
+/* The calls of the static library lubiksan (.ci/archive makes it): the text leaves; the tape of a schema text; a schema sheet
    cleared, a piece of a tape read into it, and one stored earlier converted; a schema sheet written back as schema text; a schema
    sheet lowered to a graph sheet; the label of a row of a graph sheet; a graph sheet reduced to what its roots reach; a pattern
    judged; the rows of a graph sheet turned into columns for storing, and back.
