@@ -22,9 +22,9 @@ returns-in_default c =
     let a = c.args in
     let w = c.write_graph-grown in
     let s = c.zero_scratch in
-    λ g o. known-full a.graph_rows.now a.graph_names.now a.scratch.now w.new.1.1.1.0 w.new.1.1.1.1.0 a.scratch.now g
+    λ g o. known-full a.graph_rows.now a.graph_names.now a.scratch.now w.new.graph_rows w.new.graph_names a.scratch.now g
     (full-of g _ _ w.result _ _ (w.ensures g o) c.in_default.is) c.answer.ensures
-    w.auto.graph_names.1.1.0 c.zero_graph.ensures.0 w.auto.graph_names.1.1.1.0 c.zero_graph.ensures.1 refl s.ensures
+    w.auto.graph_rows c.zero_graph.ensures.0 w.auto.graph_names c.zero_graph.ensures.1 refl s.ensures
 
 pub returns : goal.returns
 returns c =
