@@ -46,7 +46,7 @@ field_row f = row field_tag (f.xml_name ∷ f.rust_name ∷ ref_text f.type_ref)
 unfoldable pub variant_row : VariantDef → Row
 variant_row v = row variant_tag (v.xml_name ∷ v.rust_name ∷ ref_text v.type_ref) (ref_a v.type_ref) 0 0
 
--- "11 pattern, 12 min_length, 13 max_length, 14 min_inclusive, 15 max_inclusive, 16 total_digits, 17 fraction_digits (each as the facet's row)"
+-- "11 pattern, 12 minLength, 13 maxLength, 14 minInclusive, 15 maxInclusive, 16 totalDigits, 17 fractionDigits (each as the facet's row)"
 unfoldable pub constraint_row : Constraint → Row
 constraint_row (Constraint.pattern v) = row pattern_tag (v ∷ []) 0 0 0
 constraint_row (Constraint.min_length n) = row min_length_tag [] (n % 2 ^ 32) (n / 2 ^ 32) 0

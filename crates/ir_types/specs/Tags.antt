@@ -45,27 +45,27 @@ variant_tag = 10
 abbrev pub pattern_tag : ℕ
 pattern_tag = 11
 
--- "min_length"
+-- "minLength"
 abbrev pub min_length_tag : ℕ
 min_length_tag = 12
 
--- "max_length"
+-- "maxLength"
 abbrev pub max_length_tag : ℕ
 max_length_tag = 13
 
--- "min_inclusive"
+-- "minInclusive"
 abbrev pub min_inclusive_tag : ℕ
 min_inclusive_tag = 14
 
--- "max_inclusive"
+-- "maxInclusive"
 abbrev pub max_inclusive_tag : ℕ
 max_inclusive_tag = 15
 
--- "total_digits"
+-- "totalDigits"
 abbrev pub total_digits_tag : ℕ
 total_digits_tag = 16
 
--- "fraction_digits (each as the facet's row)"
+-- "fractionDigits (each as the facet's row)"
 abbrev pub fraction_digits_tag : ℕ
 fraction_digits_tag = 17
 

@@ -33,22 +33,22 @@ pub const VARIANT: u32 = 10;
 // "pattern"
 pub const PATTERN: u32 = 11;
 
-// "min_length"
+// "minLength"
 pub const MIN_LENGTH: u32 = 12;
 
-// "max_length"
+// "maxLength"
 pub const MAX_LENGTH: u32 = 13;
 
-// "min_inclusive"
+// "minInclusive"
 pub const MIN_INCLUSIVE: u32 = 14;
 
-// "max_inclusive"
+// "maxInclusive"
 pub const MAX_INCLUSIVE: u32 = 15;
 
-// "total_digits"
+// "totalDigits"
 pub const TOTAL_DIGITS: u32 = 16;
 
-// "fraction_digits (each as the facet's row)"
+// "fractionDigits (each as the facet's row)"
 pub const FRACTION_DIGITS: u32 = 17;
 
 // "code (xml, Rust name)"

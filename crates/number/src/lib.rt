@@ -11,11 +11,11 @@ ghost use Rattle.number.specs.Answers.{of_u32, of_u64};
 use text::ascii::is_digit;
 use text::trimmed;
 
-// The value of a min_length or max_length facet.
+// The value of a minLength or maxLength facet.
 #[derive(Clone, Copy)]
 pub struct CharacterCount(pub u64);
 
-// The value of a total_digits or fraction_digits facet.
+// The value of a totalDigits or fractionDigits facet.
 #[derive(Clone, Copy)]
 pub struct DigitCount(pub u32);
 

@@ -1,4 +1,4 @@
--- The regular expressions of XML Schema Part 2 (Second Edition), Appendix F, production by production: a value of `Derives reg_exp s` is a derivation of s.
+-- The regular expressions of XML Schema Part 2 (Second Edition), Appendix F, production by production: a value of `Derives regExp s` is a derivation of s.
 -- Left aside, with the bytes that refusal 25 names: [16] charClassSub, [25] to [36], and so catEsc and complEsc in [23].
 --     is_normal      [10] Char; is_mark: [?*+]; is_single, is_multi: what stands behind the backslash in [24] and [37]
 --     is_in_class     [22] XmlCharIncDash; is_xml_char: [21]
@@ -63,7 +63,7 @@ pub data CharOrEsc : Text → Type 0 where
   xml_char : {b : ℕ} → is_xml_char b ≡ true → CharOrEsc (b ∷ [])
   char_esc : {s : Text} → SingleCharEsc s → CharOrEsc s
 
--- [17] charRange ::= se_range | XmlCharIncDash, [18] se_range ::= charOrEsc '-' charOrEsc
+-- [17] charRange ::= seRange | XmlCharIncDash, [18] seRange ::= charOrEsc '-' charOrEsc
 pub data CharRange : Text → Type 0 where
   se_range : {s t : Text} → CharOrEsc s → CharOrEsc t → CharRange (s ++ code "-" ∷ t)
   char_inc_dash : {b : ℕ} → is_in_class b ≡ true → CharRange (b ∷ [])
@@ -95,7 +95,7 @@ pub data Symbol : Type 0 where
   atom : Symbol
 
 pub data Derives : Symbol → Text → Type 0 where
-  -- [1] reg_exp ::= branch ( '|' branch )*
+  -- [1] regExp ::= branch ( '|' branch )*
   one : {s : Text} → Derives branch s → Derives reg_exp s
   or : {s t : Text} → Derives branch s → Derives reg_exp t → Derives reg_exp (s ++ code "|" ∷ t)
   -- [2] branch ::= piece*
@@ -104,7 +104,7 @@ pub data Derives : Symbol → Text → Type 0 where
   -- [3] piece ::= atom quantifier?
   once : {s : Text} → Derives atom s → Derives piece s
   times : {s q : Text} → Derives atom s → Quantifier q → Derives piece (s ++ q)
-  -- [9] atom ::= Char | charClass | ( '(' reg_exp ')' )
+  -- [9] atom ::= Char | charClass | ( '(' regExp ')' )
   char : {b : ℕ} → is_normal b ≡ true → Derives atom (b ∷ [])
   class : {s : Text} → CharClass s → Derives atom s
   group : {s : Text} → Derives reg_exp s → Derives atom (code "(" ∷ s ++ code ")" ∷ [])

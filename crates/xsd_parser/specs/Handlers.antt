@@ -169,7 +169,7 @@ unfoldable pub on_start_in_simple_type : Seen → SimpleTypeBuilder → SimpleTy
 on_start_in_simple_type t b =
     if eqb b.nesting_depth 1 && tag_is t Word.Restriction then with_base (or_empty t.base) b else b
 
--- "Complex type: each start raises nesting; start `sequence`, `choice`, `simple_content` at 1 replaces the content, flag 0"
+-- "Complex type: each start raises nesting; start `sequence`, `choice`, `simpleContent` at 1 replaces the content, flag 0"
 unfoldable pub raised_complex : ComplexTypeBuilder → ComplexTypeBuilder
 raised_complex t = record { name = t.name; content = t.content; nesting_depth = suc t.nesting_depth; event = t.event }
 

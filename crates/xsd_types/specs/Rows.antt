@@ -25,7 +25,7 @@ namespace_a = 0
 unfoldable pub namespace_row : Text → Row
 namespace_row n = row namespace_tag (n ∷ []) namespace_a 0 0
 
--- "facets 4 enumeration, 5 pattern, 8 min_inclusive, 9 max_inclusive (value), 6 min_length, 7 max_length (a low, b high 32 bits), 10 total_digits, 11 fraction_digits (a)"
+-- "facets 4 enumeration, 5 pattern, 8 minInclusive, 9 maxInclusive (value), 6 minLength, 7 maxLength (a low, b high 32 bits), 10 totalDigits, 11 fractionDigits (a)"
 unfoldable pub facet_row : Facet → Row
 facet_row (Facet.enumeration v) = row enumeration_tag (v ∷ []) 0 0 0
 facet_row (Facet.pattern v) = row pattern_tag (v ∷ []) 0 0 0

@@ -21,27 +21,27 @@ enumeration_tag = 4
 abbrev pub pattern_tag : ℕ
 pattern_tag = 5
 
--- "min_length (a low, b high 32 bits)"
+-- "minLength (a low, b high 32 bits)"
 abbrev pub min_length_tag : ℕ
 min_length_tag = 6
 
--- "max_length (a low, b high 32 bits)"
+-- "maxLength (a low, b high 32 bits)"
 abbrev pub max_length_tag : ℕ
 max_length_tag = 7
 
--- "min_inclusive (value)"
+-- "minInclusive (value)"
 abbrev pub min_inclusive_tag : ℕ
 min_inclusive_tag = 8
 
--- "max_inclusive (value)"
+-- "maxInclusive (value)"
 abbrev pub max_inclusive_tag : ℕ
 max_inclusive_tag = 9
 
--- "total_digits (a)"
+-- "totalDigits (a)"
 abbrev pub total_digits_tag : ℕ
 total_digits_tag = 10
 
--- "fraction_digits (a)"
+-- "fractionDigits (a)"
 abbrev pub fraction_digits_tag : ℕ
 fraction_digits_tag = 11
 

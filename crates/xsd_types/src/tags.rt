@@ -15,22 +15,22 @@ pub const ENUMERATION: u32 = 4;
 // "pattern (value)"
 pub const PATTERN: u32 = 5;
 
-// "min_length (a low, b high 32 bits)"
+// "minLength (a low, b high 32 bits)"
 pub const MIN_LENGTH: u32 = 6;
 
-// "max_length (a low, b high 32 bits)"
+// "maxLength (a low, b high 32 bits)"
 pub const MAX_LENGTH: u32 = 7;
 
-// "min_inclusive (value)"
+// "minInclusive (value)"
 pub const MIN_INCLUSIVE: u32 = 8;
 
-// "max_inclusive (value)"
+// "maxInclusive (value)"
 pub const MAX_INCLUSIVE: u32 = 9;
 
-// "total_digits (a)"
+// "totalDigits (a)"
 pub const TOTAL_DIGITS: u32 = 10;
 
-// "fraction_digits (a)"
+// "fractionDigits (a)"
 pub const FRACTION_DIGITS: u32 = 11;
 
 // "sequence (name)"

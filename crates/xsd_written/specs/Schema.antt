@@ -65,7 +65,7 @@ abbrev pub namespace_of : Option Text → List Attr
 namespace_of none = []
 namespace_of (some n) = attr "namespace" n ∷ []
 
--- "a complexType a sequence, a choice, a simple_content with an extension, or for 15 a sequence with `any`"
+-- "a complexType a sequence, a choice, a simpleContent with an extension, or for 15 a sequence with `any`"
 unfoldable pub content_markup : ComplexContent → List Markup
 content_markup (ComplexContent.sequence es) = around "sequence" [] (map element_markup es)
 content_markup (ComplexContent.choice vs) = around "choice" [] (map variant_markup vs)

@@ -40,7 +40,7 @@ sequence-at-2 :
 unfolding taped
 sequence-at-2 = refl
 
--- an empty `sequence`, `choice`, `simple_content` or `extension` does nothing (E9)
+-- an empty `sequence`, `choice`, `simpleContent` or `extension` does nothing (E9)
 empty-contents :
     reads (blank 60 12) (schema ∷ complex_type "C" ∷ empty "sequence" [] ∷ empty "choice" [] ∷ empty "simpleContent" []
     ∷ empty "extension" (based "b") ∷ [])

@@ -141,7 +141,7 @@ extension-again :
 unfolding taped
 extension-again = refl
 
--- a second `simple_content` drops both and the flag
+-- a second `simpleContent` drops both and the flag
 simple-content-again :
     reads (blank 60 12) (schema ∷ complex_type "C" ∷ start "simpleContent" [] ∷ start "extension" (based "b")
     ∷ empty "attribute" (("name", "x") ∷ ("type", "t") ∷ ("use", "required") ∷ []) ∷ close ∷ close ∷ start "simpleContent" []

@@ -83,7 +83,7 @@ absent-value :
 unfolding taped
 absent-value = refl
 
--- a value that is no number is kept under min_inclusive
+-- a value that is no number is kept under minInclusive
 inclusive-text :
     reads (blank 110 16) (schema ∷ simple_type "S" ∷ empty "minInclusive" (valued "x") ∷ [])
     ≡ gives 0 3 (sheet 110 16 (line 0 4 2 2 0 1 3 2 0 0 ∷ no_namespace ∷ line 3 0 1 1 0 0 0 0 0 1 ∷ line 8 1 1 0 0 0 0 0 0 0 ∷ []) "Sx")
