@@ -1,7 +1,7 @@
 -- Lowering: 001 (lower.rs), `lower` and its helpers, clause by clause. A root and a definition have the event's number of their head (order 5).
-use Rattle.std.specs.Prelude.{ℕ, ◌+◌, List, [], ◌∷◌, ◌++◌, map, Bool, true, false, not, ◌&&◌, ◌||◌, eqb, ltb, length, if◌then◌else◌}
+use Rattle.std.specs.Prelude.{ℕ, ◌+◌, List, [], ◌∷◌, ◌++◌, map, Bool, false, ◌&&◌, ◌||◌, eqb, ltb, length, if◌then◌else◌}
 use Rattle.std.proofs.Math.Option.{Option, some, none}
-use Rattle.text.specs.Text.{Text, every}
+use Rattle.text.specs.Text.{Text}
 use Rattle.builtin.specs.Builtin.{RustType, map_builtin}
 use Rattle.names.specs.Names.{normalize_type_name, xml_to_snake_case, code_to_pascal_case}
 use Rattle.xsd_types.specs.Types.{Element, Facet, SimpleType, MaxOccurs, SequenceElement, ChoiceVariant, Attribute, ComplexContent, ComplexType, Item, Schema, elements, simple_types, complex_types}

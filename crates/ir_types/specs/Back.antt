@@ -6,7 +6,7 @@
 --     Behind, types_back    rows read from the last to the first: the children that no head has taken yet, and the definitions
 --     roots_back         the roots
 --     graph_of_rows       the graph of the rows behind row 0; graph_back: of a sheet
-use Rattle.std.specs.Prelude.{ℕ, ◌+◌, ◌*◌, ◌^◌, Bool, List, [], ◌∷◌, map, eqb, get_or, if◌then◌else◌}
+use Rattle.std.specs.Prelude.{ℕ, ◌+◌, ◌*◌, ◌^◌, List, [], ◌∷◌, map, eqb, get_or, if◌then◌else◌}
 use Rattle.std.proofs.Math.Option.{some, none}
 use Rattle.text.specs.Text.{Text, between}
 use Rattle.builtin.specs.Builtin.{RustType}

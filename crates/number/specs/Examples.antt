@@ -3,7 +3,7 @@
 use Rattle.std.specs.Prelude.{◌≡◌, refl}
 use Rattle.text.specs.Text.{bytes}
 use Rattle.text.specs.Unfold.{computes as texts}
-use Rattle.number.specs.Number.{Parsed, parsed, refused, number}
+use Rattle.number.specs.Number.{parsed, refused, number}
 use Rattle.number.specs.Unfold.{computes as numbers}
 
 -- white space around digits, and around minus zeros, inside neither

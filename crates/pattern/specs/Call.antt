@@ -2,7 +2,7 @@
 --     is_aside_pair   the bytes `\p`, `\P` or `-[`; aside_pairs: they stand somewhere; count_of: how many bytes are b
 --     is_aside       a pattern has a form that is not judged
 --     Verdict       the number of a pattern; PatternIs: number and place of the call
-use Rattle.std.specs.Prelude.{ℕ, ◌+◌, ◌≤◌, ◌<◌, ◌≡◌, List, [], ◌∷◌, Bool, true, false, ◌&&◌, ◌||◌, eqb, ltb, length, if◌then◌else◌}
+use Rattle.std.specs.Prelude.{ℕ, ◌+◌, ◌≤◌, ◌<◌, ◌≡◌, [], ◌∷◌, Bool, true, false, ◌&&◌, ◌||◌, eqb, ltb, length, if◌then◌else◌}
 use Prim.Native.Char.{code}
 use Rattle.text.specs.Text.{Text, is_text}
 use Rattle.sheet.specs.Limits.{pattern_limit, pattern_opens_limit}

@@ -1,10 +1,9 @@
 -- Patterns by derivation, and patterns that the scan refuses, by computation.
 --     one_char      a piece that is one character
-use Rattle.std.specs.Prelude.{ℕ, ◌≡◌, refl, Bool, true, false, not, List, [], ◌∷◌}
+use Rattle.std.specs.Prelude.{ℕ, ◌≡◌, refl, Bool, true, not, [], ◌∷◌}
 use Prim.Native.Char.{code}
-use Prim.Native.String.{String}
 use Rattle.text.specs.Text.{Text, bytes, every}
-use Rattle.pattern.specs.Grammar.{is_normal, digit, exact, mark, counted, single, single_esc, multi_esc, xml_char, se_range, char_inc_dash, range_item, item, positive, negative, class_esc, class_expr, wildcard, reg_exp, branch, piece, Derives, one, or, none, more, once, times, char, class, group}
+use Rattle.pattern.specs.Grammar.{is_normal, digit, exact, mark, counted, single, single_esc, multi_esc, xml_char, se_range, char_inc_dash, range_item, item, positive, negative, class_esc, class_expr, wildcard, reg_exp, piece, Derives, one, or, none, more, once, times, char, class, group}
 use Rattle.pattern.specs.Scan.{start, go, scan}
 use Rattle.pattern.specs.Call.{is_aside}
 use Rattle.pattern.specs.Unfold.{computes}

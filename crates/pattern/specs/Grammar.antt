@@ -2,7 +2,7 @@
 -- Left aside, with the bytes that refusal 25 names: [16] charClassSub, [25] to [36], and so catEsc and complEsc in [23].
 --     is_normal      [10] Char; is_mark: [?*+]; is_single, is_multi: what stands behind the backslash in [24] and [37]
 --     is_in_class     [22] XmlCharIncDash; is_xml_char: [21]
-use Rattle.std.specs.Prelude.{ℕ, ◌≡◌, List, [], ◌∷◌, ◌++◌, Bool, true, not, ◌&&◌, ◌||◌, eqb}
+use Rattle.std.specs.Prelude.{ℕ, ◌≡◌, [], ◌∷◌, ◌++◌, Bool, true, not, ◌&&◌}
 use Prim.Native.Char.{code}
 use Rattle.text.specs.Text.{Text, bytes, contains, is_digit}
 use Rattle.xml.specs.Classes.{is_char}

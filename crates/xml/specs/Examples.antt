@@ -1,14 +1,13 @@
 -- Order 1's readings by computation: small texts with the number that the call gives for them, in the order of the productions, and tapes.
 --     gives         the number for a text where 32 marks are lent
 --     all_give       each of the texts gives the number
-use Rattle.std.specs.Prelude.{◌≡◌, refl, Bool, true, ◌&&◌, List, [], ◌∷◌, ◌++◌, ℕ, eqb, replicate}
+use Rattle.std.specs.Prelude.{◌≡◌, refl, Bool, true, List, [], ◌∷◌, ◌++◌, ℕ, eqb, replicate}
 use Prim.Native.String.{String}
 use Rattle.text.specs.Text.{Text, bytes, every}
 use Rattle.text.specs.Unfold.{computes as texts}
 use Rattle.sheet.specs.Unfold.{computes as sheets}
-use Rattle.sheet.specs.Rows.{filled}
 use Rattle.sheet.specs.Returned.{accepted, malformed, doctype}
-use Rattle.xml.specs.Document.{Taken, tape_of}
+use Rattle.xml.specs.Document.{tape_of}
 use Rattle.xml.specs.Unfold.{computes as taken}
 
 unfoldable pub gives : ℕ → String → Bool

@@ -6,8 +6,7 @@
 --     is_misc        a comment or an instruction stands here; misc_part: it
 --     misc          [27] Misc, as many as stand there
 --     prolog        [22] without its doctypedecl
-use Rattle.std.specs.Prelude.{ℕ, zero, suc, List, [], ◌∷◌, Bool, false, not, ◌&&◌, ◌||◌, length, drop, if◌then◌else◌}
-use Prim.Native.Char.{code}
+use Rattle.std.specs.Prelude.{ℕ, zero, suc, [], ◌∷◌, Bool, false, not, ◌&&◌, ◌||◌, length, drop, if◌then◌else◌}
 use Rattle.text.specs.Text.{Text, bytes, first, is_digit}
 use Rattle.xml.specs.Classes.{is_name, is_letter, is_encoding}
 use Rattle.xml.specs.Steps.{Step, bad, behind, ◌and_then◌, starts_with, literal, one_then, spaces, space, comment, instruction}

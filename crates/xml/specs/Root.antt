@@ -7,7 +7,6 @@
 --     Rooted        the events of the root, and what is left
 --     root          the whole root
 use Rattle.std.specs.Prelude.{ℕ, zero, suc, List, [], ◌∷◌, ◌++◌, Bool, true, false, eqb, length, if◌then◌else◌}
-use Prim.Native.Char.{code}
 use Rattle.text.specs.Text.{Text, bytes, same}
 use Rattle.xsd_parser.specs.Kinds.{start_kind}
 use Rattle.xml.specs.Steps.{Step, bad, behind, ◌and_then◌, starts_with, literal, spaces, name, name_of, comment, instruction, section}

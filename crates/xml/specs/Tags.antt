@@ -7,7 +7,7 @@
 --     Tagged        a whole tag: its event, the text of its name, and what is left; or bad
 --     tag           [40] or [44]
 use Rattle.std.specs.Prelude.{ℕ, zero, suc, ◌+◌, ◌-◌, List, [], ◌∷◌, ◌++◌, eqb, length, drop, if◌then◌else◌}
-use Rattle.text.specs.Text.{Text, bytes, same}
+use Rattle.text.specs.Text.{Text, bytes}
 use Rattle.xsd_parser.specs.Tape.{Pair}
 use Rattle.xsd_parser.specs.Kinds.{start_kind, empty_kind}
 use Rattle.xml.specs.Steps.{Step, bad, behind, starts_with, literal, spaces, name, name_of}

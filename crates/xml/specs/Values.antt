@@ -4,7 +4,7 @@
 --     value         [10] AttValue, quotes included
 --     char_data      [14] CharData and [67] Reference, as many as stand there
 --     is_in_text      a character that stands in text without a look at its neighbours; is_in_value: in a value
-use Rattle.std.specs.Prelude.{ℕ, suc, ◌+◌, ◌-◌, ◌*◌, [], ◌∷◌, Bool, false, not, ◌&&◌, ◌||◌, eqb, ltb, drop, if◌then◌else◌}
+use Rattle.std.specs.Prelude.{ℕ, suc, ◌+◌, ◌*◌, [], ◌∷◌, Bool, false, not, ◌&&◌, ◌||◌, eqb, ltb, drop, if◌then◌else◌}
 use Prim.Native.Char.{code}
 use Rattle.text.specs.Text.{Text, bytes}
 use Rattle.xml.specs.Grammar.{digit_of}

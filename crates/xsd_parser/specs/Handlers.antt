@@ -4,7 +4,7 @@
 --     n             the event's number in the run, from 0; what gives a name keeps it (order 5: "the event that gave it its name")
 --     9             `MissingAttribute`
 --     10            `InvalidAttributeValue`
-use Rattle.std.specs.Prelude.{ℕ, zero, suc, ◌+◌, List, [], ◌∷◌, ◌++◌, Bool, true, false, ◌&&◌, eqb, if◌then◌else◌}
+use Rattle.std.specs.Prelude.{ℕ, zero, suc, List, [], ◌∷◌, ◌++◌, Bool, true, false, ◌&&◌, eqb, if◌then◌else◌}
 use Rattle.std.proofs.Math.Option.{Option, some, none}
 use Rattle.text.specs.Text.{Text, is}
 use Rattle.text.specs.Trim.{trimmed}

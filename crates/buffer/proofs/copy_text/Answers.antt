@@ -1,6 +1,5 @@
 -- `buffer::copy_text` meets its contract. The loop's invariant: the first k bytes are copied. The measure is what is left of the text.
 -- Assumes nothing.
-use Prim.Native.Nat.{◌-◌}
 use native.Mathlib.Omega.{arith}
 use lib.ListN.{length}
 use Rattle.buffer.proofs.Laws.Copy.{copying-start, copying-more, copying-end}

@@ -1,6 +1,5 @@
 -- `buffer::zero_names` meets its contract. The loop's invariant: the first k zeros are stored. The measure is how many are left.
 -- Assumes nothing.
-use Prim.Native.Nat.{◌-◌}
 use native.Mathlib.Omega.{arith}
 use Rattle.buffer.proofs.Laws.Copy.{copying-start, copying-zero, copying-end}
 use Rattle.buffer.proofs.zero_names.Goals as goal

@@ -1,6 +1,5 @@
 -- `builtin::is_key` meets its contract. The loop's invariant: what was found so far, or what is left of the keys, answers for all. The measure is how many
 -- are left. Assumes nothing.
-use Prim.Native.Nat.{◌-◌}
 use mathlib.Core.Path.{sym, ◌∙◌}
 use native.Mathlib.Numerals.{add-one}
 use Rattle.text.specs.Text.{bytes, first}

@@ -5,7 +5,7 @@ use mathlib.Core.Path.{◌≡◌, refl, sym, ap, ◌∙◌}
 use mathlib.Core.Logic.{◌↔◌}
 use mathlib.Core.Bool.{Bool, true, false, ◌&&◌, ◌||◌, false≢true}
 use mathlib.Core.List.{List, [], ◌∷◌}
-use mathlib.Core.Option.{some, none}
+use mathlib.Core.Option.{some}
 use native.Mathlib.Omega.{arith}
 use lib.ListN.{length}
 use Rattle.sheet.specs.Rows.{Sheet}
@@ -13,7 +13,7 @@ use Rattle.sheet.specs.Lengths.{lengths_of, good_lengths}
 use Rattle.xsd_types.specs.Types.{Item, simple_types}
 use Rattle.xsd_types.specs.State.{State}
 use Rattle.xsd_types.specs.Refused.{refused_base, refused_item}
-use Rattle.xsd_types.specs.Count.{refused_types, count_of, count_in, state_of, good}
+use Rattle.xsd_types.specs.Count.{refused_types, count_in, state_of, good}
 use Rattle.xsd_types.proofs.Laws.Count.{good-count}
 use Rattle.ir_types.specs.Types.{TypeGraph}
 use Rattle.ir_lower.specs.Lower.{any_unknown, lower, finished_types}

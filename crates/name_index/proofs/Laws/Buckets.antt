@@ -5,17 +5,17 @@ use Rattle.std.specs.Prelude.{if◌then◌else◌}
 use Prim.Native.Nat.{ℕ, zero, suc, ◌+◌, ◌-◌, ◌*◌, ◌/◌, ◌%◌, ◌≤◌, ◌<◌}
 use mathlib.Core.Path.{◌≡◌, refl, sym, ap, ◌∙◌}
 use mathlib.Core.Bool.{Bool, true, false}
-use mathlib.Core.List.{List, [], ◌∷◌, ◌++◌}
+use mathlib.Core.List.{List}
 use native.Mathlib.Omega.{arith}
 use native.Mathlib.Nat.{le_refl, not-suc-le-zero}
 use native.Mathlib.Numerals.{add-one}
 use lib.Dec.{eqb}
 use lib.ListN.{length, get_or, drop, set, replicate, get_or-append, length-set, length-replicate, get_or-replicate}
 use lib.Seq.{paste, length-paste, take_all, get_or-set_same, get_or-set_other}
-use borrow.Author.Tests.{eqb-true, eqb-false, eq-eqb}
+use borrow.Author.Tests.{eqb-true, eqb-false}
 use Rattle.text.specs.Text.{Text, same}
 use Rattle.text.proofs.Laws.Tests.{if-cases, bool_cases}
-use Rattle.text.proofs.Laws.Texts.{same-eq, same_refl, same-differ}
+use Rattle.text.proofs.Laws.Texts.{same-differ}
 use Rattle.names.specs.Same.{spelled}
 use Rattle.name_index.specs.Hash.{bucket_of}
 use Rattle.name_index.specs.Index.{head_name, name_of, place_from, place_of, places_in, last_in, place_in, name_in, Index, Starts, Entering, Added}

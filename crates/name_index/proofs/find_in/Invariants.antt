@@ -1,6 +1,5 @@
 -- `name_index::find_in` meets its contract. The loop's invariant: the place of the name among all entries is that among the first e, and the last of those is
 -- in its bucket. The measure is e, which falls. Assumes nothing.
-use Prim.Native.Nat.{◌-◌}
 use Rattle.names.specs.Same.{spelled}
 use Rattle.name_index.proofs.Laws.Buckets.{Onward}
 use Rattle.name_index.proofs.find_in.Given as goal

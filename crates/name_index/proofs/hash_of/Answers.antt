@@ -1,6 +1,5 @@
 -- `name_index::hash_of` meets its contract. The loop's invariant: the hash so far, with what is left of the name, spelled, answers for the whole, and is
 -- below 2^32. The measure is how much of the name is left. Assumes nothing.
-use Prim.Native.Nat.{◌-◌}
 use mathlib.Core.Path.{sym, ◌∙◌}
 use native.Mathlib.Omega.{arith}
 use Rattle.names.proofs.Laws.Spelled.{spelled-whole}

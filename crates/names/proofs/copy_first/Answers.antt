@@ -1,6 +1,6 @@
 -- `names::copy_first` meets its contract. The loop's invariant: the first i bytes are written, and the text from i on is left. The measure is what is left up
 -- to the end. Assumes nothing.
-use Prim.Native.Nat.{ℕ, ◌-◌}
+use Prim.Native.Nat.{ℕ}
 use mathlib.Core.Path.{sym, ap, ◌≡◌}
 use native.Mathlib.Omega.{arith}
 use native.Mathlib.Numerals.{add-one}

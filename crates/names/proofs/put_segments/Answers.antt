@@ -1,6 +1,5 @@
 -- `names::put_segments` meets its contract. The loop's invariant: n bytes of the target are written, and the scan of s from i on is what is
 -- still to be written. The measure is how much of s is left. Assumes nothing.
-use Prim.Native.Nat.{◌-◌}
 use mathlib.Core.Logic.{⊎_elim}
 use native.Mathlib.Numerals.{add-one}
 use native.Mathlib.Omega.{arith}

@@ -1,6 +1,6 @@
 -- `number::parse_digits` meets its contract. The loop's invariant: the value so far is at most max, and with what is left from i on it gives what the
 -- whole gives. A step that would leave max refuses, because a value only grows. The measure is how much is left. Assumes nothing.
-use Prim.Native.Nat.{◌+◌, ◌-◌}
+use Prim.Native.Nat.{◌+◌}
 use mathlib.Core.Path.{sym, ◌∙◌}
 use native.Mathlib.Numerals.{add-one}
 use native.Mathlib.Omega.{arith}

@@ -2,7 +2,7 @@
 use Prim.Native.Nat.{ℕ, suc}
 use Prim.Native.Char.{code}
 use mathlib.Core.Path.{◌≡◌, refl, sym, ap, ◌∙◌}
-use mathlib.Core.Bool.{Bool, true, false, not, ◌&&◌, ◌||◌, false≢true}
+use mathlib.Core.Bool.{Bool, true, false, false≢true}
 use mathlib.Core.List.{[], ◌∷◌, ◌++◌, append_assoc}
 use lib.Dec.{eqb}
 use borrow.Author.Tests.{ne_eqb}
@@ -12,10 +12,10 @@ use Rattle.text.proofs.Laws.Every.{EachFrom, between-each}
 use Rattle.xml.specs.Classes.{is_char}
 use Rattle.pattern.specs.Grammar.{char_but, is_normal, is_xml_char, is_in_class, is_mark, is_single, is_multi, QuantExact, digit, digits, Quantity, range, least, exact}
 use Rattle.pattern.specs.Grammar.{Quantifier, mark, counted, SingleCharEsc, single}
-use Rattle.pattern.specs.Grammar.{CharClassEsc, single_esc, multi_esc, CharOrEsc, xml_char, char_esc, CharRange, se_range, char_inc_dash, GroupItem, range_item, esc_item}
+use Rattle.pattern.specs.Grammar.{single_esc, multi_esc, CharOrEsc, xml_char, char_esc, CharRange, se_range, char_inc_dash, GroupItem, range_item, esc_item}
 use Rattle.pattern.specs.Grammar.{PosCharGroup, item, items, CharGroup, positive, negative, CharClass, class_esc, class_expr, wildcard}
 use Rattle.pattern.specs.Grammar.{Symbol, reg_exp, branch, piece, Derives, one, or, none, more, once, times, char, class, group}
-use Rattle.pattern.specs.Scan.{Mode, start, atom, State, go, is_escaped, leave, is_plain, fresh, inside, step, final, scan}
+use Rattle.pattern.specs.Scan.{Mode, start, atom, go, is_escaped, leave, is_plain, fresh, inside, step, final, scan}
 
 -- a byte that passes a test is not one that fails it
 pub differs : (p : ℕ → Bool) (c : ℕ) {b : ℕ} → p b ≡ true → p c ≡ false → eqb b c ≡ false

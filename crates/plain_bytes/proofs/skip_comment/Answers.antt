@@ -2,7 +2,6 @@
 -- A word of bytes below 128 with no stop is passed over whole, and one with a stop up to its lowest stop. The measure is how much is left. Assumes
 -- nothing.
 use native.Mathlib.Omega.{arith}
-use Prim.Native.Nat.{◌-◌}
 use mathlib.Core.Path.{sym, ◌∙◌}
 use Rattle.plain_bytes.proofs.Laws.Runs.{comment-finds, low_word, stay, to-stop, past_word}
 use Rattle.plain_bytes.proofs.skip_comment.Goals as goal

@@ -2,18 +2,18 @@
 use Rattle.std.specs.Prelude.{if◌then◌else◌}
 use Prim.Native.String.{String}
 use mathlib.Core.Path.{◌≡◌, refl, sym, ap, ◌∙◌}
-use mathlib.Core.Bool.{Bool, true, false, ◌&&◌}
-use mathlib.Core.List.{List, [], ◌∷◌}
+use mathlib.Core.Bool.{◌&&◌}
+use mathlib.Core.List.{List, []}
 use mathlib.Core.Option.{Option, some, none}
 use Prim.Native.Nat.{ℕ, zero, suc, ◌+◌, ◌-◌, ◌*◌, ◌≤◌, ◌<◌}
 use native.Mathlib.Omega.{arith}
 use lib.Dec.{eqb, ltb}
-use lib.ListN.{length, get_or, set, replicate, drop, length-set, get_or-replicate}
+use lib.ListN.{length, get_or, replicate, drop, length-set, get_or-replicate}
 use lib.Seq.{get_or-set_same, get_or-set_other}
-use borrow.Author.Tests.{lt-ltb, eqb-true, eqb-false, eq-eqb}
-use Rattle.text.specs.Text.{Text, bytes, same, local_name}
+use borrow.Author.Tests.{lt-ltb, eqb-true, eqb-false}
+use Rattle.text.specs.Text.{Text, bytes, local_name}
 use Rattle.text.proofs.Laws.Tests.{bool_cases}
-use Rattle.xsd_parser.specs.Event.{Attr, Tag, attr_value}
+use Rattle.xsd_parser.specs.Event.{Tag, attr_value}
 use Rattle.xsd_parser.specs.Tape.{pairs_of, pair_text, attrs_of}
 use Rattle.tape.specs.Pairs.{pair_at}
 use Rattle.tape.specs.Keys.{key_words, key_of}

@@ -16,7 +16,7 @@ use borrow.Author.Tests.{eq-eqb, ne_eqb, eqb-false, not-true}
 use Rattle.text.specs.Text.{Text, bytes, every, same}
 use Rattle.text.proofs.Laws.Texts.{same-eq, same-differ}
 use Rattle.text.proofs.Laws.Tests.{two, bool_cases}
-use Rattle.text.specs.Text.{contains, colon, after_last, local_name}
+use Rattle.text.specs.Text.{contains, colon, local_name}
 use Rattle.text.proofs.Laws.Local.{after_last-none}
 use Rattle.xsd_parser.specs.declared.words.Word.{Word}
 use Rattle.xsd_parser.specs.Words.{found, known_words, word_of}

@@ -1,6 +1,6 @@
 -- The bits of two bytes together are below 128 where both bytes are. Assumes nothing.
 use Prim.Native.Nat.{ℕ}
-use mathlib.Core.Path.{◌≡◌, sym, ◌∙◌}
+use mathlib.Core.Path.{◌≡◌}
 use mathlib.Core.Bool.{◌&&◌}
 use native.Mathlib.Omega.{arith}
 use lib.Bits.{bit_or, or_lt, or_add_and, and_le_l, and_le_r}

@@ -1,6 +1,5 @@
 -- `text::is_text` meets its contract. The loop's invariant: the bits of all bytes so far, with what is left from i on, answer for the whole. The measure is
 -- how much is left. Assumes nothing.
-use Prim.Native.Nat.{◌-◌}
 use mathlib.Core.Path.{sym, ◌∙◌}
 use native.Mathlib.Numerals.{add-one}
 use native.Mathlib.Omega.{arith}

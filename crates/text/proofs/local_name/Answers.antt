@@ -1,6 +1,5 @@
 -- `text::local_name` meets its contract. The loop's invariant: what is kept, with what is left from i on, gives the local name of the whole.
 -- The measure is how much is left. Assumes nothing.
-use Prim.Native.Nat.{◌-◌}
 use mathlib.Core.Path.{refl, sym, ◌∙◌}
 use mathlib.Core.Logic.{⊎_elim}
 use native.Mathlib.Numerals.{add-one}

@@ -1,6 +1,5 @@
 -- `text::same_text` meets its contract. The loop's invariant: what is left of both from i on answers for the whole. The measure is how much is left.
 -- Assumes nothing.
-use Prim.Native.Nat.{◌-◌}
 use mathlib.Core.Path.{refl, sym, ap, ◌∙◌}
 use native.Mathlib.Numerals.{add-one}
 use native.Mathlib.Omega.{arith}

@@ -1,6 +1,5 @@
 -- `text::trim_start` meets its contract. The loop's invariant: what is left from i on gives what the whole gives. The measure is how much is left.
 -- Assumes nothing.
-use Prim.Native.Nat.{◌-◌}
 use mathlib.Core.Path.{refl, sym, ◌∙◌}
 use native.Mathlib.Numerals.{add-one}
 use native.Mathlib.Omega.{arith}

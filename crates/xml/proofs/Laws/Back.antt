@@ -3,11 +3,11 @@ use Prim.Native.Nat.{ℕ, ◌+◌}
 use mathlib.Core.Path.{◌≡◌, refl, sym, ap, ◌∙◌}
 use mathlib.Core.List.{List, [], ◌∷◌, ◌++◌}
 use native.Mathlib.Omega.{arith}
-use lib.ListN.{length, take, drop}
+use lib.ListN.{length, drop}
 use lib.Seq.{drop-drop, drop_at, take_at}
 use Rattle.text.specs.Text.{Text}
 use Rattle.xsd_parser.specs.Event.{Attr, Tag}
-use Rattle.xsd_parser.specs.Tape.{Pair, pair_text, attrs_of, tag_of, event_of}
+use Rattle.xsd_parser.specs.Tape.{pair_text, attrs_of, tag_of, event_of}
 use Rattle.xml.specs.Accepted.{attribute_pairs, event_read}
 use Rattle.xml.specs.Written.{quote_of, written_attributes, tag_end, written_tag, attribute_places, written_event}
 use Rattle.xml.proofs.Laws.Written.{written-more, tag-more}

@@ -1,11 +1,10 @@
 -- The tape of a well-formed text, read whole with its text, meets none of 3, 4, 5 and 6, and leaves as many tags open as before: its records are events, and
 -- each close of them has its open tag. Assumes nothing.
-use Rattle.std.specs.Prelude.{if◌then◌else◌}
-use Prim.Native.Nat.{ℕ, zero, suc, ◌+◌, ◌-◌, ◌≤◌, ◌<◌}
+use Prim.Native.Nat.{ℕ, zero, suc, ◌+◌, ◌-◌, ◌≤◌}
 use mathlib.Core.Path.{◌≡◌, refl, sym, ap, ◌∙◌}
-use mathlib.Core.Logic.{◌⊎◌, inl, inr}
-use mathlib.Core.List.{List, [], ◌∷◌, ◌++◌}
-use mathlib.Core.Bool.{Bool, true, false}
+use mathlib.Core.Logic.{inl, inr}
+use mathlib.Core.List.{List, [], ◌∷◌}
+use mathlib.Core.Bool.{true, false}
 use native.Mathlib.Omega.{arith}
 use lib.Dec.{eqb, leb, ltb}
 use lib.ListN.{length, take, replicate}
@@ -17,8 +16,7 @@ use Rattle.sheet.specs.Rows.{filled}
 use Rattle.xsd_types.specs.State.{Reader, State}
 use Rattle.xsd_types.specs.Sheet.{state_fits}
 use Rattle.xsd_parser.specs.Event.{Event}
-use Rattle.xsd_parser.specs.Tape.{event, event_of, Judged, records}
-use Rattle.xsd_parser.specs.Handlers.{ok, refuse}
+use Rattle.xsd_parser.specs.Tape.{event_of}
 use Rattle.xsd_parser.specs.Step.{closed, tags_after, counted, room_for, step}
 use Rattle.xsd_parser.specs.Read.{read_records, read_state}
 use Rattle.xsd_parser.proofs.Laws.Outcomes.{Gives, value, refusal, gives-if, gives-and_then, gives-wider, gives-value, gives-refusal, outcome-cases}

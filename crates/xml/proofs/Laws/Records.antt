@@ -1,19 +1,17 @@
 -- The tape of a well-formed text is read as its events: its pairs lie inside the text and rise, all bytes are below 128, and each record has its numbers.
 -- Assumes nothing.
-use Rattle.std.specs.Prelude.{if◌then◌else◌}
-use Prim.Native.Nat.{ℕ, zero, suc, ◌+◌, ◌*◌, ◌≤◌, ◌<◌}
-use mathlib.Core.Path.{◌≡◌, refl, sym, ap, ◌∙◌}
+use Prim.Native.Nat.{ℕ, zero, suc, ◌+◌, ◌*◌, ◌≤◌}
+use mathlib.Core.Path.{◌≡◌, refl, ap, ◌∙◌}
 use mathlib.Core.List.{List, [], ◌∷◌, ◌++◌}
-use mathlib.Core.Bool.{Bool, true, false, ◌&&◌}
+use mathlib.Core.Bool.{true}
 use native.Mathlib.Omega.{arith}
-use lib.Dec.{eqb, leb}
-use lib.ListN.{length, take, drop, length-append}
+use lib.Dec.{leb}
+use lib.ListN.{length, drop, length-append}
 use lib.Seq.{drop_at}
 use borrow.Author.Tests.{le-leb, ne_eqb}
 use Rattle.text.specs.Text.{Text, every, is_text, is_text_byte, between}
 use Rattle.text.proofs.Laws.Tests.{and-true, two}
 use Rattle.text.proofs.Laws.Every.{every_take, every_drop}
-use Rattle.xsd_parser.specs.Event.{Event}
 use Rattle.xsd_parser.specs.Tape.{Pair, pairs_of, pair_text, pair_count, form_test, all_inside, all_ascii, tag_record, record1, next, event, Judged, records_from, records}
 use Rattle.xsd_parser.proofs.Laws.Records.{records-none, records-next}
 use Rattle.xml.specs.Tape.{AttributePairs, TapeEvent, attribute_marks, event_marks, tape_marks}

@@ -1,6 +1,5 @@
 -- A written tag is read as that tag: each step ends where its part of the written text ends. Assumes nothing.
-use Rattle.std.specs.Prelude.{if◌then◌else◌}
-use Prim.Native.Nat.{ℕ, zero, suc, ◌+◌, ◌-◌, ◌*◌, ◌≤◌, ◌<◌}
+use Prim.Native.Nat.{ℕ, zero, suc, ◌+◌, ◌*◌, ◌≤◌, ◌<◌}
 use Prim.Native.Char.{code}
 use mathlib.Core.Path.{◌≡◌, refl, sym, ap, ◌∙◌}
 use mathlib.Core.Logic.{⊎_elim}
@@ -12,7 +11,7 @@ use lib.ListN.{length, drop, length-append, length-drop}
 use lib.Seq.{drop-append-le}
 use borrow.Author.Tests.{eqb-true, eqb-false, eq-eqb, ne_eqb, not-true}
 use Rattle.text.specs.Text.{Text, bytes, first, every, contains, between}
-use Rattle.text.proofs.Laws.Tests.{bool_cases, two, four, or_left, or_right, or_cases, if-cases, if-keeps, and-true}
+use Rattle.text.proofs.Laws.Tests.{bool_cases, two, four, or_left, or_right, or_cases, if-cases, if-keeps}
 use Rattle.text.proofs.Laws.Every.{every-head, every-tail}
 use Rattle.xsd_parser.specs.Event.{Attr, Tag}
 use Rattle.xsd_parser.specs.Tape.{Pair}

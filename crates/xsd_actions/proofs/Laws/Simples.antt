@@ -8,7 +8,7 @@ use lib.Dec.{eqb}
 use Rattle.text.specs.Text.{Text}
 use Rattle.xsd_types.specs.Types.{Facet}
 use Rattle.xsd_types.specs.State.{SimpleTypeBuilder, Context}
-use Rattle.xsd_types.specs.Rows.{facet_row, simple_type_rows, context_rows, context_number, nesting, extension_flag}
+use Rattle.xsd_types.specs.Rows.{facet_row, simple_type_rows, context_rows, context_number, extension_flag}
 use Rattle.xsd_parser.specs.declared.words.Word.{Word}
 use Rattle.xsd_parser.specs.Words.{facet_word}
 use Rattle.xsd_parser.specs.Event.{or_empty}

@@ -7,8 +7,8 @@ use Rattle.sheet.specs.Lengths.{Lengths}
 use Rattle.xsd_types.specs.State.{Reader, State}
 use Rattle.xsd_parser.specs.Event.{Tag, Event}
 use Rattle.xsd_parser.specs.Seen.{Seen, seen}
-use Rattle.xsd_parser.specs.Handlers.{Outcome, ◌and_then◌, on_start, on_empty}
-use Rattle.xsd_parser.specs.Step.{handled, tags_after, counted, room_for, step}
+use Rattle.xsd_parser.specs.Handlers.{on_start, on_empty}
+use Rattle.xsd_parser.specs.Step.{handled, tags_after, step}
 
 pub data SeenAlike : Event → Event → Type 0 where
   start : {t u : Tag} → seen t ≡ seen u → SeenAlike (Event.start t) (Event.start u)

@@ -9,7 +9,7 @@ use Prim.Native.Nat.{ℕ, zero, suc}
 use native.Mathlib.Omega.{arith}
 use lib.Dec.{eqb, ltb}
 use Rattle.text.specs.Text.{Text}
-use Rattle.text.proofs.Laws.Tests.{two, bool_cases, if-either}
+use Rattle.text.proofs.Laws.Tests.{bool_cases, if-either}
 use Rattle.sheet.specs.Lengths.{Lengths}
 use Rattle.xsd_types.specs.Types.{Schema}
 use Rattle.xsd_types.specs.State.{SimpleTypeBuilder, ComplexTypeBuilder, Context, Reader, State}

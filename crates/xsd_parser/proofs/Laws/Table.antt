@@ -17,7 +17,7 @@ use Rattle.xsd_types.specs.Sheet.{state_fits}
 use Rattle.xsd_types.specs.Count.{good, state_of}
 use Rattle.xsd_parser.specs.Event.{Event}
 use Rattle.xsd_parser.specs.Tape.{Judged, event, Recorded, bad, next, all_inside, all_ascii, pair_count, pairs_of, form_test, tag_record, record1, records_from, records}
-use Rattle.xsd_parser.specs.Handlers.{Outcome, ok, refuse, ◌and_then◌}
+use Rattle.xsd_parser.specs.Handlers.{Outcome, ok, refuse}
 use Rattle.xsd_parser.specs.Step.{handled, closed, tags_after, counted, room_for, step}
 use Rattle.xsd_parser.specs.Read.{read_records, read_state, read}
 use Rattle.xsd_parser.specs.Table.{RecordTable, EventTable, ReadsOn, ReadTable}

@@ -1,6 +1,5 @@
 -- `xsd_refused::count_refused` meets its contract. The loop's invariant: what was counted and the count of the rows from p on are that of all. The measure is
 -- how many rows are left. Assumes nothing.
-use Prim.Native.Nat.{◌-◌}
 use mathlib.Core.Path.{sym, ◌∙◌}
 use native.Mathlib.Omega.{arith}
 use Rattle.xsd_refused.proofs.Laws.Count.{count-end, count_at, count-not-at, count-few}
@@ -25,8 +24,8 @@ loop-p-preserved c =
       omega arith,
       omega arith,
       elim c.if-is_refused.branch [
-        then-is_refused w ↦ omega (arith, c.loop-p.invariant, counted (sym told ∙ w.if-is_refused.true), w.n-is)
-      | else-is_refused w ↦ omega (arith, c.loop-p.invariant, passed (sym told ∙ w.if-is_refused.false), w.n-is)
+        | then-is_refused w ↦ omega (arith, c.loop-p.invariant, counted (sym told ∙ w.if-is_refused.true), w.n-is)
+        | else-is_refused w ↦ omega (arith, c.loop-p.invariant, passed (sym told ∙ w.if-is_refused.false), w.n-is)
       ],
     )
 

@@ -1,17 +1,17 @@
 -- The sheets that are good with their count, from those that are good without: one number differs, and nothing but the count is read from it. Assumes nothing.
-use Prim.Native.Nat.{ℕ, zero, suc, ◌+◌, ◌*◌, ◌<◌, ◌≤◌}
+use Prim.Native.Nat.{ℕ, zero, suc, ◌<◌}
 use mathlib.Core.Path.{◌≡◌, refl, sym, ap, ap₂, subst, ◌∙◌}
 use mathlib.Core.Logic.{◌↔◌}
-use mathlib.Core.Bool.{Bool, true, false, ◌&&◌}
+use mathlib.Core.Bool.{Bool, true}
 use mathlib.Core.List.{List, [], ◌∷◌, ◌++◌}
 use native.Mathlib.Omega.{arith}
-use lib.Dec.{eqb, ltb}
+use lib.Dec.{ltb}
 use lib.ListN.{length, get_or, set, drop, length-set}
 use lib.Seq.{set-set, set-get_or, get_or-set_same, get_or-set_other, drop-set-lt}
 use borrow.Author.Tests.{eqb-true, eq-eqb}
 use Rattle.text.specs.Text.{every}
 use Rattle.text.proofs.Laws.Tests.{and-true-left, and-true-right, and-true}
-use Rattle.sheet.specs.Rows.{Ten, Sheet, ten, numbers, pack, pack_row, row, names_of, filled, bit, sheet_of_rows}
+use Rattle.sheet.specs.Rows.{Sheet, ten, numbers, pack, pack_row, row, names_of, filled, bit, sheet_of_rows}
 use Rattle.sheet.specs.Form.{words, row0_of}
 use Rattle.xsd_types.specs.State.{State, proper}
 use Rattle.xsd_types.specs.Row0.{row0_from, row0_ten, row0_in}

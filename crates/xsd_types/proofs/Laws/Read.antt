@@ -14,7 +14,7 @@ use Rattle.sheet.proofs.Laws.Numbers.{every-tens, length-tens}
 use Rattle.sheet.proofs.Laws.Packs.{is_text-names_of}
 use Rattle.sheet.proofs.Laws.Unpacks.{few, counted-unpack}
 use Rattle.sheet.proofs.Laws.Sheets.{names-read, length-read, sheet-read}
-use Rattle.xsd_types.specs.Rows.{namespace_row, namespace_a, items_rows, row0}
+use Rattle.xsd_types.specs.Rows.{namespace_row, namespace_a, items_rows}
 use Rattle.xsd_types.specs.Row0.{row0_in}
 use Rattle.xsd_types.specs.Good.{used_pairs, is_child, in_order, is_head, head_after, last_head, ten_form, names_test, extension_test, head_of}
 use Rattle.xsd_types.specs.Back.{rows_in}

@@ -1,6 +1,5 @@
 -- `buffer::shift::shift_down` meets its contract. The loop's invariant: the first k bytes are moved. The measure is how many are left.
 -- Assumes nothing.
-use Prim.Native.Nat.{◌-◌}
 use native.Mathlib.Omega.{arith}
 use Rattle.buffer.proofs.Laws.Copy.{copying-start, copying-end}
 use Rattle.buffer.proofs.Laws.Shift.{moved_down}

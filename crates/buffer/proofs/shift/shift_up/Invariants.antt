@@ -1,6 +1,6 @@
 -- `buffer::shift::shift_up` meets its contract. The loop's invariant: all but the first k bytes are moved. The measure is k.
 -- Assumes nothing.
-use Prim.Native.Nat.{◌≤◌, ◌-◌}
+use Prim.Native.Nat.{◌≤◌}
 use lib.ListN.{take, drop}
 use Rattle.buffer.proofs.Laws.Shift.{Moving}
 use Rattle.buffer.proofs.shift.shift_up.Given as goal

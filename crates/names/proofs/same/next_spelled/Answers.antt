@@ -1,6 +1,5 @@
 -- `names::same::next_spelled` meets its contract. The loop's invariant: the name spelled from `from` on is the name spelled from `at` on. The measure
 -- is how much of the name is left. Assumes nothing.
-use Prim.Native.Nat.{◌-◌}
 use mathlib.Core.Path.{refl, ◌∙◌}
 use native.Mathlib.Numerals.{add-one}
 use native.Mathlib.Omega.{arith}

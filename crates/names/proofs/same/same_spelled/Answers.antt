@@ -1,6 +1,5 @@
 -- `names::same::same_spelled` meets its contract. The loop's invariant: what is left of the two names, spelled, answers for the whole.
 -- The measure is how much of the first name is left. Assumes nothing.
-use Prim.Native.Nat.{◌-◌}
 use mathlib.Core.Path.{sym, ◌∙◌}
 use native.Mathlib.Omega.{arith}
 use Rattle.names.proofs.Laws.Next.{next-byte, next-end, same_ended, same-longer, next-differ, next-same}

@@ -1,6 +1,6 @@
 -- `names::snake::xml_to_snake_case` meets its contract. The loop's invariant: len bytes of the target are written, and the snake form of the name
 -- from i on is what is still to be written. The measure is how much of the name is left. Assumes nothing.
-use Prim.Native.Nat.{suc, ◌-◌}
+use Prim.Native.Nat.{suc}
 use mathlib.Core.List.{◌∷◌}
 use mathlib.Core.Path.{◌≡◌, sym, ◌∙◌}
 use mathlib.Core.Logic.{⊎_elim}

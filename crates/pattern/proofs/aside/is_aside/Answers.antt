@@ -1,6 +1,6 @@
 -- `pattern::aside::is_aside` meets its contract. The loop's invariant: what was found, with what is left from i on, answers for the whole. The measure is what is left. Assumes nothing.
 use native.Mathlib.Omega.{arith}
-use Prim.Native.Nat.{ℕ, ◌+◌, ◌-◌, ◌<◌}
+use Prim.Native.Nat.{ℕ, ◌+◌, ◌<◌}
 use mathlib.Core.Path.{◌≡◌, refl, sym, ap, ap₂, ◌∙◌}
 use mathlib.Core.Bool.{Bool, ◌||◌, or_assoc}
 use lib.Dec.{ltb}

@@ -2,7 +2,7 @@
 -- the scan goes on at i, inside the class. The measure is what is left. Assumes nothing.
 use borrow.Author.Tests.{ne_eqb}
 use native.Mathlib.Omega.{arith}
-use Prim.Native.Nat.{◌+◌, ◌-◌}
+use Prim.Native.Nat.{◌+◌}
 use mathlib.Core.Path.{refl, sym, ◌∙◌}
 use Rattle.pattern.specs.Scan.{Mode, go, step, final}
 use Rattle.pattern.specs.Answers.{is_bracket, any_byte}

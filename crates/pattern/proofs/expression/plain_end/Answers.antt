@@ -1,6 +1,5 @@
 -- `pattern::expression::plain_end` meets its contract. The loop's invariant: behind an atom the scan goes on at i. The measure is what is left. Assumes nothing.
 use native.Mathlib.Omega.{arith}
-use Prim.Native.Nat.{◌-◌}
 use mathlib.Core.Path.{refl, sym, ◌∙◌}
 use Rattle.pattern.proofs.Laws.Places.{plain_at}
 use Rattle.pattern.proofs.expression.plain_end.Goals as goal

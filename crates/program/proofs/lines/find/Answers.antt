@@ -1,7 +1,6 @@
 -- `program::lines::find` meets its contract. The loop's invariant: the place and what is left before the byte make the whole. The measure is how
 -- much is left.
 -- Assumes nothing.
-use Prim.Native.Nat.{◌-◌}
 use mathlib.Core.Path.{ap}
 use native.Mathlib.Numerals.{add-one}
 use native.Mathlib.Omega.{arith}

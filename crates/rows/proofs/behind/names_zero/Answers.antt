@@ -1,6 +1,5 @@
 -- `rows::behind::names_zero` meets its contract. The loop's invariant: what was seen so far, with what is left from i on, answers for the whole. The
 -- measure is how much is left. Assumes nothing.
-use Prim.Native.Nat.{◌-◌}
 use mathlib.Core.Path.{sym, ◌∙◌}
 use native.Mathlib.Numerals.{add-one}
 use native.Mathlib.Omega.{arith}

@@ -1,6 +1,5 @@
 -- `rows::row::put_row` meets its contract. The loop's invariant: the first k numbers are copied. The measure is what is left of ten.
 -- Assumes nothing.
-use Prim.Native.Nat.{◌-◌}
 use native.Mathlib.Omega.{arith}
 use borrow.Author.Rules.{rules}
 use Rattle.buffer.proofs.Laws.Copy.{copying-start, copying-more, copying-end}

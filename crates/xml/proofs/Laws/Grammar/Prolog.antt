@@ -11,7 +11,7 @@ use Rattle.text.specs.Text.{Text, bytes, first, every, between, is_digit}
 use Rattle.text.specs.Trim.{is_white_space}
 use Rattle.text.proofs.Laws.Tests.{bool_cases, two}
 use Rattle.xml.specs.Classes.{is_letter, is_encoding}
-use Rattle.xml.specs.Steps.{Step, behind, ◌and_then◌, starts_with, literal, many, one_then, spaces, space, comment, instruction}
+use Rattle.xml.specs.Steps.{Step, behind, ◌and_then◌, starts_with, literal, many, one_then, spaces, space}
 use Rattle.xml.specs.Grammar.{Opt, absent, present, Many, none, more, S, Comment, PI, VersionNum, version_num, EncName, YesNo, Quoted, single, double, Declares}
 use Rattle.xml.specs.Grammar.{declares, XMLDecl, xml_decl, Misc, misc_comment, misc_pi, misc_s}
 use Rattle.xml.specs.Values.{is_quote}

@@ -8,7 +8,7 @@ use native.Mathlib.Omega.{arith}
 use lib.Dec.{leb}
 use lib.ListN.{length, length-set}
 use lib.Seq.{paste}
-use borrow.Author.Tests.{leb-true, not-false}
+use borrow.Author.Tests.{leb-true}
 use Rattle.text.proofs.Laws.Tests.{and-true-left, and-true-right}
 use Rattle.sheet.specs.Rows.{numbers}
 use Rattle.sheet.specs.Lengths.{sheet_lengths}
