@@ -1,6 +1,5 @@
 -- `xsd_refused::count_refused` meets its contract. The loop's invariant: what was counted and the count of the rows from p on are that of all. The measure is
 -- how many rows are left. Assumes nothing.
-use Prim.Native.Nat.{◌-◌}
 use mathlib.Core.Path.{sym, ◌∙◌}
 use native.Mathlib.Omega.{arith}
 use Rattle.xsd_refused.proofs.Laws.Count.{count-end, count_at, count-not-at, count-few}

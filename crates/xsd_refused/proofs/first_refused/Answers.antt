@@ -1,6 +1,5 @@
 -- `xsd_refused::first_refused` meets its contract. The loop's invariant: the answer for the rows from p on is that for all. The measure is how many rows
 -- are left. Assumes nothing.
-use Prim.Native.Nat.{◌-◌}
 use mathlib.Core.Path.{refl, sym, ◌∙◌}
 use native.Mathlib.Omega.{arith}
 use Rattle.xsd_refused.proofs.Laws.Refused.{refused_end, refused-at, refused-not-at}

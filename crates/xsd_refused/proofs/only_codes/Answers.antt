@@ -1,6 +1,5 @@
 -- `xsd_refused::only_codes` meets its contract. The loop's invariant: the answer for the rows from p on is that for all. The measure is how many rows are
 -- left. Assumes nothing.
-use Prim.Native.Nat.{◌-◌}
 use mathlib.Core.Path.{refl, sym, ap, ◌∙◌}
 use mathlib.Core.Bool.{not}
 use native.Mathlib.Omega.{arith}

@@ -1,6 +1,5 @@
 -- `xsd_good::scan::events_test` meets its contract. The loop's invariant: the tests so far and those of the rows that are left give what those of all rows
 -- give. The measure is how many rows are left. Assumes nothing.
-use Prim.Native.Nat.{◌-◌}
 use mathlib.Core.Path.{refl, ◌∙◌}
 use native.Mathlib.Omega.{arith}
 use lib.ListN.{drop}
