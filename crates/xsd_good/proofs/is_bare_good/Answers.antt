@@ -11,11 +11,8 @@ use Rattle.xsd_good.proofs.Laws.Bare.{bare-short, bare-outside, bare-tests}
 use Rattle.xsd_good.proofs.is_bare_good.Goals as goal
 
 -- behind the second test the used parts lie inside the buffers
-fits : (z : Row0) (rows names : ℕ) {u : Bool} → u ≡ parts_fit z rows names → u ≡ true → parts_fit z rows names ≡ true
-fits z rows names e h = sym e ∙ h
-
 inside : (z : Row0) (rows names : ℕ) {u : Bool} → u ≡ parts_fit z rows names → u ≡ true → (2 ≤ z.rows_used) × (10 * z.rows_used ≤ rows) × (z.names_used ≤ names)
-inside z rows names e h = parts_in z rows names (fits z rows names e h)
+inside z rows names e h = parts_in z rows names (sym e ∙ h)
 
 pub returns-then-rows-lt-LEAST_ROWS : goal.returns-then-rows-lt-LEAST_ROWS
 returns-then-rows-lt-LEAST_ROWS c =
@@ -39,7 +36,9 @@ zeros_behind-requires c =
     (h.1, h.2)
 
 pub names_test-requires : goal.names_test-requires
-names_test-requires c = (inside (as_row0 c.row0_at-z.result) (length c.args.rows.now) (length c.args.names.now) c.used_parts.ensures c.if-not-used_parts.false).2
+names_test-requires c =
+    let h = inside (as_row0 c.row0_at-z.result) (length c.args.rows.now) (length c.args.names.now) c.used_parts.ensures c.if-not-used_parts.false in
+    h.2
 
 pub events_test-requires : goal.events_test-requires
 events_test-requires c =
@@ -52,5 +51,5 @@ returns c =
     let z = as_row0 c.row0_at-z.result in
     bare-tests a.rows.now a.names.now z c.scan_sheet-s.result c.row0_form.ensures refl c.zeros_behind.ensures c.names_test.ensures
     c.limits.ensures c.root_test.ensures c.nesting_test.ensures
-    c.context_test.ensures c.extension_test.ensures c.events_test.ensures c.row0_at-z.ensures (fits (as_row0 c.row0_at-z.result) (length c.args.rows.now) (length c.args.names.now) c.used_parts.ensures c.if-not-used_parts.false)
+    c.context_test.ensures c.extension_test.ensures c.events_test.ensures c.row0_at-z.ensures (sym c.used_parts.ensures ∙ c.if-not-used_parts.false)
     c.scan_sheet-s.ensures

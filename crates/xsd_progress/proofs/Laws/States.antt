@@ -5,7 +5,7 @@ use mathlib.Core.List.{List}
 use lib.ListN.{length}
 use Rattle.sheet.specs.Rows.{bit}
 use Rattle.xsd_types.specs.State.{State}
-use Rattle.xsd_types.specs.Rows.{extension_flag, row0, rows_used, names_used, nesting}
+use Rattle.xsd_types.specs.Rows.{extension_flag, row0, rows_used, names_used}
 use Rattle.xsd_types.proofs.Laws.Rows.{bit-again}
 use Rattle.xsd_types.proofs.Laws.Made.{flag-context}
 use Rattle.rows.proofs.Laws.Middle.{rows_fit, names-fit}

@@ -1,13 +1,13 @@
 -- The count around a reading: the sheet without it is read, the items grow, and those behind the old ones are counted. Assumes nothing.
 use Prim.Native.Nat.{ℕ, ◌+◌, ◌*◌, ◌<◌, ◌≤◌}
-use mathlib.Core.Path.{◌≡◌, refl, sym, ap, ap₂, subst, ◌∙◌}
+use mathlib.Core.Path.{◌≡◌, refl, ap, ap₂, subst, ◌∙◌}
 use mathlib.Core.Bool.{true}
-use mathlib.Core.List.{List, ◌++◌}
+use mathlib.Core.List.{List}
 use native.Mathlib.Omega.{arith}
 use lib.ListN.{length, get_or, set, length-set, length-append}
 use Rattle.text.specs.Text.{Text}
 use Rattle.sheet.specs.Rows.{Sheet, ten}
-use Rattle.sheet.specs.Lengths.{Answer, Lengths}
+use Rattle.sheet.specs.Lengths.{Answer}
 use Rattle.sheet.specs.Calls.{sheet}
 use Rattle.sheet.specs.Form.{words, rows_used_in}
 use Rattle.xsd_types.specs.Types.{Item}

@@ -65,7 +65,8 @@ overflow_add-rows c =
     let read = c.read_good-answer.ensures in
     omega (
       arith,
-      count_small q from.words read end.words (from_is q from.words from.place) (end_is q from.words read end.words end.place) c.count_in-before.ensures c.count_refused-more.ensures,
+      count_small q from.words read end.words (from_is q from.words from.place) (end_is q from.words read end.words end.place)
+          c.count_in-before.ensures c.count_refused-more.ensures,
       q.lent.few_rows,
     )
 
@@ -77,7 +78,8 @@ overflow_cast-rows c =
     let read = c.read_good-answer.ensures in
     omega (
       arith,
-      count_small q from.words read end.words (from_is q from.words from.place) (end_is q from.words read end.words end.place) c.count_in-before.ensures c.count_refused-more.ensures,
+      count_small q from.words read end.words (from_is q from.words from.place) (end_is q from.words read end.words end.place)
+          c.count_in-before.ensures c.count_refused-more.ensures,
       q.lent.few_rows,
     )
 

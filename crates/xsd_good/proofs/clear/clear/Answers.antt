@@ -32,13 +32,20 @@ returns-then-not-sheet_lengths-choice c =
 pub cleared_row0-requires : goal.cleared_row0-requires
 cleared_row0-requires c =
     let a = c.args in
-    leb-true a.choice 1 (and-true-right (sheet_lengths (length a.rows.now) (length a.names.now)) _ (passes (length c.args.rows.now) (length c.args.names.now) c.args.choice c.sheet_lengths.ensures c.if-not-sheet_lengths-choice.false))
+    let ok = passes (length a.rows.now) (length a.names.now) a.choice c.sheet_lengths.ensures c.if-not-sheet_lengths-choice.false in
+    leb-true a.choice 1 (and-true-right (sheet_lengths (length a.rows.now) (length a.names.now)) _ ok)
 
 pub put_row-requires : goal.put_row-requires
-put_row-requires c = omega (arith, long-enough (length c.args.rows.now) (length c.args.names.now) c.args.choice c.sheet_lengths.ensures c.if-not-sheet_lengths-choice.false)
+put_row-requires c =
+    let a = c.args in
+    let enough = long-enough (length a.rows.now) (length a.names.now) a.choice c.sheet_lengths.ensures c.if-not-sheet_lengths-choice.false in
+    omega arith
 
 pub bounds-rows-10 : goal.bounds-rows-10
-bounds-rows-10 c = omega (arith, long-enough (length c.args.rows.now) (length c.args.names.now) c.args.choice c.sheet_lengths.ensures c.if-not-sheet_lengths-choice.false, c.put_row.auto.rows)
+bounds-rows-10 c =
+    let a = c.args in
+    let enough = long-enough (length a.rows.now) (length a.names.now) a.choice c.sheet_lengths.ensures c.if-not-sheet_lengths-choice.false in
+    omega (arith, c.put_row.auto.rows)
 
 pub shape_of-rows : goal.shape_of-rows
 shape_of-rows c = simp length-set (c.put_row.auto.rows ∙ c.zero_rows.auto.rows)
@@ -48,4 +55,5 @@ returns c =
     let a = c.args in
     let row = c.row0_numbers.ensures ∙ ap (λ (z : Row0). numbers (row0_ten z ∷ [])) c.cleared_row0.ensures in
     let rows = c.put_row.ensures ∙ ap₂ (λ (d s : List ℕ). paste d 0 s 10) (c.zero_rows.ensures ∙ zeros-whole a.rows.now) row in
-    rw (rows, c.zero_names.ensures ∙ zeros-whole a.names.now) (clear-done a.choice a.rows.now a.names.now (passes (length c.args.rows.now) (length c.args.names.now) c.args.choice c.sheet_lengths.ensures c.if-not-sheet_lengths-choice.false))
+    let ok = passes (length a.rows.now) (length a.names.now) a.choice c.sheet_lengths.ensures c.if-not-sheet_lengths-choice.false in
+    rw (rows, c.zero_names.ensures ∙ zeros-whole a.names.now) (clear-done a.choice a.rows.now a.names.now ok)

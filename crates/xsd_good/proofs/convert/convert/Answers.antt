@@ -16,20 +16,14 @@ use Rattle.xsd_good.proofs.Laws.Bare.{bare-used}
 use Rattle.xsd_good.proofs.Laws.Convert.{convert-one, convert-bad, convert-wrong, convert-fills}
 use Rattle.xsd_good.proofs.convert.convert.Goals as goal
 
--- behind the first test the lengths are as the paper has them, behind the second the sheet is good but for its count
-lengths-pass : (rows names : ℕ) {s : Bool} → s ≡ sheet_lengths rows names → s ≡ true → sheet_lengths rows names ≡ true
-lengths-pass rows names e h = sym e ∙ h
-
+-- behind the first test the rows are few, behind the second there is room for the count
 few-rows : (rows names : ℕ) {s : Bool} → s ≡ sheet_lengths rows names → s ≡ true → rows ≤ 40960
 unfolding sheet_lengths
 few-rows rows names e h =
-    leb-true rows 40960 (four (eqb (rows % 10) 0) (leb 20 rows) (leb rows 40960) (leb names 65536) (lengths-pass rows names e h)).2
-
-passes : (rows names : List ℕ) {b : Bool} → b ≡ bare_good (bare (sheet rows names)) → b ≡ true → bare_good (bare (sheet rows names)) ≡ true
-passes rows names e h = sym e ∙ h
+    leb-true rows 40960 (four (eqb (rows % 10) 0) (leb 20 rows) (leb rows 40960) (leb names 65536) (sym e ∙ h)).2
 
 long : (rows names : List ℕ) {b : Bool} → b ≡ bare_good (bare (sheet rows names)) → b ≡ true → 17 < length rows
-long rows names e h = omega (arith, (bare-used rows names (passes rows names e h)).0)
+long rows names e h = omega (arith, (bare-used rows names (sym e ∙ h)).0)
 
 pub returns-then-not-sheet_lengths : goal.returns-then-not-sheet_lengths
 returns-then-not-sheet_lengths c =
@@ -39,10 +33,10 @@ returns-then-not-sheet_lengths c =
 pub returns-then-not-is_bare_good : goal.returns-then-not-is_bare_good
 returns-then-not-is_bare_good c =
     let a = c.args in
-    convert-bad a.rows.now a.names.now (lengths-pass (length c.args.rows.now) (length c.args.names.now) c.sheet_lengths.ensures c.if-not-sheet_lengths.false) (sym c.is_bare_good.ensures ∙ c.if-not-is_bare_good.true)
+    convert-bad a.rows.now a.names.now (sym c.sheet_lengths.ensures ∙ c.if-not-sheet_lengths.false) (sym c.is_bare_good.ensures ∙ c.if-not-is_bare_good.true)
 
 pub count_of-count-requires : goal.count_of-count-requires
-count_of-count-requires c = passes c.args.rows.now c.args.names.now c.is_bare_good.ensures c.if-not-is_bare_good.false
+count_of-count-requires c = sym c.is_bare_good.ensures ∙ c.if-not-is_bare_good.false
 
 pub count_in-stored-requires : goal.count_in-stored-requires
 count_in-stored-requires c = long c.args.rows.now c.args.names.now c.is_bare_good.ensures c.if-not-is_bare_good.false
@@ -50,7 +44,7 @@ count_in-stored-requires c = long c.args.rows.now c.args.names.now c.is_bare_goo
 pub returns-then-not-stored-count : goal.returns-then-not-stored-count
 returns-then-not-stored-count c =
     let a = c.args in
-    convert-wrong a.rows.now a.names.now (lengths-pass (length c.args.rows.now) (length c.args.names.now) c.sheet_lengths.ensures c.if-not-sheet_lengths.false) (passes c.args.rows.now c.args.names.now c.is_bare_good.ensures c.if-not-is_bare_good.false) c.count_in-stored.ensures
+    convert-wrong a.rows.now a.names.now (sym c.sheet_lengths.ensures ∙ c.if-not-sheet_lengths.false) (sym c.is_bare_good.ensures ∙ c.if-not-is_bare_good.false) c.count_in-stored.ensures
     c.count_of-count.ensures.count c.if-not-stored-count.true
 
 pub overflow_cast-rows : goal.overflow_cast-rows
@@ -62,5 +56,5 @@ bounds-rows-17 c = long c.args.rows.now c.args.names.now c.is_bare_good.ensures 
 pub returns : goal.returns
 returns c =
     let a = c.args in
-    convert-fills a.rows.now a.names.now (lengths-pass (length c.args.rows.now) (length c.args.names.now) c.sheet_lengths.ensures c.if-not-sheet_lengths.false) (passes c.args.rows.now c.args.names.now c.is_bare_good.ensures c.if-not-is_bare_good.false) c.count_in-stored.ensures
+    convert-fills a.rows.now a.names.now (sym c.sheet_lengths.ensures ∙ c.if-not-sheet_lengths.false) (sym c.is_bare_good.ensures ∙ c.if-not-is_bare_good.false) c.count_in-stored.ensures
     c.count_of-count.ensures.count c.if-not-stored-count.false

@@ -18,8 +18,8 @@ use Rattle.xsd_good.proofs.Laws.Bare.{bare-used, bare-end, bare-room, bare-count
 use Rattle.xsd_good.proofs.count.count_of.Goals as goal
 
 -- the finished items end where the call says
-ends : (rows names : List ℕ) {p : ℕ} → bare_good (bare (sheet rows names)) ≡ true → p ≡ finished_end rows (row0_from (ten rows)).context (rows_used_in (ten rows)) → words rows ≡ true
-    → p ≡ 2 + length (items_rows (state_of (sheet rows names)).reader.schema.items)
+ends : (rows names : List ℕ) {p : ℕ} → bare_good (bare (sheet rows names)) ≡ true
+    → p ≡ finished_end rows (row0_from (ten rows)).context (rows_used_in (ten rows)) → words rows ≡ true → p ≡ 2 + length (items_rows (state_of (sheet rows names)).reader.schema.items)
 ends rows names good place w = place ∙ bare-end rows names good w
 
 pub finished_place-requires : goal.finished_place-requires
@@ -29,13 +29,17 @@ finished_place-requires c =
 
 pub count_refused-requires : goal.count_refused-requires
 count_refused-requires c =
-    bare-room c.args.rows.now c.args.names.now c.requires c.finished_place.ensures.words (ends c.args.rows.now c.args.names.now c.requires c.finished_place.ensures.place c.finished_place.ensures.words)
+    let a = c.args in
+    let p = c.finished_place.ensures in
+    bare-room a.rows.now a.names.now c.requires p.words (ends a.rows.now a.names.now c.requires p.place p.words)
 
 pub returns : goal.returns
 returns c =
     let rows = c.args.rows.now in
     let names = c.args.names.now in
-    let room = bare-room rows names c.requires c.finished_place.ensures.words (ends c.args.rows.now c.args.names.now c.requires c.finished_place.ensures.place c.finished_place.ensures.words) in record {
-      count = c.count_refused.ensures ∙ bare-count rows names c.requires c.finished_place.ensures.words (ends c.args.rows.now c.args.names.now c.requires c.finished_place.ensures.place c.finished_place.ensures.words);
+    let p = c.finished_place.ensures in
+    let end = ends rows names c.requires p.place p.words in
+    let room = bare-room rows names c.requires p.words end in record {
+      count = c.count_refused.ensures ∙ bare-count rows names c.requires p.words end;
       few = omega (arith, c.count_refused.ensures, count-few rows names 2 c.finished_place.result, room.1);
     }

@@ -1,6 +1,5 @@
 -- `xsd_read::records::read_records` meets its contract. The loop's invariant: the sheet holds the rows of a state from which the rest of the marks leads to
 -- the whole reading. The measure is how many marks are left. Assumes nothing.
-use Prim.Native.Nat.{◌-◌}
 use mathlib.Core.Path.{◌∙◌}
 use native.Mathlib.Omega.{arith}
 use Rattle.xsd_read.proofs.Laws.Loop.{reads_first, reads_end, reads-form, followed, reads-refuse, reads-next, event-room}

@@ -1,6 +1,5 @@
 -- `xsd_replace::offsets::reoffset` meets its contract. The loop's invariant: whatever the rows from `place` on are to become, those from i on, with their texts from
 -- `next` on, are still to become that. The measure is how many rows are left. Assumes nothing.
-use Prim.Native.Nat.{◌-◌}
 use mathlib.Core.Path.{refl, ◌∙◌}
 use Rattle.xsd_replace.proofs.Laws.Offsets.{offsets-end}
 use Rattle.xsd_replace.proofs.offsets.reoffset.Goals as goal

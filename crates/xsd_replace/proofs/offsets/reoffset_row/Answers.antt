@@ -39,17 +39,26 @@ pair_at-second-requires c = omega (arith, facts c.requires.offsets_of c.requires
 pub set_row-requires : goal.set_row-requires
 set_row-requires c =
     let x = first c.requires.offsets_of c.requires.place_lt_end in
-    omega (arith, first-bytes x c.numbers_at-n.result c.used_pairs-pairs.result c.pair_at-first.result.len c.pair_at-second.result.len c.numbers_at-n.ensures c.used_pairs-pairs.ensures c.pair_at-first.ensures.1 c.pair_at-second.ensures.1, first-numbers x, x.bytes, x.room)
+    let read = first-bytes x c.numbers_at-n.result c.used_pairs-pairs.result c.pair_at-first.result.len
+    c.pair_at-second.result.len c.numbers_at-n.ensures c.used_pairs-pairs.ensures
+    c.pair_at-first.ensures.1 c.pair_at-second.ensures.1 in
+    omega (arith, first-numbers x, x.bytes, x.room)
 
 pub texts_length-requires : goal.texts_length-requires
 texts_length-requires c =
     let x = first c.requires.offsets_of c.requires.place_lt_end in
-    omega (arith, first-bytes x c.numbers_at-n.result c.used_pairs-pairs.result c.pair_at-first.result.len c.pair_at-second.result.len c.numbers_at-n.ensures c.used_pairs-pairs.ensures c.pair_at-first.ensures.1 c.pair_at-second.ensures.1, x.bytes, x.room)
+    let read = first-bytes x c.numbers_at-n.result c.used_pairs-pairs.result c.pair_at-first.result.len
+    c.pair_at-second.result.len c.numbers_at-n.ensures c.used_pairs-pairs.ensures
+    c.pair_at-first.ensures.1 c.pair_at-second.ensures.1 in
+    omega (arith, x.bytes, x.room)
 
 pub overflow_add-result : goal.overflow_add-result
 overflow_add-result c =
     let x = first c.requires.offsets_of c.requires.place_lt_end in
-    omega (arith, first-bytes x c.numbers_at-n.result c.used_pairs-pairs.result c.pair_at-first.result.len c.pair_at-second.result.len c.numbers_at-n.ensures c.used_pairs-pairs.ensures c.pair_at-first.ensures.1 c.pair_at-second.ensures.1, x.bytes, x.room, c.texts_length.ensures)
+    let read = first-bytes x c.numbers_at-n.result c.used_pairs-pairs.result c.pair_at-first.result.len
+    c.pair_at-second.result.len c.numbers_at-n.ensures c.used_pairs-pairs.ensures
+    c.pair_at-first.ensures.1 c.pair_at-second.ensures.1 in
+    omega (arith, x.bytes, x.room, c.texts_length.ensures)
 
 pub returns : goal.returns
 returns c goal total o =
@@ -63,4 +72,7 @@ returns c goal total o =
     c.used_pairs-pairs.result
     c.numbers_at-n.ensures
     c.used_pairs-pairs.ensures in
-    offsets-next x (a.at + c.texts_length.result) (rw same at set) (ap (λ (n : ℕ). a.at + n) (c.texts_length.ensures ∙ (first-bytes x c.numbers_at-n.result c.used_pairs-pairs.result c.pair_at-first.result.len c.pair_at-second.result.len c.numbers_at-n.ensures c.used_pairs-pairs.ensures c.pair_at-first.ensures.1 c.pair_at-second.ensures.1).0))
+    let read = first-bytes x c.numbers_at-n.result c.used_pairs-pairs.result c.pair_at-first.result.len
+    c.pair_at-second.result.len c.numbers_at-n.ensures c.used_pairs-pairs.ensures
+    c.pair_at-first.ensures.1 c.pair_at-second.ensures.1 in
+    offsets-next x (a.at + c.texts_length.result) (rw same at set) (ap (λ (n : ℕ). a.at + n) (c.texts_length.ensures ∙ read.0))

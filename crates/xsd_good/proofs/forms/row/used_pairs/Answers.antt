@@ -32,9 +32,13 @@ returns-then-tag-eq-ANY c =
 pub returns-then-in_range-tag : goal.returns-then-in_range-tag
 unfolding used_pairs
 returns-then-in_range-tag c =
-    rw (has-pairs c.args.tag c.in_range.ensures c.in_range-2.ensures c.if-in_range.false, ne_eqb _ _ c.if-tag-eq-ANY.false, sym (two-pairs c.args.tag c.in_range-3.ensures c.in_range-4.ensures) ∙ c.if-in_range-tag.true)
+    let none = has-pairs c.args.tag c.in_range.ensures c.in_range-2.ensures c.if-in_range.false in
+    let two = sym (two-pairs c.args.tag c.in_range-3.ensures c.in_range-4.ensures) ∙ c.if-in_range-tag.true in
+    rw (none, ne_eqb _ _ c.if-tag-eq-ANY.false, two)
 
 pub returns-else-in_range-tag : goal.returns-else-in_range-tag
 unfolding used_pairs
 returns-else-in_range-tag c =
-    rw (has-pairs c.args.tag c.in_range.ensures c.in_range-2.ensures c.if-in_range.false, ne_eqb _ _ c.if-tag-eq-ANY.false, sym (two-pairs c.args.tag c.in_range-3.ensures c.in_range-4.ensures) ∙ c.if-in_range-tag.false)
+    let none = has-pairs c.args.tag c.in_range.ensures c.in_range-2.ensures c.if-in_range.false in
+    let two = sym (two-pairs c.args.tag c.in_range-3.ensures c.in_range-4.ensures) ∙ c.if-in_range-tag.false in
+    rw (none, ne_eqb _ _ c.if-tag-eq-ANY.false, two)
