@@ -1,6 +1,6 @@
 -- `columns::put_column` meets its contract. The loop's invariant: the target is filled up to row r of the column, and `above` is the number above row r, 0 at
 -- first, so that the first number stays. The measure is how many rows are left. Assumes nothing.
-use Rattle.std.proofs.Common.{◌≡◌, ◌+◌, ◌-◌, ◌*◌, ◌<◌, sym, refl, ap, ◌∙◌, add-zero, add_assoc, arith, length-set}
+use Rattle.std.proofs.Common.{◌≡◌, ◌+◌, ◌*◌, ◌<◌, sym, refl, ap, ◌∙◌, add-zero, add_assoc, arith, length-set}
 use Rattle.columns.specs.Columns.{modulus, in_row, column_at}
 use Rattle.columns.proofs.Laws.Places.{column_fits}
 use Rattle.columns.proofs.Laws.Filled.{filled_more, above_of, above-next, column-number}

@@ -1,6 +1,6 @@
 -- `columns::put_row` meets its contract. The loop's invariant: the target is filled up to column c of the row, and `at` is the place of row r in column c.
 -- The measure is how many columns are left. Assumes nothing.
-use Rattle.std.proofs.Common.{◌≡◌, ◌+◌, ◌-◌, ◌*◌, ◌<◌, get_or, refl, ◌∙◌, add-zero, add_assoc, arith, length-set}
+use Rattle.std.proofs.Common.{◌≡◌, ◌+◌, ◌*◌, ◌<◌, get_or, refl, ◌∙◌, add-zero, add_assoc, arith, length-set}
 use Rattle.columns.specs.Columns.{modulus, row_at}
 use Rattle.columns.proofs.Laws.Places.{column_fits, column-next}
 use Rattle.columns.proofs.Laws.Filled.{filled_more, row_number}

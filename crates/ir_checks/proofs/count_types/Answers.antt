@@ -1,6 +1,6 @@
 -- `ir_checks::count_types` meets its contract. The loop's invariant: the types counted and those from row p on are all of them, and no more are counted
 -- than rows were passed. The measure is how many rows are left. Assumes nothing.
-use Prim.Native.Nat.{◌-◌, ◌<◌}
+use Prim.Native.Nat.{◌<◌}
 use mathlib.Core.Path.{sym, ap, ◌∙◌}
 use native.Mathlib.Omega.{arith}
 use Rattle.ir_rows.specs.Types.{is_type}
@@ -17,8 +17,8 @@ loop-p-preserved c =
     let inside : c.loop-p.p < args.end = omega arith in
     let tag = sym (c.is_type.ensures ∙ ap is_type c.row_tag.ensures) in
     elim c.if-is_type.branch [
-      then-is_type w ↦ (omega arith, omega arith, λ names. omega (arith, c.loop-p.invariant.2 names, types-at args.rows.now names c.loop-p.p args.end inside (tag ∙ w.if-is_type.true)))
-    | else-is_type w ↦ (omega arith, omega arith, λ names. omega (arith, c.loop-p.invariant.2 names, types-not-at args.rows.now names c.loop-p.p args.end inside (tag ∙ w.if-is_type.false)))
+      | then-is_type w ↦ (omega arith, omega arith, λ names. omega (arith, c.loop-p.invariant.2 names, types-at args.rows.now names c.loop-p.p args.end inside (tag ∙ w.if-is_type.true)))
+      | else-is_type w ↦ (omega arith, omega arith, λ names. omega (arith, c.loop-p.invariant.2 names, types-not-at args.rows.now names c.loop-p.p args.end inside (tag ∙ w.if-is_type.false)))
     ]
 
 pub returns : goal.returns

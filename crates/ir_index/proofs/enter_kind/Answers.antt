@@ -61,13 +61,13 @@ pub loop-place-preserved : goal.loop-place-preserved
 loop-place-preserved c =
     let w = c.loop-place.invariant.2 in
     elim c.if-is_kind.branch [
-      then-is_kind+else-not-enter v ↦ rw (v.scratch-is, v.flags-is, v.count-is) (
-      v.enter.auto.scratch ∙ c.loop-place.invariant.0,
-      v.enter.auto.flags ∙ c.loop-place.invariant.1,
-      walk-in w (omega arith) (sym (c.is_kind.ensures ∙ ap (is_kind _) c.row_tag.ensures) ∙ v.if-is_kind.true)
-          (added_of _ _ _ _ _ _ _ v.enter.result v.enter.ensures v.if-not-enter.false),
-    )
-    | else-is_kind v ↦ rw (v.scratch-is, v.flags-is, v.count-is) (c.loop-place.invariant.0, c.loop-place.invariant.1, walk-on w (omega arith) (sym (c.is_kind.ensures ∙ ap (is_kind _) c.row_tag.ensures) ∙ v.if-is_kind.false))
+      | then-is_kind+else-not-enter v ↦ rw (v.scratch-is, v.flags-is, v.count-is) (
+        v.enter.auto.scratch ∙ c.loop-place.invariant.0,
+        v.enter.auto.flags ∙ c.loop-place.invariant.1,
+        walk-in w (omega arith) (sym (c.is_kind.ensures ∙ ap (is_kind _) c.row_tag.ensures) ∙ v.if-is_kind.true)
+            (added_of _ _ _ _ _ _ _ v.enter.result v.enter.ensures v.if-not-enter.false),
+      )
+      | else-is_kind v ↦ rw (v.scratch-is, v.flags-is, v.count-is) (c.loop-place.invariant.0, c.loop-place.invariant.1, walk-on w (omega arith) (sym (c.is_kind.ensures ∙ ap (is_kind _) c.row_tag.ensures) ∙ v.if-is_kind.false))
     ]
 
 pub shape_of-scratch : goal.shape_of-scratch
