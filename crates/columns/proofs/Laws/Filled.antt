@@ -1,6 +1,6 @@
 -- Laws of specs/Filled.antt: numbers written one a turn, and which number comes next. No contract cites them. Assumes nothing.
 --     above_of       the number above row r in column c of rows, 0 above the first
-use Rattle.std.proofs.Common.{◌≡◌, ℕ, zero, suc, ◌+◌, ◌-◌, ◌*◌, ◌/◌, ◌%◌, ◌<◌, ◌≤◌, List, length, get_or, take, set, sym, refl, ap, ◌∙◌, add-one, arith, take_all, get_or-take, take-suc-set, le-ltb, lt-ltb}
+use Rattle.std.proofs.Common.{◌≡◌, ℕ, zero, suc, ◌+◌, ◌-◌, ◌*◌, ◌/◌, ◌%◌, ◌<◌, ◌≤◌, List, length, get_or, set, sym, refl, ◌∙◌, add-one, arith, take_all, get_or-take, take-suc-set, le-ltb, lt-ltb}
 use Rattle.columns.specs.Columns.{modulus, minus, plus, up_to, height, in_row, in_column, changed, column_at, restored, row_at}
 use Rattle.columns.specs.Filled.{Filled, above_in}
 use Rattle.columns.proofs.Laws.Places.{get_d-up_to, at-column, at_row}

@@ -1,6 +1,6 @@
 -- `columns::put_column` meets its contract. The loop's invariant: the target is filled up to row r of the column, and `above` is the number above row r, 0 at
 -- first, so that the first number stays. The measure is how many rows are left. Assumes nothing.
-use Rattle.std.proofs.Common.{◌≡◌, ◌+◌, ◌-◌, ◌*◌, ◌<◌, sym, refl, ap, ◌∙◌, add-zero, add_assoc, arith, length-set}
+use Rattle.std.proofs.Common.{◌≡◌, ◌+◌, ◌*◌, ◌<◌, sym, refl, ap, ◌∙◌, add-zero, add_assoc, arith, length-set}
 use Rattle.columns.specs.Columns.{modulus, in_row, column_at}
 use Rattle.columns.proofs.Laws.Places.{column_fits}
 use Rattle.columns.proofs.Laws.Filled.{filled_more, above_of, above-next, column-number}
@@ -31,7 +31,7 @@ loop-r-preserved c =
     let k = c.args.c in
     let h = c.args.height in
     let place = c.args.from + r in
-    let small : in_row rows r k < modulus = omega (arith, c.shared_slice_known-in-loop-r-1.given (10 * r + k)) in
+    let small : in_row rows r k < modulus = omega (arith, c.type_inv.rows (10 * r + k)) in
     let fits = column_fits k h (omega arith) in
     let at : place ≡ k * h + r = omega arith in
     let value = c.difference.ensures ∙ column-number rows h k r _ c.requires.0.source_long (omega arith) small inv.3 ∙ ap (column_at rows) (sym at) in

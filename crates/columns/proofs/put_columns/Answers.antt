@@ -1,6 +1,6 @@
 -- `columns::put_columns` meets its contract. The loop's invariant: c columns are written, up to the place `from`, which is c * height. The measure is how
 -- many columns are left. Assumes nothing.
-use Rattle.std.proofs.Common.{◌≡◌, ◌-◌, sym, ◌∙◌, arith}
+use Rattle.std.proofs.Common.{◌≡◌, sym, ◌∙◌, arith}
 use Rattle.columns.specs.Columns.{columns_of}
 use Rattle.columns.proofs.Laws.Places.{column_fits, column-next}
 use Rattle.columns.proofs.Laws.Filled.{filled_none, filled-all}

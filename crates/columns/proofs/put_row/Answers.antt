@@ -1,6 +1,6 @@
 -- `columns::put_row` meets its contract. The loop's invariant: the target is filled up to column c of the row, and `at` is the place of row r in column c.
 -- The measure is how many columns are left. Assumes nothing.
-use Rattle.std.proofs.Common.{◌≡◌, ◌+◌, ◌-◌, ◌*◌, ◌<◌, get_or, refl, ◌∙◌, add-zero, add_assoc, arith, length-set}
+use Rattle.std.proofs.Common.{◌≡◌, ◌+◌, ◌*◌, ◌<◌, get_or, refl, ◌∙◌, add-zero, add_assoc, arith, length-set}
 use Rattle.columns.specs.Columns.{modulus, row_at}
 use Rattle.columns.proofs.Laws.Places.{column_fits, column-next}
 use Rattle.columns.proofs.Laws.Filled.{filled_more, row_number}
@@ -32,7 +32,7 @@ loop-c-preserved c =
     let columns = c.args.columns.now in
     let at : c.loop-c.at ≡ k * h + r = inv.1 in
     let here : place ≡ 10 * r + k = omega arith in
-    let small : get_or columns (k * h + r) 0 < modulus = rw (← at) (omega (arith, c.shared_slice_known-in-loop-c-1.given c.loop-c.at)) in
+    let small : get_or columns (k * h + r) 0 < modulus = rw (← at) (omega (arith, c.type_inv.columns c.loop-c.at)) in
     let number = row_number columns _ h k r _ c.requires.0.source_long (omega arith) here inv.3 small in
     let value : c.sum.result ≡ row_at columns place = c.sum.ensures ∙ rw (c.above_in-above.ensures, at) number in
     let more = filled_more inv.3 (omega (arith, c.requires.0.target_long, inv.2)) _ value in

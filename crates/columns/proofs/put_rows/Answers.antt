@@ -1,6 +1,6 @@
 -- `columns::put_rows` meets its contract. The loop's invariant: r rows are written, up to the place `from`, which is 10 * r. The measure is how many rows
 -- are left. Assumes nothing.
-use Rattle.std.proofs.Common.{◌-◌, sym, ◌∙◌, arith}
+use Rattle.std.proofs.Common.{sym, ◌∙◌, arith}
 use Rattle.columns.specs.Columns.{rows_of}
 use Rattle.columns.proofs.Laws.Filled.{filled_none, filled-all}
 use Rattle.columns.proofs.put_rows.Goals as goal

@@ -2,7 +2,6 @@
 -- name that came before is the same, and there is room. The measure is how many rows are left. Assumes nothing.
 use Prim.Native.Nat.{ℕ, ◌*◌}
 use mathlib.Core.Path.{◌≡◌, refl, sym, ap, ◌∙◌}
-use mathlib.Core.Logic.{⊎_elim}
 use native.Mathlib.Omega.{arith}
 use lib.ListN.{get_or}
 use mathlib.Core.Bool.{Bool, true}
@@ -12,6 +11,7 @@ use Rattle.ir_index.proofs.Laws.Heads.{kind-type}
 use Rattle.ir_index.proofs.Laws.Entries.{added_of, came-of}
 use Rattle.ir_index.proofs.Laws.Walk.{walk_start, walk-room, walk-in, walk-on, walk-came, walk_end}
 use Rattle.ir_index.proofs.enter_kind.Goals as goal
+use Rattle.ir_index.proofs.enter_kind.Goals.{then-is_kind+else-not-enter, else-is_kind}
 
 -- the row at hand is a head of the kind
 is-kind-at : (complex : Bool) (rows : List ℕ) (place : ℕ) {r : Bool} {tag : ℕ} → r ≡ is_kind complex tag → tag ≡ get_or rows (10 * place) 0 → r ≡ true
@@ -60,15 +60,15 @@ overflow_add-count c =
 pub loop-place-preserved : goal.loop-place-preserved
 loop-place-preserved c =
     let w = c.loop-place.invariant.2 in
-    ⊎_elim
-    (λ v. rw (v.scratch-is, v.flags-is, v.count-is) (
-      v.enter.auto.scratch ∙ c.loop-place.invariant.0,
-      v.enter.auto.flags ∙ c.loop-place.invariant.1,
-      walk-in w (omega arith) (sym (c.is_kind.ensures ∙ ap (is_kind _) c.row_tag.ensures) ∙ v.if-is_kind.true)
-          (added_of _ _ _ _ _ _ _ v.enter.result v.enter.ensures v.if-not-enter.false),
-    ))
-    (λ v. rw (v.scratch-is, v.flags-is, v.count-is) (c.loop-place.invariant.0, c.loop-place.invariant.1, walk-on w (omega arith) (sym (c.is_kind.ensures ∙ ap (is_kind _) c.row_tag.ensures) ∙ v.if-is_kind.false)))
-    c.if-is_kind.branch-raw
+    elim c.if-is_kind.branch [
+      | then-is_kind+else-not-enter v ↦ rw (v.scratch-is, v.flags-is, v.count-is) (
+        v.enter.auto.scratch ∙ c.loop-place.invariant.0,
+        v.enter.auto.flags ∙ c.loop-place.invariant.1,
+        walk-in w (omega arith) (sym (c.is_kind.ensures ∙ ap (is_kind _) c.row_tag.ensures) ∙ v.if-is_kind.true)
+            (added_of _ _ _ _ _ _ _ v.enter.result v.enter.ensures v.if-not-enter.false),
+      )
+      | else-is_kind v ↦ rw (v.scratch-is, v.flags-is, v.count-is) (c.loop-place.invariant.0, c.loop-place.invariant.1, walk-on w (omega arith) (sym (c.is_kind.ensures ∙ ap (is_kind _) c.row_tag.ensures) ∙ v.if-is_kind.false))
+    ]
 
 pub shape_of-scratch : goal.shape_of-scratch
 shape_of-scratch c = c.loop-place.invariant.0

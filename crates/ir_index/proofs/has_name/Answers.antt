@@ -1,6 +1,5 @@
 -- `ir_index::has_name` meets its contract. The loop's invariant: the k entries passed have other names, so the others answer for the whole. The measure
 -- is how many entries are left. Assumes nothing.
-use Prim.Native.Nat.{◌-◌}
 use mathlib.Core.Path.{refl, sym, ◌∙◌}
 use native.Mathlib.Numerals.{add-one}
 use native.Mathlib.Omega.{arith}

@@ -1,6 +1,5 @@
 -- `ir_index::has_print` meets its contract. The loop's invariant: what was found so far, or what is left, answers for the whole. The measure is how many
 -- entries are left. Assumes nothing.
-use Prim.Native.Nat.{◌-◌}
 use mathlib.Core.Path.{sym, ◌∙◌}
 use native.Mathlib.Numerals.{add-one}
 use native.Mathlib.Omega.{arith}

@@ -1,15 +1,13 @@
 -- `ir_index::print_of` meets its contract. The loop's invariant: the fingerprint so far, with what is left of the name, normalised, answers for the
 -- whole, and is below 65,536. The measure is how much of the name is left. Assumes nothing.
-use Prim.Native.Nat.{◌-◌}
 use mathlib.Core.Path.{sym, ◌∙◌}
-use mathlib.Core.Bool.{false}
-use mathlib.Core.Logic.{⊎_elim}
 use native.Mathlib.Numerals.{add-one}
 use native.Mathlib.Omega.{arith}
 use Rattle.names.proofs.Laws.Names.{segments-normalize}
 use Rattle.ir_index.specs.Prints.{fingerprint}
 use Rattle.ir_index.proofs.Laws.Prints.{mixed-below, print-passed, print-kept, print-end}
 use Rattle.ir_index.proofs.print_of.Goals as goal
+use Rattle.ir_index.proofs.print_of.Goals.{then-b-eq95, else-b-eq95}
 
 pub loop-i-init : goal.loop-i-init
 unfolding fingerprint
@@ -23,10 +21,10 @@ loop-i-preserved c =
     let h = c.loop-i.h in
     let up = c.loop-i.up in
     let i = c.loop-i.i in
-    ⊎_elim
-    (λ v. rw (v.up-is, v.h-is, add-one i) (c.loop-i.invariant.0, sym (print-passed h up name i (omega arith) v.if-b-eq95.true) ∙ c.loop-i.invariant.1))
-    (λ v. rw (v.up-is, v.h-is, v.mix-h.ensures, v.cased.ensures, add-one i) (mixed-below _ _, sym (print-kept h up name i (omega arith) v.if-b-eq95.false) ∙ c.loop-i.invariant.1))
-    c.if-b-eq95.branch-raw
+    elim c.if-b-eq95.branch [
+      | then-b-eq95 v ↦ rw (v.up-is, v.h-is, add-one i) (c.loop-i.invariant.0, sym (print-passed h up name i (omega arith) v.if-b-eq95.true) ∙ c.loop-i.invariant.1)
+      | else-b-eq95 v ↦ rw (v.up-is, v.h-is, v.mix-h.ensures, v.cased.ensures, add-one i) (mixed-below _ _, sym (print-kept h up name i (omega arith) v.if-b-eq95.false) ∙ c.loop-i.invariant.1)
+    ]
 
 pub returns : goal.returns
 returns c =

@@ -1,5 +1,6 @@
 -- `ir_row::child_recipe` meets its contract: by the law of each row. Of the tags above 15 that have a recipe, 20 is left last. Assumes nothing.
 use mathlib.Core.Path.{refl}
+use native.Mathlib.Omega.{arith}
 use Rattle.ir_row.proofs.Laws.Tags.{tag-20}
 use Rattle.ir_row.proofs.Laws.Recipes.{lowers-as, lowers-only, lowers-18, lowers-19, lowers-20}
 use Rattle.ir_row.proofs.child_recipe.Goals as goal
@@ -17,7 +18,6 @@ returns-in-19 c = λ codes event. lowers-as c.in-19.is c.child-in-19.ensures
 
 pub returns-in_default : goal.returns-in_default
 returns-in_default c =
-    let rest = c.in_default.in_default-own.rest in
     λ codes event. lowers-only c.child-in_default.ensures (lowers-20 codes c.args.a c.args.b event c.args.reference).in_order
-    (tag-20 c.args.tag c.requires rest.0.0.1 rest.0.1 rest.1)
+    (tag-20 c.args.tag c.requires (λ e. omega arith) (λ e. omega arith) (λ e. omega arith))
     (λ h. lowers-20 codes c.args.a c.args.b event c.args.reference)

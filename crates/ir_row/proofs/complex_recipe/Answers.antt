@@ -1,6 +1,7 @@
 -- `ir_row::complex_recipe` meets its contract: by the law of each row. Of the tags 12 to 15, 15 is left last. Assumes nothing.
 use mathlib.Core.Path.{ap, ◌∙◌}
 use mathlib.Core.Bool.{false}
+use native.Mathlib.Omega.{arith}
 use Rattle.ir_append.specs.declared.Spelling.{Spelling}
 use Rattle.ir_row.specs.Recipes.{texts_recipe}
 use Rattle.ir_row.proofs.Laws.Tags.{tag-15}
@@ -22,8 +23,7 @@ returns-in-14 c =
 
 pub returns-in_default : goal.returns-in_default
 returns-in_default c =
-    let rest = c.in_default.in_default-own.rest in
     let recipe = c.with_texts-in_default.ensures ∙ ap (texts_recipe 8 c.args.a c.args.event Spelling.FirstNormalized) c.namespace_text.ensures in
     λ codes b. lowers-only recipe (lowers-15 false c.args.a 0 c.args.event 0).in_order
-    (λ h. tag-15 c.args.tag c.requires.0 c.requires.1 rest.0.0.1 rest.0.1 rest.1)
+    (λ h. tag-15 c.args.tag c.requires.0 c.requires.1 (λ e. omega arith) (λ e. omega arith) (λ e. omega arith))
     (λ h. lowers-15 codes c.args.a b c.args.event c.args.reference)

@@ -2,6 +2,7 @@
 -- Assumes nothing.
 use mathlib.Core.Path.{refl}
 use mathlib.Core.Bool.{true}
+use native.Mathlib.Omega.{arith}
 use Rattle.ir_row.proofs.Laws.Tags.{tag-4}
 use Rattle.ir_row.proofs.Laws.Recipes.{lowers-as, lowers-only, lowers-4, lowers-5, lowers-8, lowers-9}
 use Rattle.ir_row.proofs.facet_recipe.Goals as goal
@@ -17,7 +18,6 @@ returns-in-9 c = λ codes a b event n. lowers-as c.in-9.is c.with_texts-in-9.ens
 
 pub returns-in_default : goal.returns-in_default
 returns-in_default c =
-    let rest = c.in_default.in_default-own.rest in
     λ codes a b event n.
-    let four = tag-4 {code_enum = codes} c.args.tag c.requires.0 c.requires.1 rest.0.0.1 rest.0.1 rest.1 in
+    let four = tag-4 {code_enum = codes} c.args.tag c.requires.0 c.requires.1 (λ e. omega arith) (λ e. omega arith) (λ e. omega arith) in
     lowers-only c.with_texts-in_default.ensures (lowers-4 true 0 0 0 0 refl).in_order four (λ h. lowers-4 codes a b event n (h.in_code_enum (four h)))

@@ -3,30 +3,27 @@
 use Rattle.std.specs.Prelude.{if◌then◌else◌}
 use Prim.Native.Nat.{ℕ, suc, ◌+◌, ◌≤◌}
 use mathlib.Core.Path.{◌≡◌, refl, sym, ap, ◌∙◌}
-use mathlib.Core.Bool.{Bool, true, false, not, ◌&&◌, false≢true}
+use mathlib.Core.Bool.{Bool, true, false, false≢true}
 use mathlib.Core.List.{List, [], ◌∷◌, ◌++◌, map}
 use mathlib.Core.Option.{some, none}
 use native.Mathlib.Omega.{arith}
 use lib.Dec.{eqb}
 use lib.ListN.{length, length-append}
-use Rattle.text.specs.Text.{Text, every, between}
-use Rattle.text.proofs.Laws.Tests.{and-true-left, or-false-left, or-false-right}
+use Rattle.text.specs.Text.{Text, between}
+use Rattle.text.proofs.Laws.Tests.{or-false-left, or-false-right}
 use Rattle.sheet.specs.Rows.{Row, row}
-use Rattle.builtin.specs.Builtin.{map_builtin}
-use Rattle.xsd_types.specs.Types.{Facet, SimpleType, ComplexContent, Item, Schema, elements, simple_types, complex_types}
-use Rattle.xsd_types.specs.State.{started, is_empty}
+use Rattle.xsd_types.specs.Types.{ComplexContent, Item, Schema, elements, simple_types, complex_types}
+use Rattle.xsd_types.specs.State.{started}
 use Rattle.xsd_types.specs.Rows.{facet_row, simple_type_rows, complex_type_rows, item_rows, items_rows}
-use Rattle.xsd_types.specs.Good.{is_head}
 use Rattle.xsd_types.specs.Back.{text0, text1}
 use Rattle.xsd_types.specs.Refused.{is_none, refused_base, refused_item, refused_row, refused_place}
 use Rattle.xsd_types.proofs.Laws.Groups.{is_group, head_tag}
 use Rattle.xsd_types.proofs.Laws.Items.{group-item}
 use Rattle.xsd_types.proofs.Laws.Refused.{head_first-items, simple-refused}
-use Rattle.ir_types.specs.Types.{TypeDef, TypeGraph}
+use Rattle.ir_types.specs.Types.{TypeGraph}
 use Rattle.ir_types.specs.Rows.{root_row}
 use Rattle.ir_lower.specs.Lower.{any_unknown, root_of, lower, unknown_row, finished_types}
 use Rattle.ir_lower.proofs.Laws.Refusals.{refusal, refused-exactly, unknown_row-least}
-use Rattle.names.specs.Names.{normalize_type_name}
 use Rattle.ir_rows.specs.Lowered.{lowered_as, lowered_row, root_rows}
 use Rattle.ir_rows.specs.Types.{is_simple, is_complex, places_of, type_places}
 use Rattle.ir_rows.proofs.Laws.Groups.{simple-heads, complex-heads, places_of-group, root_rows-group, refused_place-group}

@@ -1,24 +1,19 @@
 -- What lowering makes of a row of numbers: its tag, a, b and the texts of its first two pairs. A row that uses fewer pairs is lowered without the
 -- others' texts. By the tags, one after the other. Assumes nothing.
 use Rattle.std.specs.Prelude.{if◌then◌else◌}
-use Prim.Native.Nat.{ℕ, zero, suc, ◌≤◌}
+use Prim.Native.Nat.{ℕ, ◌≤◌}
 use mathlib.Core.Path.{◌≡◌, refl, ap, ap₂}
-use mathlib.Core.Logic.{⊎_elim}
-use mathlib.Core.Bool.{Bool, true, false, not, ◌&&◌}
+use mathlib.Core.Bool.{Bool, true, false}
 use mathlib.Core.List.{List, [], ◌∷◌}
 use native.Mathlib.Omega.{arith}
 use lib.Dec.{eqb}
-use lib.ListN.{get_or, take}
 use borrow.Author.Tests.{eqb-true}
 use Rattle.text.specs.Text.{Text, between}
-use Rattle.text.proofs.Laws.Tests.{test-cases, or_cases}
-use Rattle.text.proofs.Laws.Every.{EachFrom, between-each}
 use Rattle.names.specs.Names.{normalize_type_name, xml_to_snake_case}
 use Rattle.builtin.specs.Builtin.{map_builtin, reference}
 use Rattle.sheet.specs.Rows.{Row, row, Ten, text_at, unpack_row}
 use Rattle.xsd_types.specs.Types.{MaxOccurs}
-use Rattle.xsd_types.specs.Good.{used_pairs, is_head}
-use Rattle.xsd_types.specs.Back.{text0, text1}
+use Rattle.xsd_types.specs.Good.{used_pairs}
 use Rattle.ir_lower.specs.Lower.{lower_cardinality}
 use Rattle.ir_rows.specs.Lowered.{reference_texts, value_row, opaque_row, field_row, simple_row, code_rows, lowered_as, lowered_row}
 use Rattle.xsd_types.proofs.Laws.Places.{text0-at, text1-at}

@@ -1,7 +1,7 @@
 -- The types of a sheet's graph by the places of their heads: where the rows are those of a schema's items, the places stand for the definitions, and
 -- the heads there for the schema's heads, in lowering's order. Assumes nothing.
 --     Matched       places and definitions, each place's rows lowered to those of the definition beside it
-use Prim.Native.Nat.{ℕ, suc, ◌+◌, ◌-◌}
+use Prim.Native.Nat.{ℕ, suc, ◌+◌}
 use mathlib.Core.Path.{◌≡◌, refl, ap, ◌∙◌}
 use mathlib.Core.Bool.{true, false, false≢true, true≢false}
 use mathlib.Core.List.{List, [], ◌∷◌, ◌++◌, map, map-append}

@@ -1,5 +1,4 @@
 -- `ir_write::put_root` meets its contract: an element's row, and no row for any other. Assumes nothing.
-use Prim.Native.Nat.{◌-◌}
 use mathlib.Core.Path.{sym, ◌∙◌}
 use borrow.Author.Tests.{ne_eqb}
 use Rattle.ir_append.proofs.Laws.Grows.{grows_none}

@@ -1,5 +1,5 @@
 -- `ir_write::put_roots` meets its contract. The invariant: all elements are added where those from the place at hand on are (`Onward`). Assumes nothing.
-use Prim.Native.Nat.{◌+◌, ◌-◌}
+use Prim.Native.Nat.{◌+◌}
 use mathlib.Core.Bool.{false}
 use mathlib.Core.Path.{refl}
 use mathlib.Core.List.{[], ◌∷◌}

@@ -1,5 +1,5 @@
 -- `ir_write::put_type` meets its contract: the head's row, then the children's. Assumes nothing.
-use Prim.Native.Nat.{◌+◌, ◌-◌}
+use Prim.Native.Nat.{◌+◌}
 use borrow.Author.Rules.{rules}
 use Rattle.ir_append.proofs.Laws.Grows.{room_after, grown-of, short-of}
 use Rattle.xsd_types.specs.Places.{row_at, rows_from}

@@ -29,8 +29,12 @@ returns-then-tag-eq-OPAQUE c =
 pub returns-then-tag-eq-VALUE_WITH_ATTRIBUTES : goal.returns-then-tag-eq-VALUE_WITH_ATTRIBUTES
 unfolding used_pairs IsCount
 returns-then-tag-eq-VALUE_WITH_ATTRIBUTES c =
-    rw (has-pairs c.args.tag c.is_count.ensures c.if-is_count.false, ne_eqb _ _ c.if-tag-eq-OPAQUE.false, eq-eqb _ _ c.if-tag-eq-VALUE_WITH_ATTRIBUTES.true,
-      c.with_reference.ensures)
+    rw (
+      has-pairs c.args.tag c.is_count.ensures c.if-is_count.false,
+      ne_eqb _ _ c.if-tag-eq-OPAQUE.false,
+      eq-eqb _ _ c.if-tag-eq-VALUE_WITH_ATTRIBUTES.true,
+      c.with_reference.ensures,
+    )
 
 pub returns-then-refers : goal.returns-then-refers
 unfolding used_pairs IsCount refers

@@ -1,6 +1,5 @@
 -- `ir_label::words::line_end` meets its contract. The loop's invariant: the bytes passed and the first word of what is left are the first word.
 -- The measure is how much is left. Assumes nothing.
-use Prim.Native.Nat.{◌-◌}
 use mathlib.Core.Path.{refl}
 use native.Mathlib.Numerals.{add-one}
 use native.Mathlib.Omega.{arith}
