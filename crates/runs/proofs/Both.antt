@@ -3,10 +3,9 @@
 --     Beside        what the handlers give under choice 0, and under 1: the same, or a reader one tag deeper below the schema
 --     Ready         a state under choice 0 with nesting 0 in context 1
 --     Typed         of the accepted events of records none but a start of a type is directly below the schema
-use Rattle.std.specs.Prelude.{if◌then◌else◌}
 use Prim.Native.Nat.{ℕ, zero, suc, ◌+◌}
 use mathlib.Core.Path.{◌≡◌, refl, sym, ap, subst, ◌∙◌}
-use mathlib.Core.Bool.{Bool, true, false, not, ◌&&◌, ◌||◌}
+use mathlib.Core.Bool.{true, false, not, ◌||◌}
 use mathlib.Core.List.{List, [], ◌∷◌, ◌++◌, map}
 use mathlib.Core.Option.{none}
 use native.Mathlib.Omega.{arith}
@@ -29,7 +28,7 @@ use Rattle.xsd_parser.specs.Seen.{Seen, seen, tag_is}
 use Rattle.xsd_parser.specs.Tape.{Judged, event, refused, records}
 use Rattle.xsd_parser.specs.Handlers.{Outcome, ok, refuse, ◌and_then◌, in_context, on_top_level_element, below_schema, on_direct_child, on_start_in_schema, on_start}
 use Rattle.xsd_parser.specs.Step.{handled, tags_after, counted, room_for, step}
-use Rattle.xsd_parser.specs.Read.{Reading, read_records, read_state}
+use Rattle.xsd_parser.specs.Read.{read_records, read_state}
 use Rattle.xsd_parser.specs.Children.{depth_after, starts_no_other, only_types_from, only_types}
 use Rattle.xsd_parser.proofs.Laws.Outcomes.{gives-value, outcome-cases}
 use Rattle.xsd_parser.proofs.Laws.Steps.{step-reader, step-choice}

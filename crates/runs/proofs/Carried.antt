@@ -1,13 +1,13 @@
 -- From a cleared sheet c of every head is the number in the run of an event that gave it its name. What gives a name is the event at hand, whose number is the
 -- events done before it, and nothing else changes a name or a number. Assumes nothing.
-use Prim.Native.Nat.{ℕ, zero, suc, ◌+◌}
+use Prim.Native.Nat.{ℕ, zero, suc}
 use mathlib.Core.Path.{◌≡◌, refl, sym, ap, subst, ◌∙◌}
-use mathlib.Core.Bool.{Bool, true, false, false≢true}
+use mathlib.Core.Bool.{Bool, true, false≢true}
 use mathlib.Core.List.{List, [], ◌∷◌, ◌++◌, append-nil, append_assoc}
 use mathlib.Core.Option.{some}
 use native.Mathlib.Omega.{arith}
 use lib.ListN.{length, length-append}
-use Rattle.text.specs.Text.{Text, every, same}
+use Rattle.text.specs.Text.{Text, every}
 use Rattle.text.proofs.Laws.Tests.{and-true}
 use Rattle.text.proofs.Laws.Texts.{same_refl}
 use Rattle.sheet.specs.Rows.{Sheet}

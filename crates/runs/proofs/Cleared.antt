@@ -3,7 +3,7 @@
 use Rattle.std.specs.Prelude.{if◌then◌else◌}
 use mathlib.Core.Path.{◌≡◌, refl, sym, ap, ◌∙◌}
 use mathlib.Core.Bool.{Bool, true, false}
-use mathlib.Core.List.{List, [], ◌∷◌, ◌++◌, map, map-append}
+use mathlib.Core.List.{List, [], ◌∷◌, map, map-append}
 use mathlib.Core.Option.{Option, some, none}
 use Prim.Native.Nat.{ℕ, ◌+◌}
 use lib.Dec.{leb}
@@ -21,7 +21,7 @@ use Rattle.xsd_parser.specs.Numbered.{unnumbered_reading}
 use Rattle.xsd_parser.proofs.Laws.Cleared.{read_state-unnumbered}
 use Rattle.ir_types.specs.Types.{Constraint, TypeDef, RootElement, TypeGraph}
 use Rattle.ir_types.specs.Rows.{field_row, variant_row, constraint_row, code_row, attr_row, type_rows, types_rows, root_row, rows_of, rows_used, names_used}
-use Rattle.ir_types.specs.Sheet.{graph_fits, graph_sheet}
+use Rattle.ir_types.specs.Sheet.{graph_fits}
 use Rattle.ir_types.specs.Unnumbered.{unnumbered_root, unnumbered_type, unnumbered_graph}
 use Rattle.ir_lower.specs.Lower.{lower, unknown_row, finished_types}
 use Rattle.ir_lower.specs.Repeated.{repeated_row}

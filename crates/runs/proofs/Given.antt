@@ -1,9 +1,8 @@
 -- Order 5 in the graph: lowering takes names and numbers of roots and types from the schema's heads, a type's name normalised, so that what the heads of a state pass
 -- its graph passes too. Assumes nothing.
-use Rattle.std.specs.Prelude.{if◌then◌else◌}
 use Prim.Native.Nat.{ℕ}
-use mathlib.Core.Path.{◌≡◌, refl, ◌∙◌}
-use mathlib.Core.Bool.{Bool, true, false}
+use mathlib.Core.Path.{◌≡◌, refl}
+use mathlib.Core.Bool.{Bool, true}
 use mathlib.Core.List.{List, [], ◌∷◌, ◌++◌, map}
 use mathlib.Core.Option.{Option, some, none}
 use native.Mathlib.Omega.{arith}
@@ -11,7 +10,7 @@ use Rattle.text.specs.Text.{Text, every}
 use Rattle.text.proofs.Laws.Tests.{two, and-true, bool_cases}
 use Rattle.builtin.specs.Builtin.{RustType, map_builtin}
 use Rattle.names.specs.Names.{normalize_type_name}
-use Rattle.xsd_types.specs.Types.{SimpleType, ComplexContent, ComplexType, Item, Schema, elements, simple_types, complex_types}
+use Rattle.xsd_types.specs.Types.{SimpleType, ComplexContent, Item, Schema, elements, simple_types, complex_types}
 use Rattle.xsd_types.specs.State.{Reader, item_passes, heads_pass}
 use Rattle.xsd_types.specs.Refused.{all_enums}
 use Rattle.xsd_types.proofs.Laws.Events.{passing-parts}

@@ -2,7 +2,7 @@
 -- call; what is lent to a lowering counts by its lengths. Assumes nothing.
 use Rattle.std.specs.Prelude.{if◌then◌else◌}
 use mathlib.Core.Path.{◌≡◌, refl, sym, ap, ap₂, ◌∙◌}
-use mathlib.Core.Bool.{Bool, true, false, not, ◌||◌, ◌&&◌, false≢true}
+use mathlib.Core.Bool.{Bool, true, false, not, ◌||◌, false≢true}
 use mathlib.Core.List.{List, [], ◌∷◌}
 use mathlib.Core.Option.{Option, some, none}
 use Prim.Native.Nat.{ℕ, suc}
@@ -12,12 +12,10 @@ use Rattle.text.specs.Text.{Text, every, between}
 use Rattle.text.proofs.Laws.Tests.{and-true-left, and-true-right, or_right}
 use Rattle.sheet.specs.Rows.{Sheet}
 use Rattle.sheet.specs.Form.{words}
-use Rattle.sheet.specs.Lengths.{Answer, Lengths, lengths_of, good_lengths, tape_lengths}
+use Rattle.sheet.specs.Lengths.{Lengths, lengths_of, good_lengths, tape_lengths}
 use Rattle.xsd_types.specs.Types.{Schema}
 use Rattle.xsd_types.specs.State.{State}
-use Rattle.xsd_parser.specs.Event.{Event}
 use Rattle.xsd_parser.specs.Tape.{Judged, event, refused, records}
-use Rattle.xsd_parser.specs.Handlers.{Outcome, ok, refuse}
 use Rattle.xsd_parser.specs.Step.{step}
 use Rattle.xsd_parser.specs.Read.{ReadAnswer, read_records, read_state}
 use Rattle.xsd_parser.proofs.Laws.Outcomes.{outcome-cases}

@@ -1,6 +1,6 @@
 -- Order 5, sheets stored earlier: an event of a run gives its own number, which is not below the events done in the first sheet, and no number changes; so from a
 -- good sheet without numbers every c is 0 or that of an event of the run. A run leaves a good sheet good. Assumes nothing.
-use Prim.Native.Nat.{ℕ, suc, ◌≤◌}
+use Prim.Native.Nat.{ℕ, ◌≤◌}
 use mathlib.Core.Path.{◌≡◌, sym, ap, subst, ◌∙◌}
 use mathlib.Core.Bool.{true}
 use mathlib.Core.List.{List}

@@ -11,7 +11,7 @@
 --     Gathered          the answers of calls, where those of the jobs are these
 --     CutAlike          a run of calls ends as the jobs do
 use Rattle.std.specs.Prelude.{ℕ, ◌+◌, ◌≡◌, Bool, true, false, List, [], ◌∷◌, ◌++◌, length}
-use Rattle.std.proofs.Math.Option.{Option, none}
+use Rattle.std.proofs.Math.Option.{Option}
 use Rattle.text.specs.Text.{Text, every}
 use Rattle.sheet.specs.Rows.{Sheet}
 use Rattle.sheet.specs.Lengths.{tape_lengths, Answer, Lengths}

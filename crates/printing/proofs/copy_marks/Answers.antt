@@ -1,5 +1,4 @@
 -- `printing::copy_marks` is safe and ends. The loop's invariant: the marks keep their length. Assumes nothing.
-use Prim.Native.Nat.{◌-◌}
 use native.Mathlib.Omega.{arith}
 use lib.ListN.{length-set}
 use borrow.Author.Rules.{rules}

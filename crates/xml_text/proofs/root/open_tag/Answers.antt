@@ -31,7 +31,7 @@ tag-requires c = record {
     omega
         (arith, c.requires),
   );
-  classes_value = search rules
+  classes_value = search rules;
 }
 
 pub returns-in_default : goal.returns-in_default

@@ -65,7 +65,7 @@ attributes-requires c = record {
       c.requires,
     ),
   );
-  classes_value = search rules
+  classes_value = search rules;
 }
 
 pub returns-in_default-attributes : goal.returns-in_default-attributes
