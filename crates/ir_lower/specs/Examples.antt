@@ -32,7 +32,7 @@ graph types = some (record { namespace = []; root_elements = []; types = types }
 
 -- ---- the graph
 
--- all finished types, simple ones before complex, whatever their names: a name that came before is IsJudged by the call
+-- all finished types, simple ones before complex, whatever their names: a name that came before is judged by the call
 in_order : lower (schema (complex (bytes "A") (ComplexContent.any none) ∷ simple (bytes "B") (bytes "string") [] ∷ simple (bytes "A") (bytes "date") [] ∷ []))
     ≡ graph (TypeDef.newtype 4 (bytes "B") RustType.string [] ∷ TypeDef.newtype 4 (bytes "A") RustType.date [] ∷ TypeDef.opaque 7 (bytes "A") none ∷ [])
 unfolding schema simple complex graph texts builtin_names conversions schemas graphs lowerings

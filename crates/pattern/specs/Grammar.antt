@@ -1,4 +1,4 @@
--- The regular expressions of XML Schema Part 2 (Second Edition), Appendix F, production by production: a value of `Derives regExp s` is a derivation of s.
+-- The regular expressions of XML Schema Part 2 (Second Edition), Appendix F, production by production: a value of `Derives reg_exp s` is a derivation of s.
 -- Left aside, with the bytes that refusal 25 names: [16] charClassSub, [25] to [36], and so catEsc and complEsc in [23].
 --     is_normal      [10] Char; is_mark: [?*+]; is_single, is_multi: what stands behind the backslash in [24] and [37]
 --     is_in_class     [22] XmlCharIncDash; is_xml_char: [21]
