@@ -31,14 +31,14 @@ pub const LUBIKSAN_TAPE_STACK: usize = 45056;
 /// Bytes of stack that `lubiksan_clear` takes.
 pub const LUBIKSAN_CLEAR_STACK: usize = 1024;
 /// Bytes of stack that `lubiksan_read` takes.
-pub const LUBIKSAN_READ_STACK: usize = 2048;
+pub const LUBIKSAN_READ_STACK: usize = 1024;
 /// Bytes of stack that `lubiksan_lower` takes.
-pub const LUBIKSAN_LOWER_STACK: usize = 67584;
+pub const LUBIKSAN_LOWER_STACK: usize = 66560;
 /// Bytes of stack that `lubiksan_reduce` takes.
 pub const LUBIKSAN_REDUCE_STACK: usize = 70656;
 /// Bytes of stack that `lubiksan_write` takes.
-pub const LUBIKSAN_WRITE_STACK: usize = 2048;
+pub const LUBIKSAN_WRITE_STACK: usize = 1024;
 /// Bytes of stack that `lubiksan_pattern` takes.
-pub const LUBIKSAN_PATTERN_STACK: usize = 4096;
+pub const LUBIKSAN_PATTERN_STACK: usize = 2048;
 /// Bytes of stack that any other call takes.
 pub const LUBIKSAN_OTHER_STACK: usize = 1024;
