@@ -24,7 +24,7 @@ type Calls = BTreeMap<String, (Call, Vec<String>)>;
 /// Constants whose macro has another name than theirs behind the prefix.
 type Renamed = &'static [(&'static str, &'static str)];
 
-/// The library's constants, by file: the prefix behind `LUBIKSAN_` of their macros, and those with another name.
+/// The library's constants and cases with numbers, by file: the prefix behind `LUBIKSAN_` of their macros, and those with another name.
 const SOURCES: [(&str, &str, Renamed); 8] = [
     ("lubiksan/src/version.rt", "", &[]),
     (
@@ -44,7 +44,7 @@ const SOURCES: [(&str, &str, Renamed); 8] = [
         ],
     ),
     (
-        "sheet/src/returned.rt",
+        "sheet/src/refusal.rt",
         "",
         &[
             ("BAD_LENGTH", "LENGTHS"),
@@ -201,6 +201,40 @@ fn constants(text: &str) -> Numbers {
     found
 }
 
+/// The cases of enums that have a number, `Name = NUMBER,` where they are declared or `Enum::Name => NUMBER,` where they are told, in upper case.
+fn cases(text: &str) -> Numbers {
+    let mut found = Numbers::new();
+    for line in text.lines() {
+        let Some(line) = line.trim().strip_suffix(',') else {
+            continue;
+        };
+        let declared = line.split_once(" = ");
+        let told = line
+            .split_once(" => ")
+            .and_then(|(case, number)| Some((case.split_once("::")?.1, number)));
+        if let Some((name, number)) = declared.or(told) {
+            let name = name.trim_end_matches("(_)");
+            let plain = name.chars().all(char::is_alphanumeric);
+            if let (true, Ok(number)) = (plain, number.parse()) {
+                found.insert(upper(name), number);
+            }
+        }
+    }
+    found
+}
+
+/// A name of a case as one of a constant: `NoRoom` as `NO_ROOM`.
+fn upper(name: &str) -> String {
+    let mut told = String::new();
+    for letter in name.chars() {
+        if letter.is_uppercase() && !told.is_empty() {
+            told.push('_');
+        }
+        told.push(letter.to_ascii_uppercase());
+    }
+    told
+}
+
 fn parameters(text: &str) -> impl Iterator<Item = &str> {
     text.split(',')
         .map(str::trim)
@@ -320,7 +354,8 @@ fn every_macro_has_the_number_of_the_library() -> Tried {
         .collect();
     for (file, prefix, renamed) in SOURCES {
         let text = without_comments(&fs::read_to_string(crates().join(file))?);
-        let constants = constants(&text);
+        let mut constants = constants(&text);
+        constants.append(&mut cases(&text));
         assert!(!constants.is_empty(), "{file} has no constant");
         for (name, number) in constants {
             let other = renamed.iter().find(|(from, _)| *from == name);

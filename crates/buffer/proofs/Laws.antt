@@ -1,5 +1,5 @@
 -- Laws of the definitions in specs/ and of those that they cite, those below before those above. The head of each file says what it holds.
 pub mod Copy
 pub mod Buffer
-pub mod Shift
+pub mod Zeros
 pub mod Middle

@@ -3,14 +3,7 @@
 ghost use Rattle.std.specs.Prelude.{◌≡◌, List, ◌++◌, ℕ, ◌+◌, ◌-◌, ◌≤◌, length};
 ghost use Rattle.sheet.specs.Rows.{filled};
 
-use crate::shift::shift_names;
-use crate::{copy_text, zero_names};
-
-pub fn excess(a: usize, b: usize) -> usize
-    ensures { result ≡ a - b }
-{
-    if b < a { a - b } else { 0 }
-}
+use crate::copy_text;
 
 // Replaces the text of len bytes at `at` in the names, whose used part ends at `used`.
 pub fn replace_names(names: &mut [u8], used: usize, at: usize, len: usize, new: &[u8])
@@ -19,9 +12,8 @@ pub fn replace_names(names: &mut [u8], used: usize, at: usize, len: usize, new: 
 {
     let from = at + len;
     let to = at + new.len();
-    let count = used - from;
-    shift_names(names, from, to, count);
-    let end = to + count;
-    zero_names(names, end, excess(used, end));
+    names.copy_within(from..used, to);
+    let end = to + (used - from);
+    names[end..used.max(end)].fill(0);
     copy_text(names, at, new);
 }

@@ -2,7 +2,7 @@
 --     three, three_columns    three rows, and their columns worked out by hand
 use Rattle.std.specs.Prelude.{◌≡◌, ℕ, List, [], ◌∷◌, ◌++◌, replicate, refl}
 use Rattle.columns.specs.Columns.{columns_of, rows_of}
-use Rattle.columns.specs.Call.{Turned, turned}
+use Rattle.columns.specs.Call.{turned}
 use Rattle.columns.specs.Unfold.{computes}
 
 unfoldable three : List ℕ

@@ -3,34 +3,29 @@
 #![tactic(auto)]
 
 ghost use Rattle.std.specs.Prelude.{◌≡◌, ◌+◌, ◌*◌, ◌<◌, length};
-ghost use Rattle.columns.specs.Columns.{minus, plus, column_at, columns_of, row_at, rows_of};
+ghost use Rattle.sheet.specs.Results.{returned_number};
+ghost use Rattle.columns.specs.Columns.{column_at, columns_of, row_at, rows_of};
 ghost use Rattle.columns.specs.Call.{same_lengths, ColumnsIs, RowsIs};
 ghost use Rattle.columns.specs.Filled.{Filled, Sized, above_in};
 
 use rows::lengths::rows_length;
-use sheet::{limits, returned};
+use sheet::limits;
+use sheet::refusal::Refusal;
 
 // How many columns there are: a row has a number for each.
 const COLUMNS: usize = limits::ROW;
 
-fn difference(x: u32, above: u32) -> u32
-    ensures { result ≡ minus x above }
+// Column c, from the place c * height on. Above the first number 0 is taken, so that it stays.
+fn put_column(rows: &[u32], height: usize, c: usize, out: &mut [u32])
+    requires { Sized rows.now out.old height × (c < 10) × Filled (column_at rows.now) (c * height) out.old }
+    ensures { Filled (column_at rows.now) ((c + 1) * height) out.new × (length out.new ≡ length out.old) }
 {
-    std::num::wrapping_sub_u32(x, above)
-}
-
-// Column c, from the place `from` on. Above the first number 0 is taken, so that it stays.
-fn put_column(rows: &[u32], height: usize, c: usize, from: usize, out: &mut [u32])
-    requires { Sized rows.now out.old height × (c < 10) × (from ≡ c * height) × Filled (column_at rows.now) from out.old }
-    ensures { Filled (column_at rows.now) (from + height) out.new × (length out.new ≡ length out.old) }
-{
-    let mut above = 0;
-    let mut r = 0;
-    while r < height {
+    let from = c * height;
+    let mut above: u32 = 0;
+    for r in 0..height {
         let x = rows[limits::ROW * r + c];
-        out[from + r] = difference(x, above);
+        out[from + r] = x.wrapping_sub(above);
         above = x;
-        r += 1;
     }
 }
 
@@ -39,19 +34,9 @@ fn put_columns(rows: &[u32], height: usize, out: &mut [u32])
     requires { Sized rows.now out.old height }
     ensures { out.new ≡ columns_of rows.now }
 {
-    let mut c = 0;
-    let mut from = 0;
-    while c < COLUMNS {
-        put_column(rows, height, c, from, out);
-        from += height;
-        c += 1;
+    for c in 0..COLUMNS {
+        put_column(rows, height, c, out);
     }
-}
-
-fn sum(above: u32, x: u32) -> u32
-    ensures { result ≡ plus above x }
-{
-    std::num::wrapping_add_u32(above, x)
 }
 
 // The number above the one at place k, 0 above the first row.
@@ -65,18 +50,15 @@ fn above_in(out: &[u32], k: usize) -> u32
     out[k - limits::ROW]
 }
 
-// Row r, from the place `from` on.
-fn put_row(columns: &[u32], height: usize, r: usize, from: usize, out: &mut [u32])
-    requires { Sized columns.now out.old height × (r < height) × (from ≡ 10 * r) × Filled (row_at columns.now) from out.old }
-    ensures { Filled (row_at columns.now) (from + 10) out.new × (length out.new ≡ length out.old) }
+// Row r, from the place 10 * r on.
+fn put_row(columns: &[u32], height: usize, r: usize, out: &mut [u32])
+    requires { Sized columns.now out.old height × (r < height) × Filled (row_at columns.now) (10 * r) out.old }
+    ensures { Filled (row_at columns.now) (10 * (r + 1)) out.new × (length out.new ≡ length out.old) }
 {
-    let mut c = 0;
-    let mut at = r;
-    while c < COLUMNS {
+    let from = limits::ROW * r;
+    for c in 0..COLUMNS {
         let above = above_in(out, from + c);
-        out[from + c] = sum(above, columns[at]);
-        at += height;
-        c += 1;
+        out[from + c] = above.wrapping_add(columns[c * height + r]);
     }
 }
 
@@ -84,12 +66,8 @@ fn put_rows(columns: &[u32], height: usize, out: &mut [u32])
     requires { Sized columns.now out.old height }
     ensures { out.new ≡ rows_of columns.now }
 {
-    let mut r = 0;
-    let mut from = 0;
-    while r < height {
-        put_row(columns, height, r, from, out);
-        from += limits::ROW;
-        r += 1;
+    for r in 0..height {
+        put_row(columns, height, r, out);
     }
 }
 
@@ -99,24 +77,24 @@ fn same_lengths(source: usize, target: usize) -> bool
     rows_length(source) & (source == target)
 }
 
-// Turns rows into columns and gives 0. Under 1 nothing is changed. The place is 0.
-pub fn to_columns(rows: &[u32], columns: &mut [u32]) -> u32
-    ensures { ColumnsIs rows.now columns.old result 0 columns.new }
+// Turns rows into columns. Where it refuses nothing is changed.
+pub fn to_columns(rows: &[u32], columns: &mut [u32]) -> Result<(), Refusal>
+    ensures { ColumnsIs rows.now columns.old (returned_number result) 0 columns.new }
 {
     if !same_lengths(rows.len(), columns.len()) {
-        return returned::BAD_LENGTH;
+        return Err(Refusal::BadLength);
     }
     put_columns(rows, rows.len() / limits::ROW, columns);
-    returned::ACCEPTED
+    Ok(())
 }
 
-// Turns columns into rows and gives 0. Under 1 nothing is changed. The place is 0.
-pub fn to_rows(columns: &[u32], rows: &mut [u32]) -> u32
-    ensures { RowsIs columns.now rows.old result 0 rows.new }
+// Turns columns into rows. Where it refuses nothing is changed.
+pub fn to_rows(columns: &[u32], rows: &mut [u32]) -> Result<(), Refusal>
+    ensures { RowsIs columns.now rows.old (returned_number result) 0 rows.new }
 {
     if !same_lengths(columns.len(), rows.len()) {
-        return returned::BAD_LENGTH;
+        return Err(Refusal::BadLength);
     }
     put_rows(columns, columns.len() / limits::ROW, rows);
-    returned::ACCEPTED
+    Ok(())
 }

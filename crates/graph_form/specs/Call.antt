@@ -1,7 +1,7 @@
 -- The call that judges a graph's form alone. Order 6: "21 not in paper 01's graph form (..), .. after 1"; that two types have one name is no part of it.
 --     form_answer    the number, and 0 as the place
 --     FormIs        what the call says of itself; the graph is lent for reading alone
-use Rattle.std.specs.Prelude.{ℕ, ◌≡◌, if◌then◌else◌}
+use Rattle.std.specs.Prelude.{◌≡◌, if◌then◌else◌}
 use Rattle.sheet.specs.Rows.{Sheet}
 use Rattle.sheet.specs.Lengths.{Answer, lengths_of, good_lengths}
 use Rattle.sheet.specs.Calls.{answered}

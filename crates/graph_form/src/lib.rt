@@ -6,14 +6,17 @@ pub mod row0;
 pub mod scan;
 
 ghost use Rattle.std.specs.Prelude.{◌≡◌};
+ghost use Rattle.sheet.specs.Results.{returned_number};
 ghost use Rattle.sheet.specs.Calls.{sheet, answered};
 ghost use Rattle.ir_types.specs.Form.{graph_form};
 ghost use Rattle.graph_form.specs.Call.{FormIs};
 
 use rows::behind;
 use rows::lengths::sheet_lengths;
+use rows::part::SheetPart;
 use rows::ten::ten_of;
-use sheet::{limits, returned};
+use sheet::limits;
+use sheet::refusal::Refusal;
 
 // Whether the sheet is in the form.
 pub fn is_form(rows: &[u32], names: &[u8]) -> bool
@@ -26,30 +29,35 @@ pub fn is_form(rows: &[u32], names: &[u8]) -> bool
     if !row0::used_parts(z, rows.len(), names.len()) {
         return false;
     }
-    let n = z.at0 as usize;
+    let part = SheetPart {
+        rows,
+        names,
+        end: z.at0 as usize,
+    };
     let used = z.len0 as usize;
     let roots = z.at1 as usize;
     let types = z.len1 as usize;
-    let s = scan::scan_sheet(rows, n, z.len0);
+    let Some(s) = scan::scan_sheet(&part, z.len0) else {
+        return false;
+    };
     row0::row0_form(z)
-        & s.ok
         & (s.end == used)
         & (roots == s.roots)
         & (types == s.types)
-        & behind::zeros_behind(rows, names, n, used)
+        & behind::zeros_behind(rows, names, part.end, used)
         & behind::names_test(names, used)
 }
 
-// The number of the call that judges the form alone: 1, 21 or 0. The place is 0.
-pub fn form_number(rows: &[u32], names: &[u8]) -> u32
-    ensures { FormIs (sheet rows.now names.now) (answered result 0) }
+// Whether the lengths are those of a sheet and it is in the form.
+pub fn judge(rows: &[u32], names: &[u8]) -> Result<(), Refusal>
+    ensures { FormIs (sheet rows.now names.now) (answered (returned_number result) 0) }
 {
     if !sheet_lengths(rows.len(), names.len()) {
-        return returned::BAD_LENGTH;
+        return Err(Refusal::BadLength);
     }
     if is_form(rows, names) {
-        returned::ACCEPTED
+        Ok(())
     } else {
-        returned::GRAPH_FORM
+        Err(Refusal::GraphForm)
     }
 }

@@ -82,7 +82,7 @@ fn with_reference(own: usize, a: u32) -> usize
     requires { own ≤ 2 }
     ensures { result ≡ (if eqb a 0 then own + 1 else own) }
 {
-    if a == 0 { own + 1 } else { own }
+    own + usize::from(a == 0)
 }
 
 // How many pairs a row uses.

@@ -4,13 +4,12 @@
 --     GrownTo       there are so many rows more
 --     Short         they have no room
 --     Grows         what adding the rows `more` answers and leaves
-use Rattle.std.specs.Prelude.{ℕ, ◌+◌, ◌*◌, ◌≤◌, ◌≡◌, false, List, ◌++◌, length}
+use Rattle.std.specs.Prelude.{ℕ, Option, MatchOption, ◌+◌, ◌*◌, ◌≤◌, ◌≡◌, false, List, ◌++◌, length}
 use Rattle.sheet.specs.Limits.{rows_limit, names_limit}
 use Rattle.sheet.specs.Rows.{Row, names_of}
 use Rattle.sheet.specs.Lengths.{fits}
 use Rattle.rows.specs.declared.numbers.Used.{Used}
 use Rattle.rows.specs.Packing.{Holds}
-use Rattle.ir_append.specs.declared.Grown.{Grown}
 
 pub record Room (rows names : List ℕ) (used : Used) : Type 0 where
   pub rows_inside : 10 * used.rows ≤ length rows
@@ -31,6 +30,6 @@ pub record Short (rows names : List ℕ) (used : Used) (more : List Row) (rows' 
   pub names_length : length names' ≡ length names
   pub short : (z : List ℕ) (rs : List Row) → Holds rows names used z rs → fits (1 + length (rs ++ more)) (length (names_of (rs ++ more))) (length rows) (length names) ≡ false
 
-abbrev pub Grows : List ℕ → List ℕ → Used → List Row → List ℕ → List ℕ → Grown → Type 0
-Grows rows names used more rows' names' (Grown.To used') = GrownTo rows names used more rows' names' used'
-Grows rows names used more rows' names' Grown.Full = Short rows names used more rows' names'
+abbrev pub Grows : List ℕ → List ℕ → Used → List Row → List ℕ → List ℕ → Option Used → Type 0
+Grows rows names used more rows' names' answer =
+    MatchOption answer (Short rows names used more rows' names') (λ used'. GrownTo rows names used more rows' names' used')

@@ -4,32 +4,27 @@
 --     spelled_texts      the text, or none
 --     recipe_row         the row that a recipe gives
 --     orderly           the used texts are the first ones
-use Rattle.std.specs.Prelude.{List, [], ◌∷◌, ◌++◌, Bool, true, false, not, ◌&&◌, ◌||◌, if◌then◌else◌}
+use Rattle.std.specs.Prelude.{Option, Some, None, List, [], ◌∷◌, ◌++◌, Bool, true, false, not, ◌&&◌, ◌||◌, if◌then◌else◌}
 use Rattle.text.specs.Text.{Text}
 use Rattle.names.specs.Names.{normalize_type_name, xml_to_snake_case, code_to_pascal_case}
 use Rattle.sheet.specs.Rows.{Row, row}
 use Rattle.ir_append.specs.declared.Spelling.{Spelling}
 use Rattle.ir_append.specs.declared.Recipe.{Recipe}
 
-abbrev pub spelled_text : Spelling → Text → Text → Text
-spelled_text Spelling.Nothing t u = []
-spelled_text Spelling.First t u = t
-spelled_text Spelling.FirstNormalized t u = normalize_type_name t
-spelled_text Spelling.FirstSnake t u = xml_to_snake_case t
-spelled_text Spelling.FirstPascal t u = code_to_pascal_case t
-spelled_text Spelling.Second t u = u
-spelled_text Spelling.SecondNormalized t u = normalize_type_name u
+abbrev pub spelled_text : Option Spelling → Text → Text → Text
+spelled_text None t u = []
+spelled_text (Some Spelling.First) t u = t
+spelled_text (Some Spelling.FirstNormalized) t u = normalize_type_name t
+spelled_text (Some Spelling.FirstSnake) t u = xml_to_snake_case t
+spelled_text (Some Spelling.FirstPascal) t u = code_to_pascal_case t
+spelled_text (Some Spelling.Second) t u = u
+spelled_text (Some Spelling.SecondNormalized) t u = normalize_type_name u
 
-abbrev pub is_nothing : Spelling → Bool
-is_nothing Spelling.Nothing = true
-is_nothing Spelling.First = false
-is_nothing Spelling.FirstNormalized = false
-is_nothing Spelling.FirstSnake = false
-is_nothing Spelling.FirstPascal = false
-is_nothing Spelling.Second = false
-is_nothing Spelling.SecondNormalized = false
+abbrev pub is_nothing : Option Spelling → Bool
+is_nothing None = true
+is_nothing (Some how) = false
 
-unfoldable pub spelled_texts : Spelling → Text → Text → List Text
+unfoldable pub spelled_texts : Option Spelling → Text → Text → List Text
 spelled_texts k t u = if is_nothing k then [] else spelled_text k t u ∷ []
 
 unfoldable pub recipe_row : Recipe → Text → Text → Row

@@ -6,13 +6,11 @@
 --     Spreads       what storing them answers and leaves
 --     offset_of      the offset of a row's pair: "an unused pair is 0 0"
 --     row_numbers    the ten numbers of a recipe's row whose texts, so long, stand in the names from `at`
-use Rattle.std.specs.Prelude.{ℕ, ◌+◌, ◌≤◌, ◌<◌, ◌≡◌, List, [], ◌∷◌, ◌++◌, length, if◌then◌else◌}
+use Rattle.std.specs.Prelude.{ℕ, Option, MatchOption, ◌+◌, ◌≤◌, ◌<◌, ◌≡◌, List, [], ◌∷◌, ◌++◌, length, if◌then◌else◌}
 use Rattle.std.proofs.Math.Seq.{paste}
 use Rattle.text.specs.Text.{Text}
-use Rattle.names.specs.declared.Written.{Written}
 use Rattle.ir_append.specs.declared.Spelling.{Spelling}
 use Rattle.ir_append.specs.declared.Recipe.{Recipe}
-use Rattle.ir_append.specs.declared.TextLengths.{TextLengths}
 use Rattle.ir_append.specs.Spelled.{spelled_text, is_nothing}
 
 pub record Stored (names : List ℕ) (at : ℕ) (t : Text) (names' : List ℕ) (n : ℕ) : Type 0 where
@@ -20,9 +18,8 @@ pub record Stored (names : List ℕ) (at : ℕ) (t : Text) (names' : List ℕ) (
   pub inside : at + n ≤ length names
   pub holds : names' ≡ paste names at t n
 
-abbrev pub Stores : List ℕ → ℕ → Text → List ℕ → Written → Type 0
-Stores names at t names' (Written.Bytes n) = Stored names at t names' n
-Stores names at t names' Written.NoRoom = length names < at + length t
+abbrev pub Stores : List ℕ → ℕ → Text → List ℕ → Option ℕ → Type 0
+Stores names at t names' answer = MatchOption answer (length names < at + length t) (λ n. Stored names at t names' n)
 
 unfoldable pub recipe_bytes : Recipe → Text → Text → Text
 recipe_bytes p t u = spelled_text p.first t u ++ (spelled_text p.second t u ++ spelled_text p.third t u)
@@ -33,11 +30,11 @@ pub record Spread (names : List ℕ) (at : ℕ) (p : Recipe) (t u : Text) (names
   pub third_length : third ≡ length (spelled_text p.third t u)
   pub stored : Stored names at (recipe_bytes p t u) names' (first + (second + third))
 
-abbrev pub Spreads : List ℕ → ℕ → Recipe → Text → Text → List ℕ → TextLengths → Type 0
-Spreads names at p t u names' (TextLengths.Of first second third) = Spread names at p t u names' first second third
-Spreads names at p t u names' TextLengths.NoRoom = length names < at + length (recipe_bytes p t u)
+abbrev pub Spreads : List ℕ → ℕ → Recipe → Text → Text → List ℕ → Option (ℕ × ℕ × ℕ) → Type 0
+Spreads names at p t u names' answer =
+    MatchOption answer (length names < at + length (recipe_bytes p t u)) (λ n. Spread names at p t u names' n.0 n.1 n.2)
 
-abbrev pub offset_of : Spelling → ℕ → ℕ
+abbrev pub offset_of : Option Spelling → ℕ → ℕ
 offset_of how at = if is_nothing how then 0 else at
 
 unfoldable pub row_numbers : Recipe → ℕ → ℕ → ℕ → ℕ → List ℕ

@@ -1,34 +1,27 @@
-// A row of the graph with its texts added to a graph sheet, each text in its spelling.
+// A row of the graph with its texts added to a graph sheet, each text in its spelling. `row0`: row 0 of a graph sheet.
 #![tactic(auto)]
 
-ghost use Rattle.std.specs.Prelude.{◌≡◌, true, [], ◌∷◌, ◌+◌, ◌*◌, ◌/◌, ◌%◌, ◌^◌, ◌≤◌, length};
-ghost use Rattle.names.specs.Names.{normalize_type_name, xml_to_snake_case, code_to_pascal_case};
+pub mod row0;
+
+ghost use Rattle.std.specs.Prelude.{if◌then◌else◌, ◌≡◌, true, [], ◌∷◌, ◌+◌, ◌*◌, ◌/◌, ◌%◌, ◌^◌, ◌≤◌, length};
+ghost use Rattle.names.specs.Answers.{Put};
 ghost use Rattle.sheet.specs.Limits.{names_limit};
 ghost use Rattle.sheet.specs.Rows.{row};
 ghost use Rattle.rows.specs.Packing.{row_of};
 ghost use Rattle.ir_append.specs.Grows.{Room, Grows};
 ghost use Rattle.ir_append.specs.Spelled.{spelled_text, recipe_row, orderly};
-ghost use Rattle.ir_append.specs.Stored.{Stores, Spreads, offset_of, row_numbers};
+ghost use Rattle.ir_append.specs.Stored.{Stores, Spreads, row_numbers};
 
-use buffer::copy_text;
 use names::snake::xml_to_snake_case;
-use names::{Written, code_to_pascal_case, normalize_type_name};
+use names::{code_to_pascal_case, normalize_type_name, put_same};
 use number::{CharacterCount, DigitCount};
 use rows::numbers::{RowNumbers, Used};
 use rows::row::put_row;
 use sheet::limits;
 
-// What is used of a sheet after rows were added, or that they have no room.
-#[derive(Clone, Copy)]
-pub enum Grown {
-    To(Used),
-    Full,
-}
-
-// A text of a graph's row: none, or the first or second text of the schema's row in a spelling.
+// How a text of a graph's row is spelled from the first or second text of the schema's row.
 #[derive(Clone, Copy)]
 pub enum Spelling {
-    Nothing,
     First,
     FirstNormalized,
     FirstSnake,
@@ -44,118 +37,75 @@ pub struct Recipe {
     pub a: u32,
     pub b: u32,
     pub c: u32,
-    pub first: Spelling,
-    pub second: Spelling,
-    pub third: Spelling,
+    pub first: Option<Spelling>,
+    pub second: Option<Spelling>,
+    pub third: Option<Spelling>,
 }
 
-// How long each of a row's three texts is, or that they have no room.
-#[derive(Clone, Copy)]
-enum TextLengths {
-    Of(usize, usize, usize),
-    NoRoom,
-}
-
-fn put_plain(names: &mut [u8], at: usize, text: &[u8]) -> Written
-    requires { at ≤ length names.old }
-    ensures { Stores names.old at text.now names.new result }
+fn put_spelled(part: &mut [u8], how: Option<Spelling>, first: &[u8], second: &[u8]) -> Option<usize>
+    ensures { Put (spelled_text how first.now second.now) part.old result part.new }
 {
-    if names.len() - at < text.len() {
-        return Written::NoRoom;
+    match how {
+        None => Some(0),
+        Some(Spelling::First) => put_same(first, part),
+        Some(Spelling::FirstNormalized) => normalize_type_name(first, part),
+        Some(Spelling::FirstSnake) => xml_to_snake_case(first, part),
+        Some(Spelling::FirstPascal) => code_to_pascal_case(first, part),
+        Some(Spelling::Second) => put_same(second, part),
+        Some(Spelling::SecondNormalized) => normalize_type_name(second, part),
     }
-    copy_text(names, at, text);
-    Written::Bytes(text.len())
 }
 
-fn put_normalized(names: &mut [u8], at: usize, text: &[u8]) -> Written
-    requires { at ≤ length names.old }
-    ensures { Stores names.old at (normalize_type_name text.now) names.new result }
-{
-    normalize_type_name(text, &mut names[at..])
-}
-
-fn put_snake(names: &mut [u8], at: usize, text: &[u8]) -> Written
-    requires { at ≤ length names.old }
-    ensures { Stores names.old at (xml_to_snake_case text.now) names.new result }
-{
-    xml_to_snake_case(text, &mut names[at..])
-}
-
-fn put_pascal(names: &mut [u8], at: usize, text: &[u8]) -> Written
-    requires { at ≤ length names.old }
-    ensures { Stores names.old at (code_to_pascal_case text.now) names.new result }
-{
-    code_to_pascal_case(text, &mut names[at..])
-}
-
-fn put_spelled(names: &mut [u8], at: usize, how: Spelling, first: &[u8], second: &[u8]) -> Written
+// The text stored in the names from `at`.
+fn put_behind(
+    names: &mut [u8],
+    at: usize,
+    how: Option<Spelling>,
+    first: &[u8],
+    second: &[u8],
+) -> Option<usize>
     requires { at ≤ length names.old }
     ensures { Stores names.old at (spelled_text how first.now second.now) names.new result }
 {
-    match how {
-        Spelling::Nothing => Written::Bytes(0),
-        Spelling::First => put_plain(names, at, first),
-        Spelling::FirstNormalized => put_normalized(names, at, first),
-        Spelling::FirstSnake => put_snake(names, at, first),
-        Spelling::FirstPascal => put_pascal(names, at, first),
-        Spelling::Second => put_plain(names, at, second),
-        Spelling::SecondNormalized => put_normalized(names, at, second),
-    }
+    put_spelled(&mut names[at..], how, first, second)
 }
 
+// How long each of the row's three texts is; they stand in the names one behind the other.
 fn put_texts(
     names: &mut [u8],
     at: usize,
     recipe: Recipe,
     first: &[u8],
     second: &[u8],
-) -> TextLengths
+) -> Option<(usize, usize, usize)>
     requires { at ≤ length names.old }
     ensures { Spreads names.old at recipe first.now second.now names.new result }
 {
-    let how = recipe.first;
-    let Written::Bytes(n) = put_spelled(names, at, how, first, second) else {
-        return TextLengths::NoRoom;
-    };
-    let behind = at + n;
-    let how2 = recipe.second;
-    let Written::Bytes(m) = put_spelled(names, behind, how2, first, second) else {
-        return TextLengths::NoRoom;
-    };
-    let last = behind + m;
-    let how3 = recipe.third;
-    let Written::Bytes(k) = put_spelled(names, last, how3, first, second) else {
-        return TextLengths::NoRoom;
-    };
-    TextLengths::Of(n, m, k)
+    let n = put_behind(names, at, recipe.first, first, second)?;
+    let m = put_behind(names, at + n, recipe.second, first, second)?;
+    let k = put_behind(names, at + n + m, recipe.third, first, second)?;
+    Some((n, m, k))
 }
 
 // "an unused pair is 0 0"
-fn offset(how: Spelling, at: usize) -> u32
+pub fn offset(used: bool, at: usize) -> u32
     requires { at ≤ names_limit }
-    ensures { result ≡ offset_of how at }
+    ensures { result ≡ (if used then at else 0) }
 {
-    if let Spelling::Nothing = how {
-        0
-    } else {
-        at as u32
-    }
+    if used { at as u32 } else { 0 }
 }
 
 fn spelled_row(recipe: Recipe, at: usize, n: usize, m: usize, k: usize) -> [u32; 10]
     requires { at + (n + (m + k)) ≤ names_limit }
     ensures { result ≡ row_numbers recipe at n m k }
 {
-    let one = recipe.first;
-    let two = recipe.second;
-    let three = recipe.third;
     [
         recipe.tag,
-        offset(one, at),
+        offset(recipe.first.is_some(), at),
         n as u32,
-        offset(two, at + n),
+        offset(recipe.second.is_some(), at + n),
         m as u32,
-        offset(three, at + n + m),
+        offset(recipe.third.is_some(), at + n + m),
         k as u32,
         recipe.a,
         recipe.b,
@@ -163,7 +113,7 @@ fn spelled_row(recipe: Recipe, at: usize, n: usize, m: usize, k: usize) -> [u32;
     ]
 }
 
-// Where there is no room, what the buffers hold is the caller's to clear.
+// What is used of the sheet with the row added, or `None` where there is no room: then what the buffers hold is the caller's to clear.
 pub fn append_spelled(
     rows: &mut [u32],
     names: &mut [u8],
@@ -171,27 +121,23 @@ pub fn append_spelled(
     recipe: Recipe,
     first: &[u8],
     second: &[u8],
-) -> Grown
+) -> Option<Used>
     requires { Room rows.old names.old used × (orderly recipe ≡ true) }
     ensures { Grows rows.old names.old used (recipe_row recipe first.now second.now ∷ []) rows.new names.new result }
 {
-    let place = used.rows;
-    let at = used.names;
-    if rows.len() < limits::ROW * place + limits::ROW {
-        return Grown::Full;
+    if rows.len() < limits::ROW * used.rows + limits::ROW {
+        return None;
     }
-    let TextLengths::Of(n, m, k) = put_texts(names, at, recipe, first, second) else {
-        return Grown::Full;
-    };
-    let row = spelled_row(recipe, at, n, m, k);
-    put_row(rows, place, row);
-    Grown::To(Used {
-        rows: place + 1,
-        names: at + n + m + k,
+    let (n, m, k) = put_texts(names, used.names, recipe, first, second)?;
+    let row = spelled_row(recipe, used.names, n, m, k);
+    put_row(rows, used.rows, row);
+    Some(Used {
+        rows: used.rows + 1,
+        names: used.names + n + m + k,
     })
 }
 
-fn append_numbers(rows: &mut [u32], names: &mut [u8], used: Used, n: RowNumbers) -> Grown
+fn append_numbers(rows: &mut [u32], names: &mut [u8], used: Used, n: RowNumbers) -> Option<Used>
     requires { Room rows.old names.old used }
     ensures { Grows rows.old names.old used (row_of n [] ∷ []) rows.new names.new result }
 {
@@ -200,34 +146,41 @@ fn append_numbers(rows: &mut [u32], names: &mut [u8], used: Used, n: RowNumbers)
         a: n.a,
         b: n.b,
         c: n.c,
-        first: Spelling::Nothing,
-        second: Spelling::Nothing,
-        third: Spelling::Nothing,
+        first: None,
+        second: None,
+        third: None,
     };
     append_spelled(rows, names, used, recipe, b"", b"")
 }
 
+// The row of a facet that counts characters: the count's low 32 bits, then its high ones.
 pub fn grow_characters(
     rows: &mut [u32],
     names: &mut [u8],
     used: Used,
     tag: u32,
     n: CharacterCount,
-) -> Grown
+) -> Option<Used>
     requires { Room rows.old names.old used }
     ensures { Grows rows.old names.old used (row tag [] (n.0 % 2 ^ 32) (n.0 / 2 ^ 32) 0 ∷ []) rows.new names.new result }
 {
-    let count = n.0;
     let numbers = RowNumbers {
         tag,
-        a: (count % 4294967296) as u32,
-        b: (count / 4294967296) as u32,
+        a: (n.0 % 4294967296) as u32,
+        b: (n.0 / 4294967296) as u32,
         c: 0,
     };
     append_numbers(rows, names, used, numbers)
 }
 
-pub fn grow_digits(rows: &mut [u32], names: &mut [u8], used: Used, tag: u32, n: DigitCount) -> Grown
+// The row of a facet that counts digits.
+pub fn grow_digits(
+    rows: &mut [u32],
+    names: &mut [u8],
+    used: Used,
+    tag: u32,
+    n: DigitCount,
+) -> Option<Used>
     requires { Room rows.old names.old used }
     ensures { Grows rows.old names.old used (row tag [] n.0 0 0 ∷ []) rows.new names.new result }
 {

@@ -5,17 +5,14 @@
 --     Counted       a schema sheet whose count is right for its finished items' rows, which end at `end`
 --     Cleared       a graph sheet of zeros, of such lengths
 --     GraphOf       the rows of a schema sheet up to `end` are lowered to the graph g
---     as_row0        the code's row 0 of a graph as the definitions' row 0
---     row0_of        row 0 of a graph, as the numbers that a sheet holds
 --     GraphWritten  the graph g written into a sheet of zeros, or that it has no room
-use Rattle.std.specs.Prelude.{ℕ, ◌*◌, ◌≤◌, ◌≡◌, Bool, true, false, List, [], ◌∷◌, length, get_or}
+use Rattle.std.specs.Prelude.{ℕ, Option, MatchOption, ◌*◌, ◌≤◌, ◌≡◌, Bool, true, false, List, [], length, get_or}
 use Rattle.std.proofs.Math.Option.{none, some}
 use Rattle.sheet.specs.Limits.{least_rows, rows_limit, names_limit}
-use Rattle.sheet.specs.Rows.{numbers}
-use Rattle.sheet.specs.Calls.{sheet, answered}
+use Rattle.sheet.specs.Lengths.{Answer}
+use Rattle.sheet.specs.Calls.{sheet}
 use Rattle.rows.specs.declared.numbers.Used.{Used}
 use Rattle.ir_types.specs.Types.{TypeGraph}
-use Rattle.ir_types.specs.Row0.{GraphRow0, graph_row0_of, graph_row0_ten}
 use Rattle.ir_types.specs.Rows.{rows_of, rows_used}
 use Rattle.ir_types.specs.Sheet.{graph_fits, graph_sheet}
 use Rattle.xsd_types.specs.State.{State}
@@ -27,16 +24,14 @@ use Rattle.xsd_types.specs.Refused.{refused_place}
 use Rattle.xsd_types.specs.Count.{refused_rows}
 use Rattle.ir_rows.specs.Lowered.{root_rows}
 use Rattle.ir_rows.specs.Types.{finished_places, heads_at, graph_row_list}
-use Rattle.ir_append.specs.declared.Grown.{Grown}
-use Rattle.ir_call.specs.declared.GraphRow0.{GraphRow0 as Numbers}
 
 pub record Sized (rows names : List ℕ) : Type 0 where
   pub some_rows : least_rows ≤ length rows
   pub few_rows : length rows ≤ rows_limit
   pub few_names : length names ≤ names_limit
 
-abbrev pub lowered : ℕ → ℕ → List ℕ → List ℕ → List ℕ → Lowered
-lowered number place rows names scratch = record { answer = answered number place; graph = sheet rows names; scratch = scratch }
+abbrev pub lowered : Answer → List ℕ → List ℕ → List ℕ → Lowered
+lowered answer rows names scratch = record { answer = answer; graph = sheet rows names; scratch = scratch }
 
 pub record Finished (rows names : List ℕ) (end : ℕ) (scratch : List ℕ) : Type 0 where
   pub at_least : 2 ≤ end
@@ -59,12 +54,6 @@ pub record GraphOf (rows names : List ℕ) (end : ℕ) (g : TypeGraph) : Type 0 
   pub roots : length (root_rows (rows_from rows names 2 end)) ≡ length g.root_elements
   pub types : length (finished_places rows names end) ≡ length g.types
 
-abbrev pub as_row0 : Numbers → GraphRow0
-as_row0 z = graph_row0_of z.rows_used z.names_used z.root_elements z.types
-
-abbrev pub row0_of : Used → ℕ → ℕ → List ℕ
-row0_of used roots types = numbers (graph_row0_ten (graph_row0_of used.rows used.names roots types) ∷ [])
-
 -- the rows up to `end` are the finished items of the state
 pub record Lowers (rows names : List ℕ) (end : ℕ) (root_seen : Bool) (s : State) : Type 0 where
   pub root : root_seen ≡ s.reader.root_seen
@@ -78,6 +67,6 @@ pub record GraphStands (g : TypeGraph) (rows names rows' names' : List ℕ) (use
   pub place : used.rows ≡ rows_used g
   pub graph : sheet rows' names' ≡ graph_sheet g (length rows) (length names)
 
-abbrev pub GraphWritten : TypeGraph → List ℕ → List ℕ → Grown → List ℕ → List ℕ → Type 0
-GraphWritten g rows names (Grown.To used) rows' names' = GraphStands g rows names rows' names' used
-GraphWritten g rows names Grown.Full rows' names' = graph_fits (length rows) (length names) g ≡ false
+abbrev pub GraphWritten : TypeGraph → List ℕ → List ℕ → Option Used → List ℕ → List ℕ → Type 0
+GraphWritten g rows names answer rows' names' =
+    MatchOption answer (graph_fits (length rows) (length names) g ≡ false) (λ used. GraphStands g rows names rows' names' used)

@@ -1,7 +1,6 @@
 -- What the entries stored so far say. An entry is a place and, above its 16 bits, the fingerprint of the name of the type whose head stands there.
---     is_kind        a finished type's head: of a complex type, or of a simple one
+--     is_kind        a finished type's head: of a simple type, or of a complex one
 --     kind_places    the places of such heads from place p up to place end
---     head_name      the name in a row's first pair
 --     names_in       the names of the types of the first n entries
 --     has_print      an entry has the fingerprint f
 --     HeadAt        a finished type's head stands at place p
@@ -14,26 +13,24 @@
 --     repeated_kind  the row of the first head of one kind whose name came before
 --     KindIn        the heads of one kind are entries, and their names are new and no two the same
 --     KindEntered   that, or the row of the first whose name came before
-use Rattle.std.specs.Prelude.{ℕ, ◌+◌, ◌*◌, ◌/◌, ◌%◌, ◌≤◌, ◌<◌, ◌≡◌, List, [], ◌∷◌, ◌++◌, map, Bool, true, false, ◌||◌, eqb, length, get_or, if◌then◌else◌}
+use Rattle.std.specs.Prelude.{ℕ, ◌+◌, ◌*◌, ◌/◌, ◌%◌, ◌≤◌, ◌<◌, ◌≡◌, List, [], ◌∷◌, ◌++◌, map, Bool, true, false, ◌||◌, eqb, length, get_or, Result, Ok, Err}
 use Rattle.std.proofs.Math.Option.{Option, some, none}
 use Rattle.text.specs.Text.{Text}
-use Rattle.sheet.specs.Rows.{text_at}
 use Rattle.ir_types.specs.Distinct.{among}
 use Rattle.ir_lower.specs.Repeated.{first_repeated}
 use Rattle.xsd_types.specs.Places.{rows_from}
 use Rattle.ir_rows.specs.Places.{name_at}
 use Rattle.ir_rows.specs.Types.{is_simple, is_complex, is_type, places_of, head_at, places_in}
-use Rattle.ir_index.specs.declared.Indexed.{Indexed}
+use Rattle.ir_index.specs.declared.Kind.{Kind}
+use Rattle.ir_index.specs.declared.Repeated.{Repeated}
 use Rattle.ir_index.specs.Prints.{fingerprint}
 
-unfoldable pub is_kind : Bool → ℕ → Bool
-is_kind complex tag = if complex then is_complex tag else is_simple tag
+unfoldable pub is_kind : Kind → ℕ → Bool
+is_kind Kind.Simple tag = is_simple tag
+is_kind Kind.Complex tag = is_complex tag
 
-unfoldable pub kind_places : List ℕ → List ℕ → ℕ → Bool → ℕ → List ℕ
-kind_places rows names end complex p = places_of (is_kind complex) p (rows_from rows names p end)
-
-unfoldable pub head_name : List ℕ → List ℕ → ℕ → Text
-head_name rows names p = text_at names (get_or rows (10 * p + 1) 0) (get_or rows (10 * p + 2) 0)
+unfoldable pub kind_places : List ℕ → List ℕ → ℕ → Kind → ℕ → List ℕ
+kind_places rows names end kind p = places_of (is_kind kind) p (rows_from rows names p end)
 
 abbrev pub names_in : List ℕ → List ℕ → ℕ → List ℕ → List Text
 names_in rows names n scratch = map (name_at rows names) (places_in n scratch)
@@ -71,15 +68,15 @@ Entered rows names before n p after flags true = Added rows names before n p aft
 Entered rows names before n p after flags false = among (name_at rows names p) (names_in rows names n before) ≡ true
 
 -- from place p on: came before with one of the first n entries, or with such a head
-abbrev pub repeated_kind : List ℕ → List ℕ → ℕ → Bool → List ℕ → ℕ → ℕ → Option ℕ
-repeated_kind rows names end complex scratch n p = first_repeated (names_in rows names n scratch) (map (head_at rows names) (kind_places rows names end complex p))
+abbrev pub repeated_kind : List ℕ → List ℕ → ℕ → Kind → List ℕ → ℕ → ℕ → Option ℕ
+repeated_kind rows names end kind scratch n p = first_repeated (names_in rows names n scratch) (map (head_at rows names) (kind_places rows names end kind p))
 
-pub record KindIn (rows names : List ℕ) (end : ℕ) (complex : Bool) (before : List ℕ) (n : ℕ) (after : List ℕ) (m : ℕ) (flags : List ℕ) : Type 0 where
-  pub once : repeated_kind rows names end complex before n 2 ≡ none
-  pub places : places_in m after ≡ places_in n before ++ kind_places rows names end complex 2
+pub record KindIn (rows names : List ℕ) (end : ℕ) (kind : Kind) (before : List ℕ) (n : ℕ) (after : List ℕ) (m : ℕ) (flags : List ℕ) : Type 0 where
+  pub once : repeated_kind rows names end kind before n 2 ≡ none
+  pub places : places_in m after ≡ places_in n before ++ kind_places rows names end kind 2
   pub known : Known rows names after m flags
-  pub room : m ≤ n + length (kind_places rows names end complex 2)
+  pub room : m ≤ n + length (kind_places rows names end kind 2)
 
-abbrev pub KindEntered : List ℕ → List ℕ → ℕ → Bool → List ℕ → ℕ → List ℕ → List ℕ → Indexed → Type 0
-KindEntered rows names end complex before n after flags (Indexed.All m) = KindIn rows names end complex before n after m flags
-KindEntered rows names end complex before n after flags (Indexed.Repeated p) = repeated_kind rows names end complex before n 2 ≡ some p
+abbrev pub KindEntered : List ℕ → List ℕ → ℕ → Kind → List ℕ → ℕ → List ℕ → List ℕ → Result ℕ Repeated → Type 0
+KindEntered rows names end kind before n after flags (Ok m) = KindIn rows names end kind before n after m flags
+KindEntered rows names end kind before n after flags (Err first) = repeated_kind rows names end kind before n 2 ≡ some first.place

@@ -2,7 +2,7 @@
 // two finished types normalise to the same name").
 #![tactic(auto)]
 
-ghost use Rattle.std.specs.Prelude.{◌≡◌, ◌&&◌, ◌+◌, ◌*◌, ◌/◌, ◌%◌, ◌≤◌, ◌<◌, ltb, eqb, length, get_or, set};
+ghost use Rattle.std.specs.Prelude.{◌≡◌, ◌&&◌, ◌+◌, ◌%◌, ◌≤◌, ◌<◌, ltb, eqb, length, get_or, set};
 ghost use Rattle.text.specs.Text.{same};
 ghost use Rattle.names.specs.Names.{normalize_type_name};
 ghost use Rattle.sheet.specs.Limits.{rows_limit};
@@ -11,21 +11,26 @@ ghost use Rattle.ir_rows.specs.Places.{name_at};
 ghost use Rattle.ir_rows.specs.Types.{finished_places};
 ghost use Rattle.ir_index.specs.Index.{IndexIs};
 ghost use Rattle.ir_index.specs.Prints.{mixed, fingerprint};
-ghost use Rattle.ir_index.specs.Entries.{is_kind, kind_places, head_name, names_in, has_print, HeadAt, EntryOf, Entries, Known, Entered, KindEntered};
+ghost use Rattle.ir_index.specs.Entries.{is_kind, kind_places, names_in, has_print, HeadAt, EntryOf, Entries, Known, Entered, KindEntered};
 
+use name_index::name_at;
 use names::cased;
 use names::same::same_normalized;
-use rows::numbers::{row_tag, wide};
-use rows::parts::pair_text;
-use sheet::limits;
+use rows::numbers::wide;
+use rows::part::SheetPart;
 use text::has_byte;
 use xsd_types::tags;
 
-// How many types there are, or the row of the first whose name came before.
+// The row of the first type whose name came before.
 #[derive(Clone, Copy)]
-pub enum Indexed {
-    All(usize),
-    Repeated(usize),
+pub struct Repeated {
+    pub place: usize,
+}
+
+#[derive(Clone, Copy)]
+enum Kind {
+    Simple,
+    Complex,
 }
 
 fn mix(h: u32, b: u8) -> u32
@@ -40,96 +45,76 @@ fn print_of(name: &[u8]) -> u32
 {
     let mut up = has_byte(name, b'_');
     let mut h = 0;
-    let mut i = 0;
-    while i < name.len() {
-        let b = name[i];
+    for &b in name {
         if b == b'_' {
             up = true;
         } else {
             h = mix(h, cased(b, up, false));
             up = false;
         }
-        i += 1;
     }
     h
 }
 
-fn is_kind(complex: bool, tag: u32) -> bool
-    ensures { result ≡ is_kind complex tag }
+fn is_kind(kind: Kind, tag: u32) -> bool
+    ensures { result ≡ is_kind kind tag }
 {
-    if complex {
-        (tags::SEQUENCE <= tag) & (tag <= tags::ANY)
-    } else {
-        tag == tags::SIMPLE_TYPE
+    match kind {
+        Kind::Simple => tag == tags::SIMPLE_TYPE,
+        Kind::Complex => (tags::SEQUENCE <= tag) & (tag <= tags::ANY),
     }
 }
 
-fn name_at<'a>(rows: &[u32], names: &'a [u8], place: usize) -> &'a [u8]
-    requires { 10 * place + 10 ≤ length rows.now }
-    ensures { result.now ≡ head_name rows.now names.now place }
-{
-    pair_text(rows, names, limits::ROW * place + 1)
-}
-
 // The fingerprints are compared first: names that differ mostly differ there.
-fn entry_same(rows: &[u32], names: &[u8], entry: u32, place: usize, print: u32) -> bool
-    requires entry_of { EntryOf rows.now names.now entry }
-    requires head_at { HeadAt rows.now place }
-    requires print_value { print ≡ fingerprint (name_at rows.now names.now place) }
-    ensures { result ≡ same (name_at rows.now names.now (entry % 65536)) (name_at rows.now names.now place) }
+fn entry_same(part: &SheetPart<'_>, entry: u32, place: usize, print: u32) -> bool
+    requires entry_of { EntryOf part.now.rows.now part.now.names.now entry }
+    requires head_at { HeadAt part.now.rows.now place }
+    requires print_value { print ≡ fingerprint (name_at part.now.rows.now part.now.names.now place) }
+    ensures { result ≡ same (name_at part.now.rows.now part.now.names.now (entry % 65536)) (name_at part.now.rows.now part.now.names.now place) }
 {
     if entry / 65536 != print {
         return false;
     }
-    let held = name_at(rows, names, wide(entry % 65536));
-    let asked = name_at(rows, names, place);
+    let held = name_at(part.rows, part.names, wide(entry % 65536));
+    let asked = name_at(part.rows, part.names, place);
     same_normalized(held, asked)
 }
 
-fn has_name(rows: &[u32], names: &[u8], place: usize, print: u32, scratch: &[u32], n: usize) -> bool
-    requires entries { Entries rows.now names.now scratch.now n }
-    requires head_at { HeadAt rows.now place }
-    requires print_value { print ≡ fingerprint (name_at rows.now names.now place) }
-    ensures { result ≡ among (name_at rows.now names.now place) (names_in rows.now names.now n scratch.now) }
+fn has_name(part: &SheetPart<'_>, place: usize, print: u32, scratch: &[u32], n: usize) -> bool
+    requires entries { Entries part.now.rows.now part.now.names.now scratch.now n }
+    requires head_at { HeadAt part.now.rows.now place }
+    requires print_value { print ≡ fingerprint (name_at part.now.rows.now part.now.names.now place) }
+    ensures { result ≡ among (name_at part.now.rows.now part.now.names.now place) (names_in part.now.rows.now part.now.names.now n scratch.now) }
 {
-    let mut k = 0;
-    while k < n {
-        if entry_same(rows, names, scratch[k], place, print) {
+    for &entry in &scratch[..n] {
+        if entry_same(part, entry, place, print) {
             return true;
         }
-        k += 1;
     }
     false
 }
 
-// No early exit: the compiler makes wide compares of it.
+// A fold, with no early exit: the compiler makes wide compares of it.
 fn has_print(entries: &[u32], print: u32) -> bool
     ensures { result ≡ has_print print entries.now }
 {
-    let mut found = false;
-    let mut k = 0;
-    while k < entries.len() {
-        found = found | (entries[k] / 65536 == print);
-        k += 1;
-    }
-    found
+    entries
+        .iter()
+        .fold(false, |found, entry| found | (*entry / 65536 == print))
 }
 
 // Whether a flag says that no entry has the fingerprint f. Where there is no flag for it, nothing is said.
 fn unseen(flags: &[u8], f: usize) -> bool
     ensures { result ≡ ltb f (length flags.now) && eqb (get_or flags.now f 0) 0 }
 {
-    if f < flags.len() {
-        flags[f] == 0
-    } else {
-        false
-    }
+    flags.get(f).is_some_and(|flag| *flag == 0)
 }
 
 // Sets the flag of the fingerprint f, where there is one.
 fn set_flag(flags: &mut [u8], f: usize)
     ensures { flags.new ≡ set flags.old f 1 }
 {
+    // Tried with `get_mut`: the proof does not close, since of what is written by a slice's `get_mut` only the length is known.
     if f < flags.len() {
         flags[f] = 1;
     }
@@ -137,18 +122,17 @@ fn set_flag(flags: &mut [u8], f: usize)
 
 // A flag that is not set says that there is no entry with its fingerprint.
 fn name_came(
-    rows: &[u32],
-    names: &[u8],
+    part: &SheetPart<'_>,
     place: usize,
     print: u32,
     scratch: &[u32],
     n: usize,
     flags: &[u8],
 ) -> bool
-    requires known { Known rows.now names.now scratch.now n flags.now }
-    requires head_at { HeadAt rows.now place }
-    requires print_value { print ≡ fingerprint (name_at rows.now names.now place) }
-    ensures { result ≡ among (name_at rows.now names.now place) (names_in rows.now names.now n scratch.now) }
+    requires known { Known part.now.rows.now part.now.names.now scratch.now n flags.now }
+    requires head_at { HeadAt part.now.rows.now place }
+    requires print_value { print ≡ fingerprint (name_at part.now.rows.now part.now.names.now place) }
+    ensures { result ≡ among (name_at part.now.rows.now part.now.names.now place) (names_in part.now.rows.now part.now.names.now n scratch.now) }
 {
     if unseen(flags, wide(print)) {
         return false;
@@ -156,25 +140,24 @@ fn name_came(
     if !has_print(&scratch[..n], print) {
         return false;
     }
-    has_name(rows, names, place, print, scratch, n)
+    has_name(part, place, print, scratch, n)
 }
 
 // Whether the name is new; only then is there one entry more.
 fn enter(
-    rows: &[u32],
-    names: &[u8],
+    part: &SheetPart<'_>,
     place: usize,
     scratch: &mut [u32],
     n: usize,
     flags: &mut [u8],
 ) -> bool
-    requires known { Known rows.now names.now scratch.old n flags.old }
-    requires head_at { HeadAt rows.now place }
-    requires rows_len_bound { (length rows.now ≤ rows_limit) × (n < length scratch.old) }
-    ensures { Entered rows.now names.now scratch.old n place scratch.new flags.new result }
+    requires known { Known part.now.rows.now part.now.names.now scratch.old n flags.old }
+    requires head_at { HeadAt part.now.rows.now place }
+    requires rows_len_bound { (length part.now.rows.now ≤ rows_limit) × (n < length scratch.old) }
+    ensures { Entered part.now.rows.now part.now.names.now scratch.old n place scratch.new flags.new result }
 {
-    let print = print_of(name_at(rows, names, place));
-    if name_came(rows, names, place, print, scratch, n, flags) {
+    let print = print_of(name_at(part.rows, part.names, place));
+    if name_came(part, place, print, scratch, n, flags) {
         return false;
     }
     scratch[n] = place as u32 + 65536 * print;
@@ -183,62 +166,54 @@ fn enter(
 }
 
 fn enter_kind(
-    rows: &[u32],
-    names: &[u8],
-    end: usize,
-    complex: bool,
+    part: &SheetPart<'_>,
+    kind: Kind,
     scratch: &mut [u32],
     n: usize,
     flags: &mut [u8],
-) -> Indexed
-    requires known { Known rows.now names.now scratch.old n flags.old }
-    requires end_in_bounds { (10 * end ≤ length rows.now) × (length rows.now ≤ rows_limit) × (n + length (kind_places rows.now names.now end complex 2) ≤ length scratch.old) }
-    ensures { KindEntered rows.now names.now end complex scratch.old n scratch.new flags.new result }
+) -> Result<usize, Repeated>
+    requires known { Known part.now.rows.now part.now.names.now scratch.old n flags.old }
+    requires end_in_bounds { (length part.now.rows.now ≤ rows_limit) × (n + length (kind_places part.now.rows.now part.now.names.now part.now.end kind 2) ≤ length scratch.old) }
+    ensures { KindEntered part.now.rows.now part.now.names.now part.now.end kind scratch.old n scratch.new flags.new result }
 {
     let mut count = n;
-    let mut place = 2;
-    while place < end {
-        if is_kind(complex, row_tag(rows, place)) {
-            if !enter(rows, names, place, scratch, count, flags) {
-                return Indexed::Repeated(place);
+    for place in 2..part.end {
+        if is_kind(kind, part.tag(place)) {
+            if !enter(part, place, scratch, count, flags) {
+                return Err(Repeated { place });
             }
             count += 1;
         }
-        place += 1;
     }
-    Indexed::All(count)
+    Ok(count)
 }
 
 // "Only finished types are lowered, simple ones before complex." The answer is the same whatever the flags hold and however many there are; those that
 // are 0 save work.
 fn index_over(
-    rows: &[u32],
-    names: &[u8],
-    end: usize,
+    part: &SheetPart<'_>,
     scratch: &mut [u32],
     flags: &mut [u8],
-) -> Indexed
-    requires { (10 * end ≤ length rows.now) × (length rows.now ≤ rows_limit) × (length (finished_places rows.now names.now end) ≤ length scratch.old) }
-    ensures { IndexIs rows.now names.now end scratch.new result }
+) -> Result<usize, Repeated>
+    requires { (length part.now.rows.now ≤ rows_limit) × (length (finished_places part.now.rows.now part.now.names.now part.now.end) ≤ length scratch.old) }
+    ensures { IndexIs part.now.rows.now part.now.names.now part.now.end scratch.new result }
 {
-    let simple = enter_kind(rows, names, end, false, scratch, 0, flags);
-    match simple {
-        Indexed::All(n) => enter_kind(rows, names, end, true, scratch, n, flags),
-        Indexed::Repeated(place) => Indexed::Repeated(place),
-    }
+    let simple = enter_kind(part, Kind::Simple, scratch, 0, flags)?;
+    enter_kind(part, Kind::Complex, scratch, simple, flags)
 }
 
 // Below place 64 stand at most 62 types: to look for a fingerprint among so few takes less time than to clear 65,536 flags.
 const FEW: usize = 64;
 
-pub fn index_types(rows: &[u32], names: &[u8], end: usize, scratch: &mut [u32]) -> Indexed
-    requires { (2 ≤ end) × (10 * end ≤ length rows.now) × (length rows.now ≤ rows_limit) × (length (finished_places rows.now names.now end) ≤ length scratch.old) }
-    ensures { IndexIs rows.now names.now end scratch.new result }
+// How many types there are, or the row of the first whose name came before.
+pub fn index_types(part: &SheetPart<'_>, scratch: &mut [u32]) -> Result<usize, Repeated>
+    requires { (2 ≤ part.now.end) × (length part.now.rows.now ≤ rows_limit) × (length (finished_places part.now.rows.now part.now.names.now part.now.end) ≤ length scratch.old) }
+    ensures { IndexIs part.now.rows.now part.now.names.now part.now.end scratch.new result }
 {
-    if end <= FEW {
+    if part.end <= FEW {
         let mut few = [0u8; 1];
-        return index_over(rows, names, end, scratch, &mut few);
+        return index_over(part, scratch, &mut few);
     }
     let mut flags = [0u8; 65536];
-    index_over(rows, names, end, scratch, &mut flags)
+    index_over(part, scratch, &mut flags)
 }

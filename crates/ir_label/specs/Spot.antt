@@ -1,8 +1,16 @@
 -- Where a label stands.
---     spot_of        the definition's label as the code has it: the length in place of the bytes
-use Rattle.std.specs.Prelude.{length}
-use Rattle.ir_types.specs.Label.{Labelled}
+--     IsSpot        the definition's label as the code has it, with the length in place of the bytes: the refusal for the label of number 16
+use Rattle.std.specs.Prelude.{◌≡◌, Result, Ok, Err, length}
+use Rattle.sheet.specs.declared.refusal.Refusal.{Refusal}
+use Rattle.ir_types.specs.Label.{Labelled, no_label}
 use Rattle.ir_label.specs.declared.Spot.{Spot}
 
-unfoldable pub spot_of : Labelled → Spot
-spot_of l = record { number = l.number; in_words = l.in_words; at = l.at; len = length l.text }
+pub record Stands (l : Labelled) (s : Spot) : Type 0 where
+  pub number : l.number ≡ 0
+  pub in_words : l.in_words ≡ s.in_words
+  pub at : l.at ≡ s.at
+  pub len : length l.text ≡ s.len
+
+abbrev pub IsSpot : Labelled → Result Spot Refusal → Type 0
+IsSpot l (Ok s) = Stands l s
+IsSpot l (Err refusal) = (l ≡ no_label) × (refusal ≡ Refusal.BadLabel)

@@ -6,86 +6,70 @@ pub mod words;
 
 ghost use Rattle.std.specs.Prelude.{◌≡◌, ◌≤◌};
 ghost use Rattle.rows.specs.Ten.{as_ten};
-ghost use Rattle.ir_types.specs.Label.{no_label, has_reference, named_label, word_label, row_label, label as labelled, LabelIs, LabelNumberIs};
-ghost use Rattle.ir_label.specs.Spot.{spot_of};
+ghost use Rattle.ir_types.specs.Label.{has_reference, named_label, word_label, row_label, label as labelled, LabelIs, LabelNumberIs};
+ghost use Rattle.ir_label.specs.Spot.{IsSpot};
 
 use ir_types::tags;
 use rows::ten::{Ten, ten_at};
-use sheet::{limits, returned};
+use sheet::limits;
+use sheet::refusal::{Refusal, returned_number};
 
-// Where a label stands, with the call's number: in the word list or in the names, len bytes from at on.
+// Where a label stands: in the word list or in the names, len bytes from at on.
 #[derive(Clone, Copy)]
 pub struct Spot {
-    pub number: u32,
     pub in_words: bool,
     pub at: usize,
     pub len: usize,
 }
 
-// 16: the empty part at the start of the names.
-fn nowhere() -> Spot
-    ensures { result ≡ spot_of no_label }
+fn name_spot(names: &[u8], at: u32, len: u32) -> Result<Spot, Refusal>
+    ensures { IsSpot (named_label names.now at len) result }
 {
-    Spot {
-        number: returned::BAD_LABEL,
+    let at = at as usize;
+    let len = len as usize;
+    if names.len() < at + len {
+        return Err(Refusal::BadLabel);
+    }
+    Ok(Spot {
         in_words: false,
-        at: 0,
-        len: 0,
-    }
-}
-
-fn name_spot(names: &[u8], at: u32, len: u32) -> Spot
-    ensures { result ≡ spot_of (named_label names.now at len) }
-{
-    let from = at as usize;
-    let size = len as usize;
-    if from + size <= names.len() {
-        Spot {
-            number: returned::ACCEPTED,
-            in_words: false,
-            at: from,
-            len: size,
-        }
-    } else {
-        nowhere()
-    }
+        at,
+        len,
+    })
 }
 
 // Word a, from 1, of the word list.
-fn word_spot(words: &[u8], a: u32) -> Spot
+fn word_spot(words: &[u8], a: u32) -> Result<Spot, Refusal>
     requires { (1 ≤ a) × (a ≤ 5) }
-    ensures { result ≡ spot_of (word_label words.now a) }
+    ensures { IsSpot (word_label words.now a) result }
 {
     if !words::five_words(words) {
-        return nowhere();
+        return Err(Refusal::BadLabel);
     }
     let n = a as usize;
     let at = words::word_start(words, n - 1);
     let end = words::line_end(words, at);
-    Spot {
-        number: returned::ACCEPTED,
+    Ok(Spot {
         in_words: true,
         at,
         len: end - at,
-    }
+    })
 }
 
 fn has_reference(t: Ten) -> bool
     ensures { result ≡ has_reference (as_ten t) }
 {
-    let tagged = (t.tag == tags::NEWTYPE)
-        | (t.tag == tags::VALUE_WITH_ATTRIBUTES)
-        | (t.tag == tags::FIELD)
-        | (t.tag == tags::VARIANT)
-        | (t.tag == tags::ATTRIBUTE);
+    let tagged = matches!(
+        t.tag,
+        tags::NEWTYPE | tags::VALUE_WITH_ATTRIBUTES | tags::FIELD | tags::VARIANT | tags::ATTRIBUTE
+    );
     tagged & (t.a <= 5) & ((t.tag != tags::NEWTYPE) | (1 <= t.a))
 }
 
-fn row_spot(names: &[u8], words: &[u8], t: Ten) -> Spot
-    ensures { result ≡ spot_of (row_label names.now words.now (as_ten t)) }
+fn row_spot(names: &[u8], words: &[u8], t: Ten) -> Result<Spot, Refusal>
+    ensures { IsSpot (row_label names.now words.now (as_ten t)) result }
 {
     if !has_reference(t) {
-        return nowhere();
+        return Err(Refusal::BadLabel);
     }
     if t.a != 0 {
         return word_spot(words, t.a);
@@ -97,35 +81,38 @@ fn row_spot(names: &[u8], words: &[u8], t: Ten) -> Spot
     }
 }
 
-pub fn find_label(rows: &[u32], names: &[u8], words: &[u8], k: usize) -> Spot
-    ensures { result ≡ spot_of (labelled rows.now names.now words.now k) }
+// Where the label of a row stands. Where there is none the part is the empty one at the start of the names.
+pub fn find_label(rows: &[u32], names: &[u8], words: &[u8], k: usize) -> Result<Spot, Refusal>
+    ensures { IsSpot (labelled rows.now names.now words.now k) result }
 {
     let n = rows.len();
     if n % limits::ROW != 0 {
-        return nowhere();
+        return Err(Refusal::BadLabel);
     }
     if n / limits::ROW <= k {
-        return nowhere();
+        return Err(Refusal::BadLabel);
     }
     row_spot(names, words, ten_at(rows, limits::ROW * k))
 }
 
+// The label of a row, as a part of the names or of the word list.
 pub fn label<'a>(rows: &[u32], names: &'a [u8], words: &'a [u8], k: usize) -> &'a [u8]
     ensures { LabelIs rows.now names.now words.now k names.entry.ref_ptr words.entry.ref_ptr result.ref_ptr result.now }
 {
-    let s = find_label(rows, names, words, k);
-    let at = s.at;
-    let end = at + s.len;
+    let Ok(s) = find_label(rows, names, words, k) else {
+        return &names[..0];
+    };
+    let end = s.at + s.len;
     if s.in_words {
-        &words[at..end]
+        &words[s.at..end]
     } else {
-        &names[at..end]
+        &names[s.at..end]
     }
 }
 
+// The number that the label call returns.
 pub fn label_number(rows: &[u32], names: &[u8], words: &[u8], k: usize) -> u32
     ensures { LabelNumberIs rows.now names.now words.now k result }
 {
-    let s = find_label(rows, names, words, k);
-    s.number
+    returned_number(find_label(rows, names, words, k))
 }

@@ -3,18 +3,23 @@ ghost use Rattle.std.specs.Prelude.{◌≡◌, ◌+◌, ◌≤◌, ◌<◌, leng
 ghost use Rattle.ir_types.specs.Label.{words_of, good_words, word_at};
 ghost use Rattle.ir_label.specs.Lines.{line_length};
 
+// How many words the list has.
+const WORDS: usize = 5;
+
+fn line_length(line: &[u8]) -> usize
+    ensures { result ≡ line_length line.now }
+{
+    match line.iter().position(|b| *b == b'\n') {
+        Some(i) => i,
+        None => line.len(),
+    }
+}
+
 pub fn line_end(words: &[u8], at: usize) -> usize
     requires { at ≤ length words.now }
     ensures { result ≡ at + line_length (drop at words.now) }
 {
-    let mut i = at;
-    while i < words.len() {
-        if words[i] == b'\n' {
-            return i;
-        }
-        i += 1;
-    }
-    i
+    at + line_length(&words[at..])
 }
 
 // Each byte is looked at once.
@@ -22,14 +27,12 @@ pub fn five_words(words: &[u8]) -> bool
     ensures { result ≡ good_words words.now }
 {
     let mut at = 0;
-    let mut left: usize = 5;
-    while 0 < left {
+    for _ in 0..WORDS {
         let end = line_end(words, at);
         if words.len() <= end {
             return false;
         }
         at = end + 1;
-        left -= 1;
     }
     words.len() <= at
 }
@@ -39,10 +42,8 @@ pub fn word_start(words: &[u8], n: usize) -> usize
     ensures { result ≡ word_at n (words_of words.now) }
 {
     let mut at = 0;
-    let mut left = n;
-    while 0 < left {
+    for _ in 0..n {
         at = line_end(words, at) + 1;
-        left -= 1;
     }
     at
 }

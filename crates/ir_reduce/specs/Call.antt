@@ -6,7 +6,7 @@
 --     lengths_fit    the lengths of source and target are such that no call gives 1 for them
 --     graph_fits     the rows have room in a sheet of the target's lengths; emptied: a sheet of zeros of such lengths
 --     Reduction x target answer after    the call: source, target before, number and place, target after
-use Rattle.std.specs.Prelude.{ℕ, ◌+◌, ◌≡◌, Bool, true, false, ◌&&◌, List, map, eqb, length, replicate}
+use Rattle.std.specs.Prelude.{◌+◌, ◌≡◌, Bool, true, false, ◌&&◌, List, map, eqb, length, replicate}
 use Rattle.sheet.specs.Rows.{Row, Sheet, unpack_row, names_of, sheet_of_rows}
 use Rattle.sheet.specs.Form.{tens_of}
 use Rattle.sheet.specs.Lengths.{sheet_lengths, fits, Answer}

@@ -4,11 +4,11 @@
 --     parted        rows so parted; rows_of_types, rows_of: the way back
 --     type_name      a type's name; root_type: the name, normalised, of a root's type
 --     reference_in   the name in a row's named reference; references: those of a type
-use Rattle.std.specs.Prelude.{ℕ, List, [], ◌∷◌, ◌++◌, Bool, ◌&&◌, ◌||◌, eqb, if◌then◌else◌}
+use Rattle.std.specs.Prelude.{List, [], ◌∷◌, ◌++◌, ◌&&◌, ◌||◌, eqb, if◌then◌else◌}
 use Rattle.text.specs.Text.{Text, between}
 use Rattle.names.specs.Names.{normalize_type_name}
 use Rattle.sheet.specs.Rows.{Row}
-use Rattle.ir_types.specs.Tags.{root_tag, value_with_attributes_tag, field_tag, variant_tag, attribute_tag}
+use Rattle.ir_types.specs.Tags.{value_with_attributes_tag, field_tag, variant_tag, attribute_tag}
 use Rattle.ir_types.specs.Form.{is_type_tag}
 use Rattle.ir_types.specs.Back.{text}
 

@@ -2,12 +2,13 @@
 --     buckets       how many buckets the index has
 --     heads_from     the places of the heads among m rows from place p on; head_places: those of a sheet of so many rows
 --     head_names     their names
---     Indexed       what the index holds when every head is entered, or that two have one name
+--     AllIndexed, IndexedIs    what the index holds when every head is entered, or that two have one name
 --     EnteredHead   what entering a row does that is a head, or is none
---     asked_pair     where in a row the pair of the name stands that it leads to: 0 where it leads nowhere
---     TargetsPut    the targets of the rows before a place are stored
---     target_of      the place of the head that the row at place p leads to: 0 for nowhere
-use Rattle.std.specs.Prelude.{ℕ, zero, suc, ◌+◌, ◌-◌, ◌*◌, ◌≤◌, ◌<◌, ◌≡◌, Bool, true, false, ◌&&◌, ◌||◌, List, [], ◌∷◌, ◌++◌, map, eqb, length, get_or, if◌then◌else◌}
+--     asked_pair     where in a row the pair of the name stands that it leads to: None where it leads nowhere
+--     TargetsPut    the targets of the rows before a place are stored, 0 for nowhere
+--     target_of      the place of the head that the row at place p leads to: None for nowhere
+use Rattle.std.specs.Prelude.{ℕ, zero, suc, ◌+◌, ◌-◌, ◌*◌, ◌≤◌, ◌<◌, ◌≡◌, Bool, true, false, ◌&&◌, ◌||◌, List, [], ◌∷◌, ◌++◌, map, eqb, get_or, if◌then◌else◌, Option, Some, None}
+use Rattle.std.specs.Option.{option_and_then, unwrap_or}
 use Rattle.text.specs.Text.{Text, between}
 use Rattle.names.specs.Same.{spelled}
 use Rattle.sheet.specs.Rows.{text_at}
@@ -15,7 +16,6 @@ use Rattle.ir_types.specs.Tags.{root_tag, value_with_attributes_tag, field_tag, 
 use Rattle.ir_types.specs.Distinct.{among, distinct_texts}
 use Rattle.name_index.specs.Index.{name_of, place_of, places_in, Index}
 use Rattle.ir_reduce.specs.Marks.{head_at}
-use Rattle.ir_reduce.specs.declared.index.Indexed.{Indexed}
 
 abbrev pub buckets : ℕ
 buckets = 4096
@@ -39,9 +39,9 @@ pub record AllIndexed (rows names : List ℕ) (end : ℕ) (table : List ℕ) (n 
   pub distinct : distinct_texts (head_names rows names (head_places rows end)) ≡ true
 
 -- "two types of one name"
-abbrev pub IndexedIs : List ℕ → List ℕ → ℕ → List ℕ → Indexed → Type 0
-IndexedIs rows names end table (Indexed.All n) = AllIndexed rows names end table n
-IndexedIs rows names end table Indexed.Repeated = distinct_texts (head_names rows names (head_places rows end)) ≡ false
+abbrev pub IndexedIs : List ℕ → List ℕ → ℕ → List ℕ → Option ℕ → Type 0
+IndexedIs rows names end table (Some n) = AllIndexed rows names end table n
+IndexedIs rows names end table None = distinct_texts (head_names rows names (head_places rows end)) ≡ false
 
 pub record NewHead (rows names before : List ℕ) (n p : ℕ) (after : List ℕ) (n' : ℕ) : Type 0 where
   pub index : Index rows names false after buckets n'
@@ -53,25 +53,26 @@ pub record OldHead (rows names before : List ℕ) (n p : ℕ) : Type 0 where
   pub head : head_at rows p ≡ true
   pub old : among (name_of rows names false p) (head_names rows names (places_in buckets n before)) ≡ true
 
-abbrev pub EnteredHead : List ℕ → List ℕ → List ℕ → ℕ → ℕ → List ℕ → Indexed → Type 0
-EnteredHead rows names before n p after (Indexed.All n') = NewHead rows names before n p after n'
-EnteredHead rows names before n p after Indexed.Repeated = OldHead rows names before n p
+abbrev pub EnteredHead : List ℕ → List ℕ → List ℕ → ℕ → ℕ → List ℕ → Option ℕ → Type 0
+EnteredHead rows names before n p after (Some n') = NewHead rows names before n p after n'
+EnteredHead rows names before n p after None = OldHead rows names before n p
 
 -- the second pair of a root and of a value with attributes, the third of a field, a variant and an attribute; "A reference is a: 0 named (the pair ..)"
-unfoldable pub asked_pair : ℕ → ℕ → ℕ
+unfoldable pub asked_pair : ℕ → ℕ → Option ℕ
 asked_pair tag a =
-    if eqb tag root_tag then 3 else
-    if eqb tag value_with_attributes_tag && eqb a 0 then 3 else
-    if (between field_tag variant_tag tag || eqb tag attribute_tag) && eqb a 0 then 5 else 0
+    if eqb tag root_tag then Some 3 else
+    if eqb tag value_with_attributes_tag && eqb a 0 then Some 3 else
+    if (between field_tag variant_tag tag || eqb tag attribute_tag) && eqb a 0 then Some 5 else None
 
-unfoldable pub target_of : List ℕ → List ℕ → List ℕ → ℕ → ℕ
+unfoldable pub target_of : List ℕ → List ℕ → List ℕ → ℕ → Option ℕ
 target_of rows names places p =
     let tag = get_or rows (10 * p) 0 in
-    let k = asked_pair tag (get_or rows (10 * p + 7) 0) in
-    if eqb k 0 then 0 else place_of (name_of rows names false) (spelled (eqb tag root_tag) (text_at names (get_or rows (10 * p + k) 0) (get_or rows (10 * p + k + 1) 0))) places
+    option_and_then
+    (λ (k : ℕ). place_of (name_of rows names false) (spelled (eqb tag root_tag) (text_at names (get_or rows (10 * p + k) 0) (get_or rows (10 * p + k + 1) 0))) places)
+    (asked_pair tag (get_or rows (10 * p + 7) 0))
 
 -- the targets of the rows behind row 0 and before row k; 0 for all others
 pub record TargetsPut (rows names : List ℕ) (end k : ℕ) (to : List ℕ) : Type 0 where
   pub first : get_or to 0 0 ≡ 0
-  pub put : (p : ℕ) → 0 < p → p < k → get_or to p 0 ≡ target_of rows names (head_places rows end) p
+  pub put : (p : ℕ) → 0 < p → p < k → get_or to p 0 ≡ unwrap_or (target_of rows names (head_places rows end) p) 0
   pub rest : (p : ℕ) → k ≤ p → get_or to p 0 ≡ 0

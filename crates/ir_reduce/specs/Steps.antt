@@ -5,7 +5,7 @@
 --     row0_numbers   row 0 of a graph, as the numbers that a sheet holds
 --     Written, WrittenIs    rows written into such a target, or that they have no room
 --     Placed        the answer and the target where these rows are to be left
-use Rattle.std.specs.Prelude.{ℕ, ◌+◌, ◌-◌, ◌*◌, ◌≤◌, ◌<◌, ◌≡◌, true, false, List, [], ◌∷◌, length, get_or, replicate}
+use Rattle.std.specs.Prelude.{Option, MatchOption, ℕ, ◌+◌, ◌≤◌, ◌<◌, ◌≡◌, true, false, List, [], ◌∷◌, length, get_or, replicate}
 use Rattle.sheet.specs.Rows.{Row, Sheet, numbers}
 use Rattle.sheet.specs.Limits.{least_rows, rows_limit, names_limit}
 use Rattle.sheet.specs.Lengths.{Answer}
@@ -14,9 +14,7 @@ use Rattle.sheet.specs.Returned.{accepted, no_room_in_graph}
 use Rattle.rows.specs.declared.numbers.Used.{Used}
 use Rattle.ir_types.specs.Form.{graph_form}
 use Rattle.ir_types.specs.Row0.{graph_row0_of, graph_row0_ten}
-use Rattle.ir_append.specs.declared.Grown.{Grown}
 use Rattle.ir_reduce.specs.Call.{graph_of, graph_fits, emptied}
-use Rattle.ir_reduce.specs.Copy.{Stands}
 use Rattle.ir_reduce.specs.Marks.{head_flags, Marking, Done}
 use Rattle.ir_reduce.specs.Index.{TargetsPut}
 
@@ -49,9 +47,9 @@ pub record Written (rs : List Row) (rows names rows' names' : List ℕ) (used : 
   pub place : used.rows ≡ 1 + length rs
   pub graph : sheet rows' names' ≡ graph_of rs (sheet rows names)
 
-abbrev pub WrittenIs : List Row → List ℕ → List ℕ → List ℕ → List ℕ → Grown → Type 0
-WrittenIs rs rows names rows' names' (Grown.To used) = Written rs rows names rows' names' used
-WrittenIs rs rows names rows' names' Grown.Full = graph_fits rs (sheet rows names) ≡ false
+abbrev pub WrittenIs : List Row → List ℕ → List ℕ → List ℕ → List ℕ → Option Used → Type 0
+WrittenIs rs rows names rows' names' answer =
+    MatchOption answer (graph_fits rs (sheet rows names) ≡ false) (λ used. Written rs rows names rows' names' used)
 
 pub data Placed (rs : List Row) (target : Sheet) : Answer → Sheet → Type 0 where
   tight : graph_fits rs target ≡ false → Placed rs target (answered no_room_in_graph 0) (emptied target)

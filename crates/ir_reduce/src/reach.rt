@@ -3,7 +3,7 @@ ghost use Rattle.std.specs.Prelude.{◌≡◌, ◌&&◌, ◌+◌, ◌*◌, ◌�
 ghost use Rattle.ir_reduce.specs.Marks.{head_at, head_flags, Reached, Marked, Targeted, Room, Marking, GroupDone, AllDone};
 
 use graph_form::row::is_type;
-use rows::numbers::row_tag;
+use rows::part::SheetPart;
 
 // Marks a place and puts it into the queue, where it is not marked.
 pub fn mark(marks: &mut [u8], queue: &mut [u32], n: usize, place: usize) -> usize
@@ -18,7 +18,7 @@ pub fn mark(marks: &mut [u8], queue: &mut [u32], n: usize, place: usize) -> usiz
     n + 1
 }
 
-// Marks what a row leads to; 0 is nowhere.
+// Marks what a row leads to. 0 is nowhere, as the array of targets holds it (`put_targets` says why).
 fn mark_target(marks: &mut [u8], queue: &mut [u32], n: usize, q: usize) -> usize
     requires { (q < length marks.old) × (length marks.old ≤ 4096) × (get_or marks.old q 0 ≡ 0 → n < length queue.old) }
     ensures { Targeted (eqb q 0) marks.old queue.old n q marks.new queue.new result }
@@ -30,58 +30,51 @@ fn mark_target(marks: &mut [u8], queue: &mut [u32], n: usize, q: usize) -> usize
 }
 
 // Whether a row ends the group of the head at p.
-fn is_behind(rows: &[u32], p: usize, row: usize) -> bool
-    requires { 10 * row + 10 ≤ length rows.now }
-    ensures { result ≡ (ltb p row && head_at rows.now row) }
+fn is_behind(part: &SheetPart, p: usize, row: usize) -> bool
+    requires { row < part.now.end }
+    ensures { result ≡ (ltb p row && head_at part.now.rows.now row) }
 {
-    if p < row {
-        return is_type(row_tag(rows, row));
-    }
-    false
+    p < row && is_type(part.tag(row))
 }
 
 // Marks what the rows of a head's group lead to.
 fn mark_group(
-    rows: &[u32],
-    end: usize,
+    part: &SheetPart,
     to: &[u32],
     p: usize,
     marks: &mut [u8],
     queue: &mut [u32],
     n: usize,
 ) -> usize
-    requires { Room (head_flags rows.now end) to.now marks.old queue.old n × (10 * end ≤ length rows.now) × (end ≤ 4096) }
-    ensures { Room (head_flags rows.now end) to.now marks.new queue.new result × (length marks.new ≡ length marks.old) × (length queue.new ≡ length queue.old) × (Marking (head_flags rows.now end) to.now marks.old queue.old n → Reached (head_flags rows.now end) to.now p → GroupDone (head_flags rows.now end) to.now p marks.old queue.old n marks.new queue.new result) }
+    requires { Room (head_flags part.now.rows.now part.now.end) to.now marks.old queue.old n × (part.now.end ≤ 4096) }
+    ensures { Room (head_flags part.now.rows.now part.now.end) to.now marks.new queue.new result × (length marks.new ≡ length marks.old) × (length queue.new ≡ length queue.old) × (Marking (head_flags part.now.rows.now part.now.end) to.now marks.old queue.old n → Reached (head_flags part.now.rows.now part.now.end) to.now p → GroupDone (head_flags part.now.rows.now part.now.end) to.now p marks.old queue.old n marks.new queue.new result) }
 {
     let mut count = n;
-    let mut row = p;
-    while row < end {
-        if is_behind(rows, p, row) {
+    for row in p..part.end {
+        if is_behind(part, p, row) {
             return count;
         }
         count = mark_target(marks, queue, count, to[row] as usize);
-        row += 1;
     }
     count
 }
 
-// Marks all that is reached from what is marked.
+// Marks all that is reached from what is marked. A `while`: the queue grows as it is walked.
 pub fn mark_all(
-    rows: &[u32],
-    end: usize,
+    part: &SheetPart,
     to: &[u32],
     marks: &mut [u8],
     queue: &mut [u32],
     n: usize,
 ) -> usize
-    requires { Room (head_flags rows.now end) to.now marks.old queue.old n × (10 * end ≤ length rows.now) × (end ≤ 4096) }
-    ensures { Marking (head_flags rows.now end) to.now marks.old queue.old n → AllDone (head_flags rows.now end) to.now marks.old queue.old n marks.new queue.new result result }
+    requires { Room (head_flags part.now.rows.now part.now.end) to.now marks.old queue.old n × (part.now.end ≤ 4096) }
+    ensures { Marking (head_flags part.now.rows.now part.now.end) to.now marks.old queue.old n → AllDone (head_flags part.now.rows.now part.now.end) to.now marks.old queue.old n marks.new queue.new result result }
 {
     let mut count = n;
     let mut k = 0;
     while k < count {
         let p = queue[k] as usize;
-        count = mark_group(rows, end, to, p, marks, queue, count);
+        count = mark_group(part, to, p, marks, queue, count);
         k += 1;
     }
     count

@@ -1,31 +1,24 @@
 // The rows that are kept, copied with their texts behind each other. The texts of a row stand side by side in the names, so they are copied as one.
-ghost use Rattle.std.specs.Prelude.{◌≡◌, true, List, [], ◌∷◌, map, ℕ, ◌+◌, ◌-◌, ◌*◌, ◌≤◌, ◌<◌, length, if◌then◌else◌};
+ghost use Rattle.std.specs.Prelude.{◌≡◌, true, List, [], ◌∷◌, map, ℕ, ◌+◌, ◌-◌, ◌*◌, ◌≤◌, ◌<◌, length};
 ghost use Rattle.text.specs.Text.{between};
 ghost use Rattle.sheet.specs.Rows.{Row};
 ghost use Rattle.sheet.specs.Limits.{names_limit};
 ghost use Rattle.rows.specs.Ten.{as_ten};
 ghost use Rattle.ir_types.specs.Form.{count};
 ghost use Rattle.ir_append.specs.Grows.{Room, Grows};
-ghost use Rattle.ir_reduce.specs.Places.{row_at, keeps, one_if, kept_rows};
+ghost use Rattle.ir_reduce.specs.Places.{row_at, keeps, kept_rows};
 ghost use Rattle.ir_reduce.specs.Copy.{Stands, bytes_of, moved_numbers};
 
 use buffer::copy_text;
 use graph_form::row::{is_type, used_pairs};
-use ir_append::Grown;
+use ir_append::offset;
 use rows::form::in_range;
-use rows::numbers::{Used, row_tag, wide};
+use rows::numbers::{Used, wide};
+use rows::part::SheetPart;
 use rows::parts::part_of;
 use rows::row::put_row;
-use rows::ten::{Ten, ten_at};
+use rows::ten::Ten;
 use sheet::limits;
-
-// "an unused pair is 0 0"
-fn offset(used: bool, at: usize) -> u32
-    requires { at ≤ names_limit }
-    ensures { result ≡ (if used then at else 0) }
-{
-    if used { at as u32 } else { 0 }
-}
 
 // How many bytes a row's texts have.
 fn bytes_of(t: Ten) -> usize
@@ -60,27 +53,26 @@ fn append_same(
     graph_rows: &mut [u32],
     graph_names: &mut [u8],
     used: Used,
-    rows: &[u32],
-    names: &[u8],
+    part: &SheetPart,
     place: usize,
-) -> Grown
-    requires { Room graph_rows.old graph_names.old used × Stands rows.now names.now place × (10 * place + 10 ≤ length rows.now) }
-    ensures { Grows graph_rows.old graph_names.old used (row_at rows.now names.now place ∷ []) graph_rows.new graph_names.new result }
+) -> Option<Used>
+    requires { Room graph_rows.old graph_names.old used × Stands part.now.rows.now part.now.names.now place × (place < part.now.end) }
+    ensures { Grows graph_rows.old graph_names.old used (row_at part.now.rows.now part.now.names.now place ∷ []) graph_rows.new graph_names.new result }
 {
-    let t = ten_at(rows, limits::ROW * place);
+    let t = part.ten(place);
     let n = used.rows;
     let at = used.names;
     let size = bytes_of(t);
     if graph_rows.len() < limits::ROW * n + limits::ROW {
-        return Grown::Full;
+        return None;
     }
     if graph_names.len() - at < size {
-        return Grown::Full;
+        return None;
     }
-    copy_text(graph_names, at, part_of(names, wide(t.at0), size));
+    copy_text(graph_names, at, part_of(part.names, wide(t.at0), size));
     let row = moved_row(t, used_pairs(t.tag, t.a), at);
     put_row(graph_rows, n, row);
-    Grown::To(Used {
+    Some(Used {
         rows: n + 1,
         names: at + size,
     })
@@ -93,75 +85,43 @@ fn keeps_row(before: bool, tag: u32, mark: u8) -> bool
     if is_type(tag) { mark != 0 } else { before }
 }
 
-fn put_if(
-    kept: bool,
-    graph_rows: &mut [u32],
-    graph_names: &mut [u8],
-    used: Used,
-    rows: &[u32],
-    names: &[u8],
-    place: usize,
-) -> Grown
-    requires { Room graph_rows.old graph_names.old used × Stands rows.now names.now place × (10 * place + 10 ≤ length rows.now) }
-    ensures { Grows graph_rows.old graph_names.old used (one_if kept (row_at rows.now names.now place)) graph_rows.new graph_names.new result }
-{
-    if !kept {
-        return Grown::To(used);
-    }
-    append_same(graph_rows, graph_names, used, rows, names, place)
-}
-
-// The rows that are kept, from row 1 on.
+// The rows that are kept, from row 1 on, added: what is used then, or `None` where there is no room.
 pub fn put_kept(
     graph_rows: &mut [u32],
     graph_names: &mut [u8],
     from: Used,
-    rows: &[u32],
-    names: &[u8],
-    end: usize,
+    part: &SheetPart,
     marks: &[u8],
-) -> Grown
+) -> Option<Used>
     requires room { Room graph_rows.old graph_names.old from }
-    requires rows { (10 * end ≤ length rows.now) × (end ≤ length marks.now) × (1 ≤ end) × ((p : ℕ) → 0 < p → p < end → Stands rows.now names.now p) }
-    ensures { Grows graph_rows.old graph_names.old from (kept_rows (row_at rows.now names.now) marks.now true 1 (end - 1)) graph_rows.new graph_names.new result }
+    requires rows { (part.now.end ≤ length marks.now) × (1 ≤ part.now.end) × ((p : ℕ) → 0 < p → p < part.now.end → Stands part.now.rows.now part.now.names.now p) }
+    ensures { Grows graph_rows.old graph_names.old from (kept_rows (row_at part.now.rows.now part.now.names.now) marks.now true 1 (part.now.end - 1)) graph_rows.new graph_names.new result }
 {
     let mut used = from;
     let mut kept = true;
-    let mut place = 1;
-    while place < end {
-        kept = keeps_row(kept, row_tag(rows, place), marks[place]);
-        let grown = put_if(kept, graph_rows, graph_names, used, rows, names, place);
-        let Grown::To(next) = grown else {
-            return Grown::Full;
-        };
-        used = next;
-        place += 1;
+    for place in 1..part.end {
+        kept = keeps_row(kept, part.tag(place), marks[place]);
+        if kept {
+            used = append_same(graph_rows, graph_names, used, part, place)?;
+        }
     }
-    Grown::To(used)
-}
-
-// One more where the test holds.
-fn one_more(n: usize, test: bool) -> usize
-    requires { n < 4096 }
-    ensures { result ≡ (if test then n + 1 else n) }
-{
-    if test { n + 1 } else { n }
+    Some(used)
 }
 
 // How many of the rows that are kept have a tag from low to high.
-pub fn count_kept(rows: &[u32], end: usize, marks: &[u8], low: u32, high: u32) -> usize
-    requires { (10 * end ≤ length rows.now) × (end ≤ length marks.now) × (1 ≤ end) × (end ≤ 4096) }
-    ensures fact { (names : List ℕ) → result ≡ count (between low high) (map (λ (r : Row). r.tag) (kept_rows (row_at rows.now names) marks.now true 1 (end - 1))) }
-    ensures upper_bound { result ≤ end }
+pub fn count_kept(part: &SheetPart, marks: &[u8], low: u32, high: u32) -> usize
+    requires { (part.now.end ≤ length marks.now) × (1 ≤ part.now.end) × (part.now.end ≤ 4096) }
+    ensures fact { (names : List ℕ) → result ≡ count (between low high) (map (λ (r : Row). r.tag) (kept_rows (row_at part.now.rows.now names) marks.now true 1 (part.now.end - 1))) }
+    ensures upper_bound { result ≤ part.now.end }
 {
     let mut n = 0;
     let mut kept = true;
-    let mut place = 1;
-    while place < end {
-        let tag = row_tag(rows, place);
+    for place in 1..part.end {
+        let tag = part.tag(place);
         kept = keeps_row(kept, tag, marks[place]);
-        n = one_more(n, kept & in_range(low, high, tag));
-        place += 1;
+        if kept & in_range(low, high, tag) {
+            n += 1;
+        }
     }
     n
 }

@@ -1,41 +1,63 @@
 // What lowering makes of one row of a schema sheet: decided, and written to a graph sheet.
 #![tactic(auto)]
 
-ghost use Rattle.std.specs.Prelude.{ℕ, ◌+◌, ◌*◌, ◌/◌, ◌%◌, ◌^◌, ◌≤◌, ◌<◌, ◌≡◌, Bool, true, length};
+ghost use Rattle.std.specs.Prelude.{ℕ, ◌/◌, ◌%◌, ◌^◌, ◌≤◌, ◌<◌, ◌≡◌, Bool, true};
 ghost use Rattle.builtin.specs.Builtin.{map_builtin, reference as reference_number};
 ghost use Rattle.xsd_types.specs.Types.{MaxOccurs};
 ghost use Rattle.xsd_types.specs.Tags.{simple_type_tag, fraction_digits_tag, any_tag, bound_element_tag};
 ghost use Rattle.ir_lower.specs.Lower.{lower_cardinality};
 ghost use Rattle.xsd_types.specs.Places.{row_at};
+ghost use Rattle.ir_types.specs.Tags.{field_tag};
+ghost use Rattle.ir_types.specs.Rows.{cardinality_b, cardinality_c};
+ghost use Rattle.ir_append.specs.declared.Spelling.{Spelling};
 ghost use Rattle.ir_rows.specs.Lowered.{lowered_row};
 ghost use Rattle.ir_append.specs.Grows.{Room, Grows};
-ghost use Rattle.ir_row.specs.Recipes.{has_recipe, refers, reference_spelling, namespace_spelling, texts_recipe, child_recipe, IsCardinality, Lowers, IsCount, ten_rows};
+ghost use Rattle.ir_row.specs.Recipes.{has_recipe, refers, reference_spelling, namespace_spelling, texts_recipe, child_recipe, as_cardinality, Lowers, IsCount, ten_rows};
 
-use ir_append::{Grown, Recipe, Spelling, append_spelled, grow_characters, grow_digits};
+use ir_append::{Recipe, Spelling, append_spelled, grow_characters, grow_digits};
 use ir_types::tags as graph;
 use number::{CharacterCount, DigitCount};
 use rows::form::in_range;
 use rows::numbers::{Used, wide};
+use rows::part::SheetPart;
 use rows::parts::part_of;
-use rows::ten::{Ten, ten_at};
-use sheet::limits;
+use rows::ten::Ten;
 use xsd_refused::reference_of;
 use xsd_types::tags as schema;
 
-// "b cardinality 0 required, 1 optional, 2 vec, 3 bounded with c the bound, above 1"
-const REQUIRED: u32 = 0;
-
-const OPTIONAL: u32 = 1;
-
-const VEC: u32 = 2;
-
-const BOUNDED: u32 = 3;
-
-// b and c of a field's row: its cardinality, and the bound where it is bounded.
+// How often a field stands: a bound is above 1.
 #[derive(Clone, Copy)]
-pub struct FieldNumbers {
-    pub b: u32,
-    pub c: u32,
+enum Cardinality {
+    Required,
+    Optional,
+    Vec,
+    Bounded(u32),
+}
+
+impl Cardinality {
+    // "b cardinality 0 required, 1 optional, 2 vec, 3 bounded with c the bound, above 1"
+    #[tactic(auto, unfolding(ir_types::specs::Rows::cardinality_b))]
+    fn number(self) -> u32
+        ensures { result ≡ cardinality_b (as_cardinality self) }
+    {
+        match self {
+            Cardinality::Required => 0,
+            Cardinality::Optional => 1,
+            Cardinality::Vec => 2,
+            Cardinality::Bounded(_) => 3,
+        }
+    }
+
+    // 0 where there is no bound.
+    #[tactic(auto, unfolding(ir_types::specs::Rows::cardinality_c))]
+    fn bound(self) -> u32
+        ensures { result ≡ cardinality_c (as_cardinality self) }
+    {
+        match self {
+            Cardinality::Required | Cardinality::Optional | Cardinality::Vec => 0,
+            Cardinality::Bounded(bound) => bound,
+        }
+    }
 }
 
 fn has_recipe(codes: bool, tag: u32) -> bool
@@ -56,27 +78,23 @@ fn refers_to(tag: u32) -> bool
         | in_range(schema::BOUND_ELEMENT, schema::ATTRIBUTE, tag)
 }
 
-fn reference_text(reference: u32) -> Spelling
+fn reference_text(reference: u32) -> Option<Spelling>
     ensures { result ≡ reference_spelling reference }
 {
     if reference == 0 {
-        Spelling::SecondNormalized
+        Some(Spelling::SecondNormalized)
     } else {
-        Spelling::Nothing
+        None
     }
 }
 
-fn namespace_text(a: u32) -> Spelling
+fn namespace_text(a: u32) -> Option<Spelling>
     ensures { result ≡ namespace_spelling a }
 {
-    if a == 1 {
-        Spelling::Second
-    } else {
-        Spelling::Nothing
-    }
+    if a == 1 { Some(Spelling::Second) } else { None }
 }
 
-fn with_texts(tag: u32, a: u32, c: u32, first: Spelling, second: Spelling) -> Recipe
+fn with_texts(tag: u32, a: u32, c: u32, first: Spelling, second: Option<Spelling>) -> Recipe
     ensures { result ≡ texts_recipe tag a c first second }
 {
     Recipe {
@@ -84,9 +102,9 @@ fn with_texts(tag: u32, a: u32, c: u32, first: Spelling, second: Spelling) -> Re
         a,
         b: 0,
         c,
-        first,
+        first: Some(first),
         second,
-        third: Spelling::Nothing,
+        third: None,
     }
 }
 
@@ -99,24 +117,36 @@ fn child(tag: u32, reference: u32, b: u32, c: u32, second: Spelling) -> Recipe
         a: reference,
         b,
         c,
-        first: Spelling::First,
-        second,
+        first: Some(Spelling::First),
+        second: Some(second),
         third,
     }
 }
 
 // "max above 1 bounded; min 0 and max 1 optional; all else required"
-fn bounded_numbers(min: u32, max: u32) -> FieldNumbers
-    ensures { IsCardinality (lower_cardinality min (MaxOccurs.bounded max)) result }
+fn bounded(min: u32, max: u32) -> Cardinality
+    ensures { as_cardinality result ≡ lower_cardinality min (MaxOccurs.bounded max) }
 {
     if 1 < max {
-        return FieldNumbers { b: BOUNDED, c: max };
+        return Cardinality::Bounded(max);
     }
     if (min == 0) & (max == 1) {
-        FieldNumbers { b: OPTIONAL, c: 0 }
+        Cardinality::Optional
     } else {
-        FieldNumbers { b: REQUIRED, c: 0 }
+        Cardinality::Required
     }
+}
+
+fn field(reference: u32, cardinality: Cardinality) -> Recipe
+    ensures { result ≡ child_recipe field_tag reference (cardinality_b (as_cardinality cardinality)) (cardinality_c (as_cardinality cardinality)) Spelling.FirstSnake }
+{
+    child(
+        graph::FIELD,
+        reference,
+        cardinality.number(),
+        cardinality.bound(),
+        Spelling::FirstSnake,
+    )
 }
 
 // The head of a simple type: a code enum, or a newtype with its inner type's number. A head keeps the number of its event.
@@ -124,20 +154,14 @@ fn simple_recipe(codes: bool, event: u32, reference: u32) -> Recipe
     ensures { (a b : ℕ) → Lowers codes simple_type_tag a b event reference result }
 {
     if codes {
-        with_texts(
-            graph::CODE_ENUM,
-            0,
-            event,
-            Spelling::FirstNormalized,
-            Spelling::Nothing,
-        )
+        with_texts(graph::CODE_ENUM, 0, event, Spelling::FirstNormalized, None)
     } else {
         with_texts(
             graph::NEWTYPE,
             reference,
             event,
             Spelling::FirstNormalized,
-            Spelling::Nothing,
+            None,
         )
     }
 }
@@ -148,9 +172,15 @@ fn first_recipe(codes: bool, tag: u32, event: u32, reference: u32) -> Recipe
     ensures { (a b : ℕ) → Lowers codes tag a b event reference result }
 {
     match tag {
-        schema::ELEMENT => with_texts(graph::ROOT, 0, event, Spelling::First, Spelling::Second),
+        schema::ELEMENT => with_texts(
+            graph::ROOT,
+            0,
+            event,
+            Spelling::First,
+            Some(Spelling::Second),
+        ),
         schema::SIMPLE_TYPE => simple_recipe(codes, event, reference),
-        _ => with_texts(graph::NAMESPACE, 0, 0, Spelling::First, Spelling::Nothing),
+        _ => with_texts(graph::NAMESPACE, 0, 0, Spelling::First, None),
     }
 }
 
@@ -160,26 +190,16 @@ fn facet_recipe(tag: u32) -> Recipe
     ensures { (codes : Bool) (a b c n : ℕ) → Lowers codes tag a b c n result }
 {
     match tag {
-        schema::PATTERN => with_texts(graph::PATTERN, 0, 0, Spelling::First, Spelling::Nothing),
-        schema::MIN_INCLUSIVE => {
-            with_texts(
-                graph::MIN_INCLUSIVE,
-                0,
-                0,
-                Spelling::First,
-                Spelling::Nothing,
-            )
-        }
-        schema::MAX_INCLUSIVE => {
-            with_texts(
-                graph::MAX_INCLUSIVE,
-                0,
-                0,
-                Spelling::First,
-                Spelling::Nothing,
-            )
-        }
-        _ => with_texts(graph::CODE, 0, 0, Spelling::First, Spelling::FirstPascal),
+        schema::PATTERN => with_texts(graph::PATTERN, 0, 0, Spelling::First, None),
+        schema::MIN_INCLUSIVE => { with_texts(graph::MIN_INCLUSIVE, 0, 0, Spelling::First, None) }
+        schema::MAX_INCLUSIVE => { with_texts(graph::MAX_INCLUSIVE, 0, 0, Spelling::First, None) }
+        _ => with_texts(
+            graph::CODE,
+            0,
+            0,
+            Spelling::First,
+            Some(Spelling::FirstPascal),
+        ),
     }
 }
 
@@ -189,20 +209,8 @@ fn complex_recipe(tag: u32, a: u32, event: u32, reference: u32) -> Recipe
     ensures { (codes : Bool) (b : ℕ) → Lowers codes tag a b event reference result }
 {
     match tag {
-        schema::SEQUENCE => with_texts(
-            graph::STRUCT,
-            0,
-            event,
-            Spelling::FirstNormalized,
-            Spelling::Nothing,
-        ),
-        schema::CHOICE => with_texts(
-            graph::ENUM,
-            0,
-            event,
-            Spelling::FirstNormalized,
-            Spelling::Nothing,
-        ),
+        schema::SEQUENCE => with_texts(graph::STRUCT, 0, event, Spelling::FirstNormalized, None),
+        schema::CHOICE => with_texts(graph::ENUM, 0, event, Spelling::FirstNormalized, None),
         schema::SIMPLE_CONTENT => with_texts(
             graph::VALUE_WITH_ATTRIBUTES,
             reference,
@@ -224,8 +232,7 @@ fn complex_recipe(tag: u32, a: u32, event: u32, reference: u32) -> Recipe
 fn bounded_field(min: u32, max: u32, reference: u32) -> Recipe
     ensures { (codes : Bool) (c : ℕ) → Lowers codes bound_element_tag min max c reference result }
 {
-    let k = bounded_numbers(min, max);
-    child(graph::FIELD, reference, k.b, k.c, Spelling::FirstSnake)
+    field(reference, bounded(min, max))
 }
 
 // The row of a field, a variant or an attribute.
@@ -235,7 +242,7 @@ fn child_recipe(tag: u32, a: u32, b: u32, reference: u32) -> Recipe
 {
     match tag {
         schema::BOUND_ELEMENT => bounded_field(a, b, reference),
-        schema::UNBOUNDED_ELEMENT => child(graph::FIELD, reference, VEC, 0, Spelling::FirstSnake),
+        schema::UNBOUNDED_ELEMENT => field(reference, Cardinality::Vec),
         schema::CHOICE_VARIANT => child(graph::VARIANT, reference, 0, 0, Spelling::First),
         _ => child(graph::ATTRIBUTE, reference, a, 0, Spelling::FirstSnake),
     }
@@ -283,13 +290,13 @@ fn put_spelled(
     names: &[u8],
     t: Ten,
     codes: bool,
-) -> Grown
+) -> Option<Used>
     requires room { Room out.old texts.old used }
     requires tag { IsCount t.tag → ⊥ }
     ensures { Grows out.old texts.old used (ten_rows codes names.now t) out.new texts.new result }
 {
     if !has_recipe(codes, t.tag) {
-        return Grown::To(used);
+        return Some(used);
     }
     let first = part_of(names, wide(t.at0), wide(t.len0));
     let second = part_of(names, wide(t.at1), wide(t.len1));
@@ -297,22 +304,20 @@ fn put_spelled(
     append_spelled(out, texts, used, recipe, first, second)
 }
 
-// `out` and `texts` are the graph's rows and names, `rows` and `names` the schema's.
+// `out` and `texts` are the graph's rows and names.
 pub fn put_lowered(
     out: &mut [u32],
     texts: &mut [u8],
     used: Used,
-    rows: &[u32],
-    names: &[u8],
+    part: &SheetPart<'_>,
     place: usize,
     codes: bool,
-) -> Grown
-    requires { Room out.old texts.old used × (10 * place + 10 ≤ length rows.now) }
-    ensures { Grows out.old texts.old used (lowered_row codes (row_at rows.now names.now place)) out.new texts.new result }
+) -> Option<Used>
+    requires { Room out.old texts.old used × (place < part.now.end) }
+    ensures { Grows out.old texts.old used (lowered_row codes (row_at part.now.rows.now part.now.names.now place)) out.new texts.new result }
 {
-    let t = ten_at(rows, limits::ROW * place);
-    let tag = t.tag;
-    match tag {
+    let t = part.ten(place);
+    match t.tag {
         schema::MIN_LENGTH => {
             grow_characters(out, texts, used, graph::MIN_LENGTH, count_of(t.a, t.b))
         }
@@ -325,6 +330,6 @@ pub fn put_lowered(
         schema::FRACTION_DIGITS => {
             grow_digits(out, texts, used, graph::FRACTION_DIGITS, DigitCount(t.a))
         }
-        _ => put_spelled(out, texts, used, names, t, codes),
+        _ => put_spelled(out, texts, used, part.names, t, codes),
     }
 }

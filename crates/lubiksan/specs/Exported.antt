@@ -3,9 +3,8 @@
 --     number_of, value_of    a number leaf's number, 0 or 10, and the value lent afterwards; Exported: both
 --     count_of       a writer's answer as a number: the bytes, or the largest u64, which is no length of a slice
 --     LabelStored   a label's number and part: the buffer, 0 the names and 1 the word list, the start there and the length
-use Rattle.std.specs.Prelude.{ℕ, ◌^◌, ◌-◌, ◌≡◌, length}
+use Rattle.std.specs.Prelude.{ℕ, Option, Some, None, ◌^◌, ◌-◌, ◌≡◌, length}
 use Rattle.number.specs.Number.{Parsed, parsed, refused}
-use Rattle.names.specs.declared.Written.{Written}
 use Rattle.sheet.specs.Rows.{bit}
 use Rattle.ir_types.specs.Label.{Labelled}
 
@@ -25,9 +24,9 @@ pub record Exported (p : Parsed) (before answer after : ℕ) : Type 0 where
   pub number : answer ≡ number_of p
   pub value : after ≡ value_of p before
 
-abbrev pub count_of : Written → ℕ
-count_of (Written.Bytes n) = n
-count_of Written.NoRoom = 2 ^ 64 - 1
+abbrev pub count_of : Option ℕ → ℕ
+count_of (Some n) = n
+count_of None = 2 ^ 64 - 1
 
 pub record LabelStored (l : Labelled) (answer buffer start size : ℕ) : Type 0 where
   pub number : answer ≡ l.number

@@ -2,6 +2,8 @@
 ghost use Rattle.sheet.specs.Calls.{sheet, answered};
 ghost use Rattle.graph_form.specs.Call.{FormIs};
 
+use sheet::refusal::returned_number;
+
 // Gives the number of a graph's form, 0, 1 or 21; the place, 0, is stored.
 #[unsafe(no_mangle)]
 pub extern "C" fn lubiksan_graph_form(
@@ -12,5 +14,5 @@ pub extern "C" fn lubiksan_graph_form(
     ensures { FormIs (sheet graph_rows.now graph_names.now) (answered result place.new) }
 {
     *place = 0;
-    graph_form::form_number(graph_rows, graph_names)
+    returned_number(graph_form::judge(graph_rows, graph_names))
 }

@@ -18,11 +18,20 @@ pub extern "C" fn lubiksan_label(
 ) -> u32
     ensures { LabelStored (label graph_rows.now graph_names.now words.now row) result in_words.new start.new length.new }
 {
-    let s = ir_label::find_label(graph_rows, graph_names, words, row);
-    *in_words = leaves::bit_of(s.in_words);
-    *start = s.at;
-    *length = s.len;
-    s.number
+    match ir_label::find_label(graph_rows, graph_names, words, row) {
+        Ok(s) => {
+            *in_words = leaves::bit_of(s.in_words);
+            *start = s.at;
+            *length = s.len;
+            0
+        }
+        Err(refusal) => {
+            *in_words = 0;
+            *start = 0;
+            *length = 0;
+            u32::from(refusal)
+        }
+    }
 }
 
 // Gives the number alone.

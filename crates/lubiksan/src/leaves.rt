@@ -1,5 +1,5 @@
 // The text leaves exported.
-ghost use Rattle.std.specs.Prelude.{◌≡◌, ◌-◌, length};
+ghost use Rattle.std.specs.Prelude.{◌≡◌, ◌-◌, length, MatchOption};
 ghost use Rattle.text.specs.Text.{same, local_name};
 ghost use Rattle.sheet.specs.Rows.{bit};
 ghost use Rattle.number.specs.Number.{number};
@@ -8,18 +8,14 @@ ghost use Rattle.names.specs.Names.{normalize_type_name, xml_to_snake_case, code
 ghost use Rattle.names.specs.Answers.{written, placed};
 ghost use Rattle.lubiksan.specs.Exported.{Exported, count_of};
 
-use names::{Written, same, snake};
-use number::{U32, U64};
-use sheet::returned;
+use names::{same, snake};
+use sheet::refusal::{ACCEPTED, Refusal};
 
 // The bytes written, or the largest number where the part is shorter than the conversion.
-fn count_of(w: Written) -> usize
-    ensures { result ≡ count_of w }
+fn count_of(written: Option<usize>) -> usize
+    ensures { result ≡ count_of written }
 {
-    match w {
-        Written::Bytes(n) => n,
-        Written::NoRoom => 18446744073709551615,
-    }
+    written.unwrap_or(usize::MAX)
 }
 
 // 1 for true, 0 for false.
@@ -38,31 +34,30 @@ pub extern "C" fn lubiksan_local_name(name: &[u8]) -> usize
     name.len() - local.len()
 }
 
+// 0 with the answer stored, or 10 with the value as it was.
+fn stored<T: Copy>(answer: Option<T>, value: &mut T) -> u32
+    ensures { MatchOption answer ((result ≡ 10) × (value.new ≡ value.old)) (λ v. (result ≡ 0) × (value.new ≡ v)) }
+{
+    let Some(v) = answer else {
+        return u32::from(Refusal::InvalidAttributeValue);
+    };
+    *value = v;
+    ACCEPTED
+}
+
 // 0 with the value stored, or 10 with the value as it was.
 #[unsafe(no_mangle)]
 pub extern "C" fn lubiksan_parse_u32(s: &[u8], value: &mut u32) -> u32
     ensures { Exported (number 32 s.now) value.old result value.new }
 {
-    match number::parse_u32(s) {
-        U32::Value(v) => {
-            *value = v;
-            0
-        }
-        U32::Invalid => returned::INVALID_ATTRIBUTE_VALUE,
-    }
+    stored(number::parse_u32(s), value)
 }
 
 #[unsafe(no_mangle)]
 pub extern "C" fn lubiksan_parse_u64(s: &[u8], value: &mut u64) -> u32
     ensures { Exported (number 64 s.now) value.old result value.new }
 {
-    match number::parse_u64(s) {
-        U64::Value(v) => {
-            *value = v;
-            0
-        }
-        U64::Invalid => returned::INVALID_ATTRIBUTE_VALUE,
-    }
+    stored(number::parse_u64(s), value)
 }
 
 // 0 for a name that is not built in, 1 String, 2 Bool, 3 Decimal, 4 Date, 5 DateTime.

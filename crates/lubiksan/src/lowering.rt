@@ -2,6 +2,8 @@
 ghost use Rattle.sheet.specs.Calls.{sheet, answered};
 ghost use Rattle.ir_lower.specs.Call.{LowerIs};
 
+use rows::answers::told;
+
 // Lowers a schema sheet to a graph sheet and gives the number; the place, the graph's rows used or the row of a refused type, is stored.
 #[unsafe(no_mangle)]
 pub extern "C" fn lubiksan_lower(
@@ -15,6 +17,5 @@ pub extern "C" fn lubiksan_lower(
     ensures { LowerIs (sheet rows.now names.now) (sheet graph_rows.old graph_names.old) scratch.old (record { answer = answered result place.new; graph = sheet graph_rows.new graph_names.new; scratch = scratch.new }) }
 {
     let answer = ir_call::lower(rows, names, graph_rows, graph_names, scratch);
-    *place = answer.place;
-    answer.number
+    told(answer, place)
 }

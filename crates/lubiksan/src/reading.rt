@@ -4,6 +4,7 @@ ghost use Rattle.xsd_types.specs.Clear.{ClearIs};
 ghost use Rattle.xsd_types.specs.Convert.{ConvertIs};
 ghost use Rattle.xsd_parser.specs.Read.{ReadIs};
 
+use rows::answers::told;
 use xsd_good::{clear, convert};
 
 // Clears a sheet for a choice, 0 as before or 1 by the standard, and gives the number; the place is stored.
@@ -17,8 +18,7 @@ pub extern "C" fn lubiksan_clear(
     ensures { ClearIs choice (sheet rows.old names.old) (answered result place.new) (sheet rows.new names.new) }
 {
     let cleared = clear::clear(rows, names, choice);
-    *place = cleared.place;
-    cleared.number
+    told(cleared, place)
 }
 
 // Reads a piece of a tape into a sheet and gives the number; the place, the events read, is stored.
@@ -33,8 +33,7 @@ pub extern "C" fn lubiksan_read(
     ensures { ReadIs (sheet rows.old names.old) text.now marks.now (answered result place.new) (sheet rows.new names.new) }
 {
     let answer = xsd_read::read(rows, names, text, marks);
-    *place = answer.place;
-    answer.number
+    told(answer, place)
 }
 
 // Fills in the count of a sheet stored before order 7 and gives the number; the place, 0, is stored.
@@ -43,6 +42,5 @@ pub extern "C" fn lubiksan_convert(rows: &mut [u32], names: &[u8], place: &mut u
     ensures { ConvertIs (sheet rows.old names.now) (answered result place.new) (sheet rows.new names.now) }
 {
     let converted = convert::convert(rows, names);
-    *place = converted.place;
-    converted.number
+    told(converted, place)
 }

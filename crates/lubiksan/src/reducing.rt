@@ -2,6 +2,8 @@
 ghost use Rattle.sheet.specs.Calls.{sheet, answered};
 ghost use Rattle.ir_reduce.specs.Call.{Reduction};
 
+use rows::answers::told;
+
 // Writes the graph that the roots reach and gives the number; the place, the target's rows used, is stored.
 #[unsafe(no_mangle)]
 pub extern "C" fn lubiksan_reduce(
@@ -13,7 +15,8 @@ pub extern "C" fn lubiksan_reduce(
 ) -> u32
     ensures { Reduction (sheet graph_rows.now graph_names.now) (sheet rows.old names.old) (answered result place.new) (sheet rows.new names.new) }
 {
-    let answer = ir_reduce::call::reduce(graph_rows, graph_names, rows, names);
-    *place = answer.place;
-    answer.number
+    told(
+        ir_reduce::call::reduce(graph_rows, graph_names, rows, names),
+        place,
+    )
 }

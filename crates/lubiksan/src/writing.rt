@@ -2,6 +2,8 @@
 ghost use Rattle.sheet.specs.Calls.{sheet};
 ghost use Rattle.xsd_written.specs.Call.{WriteIs};
 
+use rows::answers::told;
+
 // Writes a schema sheet's finished part as schema text and gives the number; the place, the text's length or the row of a value that XML cannot hold, is
 // stored.
 #[unsafe(no_mangle)]
@@ -13,7 +15,5 @@ pub extern "C" fn lubiksan_write(
 ) -> u32
     ensures { WriteIs (sheet rows.now names.now) text.old result place.new text.new }
 {
-    let answer = xsd_write::call::write_back(rows, names, text);
-    *place = answer.place;
-    answer.number
+    told(xsd_write::call::write_back(rows, names, text), place)
 }

@@ -1,19 +1,23 @@
 -- What an index of names answers, and what its table holds.
 --     head_name      the name in the first pair of the row at place p
 --     name_of        that name, spelled
---     place_of       the last of the places whose name is the text t; 0 where there is none
+--     place_of       the last of the places whose name is the text t; None where there is none
 --     places_in      the places entered: of the entry behind the k buckets, n of them, the low 16 bits
 --     last_in        1 + the last of the first n entries that is in the bucket b; 0 where there is none
 --     Index         the table holds n entries behind k buckets: a bucket has its last entry, an entry the one before it in its bucket
+--     asked_name     the name that is asked for, spelled; IndexOf, place_asked: an index of these heads, and the place in it of the name asked for
 --     Starts        what a table must be before an index starts
 --     Entering      what must be known to enter the head at place p
 --     Added         it is one entry more
 --     Entered       that, or the place of the last entry that has its name
-use Rattle.std.specs.Prelude.{ℕ, zero, suc, ◌+◌, ◌*◌, ◌/◌, ◌%◌, ◌≤◌, ◌<◌, ◌≡◌, List, [], ◌∷◌, ◌++◌, map, Bool, eqb, length, get_or, take, drop, if◌then◌else◌}
+use Rattle.std.specs.Prelude.{ℕ, zero, suc, ◌+◌, ◌*◌, ◌/◌, ◌%◌, ◌≤◌, ◌<◌, ◌≡◌, List, [], ◌∷◌, ◌++◌, map, Bool, eqb, length, get_or, take, drop, if◌then◌else◌, Option, Some, None}
 use Rattle.text.specs.Text.{Text, same}
 use Rattle.names.specs.Same.{spelled}
 use Rattle.sheet.specs.Limits.{rows_limit}
 use Rattle.sheet.specs.Rows.{text_at}
+use Rattle.name_index.specs.declared.Heads.{Heads}
+use Rattle.name_index.specs.declared.Table.{Table}
+use Rattle.name_index.specs.declared.Asked.{Asked}
 use Rattle.name_index.specs.Hash.{bucket_of}
 
 unfoldable pub head_name : List ℕ → List ℕ → ℕ → Text
@@ -22,12 +26,12 @@ head_name rows names p = text_at names (get_or rows (10 * p + 1) 0) (get_or rows
 unfoldable pub name_of : List ℕ → List ℕ → Bool → ℕ → Text
 name_of rows names normalised p = spelled normalised (head_name rows names p)
 
-unfoldable pub place_from : ℕ → (ℕ → Text) → Text → List ℕ → ℕ
+unfoldable pub place_from : Option ℕ → (ℕ → Text) → Text → List ℕ → Option ℕ
 place_from found name t [] = found
-place_from found name t (p ∷ ps) = place_from (if same (name p) t then p else found) name t ps
+place_from found name t (p ∷ ps) = place_from (if same (name p) t then Some p else found) name t ps
 
-unfoldable pub place_of : (ℕ → Text) → Text → List ℕ → ℕ
-place_of name t ps = place_from 0 name t ps
+unfoldable pub place_of : (ℕ → Text) → Text → List ℕ → Option ℕ
+place_of name t ps = place_from None name t ps
 
 unfoldable pub places_in : ℕ → ℕ → List ℕ → List ℕ
 places_in k n table = map (λ (e : ℕ). e % 65536) (take n (drop k table))
@@ -52,6 +56,16 @@ pub record Index (rows names : List ℕ) (normalised : Bool) (table : List ℕ) 
   pub heads : (b : ℕ) → b < k → get_or table b 0 ≡ last_in k b (name_in rows names normalised table k) n
   pub nexts : (j : ℕ) → j < n → get_or table (k + j) 0 / 65536 ≡ last_in k (bucket_of k (name_in rows names normalised table k j)) (name_in rows names normalised table k) j
 
+-- what is said of heads, of a table and of a name asked for, as the functions take them
+abbrev pub asked_name : Asked → Text
+asked_name asked = spelled asked.normalised asked.name.now
+
+abbrev pub IndexOf : Heads → Table → Type 0
+IndexOf heads table = Index heads.rows.now heads.names.now heads.normalised table.numbers.now table.buckets table.entries
+
+abbrev pub place_asked : Heads → Table → Asked → Option ℕ
+place_asked heads table asked = place_of (name_of heads.rows.now heads.names.now heads.normalised) (asked_name asked) (places_in table.buckets table.entries table.numbers.now)
+
 pub record Starts (table : List ℕ) (k : ℕ) : Type 0 where
   pub some : 0 < k
   pub inside : k ≤ length table
@@ -67,6 +81,6 @@ pub record Added (rows names : List ℕ) (normalised : Bool) (before : List ℕ)
   pub places : places_in k (n + 1) after ≡ places_in k n before ++ (p ∷ [])
   pub index : Index rows names normalised after k (n + 1)
 
-pub record Entered (rows names : List ℕ) (normalised : Bool) (before : List ℕ) (k n p : ℕ) (after : List ℕ) (r : ℕ) : Type 0 where
+pub record Entered (rows names : List ℕ) (normalised : Bool) (before : List ℕ) (k n p : ℕ) (after : List ℕ) (r : Option ℕ) : Type 0 where
   pub place : r ≡ place_of (name_of rows names normalised) (name_of rows names normalised p) (places_in k n before)
-  pub added : r ≡ 0 → Added rows names normalised before k n p after
+  pub added : r ≡ None → Added rows names normalised before k n p after

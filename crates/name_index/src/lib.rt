@@ -6,13 +6,36 @@ ghost use Rattle.std.specs.Prelude.{◌≡◌, Bool, List, ℕ, ◌+◌, ◌*◌
 ghost use Rattle.names.specs.Same.{spelled};
 ghost use Rattle.sheet.specs.Limits.{rows_limit};
 ghost use Rattle.name_index.specs.Hash.{mixed, hash, bucket_of};
-ghost use Rattle.name_index.specs.Index.{head_name, name_of, place_of, places_in, Index, Starts, Entering, Entered};
+ghost use Rattle.name_index.specs.Index.{head_name, asked_name, IndexOf, place_asked, Index, Starts, Entering, Entered};
 
-use buffer::zero_rows;
-use names::same::{Next, next_spelled, same_spelled, starts_up};
+use names::same::{next_spelled, same_spelled, starts_up};
 use rows::numbers::wide;
 use rows::parts::pair_text;
 use sheet::limits;
+
+// Heads: their rows, the bytes of their names, and whether their names are taken as they normalise, or as they stand.
+// Not a `SheetPart`: an index holds places among all rows lent, and its definition has no end that a part would set.
+#[derive(Clone, Copy)]
+pub struct Heads<'a> {
+    pub rows: &'a [u32],
+    pub names: &'a [u8],
+    pub normalised: bool,
+}
+
+// A table with so many entries behind its buckets.
+#[derive(Clone, Copy)]
+pub struct Table<'a> {
+    pub numbers: &'a [u32],
+    pub buckets: usize,
+    pub entries: usize,
+}
+
+// A name that is asked for, as it normalises or as it stands.
+#[derive(Clone, Copy)]
+pub struct Asked<'a> {
+    pub name: &'a [u8],
+    pub normalised: bool,
+}
 
 fn mix(h: u64, b: u8) -> u64
     requires { h < 4294967296 }
@@ -27,22 +50,19 @@ fn hash_of(name: &[u8], normalised: bool) -> u64
     let mut up = starts_up(name, normalised);
     let mut h = 0;
     let mut at = 0;
-    loop {
-        let next = next_spelled(name, normalised, at, up);
-        let Next::Byte(b, to) = next else {
-            return h;
-        };
+    while let Some((b, to)) = next_spelled(name, normalised, at, up) {
         h = mix(h, b);
         at = to;
         up = false;
     }
+    h
 }
 
-fn bucket_of(name: &[u8], normalised: bool, buckets: usize) -> usize
+fn bucket_of(asked: Asked, buckets: usize) -> usize
     requires { buckets ≤ rows_limit }
-    ensures { result ≡ bucket_of buckets (spelled normalised name.now) }
+    ensures { result ≡ bucket_of buckets (asked_name asked.entry) }
 {
-    (hash_of(name, normalised) * buckets as u64 / 4294967296) as usize
+    (hash_of(asked.name, asked.normalised) * buckets as u64 / 4294967296) as usize
 }
 
 // The name in the first pair of the row at a place.
@@ -58,90 +78,65 @@ pub fn start(table: &mut [u32], buckets: usize)
     requires { Starts table.old buckets }
     ensures { (rows names : List ℕ) (normalised : Bool) → Index rows names normalised table.new buckets 0 }
 {
-    zero_rows(table, 0, buckets);
+    table[..buckets].fill(0);
 }
 
-// Along the entries of a bucket, the last one first.
-fn find_in(
-    rows: &[u32],
-    names: &[u8],
-    normalised: bool,
-    table: &[u32],
-    buckets: usize,
-    entries: usize,
-    bucket: usize,
-    asked: &[u8],
-    asked_normalised: bool,
-) -> usize
-    requires index { Index rows.now names.now normalised table.now buckets entries }
-    requires bucket_value { bucket ≡ bucket_of buckets (spelled asked_normalised asked.now) }
-    ensures { result ≡ place_of (name_of rows.now names.now normalised) (spelled asked_normalised asked.now) (places_in buckets entries table.now) }
+// Along the entries of a bucket, the last one first. An entry is one number, a place and 65536 times the entry before it: there is no heap, and a table that
+// the caller lends has one number for each head.
+fn find_in(heads: Heads, table: Table, bucket: usize, asked: Asked) -> Option<usize>
+    requires index { IndexOf heads table }
+    requires bucket_value { bucket ≡ bucket_of table.buckets (asked_name asked) }
+    ensures { result ≡ place_asked heads.entry table.entry asked.entry }
 {
-    let mut e = wide(table[bucket]);
+    let mut e = wide(table.numbers[bucket]);
     while e != 0 {
-        let entry = table[buckets + (e - 1)];
+        let entry = table.numbers[table.buckets + (e - 1)];
         let place = wide(entry % 65536);
-        let held = name_at(rows, names, place);
-        if same_spelled(held, normalised, asked, asked_normalised) {
-            return place;
+        let held = name_at(heads.rows, heads.names, place);
+        if same_spelled(held, heads.normalised, asked.name, asked.normalised) {
+            return Some(place);
         }
         e = wide(entry / 65536);
     }
-    0
+    None
 }
 
-// The place of the last head entered whose name is the one asked for; 0 where there is none. The heads' names are taken as they normalise where
-// `normalised` says so, the name asked for where `asked_normalised` does; else as they stand. How many entries there are only the contract asks.
-pub fn find(
-    rows: &[u32],
-    names: &[u8],
-    normalised: bool,
-    table: &[u32],
-    buckets: usize,
-    entries: usize,
-    asked: &[u8],
-    asked_normalised: bool,
-) -> usize
-    requires { Index rows.now names.now normalised table.now buckets entries }
-    ensures { result ≡ place_of (name_of rows.now names.now normalised) (spelled asked_normalised asked.now) (places_in buckets entries table.now) }
+// The place of the last head entered whose name is the one asked for.
+pub fn find(heads: Heads, table: Table, asked: Asked) -> Option<usize>
+    requires { IndexOf heads table }
+    ensures { result ≡ place_asked heads.entry table.entry asked.entry }
 {
-    let bucket = bucket_of(asked, asked_normalised, buckets);
-    find_in(
-        rows,
-        names,
-        normalised,
-        table,
-        buckets,
-        entries,
-        bucket,
-        asked,
-        asked_normalised,
-    )
+    find_in(heads, table, bucket_of(asked, table.buckets), asked)
 }
 
-// The head at a place is one entry more and the answer 0, if no entry has its name; else the answer is the place of the last that has it.
+// The head at a place is one entry more and the answer None, if no entry has its name; else the answer is the place of the last that has it. Table, its count and
+// its buckets stand apart: only this function writes a table, and a struct for it alone would be no plainer.
 pub fn enter(
-    rows: &[u32],
-    names: &[u8],
-    normalised: bool,
+    heads: Heads,
     table: &mut [u32],
     buckets: usize,
     entries: usize,
     place: usize,
-) -> usize
-    requires index { Index rows.now names.now normalised table.old buckets entries }
-    requires entering { Entering rows.now table.old buckets entries place }
-    ensures { Entered rows.now names.now normalised table.old buckets entries place table.new result }
+) -> Option<usize>
+    requires index { Index heads.rows.now heads.names.now heads.normalised table.old buckets entries }
+    requires entering { Entering heads.rows.now table.old buckets entries place }
+    ensures { Entered heads.entry.rows.now heads.entry.names.now heads.entry.normalised table.old buckets entries place table.new result }
 {
-    let name = name_at(rows, names, place);
-    let bucket = bucket_of(name, normalised, buckets);
-    let found = find_in(
-        rows, names, normalised, table, buckets, entries, bucket, name, normalised,
-    );
-    if found != 0 {
-        return found;
+    let name = name_at(heads.rows, heads.names, place);
+    let asked = Asked {
+        name,
+        normalised: heads.normalised,
+    };
+    let bucket = bucket_of(asked, buckets);
+    let before = Table {
+        numbers: table,
+        buckets,
+        entries,
+    };
+    if let Some(held) = find_in(heads, before, bucket, asked) {
+        return Some(held);
     }
     table[buckets + entries] = place as u32 + 65536 * table[bucket];
     table[bucket] = entries as u32 + 1;
-    0
+    None
 }

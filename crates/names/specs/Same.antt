@@ -4,13 +4,11 @@
 --     spelled_from   what is left of a spelled name, where s is left of the name; `up` says whether the next byte is the first of its segment
 --     NextByte      from a place on the spelled name has the byte b, and goes on at another place
 --     NextIs        what reading the next byte of a spelled name from a place says
---     is_end         the answer is the name's end
-use Rattle.std.specs.Prelude.{ℕ, ◌<◌, ◌≤◌, ◌≡◌, [], ◌∷◌, Bool, true, false, ◌&&◌, length, drop, if◌then◌else◌}
+use Rattle.std.specs.Prelude.{ℕ, ◌<◌, ◌≤◌, ◌≡◌, Option, MatchOption, [], ◌∷◌, Bool, false, ◌&&◌, length, drop, if◌then◌else◌}
 use Prim.Native.Char.{code}
 use Rattle.text.specs.Text.{Text, contains}
 use Rattle.names.specs.Names.{normalize_type_name}
 use Rattle.names.specs.Scans.{segments}
-use Rattle.names.specs.declared.same.Next.{Next}
 
 unfoldable pub spelled : Bool → Text → Text
 spelled normalised name = if normalised then normalize_type_name name else name
@@ -26,10 +24,6 @@ pub record NextByte (normalised : Bool) (name : Text) (from : ℕ) (up : Bool) (
   pub onward : from < to
   pub inside : to ≤ length name
 
-abbrev pub NextIs : Bool → Text → ℕ → Bool → Next → Type 0
-NextIs normalised name from up (Next.Byte b to) = NextByte normalised name from up b to
-NextIs normalised name from up Next.End = spelled_from normalised up (drop from name) ≡ []
-
-abbrev pub is_end : Next → Bool
-is_end (Next.Byte b to) = false
-is_end Next.End = true
+abbrev pub NextIs : Bool → Text → ℕ → Bool → Option (ℕ × ℕ) → Type 0
+NextIs normalised name from up r =
+    MatchOption r (spelled_from normalised up (drop from name) ≡ []) (λ p. NextByte normalised name from up p.0 p.1)

@@ -1,24 +1,17 @@
 // The name conversions of 001 (lower.rs), each written into a lent part: two here, `xml_to_snake_case` in `snake`. `same`: two names
-// compared as they normalise.
+// compared as they normalise. Each answers how many bytes it wrote, or `None` where the part is shorter than the conversion.
 #![tactic(auto)]
 
 pub mod same;
 pub mod snake;
 
-ghost use Rattle.std.specs.Prelude.{◌≡◌, ◌++◌, ◌≤◌, length, take, drop};
+ghost use Rattle.std.specs.Prelude.{◌≡◌};
 ghost use Rattle.names.specs.Names.{normalize_type_name, code_to_pascal_case};
 ghost use Rattle.names.specs.Answers.{Put};
 ghost use Rattle.names.specs.Scans.{cased_byte, segments};
 
 use text::ascii::{to_lower, to_upper};
 use text::has_byte;
-
-// How many bytes a conversion wrote, or that the part is shorter than the conversion.
-#[derive(Clone, Copy)]
-pub enum Written {
-    Bytes(usize),
-    NoRoom,
-}
 
 // A byte of a segment: in the upper form where it is the first, else as it is or in the lower form.
 pub fn cased(b: u8, up: bool, lowers: bool) -> u8
@@ -32,55 +25,40 @@ pub fn cased(b: u8, up: bool, lowers: bool) -> u8
 
 // The segments of s between separators, put together, each with its first letter in the upper form;
 // the very first one only where `first` says so.
-fn put_segments(s: &[u8], separator: u8, first: bool, lowers: bool, out: &mut [u8]) -> Written
+fn put_segments(s: &[u8], separator: u8, first: bool, lowers: bool, out: &mut [u8]) -> Option<usize>
     ensures { Put (segments separator lowers first s.now) out.old result out.new }
 {
     let mut up = first;
     let mut n = 0;
-    let mut i = 0;
-    while i < s.len() {
-        let b = s[i];
-        if b == separator {
+    for b in s {
+        if *b == separator {
             up = true;
         } else {
             if out.len() <= n {
-                return Written::NoRoom;
+                return None;
             }
-            out[n] = cased(b, up, lowers);
+            out[n] = cased(*b, up, lowers);
             n += 1;
             up = false;
         }
-        i += 1;
     }
-    Written::Bytes(n)
+    Some(n)
 }
 
-fn copy_first(s: &[u8], out: &mut [u8], end: usize)
-    requires { (end ≤ length s.now) × (end ≤ length out.old) }
-    ensures { out.new ≡ take end s.now ++ drop end out.old }
-{
-    let mut i = 0;
-    while i < end {
-        out[i] = s[i];
-        i += 1;
-    }
-}
-
-fn put_same(s: &[u8], out: &mut [u8]) -> Written
+// The text as it stands.
+pub fn put_same(s: &[u8], out: &mut [u8]) -> Option<usize>
     ensures { Put s.now out.old result out.new }
 {
-    let n = s.len();
-    let room = out.len();
-    if room < n {
-        copy_first(s, out, room);
-        return Written::NoRoom;
+    if out.len() < s.len() {
+        out.copy_from_slice(&s[..out.len()]);
+        return None;
     }
-    copy_first(s, out, n);
-    Written::Bytes(n)
+    out[..s.len()].copy_from_slice(s);
+    Some(s.len())
 }
 
 // A type name as a Rust name: without underscores, each segment's first letter in the upper form.
-pub fn normalize_type_name(name: &[u8], out: &mut [u8]) -> Written
+pub fn normalize_type_name(name: &[u8], out: &mut [u8]) -> Option<usize>
     ensures { Put (normalize_type_name name.now) out.old result out.new }
 {
     if has_byte(name, b'_') {
@@ -91,7 +69,7 @@ pub fn normalize_type_name(name: &[u8], out: &mut [u8]) -> Written
 }
 
 // An enumeration's value as a variant's name.
-pub fn code_to_pascal_case(value: &[u8], out: &mut [u8]) -> Written
+pub fn code_to_pascal_case(value: &[u8], out: &mut [u8]) -> Option<usize>
     ensures { Put (code_to_pascal_case value.now) out.old result out.new }
 {
     put_segments(value, b'-', true, true, out)

@@ -3,7 +3,6 @@ ghost use Rattle.std.specs.Prelude.{◌≡◌};
 ghost use Rattle.names.specs.Names.{xml_to_snake_case, starts_word};
 ghost use Rattle.names.specs.Answers.{Put};
 
-use crate::Written;
 use text::ascii::{is_lower, is_upper, to_lower};
 use text::byte_at;
 
@@ -21,28 +20,25 @@ fn starts_word(prev: u8, c: u8, next: u8) -> bool
 }
 
 // An element's or attribute's name as a field's name.
-pub fn xml_to_snake_case(name: &[u8], out: &mut [u8]) -> Written
+pub fn xml_to_snake_case(name: &[u8], out: &mut [u8]) -> Option<usize>
     ensures { Put (xml_to_snake_case name.now) out.old result out.new }
 {
     let mut prev = 0;
     let mut len = 0;
-    let mut i = 0;
-    while i < name.len() {
-        let c = name[i];
-        if starts_word(prev, c, byte_at(name, i + 1)) {
+    for (i, c) in name.iter().enumerate() {
+        if starts_word(prev, *c, byte_at(name, i + 1)) {
             if out.len() <= len {
-                return Written::NoRoom;
+                return None;
             }
             out[len] = b'_';
             len += 1;
         }
         if out.len() <= len {
-            return Written::NoRoom;
+            return None;
         }
-        out[len] = to_lower(c);
+        out[len] = to_lower(*c);
         len += 1;
-        prev = c;
-        i += 1;
+        prev = *c;
     }
-    Written::Bytes(len)
+    Some(len)
 }

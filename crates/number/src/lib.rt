@@ -4,9 +4,9 @@
 
 pub mod counts;
 
-ghost use Rattle.std.specs.Prelude.{◌≡◌, ◌+◌};
-ghost use Rattle.number.specs.Number.{number, number_below, plain_below, numeral, is_minus_zeros, after_plus};
-ghost use Rattle.number.specs.Answers.{of_u32, of_u64};
+ghost use Rattle.std.specs.Prelude.{◌≡◌, ◌^◌};
+ghost use Rattle.number.specs.Number.{number, plain_number, numeral, is_minus_zeros, after_plus};
+ghost use Rattle.number.specs.Answers.{of_number};
 
 use text::ascii::is_digit;
 use text::trimmed;
@@ -19,130 +19,73 @@ pub struct CharacterCount(pub u64);
 #[derive(Clone, Copy)]
 pub struct DigitCount(pub u32);
 
-#[derive(Clone, Copy)]
-pub enum U32 {
-    Value(u32),
-    Invalid,
-}
-
-#[derive(Clone, Copy)]
-pub enum U64 {
-    Value(u64),
-    Invalid,
-}
-
 // The text behind an optional plus sign.
 fn after_plus(s: &[u8]) -> &[u8]
     ensures { result.now ≡ after_plus s.now }
 {
-    if 0 < s.len() {
-        if s[0] == b'+' {
-            return &s[1..];
-        }
+    match s {
+        [b'+', rest @ ..] => rest,
+        _ => s,
     }
-    s
 }
 
-// The value of one or more digits, where it is at most max. No step leaves max, and no step divides.
-fn parse_digits(d: &[u8], max: u64) -> U64
-    ensures { of_u64 result ≡ numeral (max + 1) d.now }
+// The value of one or more digits, where it fits.
+fn parse_digits(digits: &[u8]) -> Option<u64>
+    ensures { of_number result ≡ numeral (2 ^ 64) digits.now }
 {
-    if d.len() == 0 {
-        return U64::Invalid;
+    if digits.is_empty() {
+        return None;
     }
-    let tenth = max / 10;
-    let mut v: u64 = 0;
-    let mut i = 0;
-    while i < d.len() {
-        let b = d[i];
-        if !is_digit(b) {
-            return U64::Invalid;
+    let mut value: u64 = 0;
+    for b in digits {
+        if !is_digit(*b) {
+            return None;
         }
-        let digit = (b - b'0') as u64;
-        if tenth < v {
-            return U64::Invalid;
-        }
-        let tens = v * 10;
-        if max - tens < digit {
-            return U64::Invalid;
-        }
-        v = tens + digit;
-        i += 1;
+        let tens = value.checked_mul(10)?;
+        let digit = u64::from(*b - b'0');
+        value = tens.checked_add(digit)?;
     }
-    U64::Value(v)
+    Some(value)
 }
 
 // Whether a minus stands before zeros, one at least.
 fn is_minus_zeros(s: &[u8]) -> bool
     ensures { result ≡ is_minus_zeros s.now }
 {
-    if s.len() < 2 {
-        return false;
+    match s {
+        [b'-', b'0', rest @ ..] => rest.iter().all(|b| *b == b'0'),
+        _ => false,
     }
-    if s[0] != b'-' {
-        return false;
-    }
-    let mut i = 1;
-    while i < s.len() {
-        if s[i] != b'0' {
-            return false;
-        }
-        i += 1;
-    }
-    true
 }
 
-// What a text gives by paper 01 alone, where its value is at most max.
-fn parse_plain(s: &[u8], max: u64) -> U64
-    ensures { of_u64 result ≡ plain_below (max + 1) s.now }
+// What a text gives by paper 01 alone.
+fn parse_plain(s: &[u8]) -> Option<u64>
+    ensures { of_number result ≡ plain_number 64 s.now }
 {
-    parse_digits(after_plus(s), max)
+    parse_digits(after_plus(s))
 }
 
 // The same with the spellings of order 2.
-fn parse_spelt(s: &[u8], max: u64) -> U64
-    ensures { of_u64 result ≡ number_below (max + 1) s.now }
+fn parse_spelt(s: &[u8]) -> Option<u64>
+    ensures { of_number result ≡ number 64 s.now }
 {
     let t = trimmed(s);
     if is_minus_zeros(t) {
-        return U64::Value(0);
+        return Some(0);
     }
-    parse_plain(t, max)
+    parse_plain(t)
 }
 
-// What a text gives, where its value is at most max: a text that paper 01 takes keeps its value.
-fn parse(s: &[u8], max: u64) -> U64
-    ensures { of_u64 result ≡ number_below (max + 1) s.now }
+// Nearly all numbers are plain, and a text that paper 01 takes keeps its value: the spellings are tried behind it.
+pub fn parse_u64(s: &[u8]) -> Option<u64>
+    ensures { of_number result ≡ number 64 s.now }
 {
-    match parse_plain(s, max) {
-        U64::Value(v) => U64::Value(v),
-        U64::Invalid => parse_spelt(s, max),
-    }
+    parse_plain(s).or_else(|| parse_spelt(s))
 }
 
-// Nearly all numbers are plain. They are tried here too, without the call of `parse`, which takes as long as two digits.
-// A slice that is lent to a call stands in memory: t is lent, so that s, which the digits are read from, need not.
-pub fn parse_u64(s: &[u8]) -> U64
-    ensures { of_u64 result ≡ number 64 s.now }
+// A u32 is read as a u64, whose value has to fit.
+pub fn parse_u32(s: &[u8]) -> Option<u32>
+    ensures { of_number result ≡ number 32 s.now }
 {
-    match parse_plain(s, 18446744073709551615) {
-        U64::Value(v) => U64::Value(v),
-        U64::Invalid => {
-            let t = s;
-            parse(t, 18446744073709551615)
-        }
-    }
-}
-
-pub fn parse_u32(s: &[u8]) -> U32
-    ensures { of_u32 result ≡ number 32 s.now }
-{
-    if let U64::Value(v) = parse_plain(s, 4294967295) {
-        return U32::Value(v as u32);
-    }
-    let t = s;
-    match parse(t, 4294967295) {
-        U64::Value(v) => U32::Value(v as u32),
-        U64::Invalid => U32::Invalid,
-    }
+    u32::try_from(parse_u64(s)?).ok()
 }

@@ -3,12 +3,11 @@
 --     is_close, is_tail, is_bracket    a byte that ends an expression, a branch, a class; any_byte: no test
 --     Judged        whether the whole is an expression
 --     has_byte       a byte is in a set of bytes
-use Rattle.std.specs.Prelude.{ℕ, ◌/◌, ◌%◌, ◌^◌, ◌≤◌, ◌<◌, ◌≡◌, Bool, true, false, ◌||◌, eqb, length, drop, get_or}
+use Rattle.std.specs.Prelude.{ℕ, ◌/◌, ◌%◌, ◌^◌, ◌≤◌, ◌<◌, ◌≡◌, Bool, true, false, ◌||◌, Option, Some, None, eqb, length, drop, get_or}
 use Prim.Native.Char.{code}
 use Rattle.text.specs.Text.{Text}
 use Rattle.pattern.specs.Grammar.{Derives, reg_exp}
 use Rattle.pattern.specs.Scan.{Mode, go, scan}
-use Rattle.pattern.specs.declared.End.{End}
 
 -- the scan from `at` on, in the mode m, goes on at e, not before `least`, in the mode n, with the byte there under the test P
 pub record Goes (s : Text) (m : Mode) (at : ℕ) (n : Mode) (least e : ℕ) (P : ℕ → Bool) : Type 0 where
@@ -18,9 +17,9 @@ pub record Goes (s : Text) (m : Mode) (at : ℕ) (n : Mode) (least e : ℕ) (P :
   pub reads : (d : ℕ) → scan (go d m) (drop at s) ≡ scan (go d n) (drop e s)
 
 -- .. or no pattern goes on like this, whatever is open
-abbrev pub Ends : Text → Mode → ℕ → Mode → ℕ → (ℕ → Bool) → End → Type 0
-Ends s m at n least P (End.At e) = Goes s m at n least e P
-Ends s m at n least P End.Bad = (d : ℕ) → scan (go d m) (drop at s) ≡ false
+abbrev pub Ends : Text → Mode → ℕ → Mode → ℕ → (ℕ → Bool) → Option ℕ → Type 0
+Ends s m at n least P (Some e) = Goes s m at n least e P
+Ends s m at n least P None = (d : ℕ) → scan (go d m) (drop at s) ≡ false
 
 unfoldable pub is_close : ℕ → Bool
 is_close b = eqb b (code ")")

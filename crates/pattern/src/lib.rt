@@ -7,36 +7,31 @@ mod class;
 mod expression;
 mod tests;
 
+ghost use Rattle.sheet.specs.Results.{returned_number};
 ghost use Rattle.pattern.specs.Call.{Verdict};
 
 use crate::aside::is_aside;
 use crate::expression::is_expression;
-use sheet::{limits, returned};
+use sheet::limits;
+use sheet::refusal::Refusal;
 use text::is_text;
 
-// Where a part of a pattern ends.
-#[derive(Clone, Copy)]
-pub enum End {
-    At(usize),
-    Bad,
-}
-
-// The number of a pattern: accepted, or the first refusal that it meets.
-pub fn pattern_number(s: &[u8]) -> u32
-    ensures { Verdict s.now result }
+// Whether a pattern is accepted, or the first refusal that it meets.
+pub fn judge(s: &[u8]) -> Result<(), Refusal>
+    ensures { Verdict s.now (returned_number result) }
 {
     if limits::PATTERN < s.len() {
-        return returned::BAD_LENGTH;
+        return Err(Refusal::BadLength);
     }
     if !is_text(s) {
-        return returned::NOT_ASCII;
+        return Err(Refusal::NotAscii);
     }
     if is_aside(s) {
-        return returned::PATTERN_ASIDE;
+        return Err(Refusal::PatternAside);
     }
     if is_expression(s) {
-        returned::ACCEPTED
+        Ok(())
     } else {
-        returned::NO_PATTERN
+        Err(Refusal::NoPattern)
     }
 }

@@ -5,10 +5,11 @@ ghost use Rattle.pattern.specs.Scan.{is_plain, is_escaped};
 ghost use Rattle.pattern.specs.Answers.{has_byte};
 
 // A quantifier of one byte.
+#[tactic(auto, unfolding(crate::specs::Grammar::is_mark, text::specs::Text::contains, text::specs::Text::bytes))]
 pub fn is_mark(b: u8) -> bool
     ensures { result ≡ is_mark b }
 {
-    (b == b'?') | (b == b'*') | (b == b'+')
+    matches!(b, b'?' | b'*' | b'+')
 }
 
 // Whether the byte k is in a set of bytes below 64, a bit for each: one test, where a list of bytes takes a compare for each.

@@ -1,5 +1,3 @@
 -- Laws of the definitions in specs/, those below before those above. The head of each file says what it holds.
-pub mod Words
 pub mod Zeros
-pub mod Bytewise
 pub mod Runs

@@ -2,10 +2,11 @@
 // question of that byte, so that one sum or one `&` asks it of all eight.
 #![tactic(auto)]
 
-ghost use Rattle.std.specs.Prelude.{◌≡◌, ◌+◌, ◌*◌, ◌/◌, ◌^◌, ◌≤◌, ◌<◌, length};
+ghost use Rattle.std.specs.Prelude.{ℕ, Bool, ◌≡◌, ◌+◌, ◌*◌, ◌/◌, ◌^◌, ◌≤◌, ◌<◌, length};
 ghost use Rattle.std.specs.Int.Count.{count_trailing_zeros};
 ghost use Rattle.plain_bytes.specs.Scan.{is_text_run, is_value_run, is_comment_run, Skips};
 ghost use Rattle.plain_bytes.specs.Words.{WordAt, ones, others, plains, stops, text_stops, value_stops, comment_stops};
+ghost use Rattle.plain_bytes.specs.Laws.Finds.{Finds, text-finds, value-finds, comment-finds};
 
 // The same byte eight times: 1, and bit 7 alone.
 const ONES: u64 = 0x0101010101010101;
@@ -17,22 +18,7 @@ fn word_at(text: &[u8], at: usize) -> u64
     requires { at + 8 ≤ length text.now }
     ensures { WordAt text.now at result }
 {
-    let high = above(
-        above(above(above(0, text[at + 7]), text[at + 6]), text[at + 5]),
-        text[at + 4],
-    );
-    above(
-        above(above(above(high, text[at + 3]), text[at + 2]), text[at + 1]),
-        text[at],
-    )
-}
-
-// A word with one byte more, lowest.
-fn above(high: u64, low: u8) -> u64
-    requires { high < 2 ^ 56 }
-    ensures { (result ≡ high * 256 + low) × (low < 256) }
-{
-    high * 256 + (low as u64)
+    u64::from_le_bytes(*text[at..].first_chunk().unwrap())
 }
 
 // Bit 7 where a byte of x, below 128, is not c.
@@ -44,6 +30,7 @@ fn others(x: u64, c: u8) -> u64
 }
 
 // Bit 7 where a byte of x, below 128, is at least 32, or 9 or 10.
+#[tactic(auto, unfolding(crate::specs::Words::plains))]
 fn plains(x: u64) -> u64
     requires { x < 2 ^ 63 }
     ensures { result ≡ plains ones x }
@@ -52,32 +39,73 @@ fn plains(x: u64) -> u64
 }
 
 // Bit 7 alone, where that of x is not set.
+#[tactic(auto, unfolding(crate::specs::Words::stops))]
 fn stops(x: u64) -> u64
     ensures { result ≡ stops ones x }
 {
     (x & TOPS) ^ TOPS
 }
 
-// Bit 7 where a byte of x, below 128, is not of the run.
-fn text_stops(x: u64) -> u64
-    requires { x < 2 ^ 63 }
-    ensures { result ≡ text_stops ones x }
-{
-    stops(others(x, 60) & others(x, 38) & others(x, 93) & plains(x))
+// A run of bytes: which bytes belong to it, and the stops of a word.
+pub trait Run {
+    ghost is_in: { ℕ → Bool };
+
+    ghost stops_of: { ℕ → ℕ → ℕ };
+
+    // Bit 7 where a byte of x, below 128, is not of the run.
+    fn stops(x: u64) -> u64
+        requires { x < 2 ^ 63 }
+        ensures { result ≡ stops_of ones x };
+
+    ghost finds: { Finds stops_of is_in };
 }
 
-fn value_stops(x: u64) -> u64
-    requires { x < 2 ^ 63 }
-    ensures { result ≡ value_stops ones x }
-{
-    stops((x + 88 * ONES) & others(x, 60))
+// The bytes that text holds with nothing to look at.
+pub struct TextRun;
+
+impl Run for TextRun {
+    ghost is_in = { is_text_run };
+
+    ghost stops_of = { text_stops };
+
+    ghost finds = { text-finds };
+
+    #[tactic(auto, unfolding(crate::specs::Words::text_stops))]
+    fn stops(x: u64) -> u64 {
+        stops(others(x, 60) & others(x, 38) & others(x, 93) & plains(x))
+    }
 }
 
-fn comment_stops(x: u64) -> u64
-    requires { x < 2 ^ 63 }
-    ensures { result ≡ comment_stops ones x }
-{
-    stops(others(x, 45) & plains(x))
+// The same of an attribute's value.
+pub struct ValueRun;
+
+impl Run for ValueRun {
+    ghost is_in = { is_value_run };
+
+    ghost stops_of = { value_stops };
+
+    ghost finds = { value-finds };
+
+    #[tactic(auto, unfolding(crate::specs::Words::value_stops))]
+    fn stops(x: u64) -> u64 {
+        stops((x + 88 * ONES) & others(x, 60))
+    }
+}
+
+// The same of a comment.
+pub struct CommentRun;
+
+impl Run for CommentRun {
+    ghost is_in = { is_comment_run };
+
+    ghost stops_of = { comment_stops };
+
+    ghost finds = { comment-finds };
+
+    #[tactic(auto, unfolding(crate::specs::Words::comment_stops))]
+    fn stops(x: u64) -> u64 {
+        stops(others(x, 45) & plains(x))
+    }
 }
 
 // How many bytes stand below the lowest stop.
@@ -87,9 +115,9 @@ fn bytes_below(found: u64) -> usize
     (u64::trailing_zeros(found) / 8) as usize
 }
 
-// Over text: to a byte that is not of its run, or to a place from which there is no whole word.
-pub fn skip_text(text: &[u8], at: usize) -> usize
-    ensures { Skips is_text_run text.now at result }
+// To a byte that is not of the run, or to a place from which there is no whole word.
+pub fn skip<R: Run>(text: &[u8], at: usize) -> usize
+    ensures { Skips R.is_in text.now at result }
 {
     let mut i = at;
     if text.len() < at {
@@ -100,51 +128,7 @@ pub fn skip_text(text: &[u8], at: usize) -> usize
         if w & TOPS != 0 {
             return i;
         }
-        let found = text_stops(w);
-        if found != 0 {
-            return i + bytes_below(found);
-        }
-        i += 8;
-    }
-    i
-}
-
-// The same over an attribute's value.
-pub fn skip_value(text: &[u8], at: usize) -> usize
-    ensures { Skips is_value_run text.now at result }
-{
-    let mut i = at;
-    if text.len() < at {
-        return at;
-    }
-    while 8 <= text.len() - i {
-        let w = word_at(text, i);
-        if w & TOPS != 0 {
-            return i;
-        }
-        let found = value_stops(w);
-        if found != 0 {
-            return i + bytes_below(found);
-        }
-        i += 8;
-    }
-    i
-}
-
-// The same over a comment.
-pub fn skip_comment(text: &[u8], at: usize) -> usize
-    ensures { Skips is_comment_run text.now at result }
-{
-    let mut i = at;
-    if text.len() < at {
-        return at;
-    }
-    while 8 <= text.len() - i {
-        let w = word_at(text, i);
-        if w & TOPS != 0 {
-            return i;
-        }
-        let found = comment_stops(w);
+        let found = R::stops(w);
         if found != 0 {
             return i + bytes_below(found);
         }

@@ -1,34 +1,36 @@
 // A sheet printed as paper 01 has it: the used rows, a line each, then the used names and a newline.
 use crate::STDOUT_FILENO;
 use rows::numbers::wide;
+use sheet::limits::ROW;
 use tape::pairs::mark_at;
 
-// What stands behind the number at a place of the rows: a space, or a newline behind each tenth.
+// What stands behind the number at a place of its row: a space, or a newline behind the last.
 fn put_gap(at: usize) {
-    if at % 10 == 9 {
+    if at == ROW - 1 {
         io::write_all(STDOUT_FILENO, b"\n");
     } else {
         io::write_all(STDOUT_FILENO, b" ");
     }
 }
 
+fn put_row(row: &[u32]) {
+    for (at, number) in row.iter().enumerate() {
+        io::print_decimal(STDOUT_FILENO, u64::from(*number));
+        put_gap(at);
+    }
+}
+
 // The first rows, as many as are used.
 fn put_rows(rows: &[u32], used: usize) {
-    let mut i = 0;
-    while i < rows.len() {
-        if used <= i / 10 {
-            return;
-        }
-        io::print_decimal(STDOUT_FILENO, mark_at(rows, i) as u64);
-        put_gap(i);
-        i += 1;
+    for row in rows.chunks(ROW).take(used) {
+        put_row(row);
     }
 }
 
 // The first names, as many as are used.
 fn put_names(names: &[u8], used: usize) {
-    if used <= names.len() {
-        io::write_all(STDOUT_FILENO, &names[0..used]);
+    if let Some(part) = names.get(..used) {
+        io::write_all(STDOUT_FILENO, part);
     }
     io::write_all(STDOUT_FILENO, b"\n");
 }

@@ -10,7 +10,7 @@ fn put_label<'a>(rows: &[u32], names: &'a [u8], words: &'a [u8], k: usize) {
     io::write_all(STDOUT_FILENO, b" ");
     io::print_decimal(
         STDOUT_FILENO,
-        ir_label::label_number(rows, names, words, k) as u64,
+        u64::from(ir_label::label_number(rows, names, words, k)),
     );
     io::write_all(STDOUT_FILENO, b" `");
     io::write_all(STDOUT_FILENO, ir_label::label(rows, names, words, k));
@@ -19,10 +19,8 @@ fn put_label<'a>(rows: &[u32], names: &'a [u8], words: &'a [u8], k: usize) {
 
 // Of the rows up to the last of `last`, and of the one behind the sheet.
 fn put_labels<'a>(rows: &[u32], names: &'a [u8], words: &'a [u8], last: u32) {
-    let mut k: u32 = 0;
-    while k < last {
-        put_label(rows, names, words, wide(k));
-        k += 1;
+    for k in 0..wide(last) {
+        put_label(rows, names, words, k);
     }
     put_label(rows, names, words, wide(last));
     put_label(rows, names, words, rows.len() / 10);

@@ -1,6 +1,5 @@
 // The answers of the text leaves on a text, in one line. These lines of stdout are the answers of the Rust (compare/VECTORS.md).
-use names::{Written, same, snake};
-use number::{U32, U64};
+use names::{same, snake};
 use program::STDOUT_FILENO;
 
 // A label and a text.
@@ -12,10 +11,10 @@ fn put(label: &[u8], t: &[u8]) {
 fn put_u32(line: &[u8]) {
     io::write_all(STDOUT_FILENO, b" u32=");
     match number::parse_u32(line) {
-        U32::Value(v) => {
+        Some(v) => {
             io::print_decimal(STDOUT_FILENO, v as u64);
         }
-        U32::Invalid => {
+        None => {
             io::write_all(STDOUT_FILENO, b"-");
         }
     }
@@ -24,24 +23,24 @@ fn put_u32(line: &[u8]) {
 fn put_u64(line: &[u8]) {
     io::write_all(STDOUT_FILENO, b" u64=");
     match number::parse_u64(line) {
-        U64::Value(v) => {
+        Some(v) => {
             io::print_decimal(STDOUT_FILENO, v);
         }
-        U64::Invalid => {
+        None => {
             io::write_all(STDOUT_FILENO, b"-");
         }
     }
 }
 
 // The bytes of out that a writer counted.
-fn put_written(label: &[u8], written: Written, out: &[u8]) {
+fn put_written(label: &[u8], written: Option<usize>, out: &[u8]) {
     match written {
-        Written::Bytes(n) => {
+        Some(n) => {
             if n <= out.len() {
                 put(label, &out[0..n]);
             }
         }
-        Written::NoRoom => {
+        None => {
             put(label, b"no room");
         }
     }

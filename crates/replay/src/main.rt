@@ -27,6 +27,7 @@ mod sheets;
 use program::{STDOUT_FILENO, lines, numbers};
 use rows::numbers::wide;
 use sheet::limits::{NAMES, ROWS};
+use sheets::Task;
 use tape::pairs::mark_at;
 
 // The lengths of the kept sheet's buffers.
@@ -37,19 +38,19 @@ struct Lent {
 }
 
 // Clearing sets the lengths.
-fn lent_after(letter: u8, numbers: &[u32], lent: Lent) -> Lent {
-    if letter == b'c' {
-        return Lent {
+fn lent_after(task: Task, numbers: &[u32], lent: Lent) -> Lent {
+    match task {
+        Task::Clear => Lent {
             rows: wide(mark_at(numbers, 0)),
             names: wide(mark_at(numbers, 1)),
-        };
+        },
+        _ => lent,
     }
-    lent
 }
 
 // A line about the kept sheet: the label, and what is done; the end of the line is its text and its label.
 fn put_kept(
-    letter: u8,
+    task: Task,
     numbers: &[u32],
     end: &[u8],
     rows: &mut [u32],
@@ -59,20 +60,17 @@ fn put_kept(
     io::write_all(STDOUT_FILENO, lines::behind(end, b';'));
     io::write_all(STDOUT_FILENO, b":");
     let t = lines::before(end, b';');
-    let lent = lent_after(letter, numbers, before);
-    sheets::put_part(letter, numbers, t, rows, names, lent.rows, lent.names);
+    let lent = lent_after(task, numbers, before);
+    sheets::put_part(task, numbers, t, rows, names, lent.rows, lent.names);
     lent
 }
 
-// A line about no kept sheet; the name of a part is printed as it stands.
-fn put_other(line: &[u8], letter: u8, numbers: &[u32], end: &[u8]) {
-    match letter {
-        b'=' => {
+// A line about no sheet; the name of a part is printed as it stands.
+fn put_other(line: &[u8], numbers: &[u32], end: &[u8]) {
+    match line {
+        [b'=', ..] => {
             io::write_all(STDOUT_FILENO, line);
             output::put_end();
-        }
-        b's' | b'l' => {
-            lengths::put_lengths(letter, numbers);
         }
         _ => {
             records::put_case(
@@ -85,6 +83,26 @@ fn put_other(line: &[u8], letter: u8, numbers: &[u32], end: &[u8]) {
     }
 }
 
+// What the first letter of a line asks of the kept sheet.
+fn kept_task(line: &[u8]) -> Option<Task> {
+    match line {
+        [b'c', ..] => Some(Task::Clear),
+        [b'w', ..] => Some(Task::Write),
+        [b'r', ..] => Some(Task::Read),
+        [b'p', ..] => Some(Task::Print),
+        _ => None,
+    }
+}
+
+// What it asks of a sheet of the lengths that the line says.
+fn lengths_task(line: &[u8]) -> Option<Task> {
+    match line {
+        [b's', ..] => Some(Task::ClearOfLengths),
+        [b'l', ..] => Some(Task::ReadOfLengths),
+        _ => None,
+    }
+}
+
 // A line about a limit.
 fn put_limit(line: &[u8], rows: &mut [u32], names: &mut [u8], before: Lent) -> Lent {
     let mut space = [0u32; 1024];
@@ -92,14 +110,14 @@ fn put_limit(line: &[u8], rows: &mut [u32], names: &mut [u8], before: Lent) -> L
     let n = numbers::read_numbers(lines::before(rest, b';'), &mut space);
     let list = numbers::first(&space, n);
     let end = lines::behind(rest, b';');
-    let letter = text::byte_at(line, 0);
-    match letter {
-        b'c' | b'w' | b'r' | b'p' => put_kept(letter, list, end, rows, names, before),
-        _ => {
-            put_other(line, letter, list, end);
-            before
-        }
+    if let Some(task) = kept_task(line) {
+        return put_kept(task, list, end, rows, names, before);
     }
+    match lengths_task(line) {
+        Some(task) => lengths::put_lengths(task, list),
+        None => put_other(line, list, end),
+    }
+    before
 }
 
 // A line; the line before it is at hand, since the leaves compare the two texts.
@@ -110,16 +128,16 @@ fn put_line(
     names: &mut [u8],
     before: Lent,
 ) -> Lent {
-    match text::byte_at(line, 0) {
-        b'n' => {
+    match line {
+        [b'n', ..] => {
             leaves::put_leaves(lines::behind(previous, b';'), lines::behind(line, b';'));
             before
         }
-        b't' | b'i' => {
+        [b't' | b'i', ..] => {
             printed::put_printed(line);
             before
         }
-        b'g' => {
+        [b'g', ..] => {
             labels::put_tape(line);
             before
         }
@@ -129,15 +147,12 @@ fn put_line(
 
 // Before the first line, which is the name of a part, there is none; what stands for it is not looked at.
 fn put_lines(input: &[u8], rows: &mut [u32], names: &mut [u8]) {
-    let mut rest = input;
     let mut previous = input;
     let mut lent = Lent { rows: 0, names: 0 };
-    while 0 < rest.len() {
-        let line = lines::before(rest, b'\n');
+    for piece in input.split_inclusive(|b| *b == b'\n') {
+        let line = lines::before(piece, b'\n');
         lent = put_line(previous, line, rows, names, lent);
-        let next = lines::behind(rest, b'\n');
         previous = line;
-        rest = next;
     }
 }
 

@@ -1,6 +1,7 @@
 // What a line says, done to a sheet.
 use crate::output;
 use program::{STDOUT_FILENO, print};
+use rows::answers::told;
 use rows::numbers::wide;
 use tape::pairs::mark_at;
 use xsd_good::clear;
@@ -8,8 +9,8 @@ use xsd_good::clear;
 // Writes the second number at the place that the first says.
 fn write_number(rows: &mut [u32], numbers: &[u32]) {
     let at = wide(mark_at(numbers, 0));
-    if at < rows.len() {
-        rows[at] = mark_at(numbers, 1);
+    if let Some(number) = rows.get_mut(at) {
+        *number = mark_at(numbers, 1);
     }
 }
 
@@ -17,9 +18,10 @@ fn write_number(rows: &mut [u32], numbers: &[u32]) {
 fn put_cleared(rows: &mut [u32], names: &mut [u8]) {
     io::print_decimal(STDOUT_FILENO, rows.len() as u64);
     output::put_number(names.len() as u64);
-    let answer = clear::clear(rows, names, 0);
-    output::put_number(answer.number as u64);
-    output::put_number(answer.place as u64);
+    let mut place = 0;
+    let number = told(clear::clear(rows, names, 0), &mut place);
+    output::put_number(u64::from(number));
+    output::put_number(place as u64);
     if xsd_good::is_good(rows, names) {
         io::write_all(STDOUT_FILENO, b" 1\n");
     } else {
@@ -33,30 +35,41 @@ fn put_read(rows: &mut [u32], names: &mut [u8], t: &[u8], marks: &[u32]) {
     output::put_number(names.len() as u64);
     output::put_number(t.len() as u64);
     output::put_number(marks.len() as u64);
-    clear::clear(rows, names, 0);
+    let _ = clear::clear(rows, names, 0);
     output::put_answer(xsd_read::read(rows, names, t, marks));
 }
 
-// What the first letter of a line says.
-fn put_done(letter: u8, numbers: &[u32], t: &[u8], rows: &mut [u32], names: &mut [u8]) {
-    match letter {
-        b'c' => {
+// What a line asks of a sheet.
+#[derive(Clone, Copy, PartialEq, Eq)]
+pub enum Task {
+    Clear,
+    Read,
+    Write,
+    Print,
+    ClearOfLengths,
+    ReadOfLengths,
+}
+
+// What a line asks, done to a sheet.
+fn put_done(task: Task, numbers: &[u32], t: &[u8], rows: &mut [u32], names: &mut [u8]) {
+    match task {
+        Task::Clear => {
             output::put_answer(clear::clear(rows, names, mark_at(numbers, 2)));
         }
-        b'r' => {
+        Task::Read => {
             output::put_answer(xsd_read::read(rows, names, t, numbers));
         }
-        b'w' => {
+        Task::Write => {
             write_number(rows, numbers);
             output::put_end();
         }
-        b's' => {
+        Task::ClearOfLengths => {
             put_cleared(rows, names);
         }
-        b'l' => {
+        Task::ReadOfLengths => {
             put_read(rows, names, t, numbers);
         }
-        _ => {
+        Task::Print => {
             output::put_end();
             print::put_sheet(rows, names);
         }
@@ -65,7 +78,7 @@ fn put_done(letter: u8, numbers: &[u32], t: &[u8], rows: &mut [u32], names: &mut
 
 // The same, done to the first r numbers and n bytes of the buffers.
 pub fn put_part(
-    letter: u8,
+    task: Task,
     numbers: &[u32],
     t: &[u8],
     rows: &mut [u32],
@@ -73,11 +86,7 @@ pub fn put_part(
     r: usize,
     n: usize,
 ) {
-    if rows.len() < r {
-        return;
+    if let (Some(rows), Some(names)) = (rows.get_mut(..r), names.get_mut(..n)) {
+        put_done(task, numbers, t, rows, names);
     }
-    if names.len() < n {
-        return;
-    }
-    put_done(letter, numbers, t, &mut rows[..r], &mut names[..n]);
 }

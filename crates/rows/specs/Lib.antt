@@ -4,3 +4,4 @@ pub mod Numbers
 pub mod Texts
 pub mod Packing
 pub mod Append
+pub mod Answers

@@ -5,37 +5,16 @@ ghost use Rattle.sheet.specs.Rows.{all_zero};
 
 use sheet::limits;
 
-fn rows_zero(rows: &[u32]) -> bool
-    ensures { result ≡ all_zero rows.now }
-{
-    let mut ok = true;
-    let mut i = 0;
-    while i < rows.len() {
-        ok = ok & (rows[i] == 0);
-        i += 1;
-    }
-    ok
-}
-
-fn names_zero(names: &[u8]) -> bool
-    ensures { result ≡ all_zero names.now }
-{
-    let mut ok = true;
-    let mut i = 0;
-    while i < names.len() {
-        ok = ok & (names[i] == 0);
-        i += 1;
-    }
-    ok
-}
-
-// Whether all behind the used parts is zero.
+// Whether all behind the used parts is zero. A fold looks at every number, and so at many at a time.
 pub fn zeros_behind(rows: &[u32], names: &[u8], rows_used: usize, names_used: usize) -> bool
     requires { (10 * rows_used ≤ length rows.now) × (names_used ≤ length names.now) }
     ensures { result ≡ (all_zero (drop (10 * rows_used) rows.now) && all_zero (drop names_used names.now)) }
 {
     let rows_end = limits::ROW * rows_used;
-    rows_zero(&rows[rows_end..]) & names_zero(&names[names_used..])
+    rows[rows_end..].iter().fold(true, |ok, x| ok & (*x == 0))
+        & names[names_used..]
+            .iter()
+            .fold(true, |ok, x| ok & (*x == 0))
 }
 
 // Whether the used names are bytes below 128.

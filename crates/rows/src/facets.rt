@@ -7,7 +7,22 @@ use crate::append::append;
 use crate::numbers::{RowNumbers, Used};
 use number::{CharacterCount, DigitCount};
 
-// Adds the row of a length facet: the count's low and high 32 bits.
+// Adds the row of a count: its low and high 32 bits.
+fn append_count(rows: &mut [u32], names: &mut [u8], used: Used, tag: u32, count: u64) -> Used
+    requires rows { 10 * (used.rows + 1) ≤ length rows.old }
+    requires names { (used.names ≤ length names.old) × (length names.old ≤ 65536) }
+    ensures { Appended rows.old names.old used (row tag [] (count % 2 ^ 32) (count / 2 ^ 32) 0) rows.new names.new result }
+{
+    let numbers = RowNumbers {
+        tag,
+        a: (count % 4294967296) as u32,
+        b: (count / 4294967296) as u32,
+        c: 0,
+    };
+    append(rows, names, used, numbers, b"", b"", 0)
+}
+
+// Adds the row of a length facet.
 pub fn append_characters(
     rows: &mut [u32],
     names: &mut [u8],
@@ -19,16 +34,10 @@ pub fn append_characters(
     requires names { (used.names ≤ length names.old) × (length names.old ≤ 65536) }
     ensures { Appended rows.old names.old used (row tag [] (n.0 % 2 ^ 32) (n.0 / 2 ^ 32) 0) rows.new names.new result }
 {
-    let count = n.0;
-    let numbers = RowNumbers {
-        tag,
-        a: (count % 4294967296) as u32,
-        b: (count / 4294967296) as u32,
-        c: 0,
-    };
-    append(rows, names, used, numbers, b"", b"", 0)
+    append_count(rows, names, used, tag, n.0)
 }
 
+// Adds the row of a digits facet.
 pub fn append_digits(
     rows: &mut [u32],
     names: &mut [u8],
@@ -40,11 +49,5 @@ pub fn append_digits(
     requires names { (used.names ≤ length names.old) × (length names.old ≤ 65536) }
     ensures { Appended rows.old names.old used (row tag [] n.0 0 0) rows.new names.new result }
 {
-    let numbers = RowNumbers {
-        tag,
-        a: n.0,
-        b: 0,
-        c: 0,
-    };
-    append(rows, names, used, numbers, b"", b"", 0)
+    append_count(rows, names, used, tag, u64::from(n.0))
 }

@@ -28,7 +28,7 @@ pub struct Pair {
     pub len: usize,
 }
 
-// A number of a row, or of the marks of a tape, as a place or a count.
+// A number of a row, or of the marks of a tape, as a place or a count. By name, since std has no `From<u32>` for usize.
 pub fn wide(x: u32) -> usize
     ensures { result ≡ x }
 {

@@ -13,12 +13,7 @@ pub fn put_row(rows: &mut [u32], at: usize, row: [u32; 10])
     requires { 10 * at + 10 ≤ length rows.old }
     ensures { rows.new ≡ paste rows.old (10 * at) row 10 }
 {
-    let from = 10 * at;
-    let mut k = 0;
-    while k < 10 {
-        rows[from + k] = row[k];
-        k += 1;
-    }
+    rows[10 * at..10 * at + 10].copy_from_slice(&row);
 }
 
 // The numbers of a row whose used texts, so long, stand in the names from `at`.

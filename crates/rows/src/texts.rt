@@ -10,10 +10,11 @@ pub fn texts_length(pairs: usize, first: usize, second: usize) -> usize
     requires { (used_length pairs first second ≤ 65536) × (pairs ≤ 2) }
     ensures { result ≡ used_length pairs first second }
 {
-    if pairs == 0 {
-        return 0;
+    match pairs {
+        0 => 0,
+        1 => first,
+        _ => first + second,
     }
-    if 1 < pairs { first + second } else { first }
 }
 
 // Stores the used texts into the names, and gives the place behind them.

@@ -2,6 +2,7 @@
 pub mod Rows
 pub mod Limits
 pub mod Returned
+pub mod Results
 pub mod Lengths
 pub mod Form
 pub mod Calls

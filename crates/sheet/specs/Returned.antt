@@ -1,7 +1,7 @@
--- Paper 01, "Returned numbers": the numbers that the calls return, in the order of the table, and those of an event's refusals.
+-- Paper 01, "Returned numbers": the numbers that the calls return, in the order of the table, and those of the refusals.
 --     accepted .. bad_label    the numbers 0 to 16; malformed, doctype, short_marks: 17 to 19, of order 1; repeated_name: 20, of order 4; not_in_form: 21, of order 6; unheld_value,
 --                             short_text: 22 and 23, of order 8; no_pattern, pattern_aside: 24 and 25, of order 13
---     refusal_number           the number of a refusal that an event can meet
+--     refusal_number           the number of a refusal
 use Rattle.std.specs.Prelude.{ℕ}
 use Rattle.sheet.specs.declared.refusal.Refusal.{Refusal}
 
@@ -109,8 +109,10 @@ no_pattern = 24
 abbrev pub pattern_aside : ℕ
 pattern_aside = 25
 
--- "event by event 3, 4, 5, 8, then 6 or 7, 9, 10, 11"
+-- the number of a refusal
 abbrev pub refusal_number : Refusal → ℕ
+refusal_number Refusal.BadLength = bad_length
+refusal_number Refusal.NotGood = not_good
 refusal_number Refusal.BadRecord = bad_record
 refusal_number Refusal.BadPair = bad_pair
 refusal_number Refusal.NotAscii = not_ascii
@@ -120,3 +122,17 @@ refusal_number Refusal.TooManyEvents = too_many_events
 refusal_number Refusal.MissingAttribute = missing_attribute
 refusal_number Refusal.InvalidAttributeValue = invalid_attribute_value
 refusal_number Refusal.NoRoom = no_room
+refusal_number Refusal.NoRoot = no_root
+refusal_number Refusal.UnknownBase = unknown_base
+refusal_number Refusal.ShortScratch = short_scratch
+refusal_number Refusal.NoRoomInGraph = no_room_in_graph
+refusal_number Refusal.BadLabel = bad_label
+refusal_number Refusal.Malformed = malformed
+refusal_number Refusal.Doctype = doctype
+refusal_number Refusal.ShortMarks = short_marks
+refusal_number Refusal.RepeatedName = repeated_name
+refusal_number Refusal.GraphForm = not_in_form
+refusal_number Refusal.NoValue = unheld_value
+refusal_number Refusal.TextRoom = short_text
+refusal_number Refusal.NoPattern = no_pattern
+refusal_number Refusal.PatternAside = pattern_aside

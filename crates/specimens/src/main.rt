@@ -3,8 +3,7 @@
 #![tactic(auto)]
 
 use builtin::Builtin;
-use names::{Written, snake};
-use number::{U32, U64};
+use names::snake;
 use program::{STDOUT_FILENO, lines};
 
 // The text in quotes.
@@ -15,65 +14,55 @@ fn put_quoted(t: &[u8]) {
 }
 
 // What a writer wrote into out.
-fn put_written(written: Written, out: &[u8]) {
+fn put_written(written: Option<usize>, out: &[u8]) {
     match written {
-        Written::Bytes(n) => {
+        Some(n) => {
             if n <= out.len() {
                 put_quoted(&out[0..n]);
             }
         }
-        Written::NoRoom => {
+        None => {
             io::write_all(STDOUT_FILENO, b"no room");
         }
     }
 }
 
 // A conversion: snake, pascal or normalised.
-fn convert(kind: u8, name: &[u8], out: &mut [u8]) -> Written {
-    if kind == b's' {
-        return snake::xml_to_snake_case(name, out);
+fn convert(asked: &[u8], name: &[u8], out: &mut [u8]) -> Option<usize> {
+    match asked {
+        [b's', ..] => snake::xml_to_snake_case(name, out),
+        [b'p', ..] => names::code_to_pascal_case(name, out),
+        _ => names::normalize_type_name(name, out),
     }
-    if kind == b'p' {
-        return names::code_to_pascal_case(name, out);
-    }
-    names::normalize_type_name(name, out)
 }
 
-fn put_name(kind: u8, name: &[u8]) {
+fn put_name(asked: &[u8], name: &[u8]) {
     let mut space = io::buffer();
-    let w = convert(kind, name, &mut space);
+    let w = convert(asked, name, &mut space);
     put_written(w, &space);
 }
 
-fn put_type(name: &[u8]) {
-    match builtin::map_builtin(name) {
-        Builtin::String => {
-            io::write_all(STDOUT_FILENO, b"String");
-        }
-        Builtin::Bool => {
-            io::write_all(STDOUT_FILENO, b"Bool");
-        }
-        Builtin::Decimal => {
-            io::write_all(STDOUT_FILENO, b"Decimal");
-        }
-        Builtin::Date => {
-            io::write_all(STDOUT_FILENO, b"Date");
-        }
-        Builtin::DateTime => {
-            io::write_all(STDOUT_FILENO, b"DateTime");
-        }
-        Builtin::Unknown => {
-            io::write_all(STDOUT_FILENO, b"unknown");
-        }
+fn type_word(answer: Option<Builtin>) -> &'static [u8] {
+    match answer {
+        Some(Builtin::String) => b"String",
+        Some(Builtin::Bool) => b"Bool",
+        Some(Builtin::Decimal) => b"Decimal",
+        Some(Builtin::Date) => b"Date",
+        Some(Builtin::DateTime) => b"DateTime",
+        None => b"unknown",
     }
+}
+
+fn put_type(name: &[u8]) {
+    io::write_all(STDOUT_FILENO, type_word(builtin::map_builtin(name)));
 }
 
 fn put_u32(s: &[u8]) {
     match number::parse_u32(s) {
-        U32::Value(v) => {
+        Some(v) => {
             io::print_decimal(STDOUT_FILENO, v as u64);
         }
-        U32::Invalid => {
+        None => {
             io::write_all(STDOUT_FILENO, b"gives 10");
         }
     }
@@ -81,10 +70,10 @@ fn put_u32(s: &[u8]) {
 
 fn put_u64(s: &[u8]) {
     match number::parse_u64(s) {
-        U64::Value(v) => {
+        Some(v) => {
             io::print_decimal(STDOUT_FILENO, v);
         }
-        U64::Invalid => {
+        None => {
             io::write_all(STDOUT_FILENO, b"gives 10");
         }
     }
@@ -92,20 +81,11 @@ fn put_u64(s: &[u8]) {
 
 // The answer: what is asked is `type`, `u32`, `u64` or a conversion.
 fn put_answer(asked: &[u8], t: &[u8]) {
-    match text::byte_at(asked, 0) {
-        b't' => {
-            put_type(t);
-        }
-        b'u' => {
-            if text::byte_at(asked, 1) == b'3' {
-                put_u32(t);
-            } else {
-                put_u64(t);
-            }
-        }
-        kind => {
-            put_name(kind, t);
-        }
+    match asked {
+        [b't', ..] => put_type(t),
+        [b'u', b'3', ..] => put_u32(t),
+        [b'u', ..] => put_u64(t),
+        _ => put_name(asked, t),
     }
 }
 
@@ -121,11 +101,8 @@ fn put_line(line: &[u8]) {
 }
 
 fn put_lines(input: &[u8]) {
-    let mut rest = input;
-    while 0 < rest.len() {
-        put_line(lines::before(rest, b'\n'));
-        let next = lines::behind(rest, b'\n');
-        rest = next;
+    for line in input.split_inclusive(|b| *b == b'\n') {
+        put_line(lines::before(line, b'\n'));
     }
 }
 

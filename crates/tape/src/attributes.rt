@@ -4,12 +4,12 @@ ghost use Rattle.text.specs.Text.{local_name};
 ghost use Rattle.xsd_parser.specs.Words.{word_of};
 ghost use Rattle.xsd_parser.specs.Seen.{seen};
 ghost use Rattle.xsd_parser.specs.Tape.{pair_text};
-ghost use Rattle.tape.specs.Keys.{key_of};
+ghost use Rattle.tape.specs.Keys.{key_number, key_of};
 ghost use Rattle.tape.specs.Pairs.{pair_at, PairInside, TagInside, tag_at};
 ghost use Rattle.tape.specs.Lookup.{kept_first, PlacesOf, seen_at};
 
 use crate::pairs;
-use crate::words::{key_of, word_of};
+use crate::words::{Key, key_of, word_of};
 use xsd_parser::words::Word;
 
 // The word of a tag, and where the pairs of the nine values stand in the marks, 0 where there is none: the first attribute of each key.
@@ -27,10 +27,10 @@ pub struct SeenTag {
     pub target_namespace: usize,
 }
 
-// The number of the key under the pair at a place of the marks.
-fn key_at(text: &[u8], marks: &[u32], at: usize) -> usize
+// The key under the pair at a place of the marks.
+fn key_at(text: &[u8], marks: &[u32], at: usize) -> Option<Key>
     requires { PairInside text.now marks.now at }
-    ensures { result ≡ key_of (local_name (pair_text text.now (pair_at marks.now at))) }
+    ensures { key_number result ≡ key_of (local_name (pair_text text.now (pair_at marks.now at))) }
 {
     key_of(pairs::inside_part(text, marks, at))
 }
@@ -44,30 +44,27 @@ fn word_under(text: &[u8], marks: &[u32], at: usize) -> Word
 }
 
 // A value's place is kept where its key is one of the nine and has none yet.
-fn keep_first(places: &mut [usize; 9], key: usize, at: usize)
-    ensures { places.new ≡ kept_first places.old key at }
+fn keep_first(places: &mut [usize; 9], key: Option<Key>, at: usize)
+    ensures { places.new ≡ kept_first places.old (key_number key) at }
 {
-    if 9 <= key {
+    let Some(key) = key else {
         return;
+    };
+    let place = key as usize;
+    if places[place] == 0 {
+        places[place] = at;
     }
-    if places[key] != 0 {
-        return;
-    }
-    places[key] = at;
 }
 
-// Where the values stand, by the numbers of their keys. Each key is looked at once.
+// Where the values stand, by their keys. Each key is looked at once.
 fn find_places(text: &[u8], marks: &[u32], pairs: usize, count: usize) -> [usize; 9]
     requires { TagInside text.now marks.now pairs count }
     ensures { PlacesOf text.now marks.now (tag_at text.now marks.now pairs count).attributes result }
 {
     let mut places = [0usize; 9];
-    let mut at = pairs + 2;
-    let mut left = count;
-    while 0 < left {
+    for i in 0..count {
+        let at = pairs + 2 + 4 * i;
         keep_first(&mut places, key_at(text, marks, at), at + 2);
-        at += 4;
-        left -= 1;
     }
     places
 }
@@ -78,17 +75,27 @@ pub fn find_seen(text: &[u8], marks: &[u32], pairs: usize, count: usize) -> Seen
     ensures { seen_at text.now marks.now result ≡ seen (tag_at text.now marks.now pairs count) }
 {
     let word = word_under(text, marks, pairs);
-    let places = find_places(text, marks, pairs, count);
+    let [
+        name,
+        typ,
+        base,
+        value,
+        min_occurs,
+        max_occurs,
+        usage,
+        namespace,
+        target_namespace,
+    ] = find_places(text, marks, pairs, count);
     SeenTag {
         word,
-        name: places[0],
-        typ: places[1],
-        base: places[2],
-        value: places[3],
-        min_occurs: places[4],
-        max_occurs: places[5],
-        usage: places[6],
-        namespace: places[7],
-        target_namespace: places[8],
+        name,
+        typ,
+        base,
+        value,
+        min_occurs,
+        max_occurs,
+        usage,
+        namespace,
+        target_namespace,
     }
 }

@@ -12,48 +12,48 @@ pub mod words;
 ghost use Rattle.std.specs.Prelude.{◌≡◌, true, ◌+◌, ◌*◌, ◌≤◌, length};
 ghost use Rattle.text.specs.Text.{is_text};
 ghost use Rattle.sheet.specs.Limits.{attributes_limit};
-ghost use Rattle.xsd_parser.specs.Kinds.{close_kind};
+ghost use Rattle.xsd_parser.specs.Kinds.{close_kind, kind_number};
+ghost use Rattle.xsd_parser.specs.declared.kinds.Kind.{Kind};
 ghost use Rattle.xsd_parser.specs.Tape.{pair_count};
 ghost use Rattle.tape.specs.Answers.{RecordAt, TagAnswer};
 
 use rows::numbers::wide;
 use sheet::refusal::Refusal;
-use xsd_parser::kinds;
+use xsd_parser::kinds::Kind;
 
-// An accepted record: kind 1 a start, 2 an empty tag, 3 a close, which has no attributes; its number of attributes, where its pairs
-// start in the marks (the first is the name's) and where the next record starts.
+// An accepted record: its kind, its number of attributes, of which a close has none, where its pairs start in the marks (the first is the
+// name's) and where the next record starts.
 #[derive(Clone, Copy)]
 pub struct TagRecord {
-    pub kind: u32,
+    pub kind: Kind,
     pub count: usize,
     pub pairs: usize,
     pub next: usize,
 }
 
-// What stands at a place of the marks: nothing, a record that is refused, or an event's.
-#[derive(Clone, Copy)]
-pub enum Record {
-    End,
-    Bad(Refusal),
-    Event(TagRecord),
-}
-
 // A record of a good form that is a tag: judged for 4 over all its pairs, then for 5.
-fn tag_at(text: &[u8], marks: &[u32], at: usize, kind: u32, count: usize, plain: bool) -> Record
-    requires fact { (kind ≡ close_kind → ⊥) × (count ≤ attributes_limit) × (at + 2 + 2 * pair_count count ≤ length marks.now) }
+fn tag_at(
+    text: &[u8],
+    marks: &[u32],
+    at: usize,
+    kind: Kind,
+    count: usize,
+    plain: bool,
+) -> Result<TagRecord, Refusal>
+    requires fact { (kind_number kind ≡ close_kind → ⊥) × (count ≤ attributes_limit) × (at + 2 + 2 * pair_count count ≤ length marks.now) }
     requires text_value { plain ≡ true → is_text text.now ≡ true }
-    ensures { TagAnswer text.now marks.now at kind count result }
+    ensures { TagAnswer text.now marks.now at (kind_number kind) count result }
 {
     let pairs = at + 2;
     let n = 1 + 2 * count;
     if !tests::pairs_inside(text.len(), marks, pairs, n) {
-        return Record::Bad(Refusal::BadPair);
+        return Err(Refusal::BadPair);
     }
     if !tests::pairs_ascii(text, marks, pairs, n, plain) {
-        return Record::Bad(Refusal::NotAscii);
+        return Err(Refusal::NotAscii);
     }
     let next = pairs + 2 * n;
-    Record::Event(TagRecord {
+    Ok(TagRecord {
         kind,
         count,
         pairs,
@@ -61,32 +61,46 @@ fn tag_at(text: &[u8], marks: &[u32], at: usize, kind: u32, count: usize, plain:
     })
 }
 
-// The record at a place of the marks, judged as a whole for 3, then 4, then 5. Where `plain` says that the whole text was judged before,
+// The record of a close before a place of the marks.
+fn closed(next: usize) -> TagRecord
+    ensures { result ≡ record { kind = Kind.Close; count = 0; pairs = next; next = next } }
+{
+    TagRecord {
+        kind: Kind::Close,
+        count: 0,
+        pairs: next,
+        next,
+    }
+}
+
+// The record at a place of the marks, none at their end, judged as a whole for 3, then 4, then 5. Where `plain` says that the whole text was judged before,
 // no byte is read for 5.
-pub fn record_at(text: &[u8], marks: &[u32], at: usize, plain: bool) -> Record
+pub fn record_at(
+    text: &[u8],
+    marks: &[u32],
+    at: usize,
+    plain: bool,
+) -> Result<Option<TagRecord>, Refusal>
     requires { plain ≡ true → is_text text.now ≡ true }
     ensures { RecordAt text.now marks.now at result }
 {
     if marks.len() <= at {
-        return Record::End;
+        return Ok(None);
     }
     let left = marks.len() - at;
     if left < 2 {
-        return Record::Bad(Refusal::BadRecord);
+        return Err(Refusal::BadRecord);
     }
-    let kind = marks[at];
+    let kind = Kind::try_from(marks[at])?;
     let count = wide(marks[at + 1]);
     if !form::has_form(kind, count, left - 2) {
-        return Record::Bad(Refusal::BadRecord);
+        return Err(Refusal::BadRecord);
     }
-    if kind == kinds::CLOSE {
-        let next = at + 2;
-        return Record::Event(TagRecord {
-            kind: kinds::CLOSE,
-            count: 0,
-            pairs: next,
-            next,
-        });
+    match kind {
+        Kind::Start | Kind::Empty => {
+            let tag = tag_at(text, marks, at, kind, count, plain)?;
+            Ok(Some(tag))
+        }
+        Kind::Close => Ok(Some(closed(at + 2))),
     }
-    tag_at(text, marks, at, kind, count, plain)
 }

@@ -10,7 +10,7 @@ use rows::parts::part_of;
 pub fn mark_at(marks: &[u32], at: usize) -> u32
     ensures { result ≡ get_or marks.now at 0 }
 {
-    if at < marks.len() { marks[at] } else { 0 }
+    marks.get(at).copied().unwrap_or(0)
 }
 
 // The part of the text under the pair whose offset stands at a place of the marks.

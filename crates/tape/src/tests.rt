@@ -19,9 +19,8 @@ pub fn pairs_inside(limit: usize, marks: &[u32], from: usize, n: usize) -> bool
     ensures { result ≡ all_inside limit 0 (pairs_of n (drop from marks.now)) }
 {
     let mut end = 0;
-    let mut at = from;
-    let mut left = n;
-    while 0 < left {
+    for i in 0..n {
+        let at = from + 2 * i;
         let offset = marks[at];
         if wide(offset) < end {
             return false;
@@ -30,8 +29,6 @@ pub fn pairs_inside(limit: usize, marks: &[u32], from: usize, n: usize) -> bool
         if limit < end {
             return false;
         }
-        at += 2;
-        left -= 1;
     }
     true
 }
@@ -41,14 +38,10 @@ fn bytes_ascii(text: &[u8], marks: &[u32], from: usize, n: usize) -> bool
     requires { from + 2 * n ≤ length marks.now }
     ensures { result ≡ all_ascii text.now (pairs_of n (drop from marks.now)) }
 {
-    let mut pair = from;
-    let mut left = n;
-    while 0 < left {
-        if !text::is_text(pairs::pair_part(text, marks, pair)) {
+    for i in 0..n {
+        if !text::is_text(pairs::pair_part(text, marks, from + 2 * i)) {
             return false;
         }
-        pair += 2;
-        left -= 1;
     }
     true
 }

@@ -1,216 +1,108 @@
-// The word of a tag and the number of an attribute's key, by a local name: by its length first, so that few words are compared.
-ghost use Rattle.std.specs.Prelude.{◌≡◌, [], ◌∷◌, ◌<◌, ◌≤◌, length};
+// The word of a tag and the key of an attribute, by a local name: by its length first, so that few words are compared.
+ghost use Rattle.std.specs.Prelude.{◌≡◌, [], ◌∷◌, length};
 ghost use Rattle.text.specs.Text.{local_name};
 ghost use Rattle.xsd_parser.specs.declared.words.Word.{Word};
 ghost use Rattle.xsd_parser.specs.Words.{found, word_of};
-ghost use Rattle.tape.specs.Keys.{word_at, word_number_of, key_of};
+ghost use Rattle.tape.specs.Keys.{known_word, key_number, key_of};
 
 use text::{local_name, same_text};
 use xsd_parser::words::{FacetWord, Word};
 
-// The number of the text that the name is, of one, two or four texts; else `other`.
-fn one(name: &[u8], other: usize, a: &[u8], i: usize) -> usize
-    ensures { result ≡ found other ((a.now, i) ∷ []) name.now }
-{
-    if same_text(name, a) {
-        return i;
-    }
-    other
+// The keys of attributes that are looked up, in the order of their places.
+#[derive(Clone, Copy, PartialEq, Eq, Debug)]
+pub enum Key {
+    Name,
+    Type,
+    Base,
+    Value,
+    MinOccurs,
+    MaxOccurs,
+    Use,
+    Namespace,
+    TargetNamespace,
 }
 
-fn two(name: &[u8], other: usize, a: &[u8], i: usize, b: &[u8], j: usize) -> usize
-    ensures { result ≡ found other ((a.now, i) ∷ (b.now, j) ∷ []) name.now }
+// What stands for a text, where the name is the text.
+fn value_if<T: Copy>(name: &[u8], text: &[u8], value: T) -> Option<T>
+    ensures { result ≡ found None ((text.now, Some value) ∷ []) name.now }
 {
-    if same_text(name, a) {
-        return i;
+    if same_text(name, text) {
+        Some(value)
+    } else {
+        None
     }
-    one(name, other, b, j)
 }
 
-fn three(
-    name: &[u8],
-    other: usize,
-    a: &[u8],
-    i: usize,
-    b: &[u8],
-    j: usize,
-    c: &[u8],
-    k: usize,
-) -> usize
-    ensures { result ≡ found other ((a.now, i) ∷ (b.now, j) ∷ (c.now, k) ∷ []) name.now }
+// The word of a facet, where the name is its text.
+fn facet_if(name: &[u8], text: &[u8], facet: FacetWord) -> Option<Word>
+    ensures { result ≡ found None ((text.now, Some (Word.Facet facet)) ∷ []) name.now }
 {
-    if same_text(name, a) {
-        return i;
-    }
-    two(name, other, b, j, c, k)
+    value_if(name, text, Word::Facet(facet))
 }
 
-// The number of a word of less than 9 bytes; of 9; of 11; of another length.
-fn short_word(name: &[u8]) -> usize
-    requires { length name.now < 9 }
-    ensures { result ≡ word_number_of name.now }
-{
-    let n = name.len();
-    if n == 7 {
-        return two(name, 19, b"element", 3, b"pattern", 6);
-    }
-    if n == 8 {
-        return one(name, 19, b"sequence", 13);
-    }
-    if n == 6 {
-        return two(name, 19, b"schema", 0, b"choice", 14);
-    }
-    if n == 3 {
-        return one(name, 19, b"any", 17);
-    }
-    19
-}
-
-fn nine_word(name: &[u8]) -> usize
+// The word that a name of 9 bytes is; one of 11; one of 12.
+fn nine_word(name: &[u8]) -> Option<Word>
     requires { length name.now ≡ 9 }
-    ensures { result ≡ word_number_of name.now }
+    ensures { result ≡ known_word name.now }
 {
-    if same_text(name, b"minLength") {
-        return 7;
-    }
-    three(
-        name,
-        19,
-        b"maxLength",
-        8,
-        b"extension",
-        16,
-        b"attribute",
-        18,
-    )
+    facet_if(name, b"minLength", FacetWord::MinLength)
+        .or(facet_if(name, b"maxLength", FacetWord::MaxLength))
+        .or(value_if(name, b"extension", Word::Extension))
+        .or(value_if(name, b"attribute", Word::Attribute))
 }
 
-fn eleven_word(name: &[u8]) -> usize
+fn eleven_word(name: &[u8]) -> Option<Word>
     requires { length name.now ≡ 11 }
-    ensures { result ≡ word_number_of name.now }
+    ensures { result ≡ known_word name.now }
 {
-    if same_text(name, b"complexType") {
-        return 2;
-    }
-    three(
+    value_if(name, b"complexType", Word::ComplexType)
+        .or(value_if(name, b"restriction", Word::Restriction))
+        .or(facet_if(name, b"enumeration", FacetWord::Enumeration))
+        .or(facet_if(name, b"totalDigits", FacetWord::TotalDigits))
+}
+
+fn twelve_word(name: &[u8]) -> Option<Word>
+    requires { length name.now ≡ 12 }
+    ensures { result ≡ known_word name.now }
+{
+    facet_if(name, b"minInclusive", FacetWord::MinInclusive).or(facet_if(
         name,
-        19,
-        b"restriction",
-        4,
-        b"enumeration",
-        5,
-        b"totalDigits",
-        11,
-    )
+        b"maxInclusive",
+        FacetWord::MaxInclusive,
+    ))
 }
 
-fn long_word(name: &[u8]) -> usize
-    requires { (9 ≤ length name.now) × (length name.now ≡ 9 → ⊥) × (length name.now ≡ 11 → ⊥) }
-    ensures { result ≡ word_number_of name.now }
+// The word that a name without a prefix is, if it is one. No `match` on the texts themselves: of such a pattern the check knows only the length.
+fn known_word(name: &[u8]) -> Option<Word>
+    ensures { result ≡ known_word name.now }
 {
-    let n = name.len();
-    if n == 10 {
-        return one(name, 19, b"simpleType", 1);
+    match name.len() {
+        3 => value_if(name, b"any", Word::Any),
+        6 => value_if(name, b"schema", Word::Schema).or(value_if(name, b"choice", Word::Choice)),
+        7 => value_if(name, b"element", Word::Element).or(facet_if(
+            name,
+            b"pattern",
+            FacetWord::Pattern,
+        )),
+        8 => value_if(name, b"sequence", Word::Sequence),
+        9 => nine_word(name),
+        10 => value_if(name, b"simpleType", Word::SimpleType),
+        11 => eleven_word(name),
+        12 => twelve_word(name),
+        13 => value_if(name, b"simpleContent", Word::SimpleContent),
+        14 => facet_if(name, b"fractionDigits", FacetWord::FractionDigits),
+        _ => None,
     }
-    if n == 12 {
-        return two(name, 19, b"minInclusive", 9, b"maxInclusive", 10);
-    }
-    if n == 13 {
-        return one(name, 19, b"simpleContent", 15);
-    }
-    if n == 14 {
-        return one(name, 19, b"fractionDigits", 12);
-    }
-    19
-}
-
-fn word_number(name: &[u8]) -> usize
-    ensures { result ≡ word_number_of name.now }
-{
-    let n = name.len();
-    if n < 9 {
-        return short_word(name);
-    }
-    if n == 11 {
-        return eleven_word(name);
-    }
-    if n == 9 {
-        return nine_word(name);
-    }
-    long_word(name)
-}
-
-// The word of a number below 5; the facet of one from 5 to 12; the word of one above.
-fn head_word(number: usize) -> Word
-    requires { number < 5 }
-    ensures { result ≡ word_at number }
-{
-    match number {
-        0 => Word::Schema,
-        1 => Word::SimpleType,
-        2 => Word::ComplexType,
-        3 => Word::Element,
-        _ => Word::Restriction,
-    }
-}
-
-fn facet_word(number: usize) -> FacetWord
-    requires { (5 ≤ number) × (number < 13) }
-    ensures { Word.Facet result ≡ word_at number }
-{
-    match number {
-        5 => FacetWord::Enumeration,
-        6 => FacetWord::Pattern,
-        7 => FacetWord::MinLength,
-        8 => FacetWord::MaxLength,
-        9 => FacetWord::MinInclusive,
-        10 => FacetWord::MaxInclusive,
-        11 => FacetWord::TotalDigits,
-        _ => FacetWord::FractionDigits,
-    }
-}
-
-fn content_word(number: usize) -> Word
-    requires { (13 ≤ number) × (number ≤ 19) }
-    ensures { result ≡ word_at number }
-{
-    match number {
-        13 => Word::Sequence,
-        14 => Word::Choice,
-        15 => Word::SimpleContent,
-        16 => Word::Extension,
-        17 => Word::Any,
-        18 => Word::Attribute,
-        _ => Word::Other,
-    }
-}
-
-fn word_at(number: usize) -> Word
-    requires { number ≤ 19 }
-    ensures { result ≡ word_at number }
-{
-    if number < 5 {
-        return head_word(number);
-    }
-    if number < 13 {
-        return Word::Facet(facet_word(number));
-    }
-    content_word(number)
 }
 
 // The rest behind the first colon, the whole where there is none.
 fn behind_colon(name: &[u8]) -> &[u8]
     ensures { local_name result.now ≡ local_name name.now }
 {
-    let mut i = 0;
-    while i < name.len() {
-        if name[i] == b':' {
-            let start = i + 1;
-            return &name[start..];
-        }
-        i += 1;
+    match name.iter().position(|b| *b == b':') {
+        Some(colon) => &name[colon + 1..],
+        None => name,
     }
-    name
 }
 
 // The word of a tag's name. What is a word has no colon, so that the last colon is looked for only where it is none.
@@ -218,43 +110,36 @@ pub fn word_of(name: &[u8]) -> Word
     ensures { result ≡ word_of (local_name name.now) }
 {
     let rest = behind_colon(name);
-    let number = word_number(rest);
-    if number < 19 {
-        return word_at(number);
+    if let Some(word) = known_word(rest) {
+        return word;
     }
-    word_at(word_number(local_name(rest)))
+    known_word(local_name(rest)).unwrap_or(Word::Other)
 }
 
-// The number of a key that has no prefix.
-fn plain_key(name: &[u8]) -> usize
-    ensures { result ≡ key_of name.now }
+// The key that a name without a prefix is, if it is one.
+fn plain_key(name: &[u8]) -> Option<Key>
+    ensures { key_number result ≡ key_of name.now }
 {
-    let n = name.len();
-    if n == 4 {
-        return three(name, 9, b"name", 0, b"type", 1, b"base", 2);
+    match name.len() {
+        3 => value_if(name, b"use", Key::Use),
+        4 => value_if(name, b"name", Key::Name)
+            .or(value_if(name, b"type", Key::Type))
+            .or(value_if(name, b"base", Key::Base)),
+        5 => value_if(name, b"value", Key::Value),
+        9 => value_if(name, b"minOccurs", Key::MinOccurs)
+            .or(value_if(name, b"maxOccurs", Key::MaxOccurs))
+            .or(value_if(name, b"namespace", Key::Namespace)),
+        15 => value_if(name, b"targetNamespace", Key::TargetNamespace),
+        _ => None,
     }
-    if n == 9 {
-        return three(name, 9, b"minOccurs", 4, b"maxOccurs", 5, b"namespace", 7);
-    }
-    if n == 5 {
-        return one(name, 9, b"value", 3);
-    }
-    if n == 3 {
-        return one(name, 9, b"use", 6);
-    }
-    if n == 15 {
-        return one(name, 9, b"targetNamespace", 8);
-    }
-    9
 }
 
-// The number of an attribute's key, 9 where it is none of the nine. What is a key has no colon.
-pub fn key_of(name: &[u8]) -> usize
-    ensures { result ≡ key_of (local_name name.now) }
+// The key of an attribute, if it is one of the nine. What is a key has no colon.
+pub fn key_of(name: &[u8]) -> Option<Key>
+    ensures { key_number result ≡ key_of (local_name name.now) }
 {
-    let key = plain_key(name);
-    if key < 9 {
-        return key;
+    if let Some(key) = plain_key(name) {
+        return Some(key);
     }
     plain_key(local_name(name))
 }

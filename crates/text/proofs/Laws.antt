@@ -6,3 +6,4 @@ pub mod Local
 pub mod Bits
 pub mod Table
 pub mod Trim
+pub mod Std

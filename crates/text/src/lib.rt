@@ -11,63 +11,39 @@ ghost use Rattle.text.specs.Trim.{is_white_space, trim_start, trim_end, trimmed}
 pub fn is_text(s: &[u8]) -> bool
     ensures { result ≡ is_text s.now }
 {
-    let mut all = 0;
-    let mut i = 0;
-    while i < s.len() {
-        all = all | s[i];
-        i += 1;
-    }
-    all < 128
+    s.iter().fold(0, |all, b| all | *b) < 128
 }
 
+// The slice's method, with its answer in the words of specs/Text.antt, which callers cite.
 pub fn has_byte(s: &[u8], c: u8) -> bool
     ensures { result ≡ contains c s.now }
 {
-    let mut found = false;
-    let mut i = 0;
-    while i < s.len() {
-        found = found | (s[i] == c);
-        i += 1;
-    }
-    found
+    s.contains(&c)
 }
 
-// The byte at i, 0 past the end.
+// The byte at i, 0 past the end: no Option, since `first` of callers' contracts is 0 there.
 pub fn byte_at(s: &[u8], i: usize) -> u8
     ensures { result ≡ first (drop i s.now) }
 {
-    if i < s.len() { s[i] } else { 0 }
+    s.get(i).copied().unwrap_or(0)
 }
 
+// `==`, with its answer in the words of specs/Text.antt, which callers cite.
+#[tactic(auto, using(crate::proofs::Laws::Std::same_is))]
 pub fn same_text(a: &[u8], b: &[u8]) -> bool
     ensures { result ≡ same a.now b.now }
 {
-    if a.len() != b.len() {
-        return false;
-    }
-    let mut i = 0;
-    while i < a.len() {
-        if a[i] != b[i] {
-            return false;
-        }
-        i += 1;
-    }
-    true
+    a == b
 }
 
 // The part of a qualified name after its last colon.
 pub fn local_name(name: &[u8]) -> &[u8]
     ensures { LocalPart name.entry.ref_ptr name.now result.ref_ptr result.now }
 {
-    let mut start = 0;
-    let mut i = 0;
-    while i < name.len() {
-        if name[i] == b':' {
-            start = i + 1;
-        }
-        i += 1;
+    match name.iter().rposition(|b| *b == b':') {
+        Some(i) => &name[i + 1..],
+        None => name,
     }
-    &name[start..]
 }
 
 // Whether the local name of a part is the word, which has no colon: no local name is made.
@@ -75,54 +51,40 @@ pub fn local_is(part: &[u8], word: &[u8]) -> bool
     requires { contains colon word.now ≡ false }
     ensures { result ≡ same (local_name part.now) word.now }
 {
-    let n = part.len();
-    let k = word.len();
-    if n < k {
-        return false;
+    match part.strip_suffix(word) {
+        Some([]) => true,
+        Some([.., last]) => *last == b':',
+        None => false,
     }
-    let start = n - k;
-    if !same_text(&part[start..], word) {
-        return false;
-    }
-    if start == 0 {
-        return true;
-    }
-    part[start - 1] == b':'
 }
 
 // Tab, line feed, carriage return or space: XML's white space, not that of C, which has two more.
+#[tactic(auto, unfolding(crate::specs::Trim::is_white_space))]
 pub fn is_white_space(b: u8) -> bool
     ensures { result ≡ is_white_space b }
 {
-    (b == 9) | (b == 10) | (b == 13) | (b == 32)
+    matches!(b, b'\t' | b'\n' | b'\r' | b' ')
 }
 
 fn trim_start(s: &[u8]) -> &[u8]
     ensures { result.now ≡ trim_start s.now }
 {
-    let mut i = 0;
-    while i < s.len() {
-        if !is_white_space(s[i]) {
-            return &s[i..];
-        }
-        i += 1;
+    match s.iter().position(|b| !is_white_space(*b)) {
+        Some(i) => &s[i..],
+        None => &[],
     }
-    &s[i..]
 }
 
 fn trim_end(s: &[u8]) -> &[u8]
     ensures { result.now ≡ trim_end s.now }
 {
-    let mut end = s.len();
-    while 0 < end {
-        if !is_white_space(s[end - 1]) {
-            return &s[..end];
-        }
-        end -= 1;
+    match s.iter().rposition(|b| !is_white_space(*b)) {
+        Some(i) => &s[..i + 1],
+        None => &[],
     }
-    &s[..end]
 }
 
+#[tactic(auto, unfolding(crate::specs::Trim::trimmed))]
 pub fn trimmed(s: &[u8]) -> &[u8]
     ensures { result.now ≡ trimmed s.now }
 {

@@ -2,10 +2,9 @@
 --     class_of       the class of a `Class`
 --     class_table    the classes of each byte, a bit for each class; bit_of: the bit of a class; has_bit: flags have a bit
 --     moved         where a step ends, with the bytes left there
---     Beside        up to where two parts of a text go on beside each other
 --     SameUpTo      where two names have been held against each other; matched: a name that is the name at another place
 --     body_of        the step of a `Body`
-use Rattle.std.specs.Prelude.{ℕ, ◌+◌, ◌-◌, ◌/◌, ◌%◌, ◌^◌, ◌≤◌, ◌<◌, ◌≡◌, ◌⊎◌, List, [], ◌∷◌, Bool, true, get_or, drop, eqb, if◌then◌else◌}
+use Rattle.std.specs.Prelude.{ℕ, ◌/◌, ◌%◌, ◌^◌, ◌≡◌, List, [], ◌∷◌, Bool, true, Option, Some, None, get_or, drop, eqb, if◌then◌else◌}
 use Rattle.text.specs.Text.{Text, is_digit, same}
 use Rattle.text.specs.Trim.{is_white_space}
 use Rattle.xml.specs.Classes.{is_letter, is_name_start, is_name, is_encoding}
@@ -13,7 +12,6 @@ use Rattle.xml.specs.Steps.{Step, bad, behind, many, name, name_of}
 use Rattle.xml.specs.Values.{is_in_text, is_in_value}
 use Rattle.xml.specs.Prolog.{version_number, encoding_name, yes_or_no}
 use Rattle.xml_parts.specs.declared.classes.Class.{Class}
-use Rattle.xml_parts.specs.declared.steps.Moved.{Moved}
 use Rattle.xml_parts.specs.declared.prolog.Body.{Body}
 
 abbrev pub class_of : Class → ℕ → Bool
@@ -51,15 +49,9 @@ bit_of Class.InValue = 7
 unfoldable pub has_bit : ℕ → ℕ → Bool
 has_bit flags k = eqb (flags / 2 ^ k % 2) 1
 
-abbrev pub moved : Text → Moved → Step
-moved text (Moved.To e) = behind e (drop e text)
-moved text Moved.Bad = bad
-
--- from a up to r the text of n bytes has bytes, and as many from b on; one of the two ends there
-pub record Beside (n a b r : ℕ) : Type 0 where
-  pub from : a ≤ r
-  pub inside : (i : ℕ) → a ≤ i → i < r → (i < n) × (b + (i - a) < n)
-  pub ends : (n ≤ r) ⊎ (n ≤ b + (r - a))
+abbrev pub moved : Text → Option ℕ → Step
+moved text (Some e) = behind e (drop e text)
+moved text None = bad
 
 -- the names at a and b are the same where those at i and j are, and the run of the first goes on at i: a byte that is no name's, or differs from the one at j
 pub record SameUpTo (text : Text) (a b i j : ℕ) : Type 0 where

@@ -16,20 +16,15 @@ pub enum Class {
 }
 
 // Whether a code point is a character.
+#[tactic(auto, unfolding(xml::specs::Classes::is_char, text::specs::Text::between))]
 pub fn is_char(c: u32) -> bool
     ensures { result ≡ is_char c }
 {
-    (c == 9)
-        | (c == 10)
-        | (c == 13)
-        | ((32 <= c) & (c <= 55295))
-        | ((57344 <= c) & (c <= 65533))
-        | ((65536 <= c) & (c <= 1114111))
+    matches!(c, 9 | 10 | 13 | 32..=55295 | 57344..=65533 | 65536..=1114111)
 }
 
-// The classes of each byte, a bit for each class. A call lays it down once and lends it to all that look at bytes: a run over a class is then one look into
-// memory for each byte.
-pub const CLASSES: [u8; 256] = [
+// The classes of each byte, a bit for each class.
+const CLASSES: [u8; 256] = [
     0, 0, 0, 0, 0, 0, 0, 0, 0, 193, 193, 0, 0, 193, 0, 0, 0, 0, 0, 0, 0, 0, 0, 0, 0, 0, 0, 0, 0, 0,
     0, 0, 193, 192, 64, 192, 192, 192, 0, 64, 192, 192, 192, 192, 192, 228, 228, 192, 236, 236,
     236, 236, 236, 236, 236, 236, 236, 236, 198, 192, 0, 192, 192, 192, 192, 246, 246, 246, 246,
@@ -49,16 +44,7 @@ pub const CLASSES: [u8; 256] = [
 fn bit_of(class: Class) -> u8
     ensures { result ≡ bit_of class }
 {
-    match class {
-        Class::Space => 0,
-        Class::NameStart => 1,
-        Class::Name => 2,
-        Class::Digit => 3,
-        Class::Letter => 4,
-        Class::Encoding => 5,
-        Class::InText => 6,
-        Class::InValue => 7,
-    }
+    class as u8
 }
 
 fn has_bit(flags: u8, k: u8) -> bool
@@ -68,16 +54,29 @@ fn has_bit(flags: u8, k: u8) -> bool
     (flags >> k) % 2 == 1
 }
 
-pub fn in_class(classes: &[u8; 256], class: Class, b: u8) -> bool
-    requires { classes.now ≡ class_table }
-    ensures { result ≡ class_of class b }
-{
-    has_bit(classes[b as usize], bit_of(class))
+// The table, which a call lays down once and lends to all that look at bytes: a run over a class is then one look into memory for each byte. It is lent
+// beside the text and not in one struct with it: the steps over words and characters read no class, and the contract of each other step would say
+// `source.now.text.now` where it says `text.now`.
+#[derive(Drop)]
+pub struct Classes {
+    bits: [u8; 256],
+    ghost table: { bits ≡ class_table },
 }
 
-pub fn is_name(classes: &[u8; 256], b: u8) -> bool
-    requires { classes.now ≡ class_table }
-    ensures { result ≡ is_name b }
-{
-    in_class(classes, Class::Name, b)
+impl Classes {
+    pub fn new() -> Classes {
+        Classes { bits: CLASSES }
+    }
+
+    pub fn in_class(&self, class: Class, b: u8) -> bool
+        ensures { result ≡ class_of class b }
+    {
+        has_bit(self.bits[b as usize], bit_of(class))
+    }
+
+    pub fn is_name(&self, b: u8) -> bool
+        ensures { result ≡ is_name b }
+    {
+        self.in_class(Class::Name, b)
+    }
 }

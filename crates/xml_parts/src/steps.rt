@@ -3,145 +3,115 @@ ghost use Rattle.std.specs.Prelude.{◌≡◌, length, drop};
 ghost use Rattle.text.specs.Text.{bytes, same};
 ghost use Rattle.xml.specs.Steps.{behind, starts_with, literal, many, one_then, spaces, name, name_of, until, comment, target, instruction_end, instruction, section};
 ghost use Rattle.xml.specs.Grammar.{is_xml};
-ghost use Rattle.xml_parts.specs.Answers.{class_of, moved, class_table, Beside, SameUpTo, matched};
+ghost use Rattle.xml_parts.specs.Answers.{class_of, moved, SameUpTo, matched};
 
-use crate::classes::{Class, in_class, is_char, is_name};
-use plain_bytes::skip_comment;
-use text::ascii;
-
-// Where a step ends.
-#[derive(Clone, Copy)]
-pub enum Moved {
-    To(usize),
-    Bad,
-}
+use crate::classes::{Class, Classes, is_char};
+use plain_bytes::{CommentRun, skip};
 
 // Whether the word stands at a position.
 pub fn starts(text: &[u8], at: usize, word: &[u8]) -> bool
     ensures { result ≡ starts_with word.now (drop at text.now) }
 {
-    let mut i = at;
-    let mut k = 0;
-    while k < word.len() {
-        if text.len() <= i {
+    for (k, b) in word.iter().enumerate() {
+        if text.len() <= at + k {
             return false;
         }
-        if text[i] != word[k] {
+        if text[at + k] != *b {
             return false;
         }
-        i += 1;
-        k += 1;
     }
     true
 }
 
-pub fn literal(text: &[u8], at: usize, word: &[u8]) -> Moved
+pub fn literal(text: &[u8], at: usize, word: &[u8]) -> Option<usize>
     ensures { moved text.now result ≡ literal word.now at (drop at text.now) }
 {
     if starts(text, at, word) {
-        Moved::To(at + word.len())
+        Some(at + word.len())
     } else {
-        Moved::Bad
+        None
     }
 }
 
 // Behind the bytes of a class that stand at a position.
-pub fn many(classes: &[u8; 256], text: &[u8], at: usize, class: Class) -> usize
-    requires { classes.now ≡ class_table }
+pub fn many(classes: &Classes, text: &[u8], at: usize, class: Class) -> usize
     ensures { behind result (drop result text.now) ≡ many (class_of class) at (drop at text.now) }
 {
-    let mut i = at;
-    while i < text.len() {
-        if !in_class(classes, class, text[i]) {
+    for i in at..text.len() {
+        if !classes.in_class(class, text[i]) {
             return i;
         }
-        i += 1;
     }
-    i
+    at.max(text.len())
 }
 
-pub fn spaces(classes: &[u8; 256], text: &[u8], at: usize) -> usize
-    requires { classes.now ≡ class_table }
+#[tactic(auto, unfolding(xml::specs::Steps::spaces))]
+pub fn spaces(classes: &Classes, text: &[u8], at: usize) -> usize
     ensures { behind result (drop result text.now) ≡ spaces at (drop at text.now) }
 {
     many(classes, text, at, Class::Space)
 }
 
 // A byte of one class, then as many of another as stand there.
-pub fn one_then(classes: &[u8; 256], text: &[u8], at: usize, one: Class, class: Class) -> Moved
-    requires { classes.now ≡ class_table }
+pub fn one_then(
+    classes: &Classes,
+    text: &[u8],
+    at: usize,
+    one: Class,
+    class: Class,
+) -> Option<usize>
     ensures { moved text.now result ≡ one_then (class_of one) (class_of class) at (drop at text.now) }
 {
-    if text.len() <= at {
-        return Moved::Bad;
+    if !classes.in_class(one, *text.get(at)?) {
+        return None;
     }
-    if !in_class(classes, one, text[at]) {
-        return Moved::Bad;
-    }
-    Moved::To(many(classes, text, at + 1, class))
+    Some(many(classes, text, at + 1, class))
 }
 
-pub fn name(classes: &[u8; 256], text: &[u8], at: usize) -> Moved
-    requires { classes.now ≡ class_table }
+#[tactic(auto, unfolding(xml::specs::Steps::name))]
+pub fn name(classes: &Classes, text: &[u8], at: usize) -> Option<usize>
     ensures { moved text.now result ≡ name at (drop at text.now) }
 {
     one_then(classes, text, at, Class::NameStart, Class::Name)
 }
 
 // Whether the names at two positions are the same.
-pub fn same_name(classes: &[u8; 256], text: &[u8], a: usize, b: usize) -> bool
-    requires { classes.now ≡ class_table }
+pub fn same_name(classes: &Classes, text: &[u8], a: usize, b: usize) -> bool
     ensures { result ≡ same (name_of (drop a text.now)) (name_of (drop b text.now)) }
 {
-    let mut i = a;
-    let mut j = b;
-    loop {
-        let x = text::byte_at(text, i);
-        let y = text::byte_at(text, j);
-        if !is_name(classes, x) {
-            return !is_name(classes, y);
-        }
-        if x != y {
-            return false;
-        }
-        i += 1;
-        j += 1;
-    }
+    let (i, j) = same_end(classes, text, a, b);
+    let (x, y) = (text::byte_at(text, i), text::byte_at(text, j));
+    !classes.is_name(x) & !classes.is_name(y)
 }
 
 // Behind the first place of the word, with only characters before it.
-pub fn until(text: &[u8], at: usize, word: &[u8]) -> Moved
+pub fn until(text: &[u8], at: usize, word: &[u8]) -> Option<usize>
     ensures { moved text.now result ≡ until word.now at (drop at text.now) }
 {
-    let mut i = at;
-    while i < text.len() {
+    for i in at..text.len() {
         if starts(text, i, word) {
-            return literal(text, i, word);
+            return Some(i + word.len());
         }
         if !is_char(text[i] as u32) {
-            return Moved::Bad;
+            return None;
         }
-        i += 1;
     }
-    Moved::Bad
+    None
 }
 
 // Behind the first `--`, over the bytes before it eight at a time as far as they need no look.
-fn comment_text(text: &[u8], at: usize) -> Moved
+fn comment_text(text: &[u8], at: usize) -> Option<usize>
     ensures { moved text.now result ≡ until (bytes "--") at (drop at text.now) }
 {
-    until(text, skip_comment(text, at), b"--")
+    until(text, skip::<CommentRun>(text, at), b"--")
 }
 
-pub fn comment(text: &[u8], at: usize) -> Moved
+#[tactic(auto, unfolding(xml::specs::Steps::comment, text::specs::Text::bytes))]
+pub fn comment(text: &[u8], at: usize) -> Option<usize>
     ensures { moved text.now result ≡ comment at (drop at text.now) }
 {
-    let Moved::To(inside) = literal(text, at, b"<!--") else {
-        return Moved::Bad;
-    };
-    let Moved::To(end) = comment_text(text, inside) else {
-        return Moved::Bad;
-    };
+    let inside = literal(text, at, b"<!--")?;
+    let end = comment_text(text, inside)?;
     literal(text, end, b">")
 }
 
@@ -149,29 +119,21 @@ pub fn comment(text: &[u8], at: usize) -> Moved
 pub fn is_xml(name: &[u8]) -> bool
     ensures { result ≡ is_xml name.now }
 {
-    if name.len() != 3 {
-        return false;
-    }
-    let x = ascii::to_lower(name[0]) == b'x';
-    let m = ascii::to_lower(name[1]) == b'm';
-    let l = ascii::to_lower(name[2]) == b'l';
-    x & m & l
+    name.eq_ignore_ascii_case(b"xml")
 }
 
-pub fn pi_target(classes: &[u8; 256], text: &[u8], at: usize) -> Moved
-    requires { classes.now ≡ class_table }
+pub fn pi_target(classes: &Classes, text: &[u8], at: usize) -> Option<usize>
     ensures { moved text.now result ≡ target at (drop at text.now) }
 {
-    let Moved::To(end) = name(classes, text, at) else {
-        return Moved::Bad;
-    };
+    let end = name(classes, text, at)?;
     if is_xml(&text[at..end]) {
-        return Moved::Bad;
+        return None;
     }
-    Moved::To(end)
+    Some(end)
 }
 
-pub fn instruction_end(text: &[u8], at: usize) -> Moved
+#[tactic(auto, unfolding(xml::specs::Steps::instruction_end, text::specs::Text::bytes))]
+pub fn instruction_end(text: &[u8], at: usize) -> Option<usize>
     ensures { moved text.now result ≡ instruction_end at (drop at text.now) }
 {
     if text::is_white_space(text::byte_at(text, at)) {
@@ -181,79 +143,50 @@ pub fn instruction_end(text: &[u8], at: usize) -> Moved
     }
 }
 
-pub fn instruction(classes: &[u8; 256], text: &[u8], at: usize) -> Moved
-    requires { classes.now ≡ class_table }
+#[tactic(auto, unfolding(xml::specs::Steps::instruction, text::specs::Text::bytes))]
+pub fn instruction(classes: &Classes, text: &[u8], at: usize) -> Option<usize>
     ensures { moved text.now result ≡ instruction at (drop at text.now) }
 {
-    let Moved::To(inside) = literal(text, at, b"<?") else {
-        return Moved::Bad;
-    };
-    let Moved::To(end) = pi_target(classes, text, inside) else {
-        return Moved::Bad;
-    };
+    let inside = literal(text, at, b"<?")?;
+    let end = pi_target(classes, text, inside)?;
     instruction_end(text, end)
 }
 
-pub fn section(text: &[u8], at: usize) -> Moved
+#[tactic(auto, unfolding(xml::specs::Steps::section, text::specs::Text::bytes))]
+pub fn section(text: &[u8], at: usize) -> Option<usize>
     ensures { moved text.now result ≡ section at (drop at text.now) }
 {
-    let Moved::To(inside) = literal(text, at, b"<![CDATA[") else {
-        return Moved::Bad;
-    };
+    let inside = literal(text, at, b"<![CDATA[")?;
     until(text, inside, b"]]>")
 }
 
-// Two places, up to which two names are the same.
-#[derive(Clone, Copy)]
-pub struct Places(pub usize, pub usize);
-
-// Up to where the bytes from one place on have bytes from another place on beside them.
-fn beside(n: usize, a: usize, b: usize) -> usize
-    ensures { Beside n a b result }
-{
-    if a < b {
-        if b < n { a + (n - b) } else { a }
-    } else {
-        if a < n { n } else { a }
-    }
-}
-
 // Where the names at two places end or differ.
-pub fn same_end(classes: &[u8; 256], text: &[u8], a: usize, b: usize) -> Places
-    requires { classes.now ≡ class_table }
+pub fn same_end(classes: &Classes, text: &[u8], a: usize, b: usize) -> (usize, usize)
     ensures { SameUpTo text.now a b result.0 result.1 }
 {
-    let end = beside(text.len(), a, b);
-    let mut i = a;
-    let mut j = b;
-    while i < end {
-        let x = text[i];
-        if x != text[j] {
-            return Places(i, j);
+    let beside = text.len().saturating_sub(a.max(b));
+    for k in 0..beside {
+        let x = text[a + k];
+        if (x != text[b + k]) | !classes.is_name(x) {
+            return (a + k, b + k);
         }
-        if !is_name(classes, x) {
-            return Places(i, j);
-        }
-        i += 1;
-        j += 1;
     }
-    Places(i, j)
+    (a + beside, b + beside)
 }
 
 // Behind the name at a position, where it is the name at another one.
-pub fn matched_name(classes: &[u8; 256], text: &[u8], at: usize, top: usize) -> Moved
-    requires { classes.now ≡ class_table }
+pub fn matched_name(classes: &Classes, text: &[u8], at: usize, top: usize) -> Option<usize>
     ensures { moved text.now result ≡ matched text.now at top }
 {
-    let ends = same_end(classes, text, at, top);
-    if is_name(classes, text::byte_at(text, ends.0)) {
-        return Moved::Bad;
+    let (end, other) = same_end(classes, text, at, top);
+    if classes.is_name(text::byte_at(text, end)) {
+        return None;
     }
-    if is_name(classes, text::byte_at(text, ends.1)) {
-        return Moved::Bad;
+    if classes.is_name(text::byte_at(text, other)) {
+        return None;
     }
-    if !in_class(classes, Class::NameStart, text::byte_at(text, at)) {
-        return Moved::Bad;
+    if !classes.in_class(Class::NameStart, text::byte_at(text, at)) {
+        return None;
     }
-    Moved::To(ends.0)
+    Some(end)
 }

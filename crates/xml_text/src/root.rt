@@ -4,32 +4,24 @@ ghost use Rattle.text.specs.Text.{Text, bytes};
 ghost use Rattle.xml.specs.Root.{passed_by, close, markup, level_of, level_of_tag, turn, inside, root};
 ghost use Rattle.xml.specs.Steps.{starts_with};
 ghost use Rattle.xml.specs.Tags.{tag};
-ghost use Rattle.xml_parts.specs.Answers.{moved, class_table};
 ghost use Rattle.xml_text.specs.Answers.{next_piece, PieceIn, names_up_to, GoesOn, IsRoot};
 
 use crate::marks::put;
-use crate::tags::{WholeTag, tag};
-use xml_parts::steps::{
-    Moved, comment, instruction, literal, matched_name, section, spaces, starts,
-};
+use crate::onward::Onward;
+use crate::tags::tag;
+use xml_parts::classes::Classes;
+use xml_parts::steps::{comment, instruction, literal, matched_name, section, spaces, starts};
 use xml_parts::values::char_data;
-use xsd_parser::kinds;
+use xsd_parser::kinds::Kind;
+
+// The number that the tape holds for a start.
+const START: u32 = Kind::Start as u32;
 
 // What stands next inside the root, but for an end tag: a piece without an event, or another tag.
 #[derive(Clone, Copy)]
 pub enum Content {
-    Wrong,
     Passed(usize),
     Starting(usize),
-}
-
-fn passed(m: Moved) -> Content
-    ensures { (text : Text) → next_piece text result ≡ passed_by (moved text m) }
-{
-    match m {
-        Moved::To(e) => Content::Passed(e),
-        Moved::Bad => Content::Wrong,
-    }
 }
 
 // Whether a comment, a section or an instruction may stand at a position.
@@ -39,179 +31,168 @@ fn is_marked(text: &[u8], at: usize) -> bool
     starts(text, at, b"<!") | starts(text, at, b"<?")
 }
 
-fn markup(classes: &[u8; 256], text: &[u8], at: usize) -> Content
-    requires text_value { starts_with (bytes "</") (drop at text.now) ≡ false }
-    requires classes_value { classes.now ≡ class_table }
+fn markup(classes: &Classes, text: &[u8], at: usize) -> Option<Content>
+    requires { starts_with (bytes "</") (drop at text.now) ≡ false }
     ensures { (next_piece text.now result ≡ markup at (drop at text.now)) × PieceIn (length text.now) at result }
 {
     if !is_marked(text, at) {
-        return Content::Starting(at);
+        return Some(Content::Starting(at));
     }
     if starts(text, at, b"<!--") {
-        return passed(comment(text, at));
+        return Some(Content::Passed(comment(text, at)?));
     }
     if starts(text, at, b"<![CDATA[") {
-        return passed(section(text, at));
+        return Some(Content::Passed(section(text, at)?));
     }
     if starts(text, at, b"<?") {
-        return passed(instruction(classes, text, at));
+        return Some(Content::Passed(instruction(classes, text, at)?));
     }
-    Content::Starting(at)
-}
-
-// How many tags are open behind a piece, how many marks are used, and the position behind it.
-#[derive(Clone, Copy)]
-pub enum Onward {
-    Stop,
-    On(usize, usize, usize),
+    Some(Content::Starting(at))
 }
 
 fn open_tag(
-    classes: &[u8; 256],
+    classes: &Classes,
     text: &[u8],
     slots: &mut [u16],
     marks: &mut [u32],
-    at: usize,
-    count: usize,
-    used: usize,
-) -> Onward
-    requires text_len_bound { (length text.now ≤ 65536) × (length text.now < 3 * length slots.old) × (3 * count ≤ at) × (used ≤ 2 * at) × (count < length slots.old) × (used ≤ 131072) }
-    requires classes_value { classes.now ≡ class_table }
-    ensures { GoesOn text.now at slots.new marks.old used marks.new result (level_of_tag (names_up_to text.now slots.old count) (tag at (drop at text.now))) }
+    here: Onward,
+) -> Option<Onward>
+    requires { (length text.now ≤ 65536) × (length text.now < 3 * length slots.old) × (here.count < length slots.old) × (here.used ≤ 131072) }
+    ensures { GoesOn text.now here.at slots.new marks.old here.used marks.new result (level_of_tag (names_up_to text.now slots.old here.count) (tag here.at (drop here.at text.now))) }
 {
-    let WholeTag::To(kind, start, used_behind, behind) = tag(
+    let whole = tag(
         classes,
         text,
-        at,
-        &mut slots[count..],
+        here.at,
+        &mut slots[here.count..],
         marks,
-        used,
-    ) else {
-        return Onward::Stop;
-    };
-    if kind == kinds::START {
-        slots[count] = start as u16;
-        return Onward::On(count + 1, used_behind, behind);
+        here.used,
+    )?;
+    let (used, at) = (whole.used, whole.behind);
+    if whole.kind == START {
+        slots[here.count] = whole.start as u16;
+        return Some(Onward {
+            count: here.count + 1,
+            used,
+            at,
+        });
     }
-    Onward::On(count, used_behind, behind)
+    Some(Onward {
+        count: here.count,
+        used,
+        at,
+    })
 }
 
 // An end tag, whose name is held against that of the innermost open tag while it is read.
 fn close_tag(
-    classes: &[u8; 256],
+    classes: &Classes,
     text: &[u8],
     slots: &[u16],
     marks: &mut [u32],
-    at: usize,
-    count: usize,
-    used: usize,
-) -> Onward
-    requires text_len_bound { (length text.now ≤ 65536) × (count ≤ length slots.now) × (0 < count) × (3 * count ≤ at) × (used ≤ 2 * at) × (used ≤ 131072) }
-    requires classes_value { classes.now ≡ class_table }
-    ensures { GoesOn text.now at slots.now marks.old used marks.new result (level_of (names_up_to text.now slots.now count) (close at (drop at text.now))) }
+    here: Onward,
+) -> Option<Onward>
+    requires { (length text.now ≤ 65536) × (here.count ≤ length slots.now) × (0 < here.count) × (here.used ≤ 131072) }
+    ensures { GoesOn text.now here.at slots.now marks.old here.used marks.new result (level_of (names_up_to text.now slots.now here.count) (close here.at (drop here.at text.now))) }
 {
-    let Moved::To(start) = literal(text, at, b"</") else {
-        return Onward::Stop;
-    };
-    let top = slots[count - 1] as usize;
-    let Moved::To(end) = matched_name(classes, text, start, top) else {
-        return Onward::Stop;
-    };
-    let Moved::To(behind) = literal(text, spaces(classes, text, end), b">") else {
-        return Onward::Stop;
-    };
-    put(marks, used, kinds::CLOSE);
-    put(marks, used + 1, 0);
-    Onward::On(count - 1, used + 2, behind)
+    let start = literal(text, here.at, b"</")?;
+    let top = slots[here.count - 1] as usize;
+    let end = matched_name(classes, text, start, top)?;
+    let behind = literal(text, spaces(classes, text, end), b">")?;
+    put(marks, here.used, Kind::Close as u32);
+    put(marks, here.used + 1, 0);
+    Some(Onward {
+        count: here.count - 1,
+        used: here.used + 2,
+        at: behind,
+    })
 }
 
 fn turn(
-    classes: &[u8; 256],
+    classes: &Classes,
     text: &[u8],
     slots: &mut [u16],
     marks: &mut [u32],
-    at: usize,
-    count: usize,
-    used: usize,
-) -> Onward
-    requires text_len_bound { (length text.now ≤ 65536) × (length text.now < 3 * length slots.old) × (3 * count ≤ at) × (used ≤ 2 * at) × (at ≤ length text.now) × (0 < count) }
-    requires classes_value { classes.now ≡ class_table }
-    ensures { GoesOn text.now at slots.new marks.old used marks.new result (turn (names_up_to text.now slots.old count) at (drop at text.now)) }
+    here: Onward,
+) -> Option<Onward>
+    requires { (length text.now ≤ 65536) × (length text.now < 3 * length slots.old) × (here.at ≤ length text.now) × (0 < here.count) }
+    ensures { GoesOn text.now here.at slots.new marks.old here.used marks.new result (turn (names_up_to text.now slots.old here.count) here.at (drop here.at text.now)) }
 {
-    let Moved::To(start) = char_data(classes, text, at) else {
-        return Onward::Stop;
-    };
+    let (count, used) = (here.count, here.used);
+    let start = char_data(classes, text, here.at)?;
     if starts(text, start, b"</") {
-        return close_tag(classes, text, slots, marks, start, count, used);
+        let tag = Onward {
+            count,
+            used,
+            at: start,
+        };
+        return close_tag(classes, text, slots, marks, tag);
     }
-    match markup(classes, text, start) {
-        Content::Wrong => Onward::Stop,
-        Content::Passed(behind) => Onward::On(count, used, behind),
-        Content::Starting(from) => open_tag(classes, text, slots, marks, from, count, used),
+    let piece = markup(classes, text, start)?;
+    match piece {
+        Content::Passed(at) => Some(Onward { count, used, at }),
+        Content::Starting(at) => {
+            let tag = Onward { count, used, at };
+            open_tag(classes, text, slots, marks, tag)
+        }
     }
 }
 
 // The marks used by the root, and the position behind it.
 #[derive(Clone, Copy)]
-pub enum WholeRoot {
-    Bad,
-    To(usize, usize),
+pub struct WholeRoot {
+    pub used: usize,
+    pub behind: usize,
 }
 
 fn inside(
-    classes: &[u8; 256],
+    classes: &Classes,
     text: &[u8],
     slots: &mut [u16],
     marks: &mut [u32],
-    at: usize,
-    count: usize,
-    used: usize,
-) -> WholeRoot
-    requires text_len_bound { (length text.now ≤ 65536) × (length text.now < 3 * length slots.old) × (3 * count ≤ at) × (used ≤ 2 * at) × (at ≤ length text.now) }
-    requires classes_value { classes.now ≡ class_table }
-    ensures { IsRoot text.now marks.old used marks.new result (inside (suc (length (drop at text.now))) (names_up_to text.now slots.old count) at (drop at text.now)) }
+    from: Onward,
+) -> Option<WholeRoot>
+    requires { (length text.now ≤ 65536) × (length text.now < 3 * length slots.old) × (from.at ≤ length text.now) }
+    ensures { IsRoot text.now marks.old from.used marks.new result (inside (suc (length (drop from.at text.now))) (names_up_to text.now slots.old from.count) from.at (drop from.at text.now)) }
 {
-    let mut i = at;
-    let mut left = count;
-    let mut n = used;
-    while 0 < left {
-        let Onward::On(next_left, next_n, next) = turn(classes, text, slots, marks, i, left, n)
-        else {
-            return WholeRoot::Bad;
-        };
-        left = next_left;
-        n = next_n;
-        i = next;
+    let mut here = from;
+    while 0 < here.count {
+        here = turn(classes, text, slots, marks, here)?;
     }
-    WholeRoot::To(n, i)
+    Some(WholeRoot {
+        used: here.used,
+        behind: here.at,
+    })
 }
 
 // The root, with places enough for the names of open tags and the keys of a tag: each took three bytes at least.
 fn root_over(
-    classes: &[u8; 256],
+    classes: &Classes,
     text: &[u8],
     slots: &mut [u16],
     marks: &mut [u32],
     at: usize,
-) -> WholeRoot
-    requires text_len_bound { (length text.now ≤ 65536) × (length text.now < 3 * length slots.old) }
-    requires classes_value { classes.now ≡ class_table }
+) -> Option<WholeRoot>
+    requires { (length text.now ≤ 65536) × (length text.now < 3 * length slots.old) }
     ensures { IsRoot text.now marks.old 0 marks.new result (root at (drop at text.now)) }
 {
-    let WholeTag::To(kind, start, used, behind) = tag(classes, text, at, slots, marks, 0) else {
-        return WholeRoot::Bad;
-    };
-    if kind == kinds::START {
-        slots[0] = start as u16;
-        return inside(classes, text, slots, marks, behind, 1, used);
+    let whole = tag(classes, text, at, slots, marks, 0)?;
+    let (used, behind) = (whole.used, whole.behind);
+    if whole.kind == START {
+        slots[0] = whole.start as u16;
+        let first = Onward {
+            count: 1,
+            used,
+            at: behind,
+        };
+        return inside(classes, text, slots, marks, first);
     }
-    WholeRoot::To(used, behind)
+    Some(WholeRoot { used, behind })
 }
 
 // A short text takes few places, so that few have to be cleared.
-pub fn root(classes: &[u8; 256], text: &[u8], marks: &mut [u32], at: usize) -> WholeRoot
-    requires text_len_bound { length text.now ≤ 65536 }
-    requires classes_value { classes.now ≡ class_table }
+pub fn root(classes: &Classes, text: &[u8], marks: &mut [u32], at: usize) -> Option<WholeRoot>
+    requires { length text.now ≤ 65536 }
     ensures { IsRoot text.now marks.old 0 marks.new result (root at (drop at text.now)) }
 {
     if text.len() < 3072 {

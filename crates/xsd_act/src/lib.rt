@@ -5,7 +5,7 @@
 pub mod needs;
 pub mod put;
 
-ghost use Rattle.std.specs.Prelude.{◌≤◌, length};
+ghost use Rattle.std.specs.Prelude.{◌≤◌, length, Ok};
 ghost use Rattle.sheet.specs.Limits.{names_limit};
 ghost use Rattle.xsd_actions.specs.Answers.{decision};
 ghost use Rattle.xsd_act.specs.Acts.{ActRoom, Done};
@@ -29,12 +29,11 @@ pub fn act(
     text: &[u8],
     marks: &[u32],
 ) -> Used
-    requires room { ActRoom rows.old names.old used head (decision text.now marks.now d) }
+    requires room { ActRoom rows.old names.old used head (decision text.now marks.now (Ok d)) }
     requires names { length names.old ≤ names_limit }
-    ensures { Done rows.old names.old used head (decision text.now marks.now d) rows.new names.new result }
+    ensures { Done rows.old names.old used head (decision text.now marks.now (Ok d)) rows.new names.new result }
 {
     match d {
-        Decision::Refuse(_) => used,
         Decision::Keep => used,
         Decision::Root(at) => put_text(rows, names, used, NAMESPACE, text, marks, at),
         Decision::OpenSimple(n) => {

@@ -1,12 +1,13 @@
 // How many rows and bytes of names a schema sheet uses after a decision is done to it, so that the
 // caller asks for room before anything is stored.
-ghost use Rattle.std.specs.Prelude.{◌≡◌, ◌+◌, ◌-◌, ◌≤◌, length};
+ghost use Rattle.std.specs.Prelude.{◌≡◌, ◌+◌, ◌-◌, ◌≤◌, length, Ok};
 ghost use Rattle.text.specs.Text.{Text, join};
 ghost use Rattle.sheet.specs.Limits.{text_limit, names_limit};
 ghost use Rattle.xsd_parser.specs.Handlers.{ok};
 ghost use Rattle.rows.specs.Texts.{used_texts, used_length};
 ghost use Rattle.xsd_actions.specs.Actions.{Action};
 ghost use Rattle.xsd_actions.specs.Answers.{new_row, following, decision};
+ghost use Rattle.xsd_act.specs.Contents.{content_text};
 ghost use Rattle.xsd_act.specs.Ready.{ReadyFor};
 ghost use Rattle.xsd_act.specs.Needs.{Small, RowNeeded, HeadSeen, HeadNeeded, TextSeen, TextNeeded, Needed};
 
@@ -20,10 +21,17 @@ use xsd_replace::spot::text_length;
 pub fn few_pairs(n: usize) -> usize
     ensures { (result ≤ 2) × ((t u : Text) → used_texts n t u ≡ used_texts result t u) }
 {
-    if n <= 2 {
-        return n;
+    n.min(2)
+}
+
+// The text of a decision that may follow the name of a content: the empty one where none does.
+pub(crate) fn content_text<'a>(text: &'a [u8], marks: &[u32], second: Option<usize>) -> &'a [u8]
+    ensures { result.now ≡ content_text text.now marks.now second }
+{
+    match second {
+        Some(at) => pair_part(text, marks, at),
+        None => b"",
     }
-    2
 }
 
 // What is used with one row more, whose texts have so many bytes.
@@ -76,16 +84,10 @@ fn needed_content(
     ensures { HeadNeeded rows.now used head (length (join (following text.now marks.now n))) result }
 {
     let end = name_end(rows, head);
-    if n.follows {
-        let second = pair_part(text, marks, n.second);
-        return Used {
-            rows: head + 1,
-            names: end + second.len(),
-        };
-    }
+    let second = content_text(text, marks, n.second);
     Used {
         rows: head + 1,
-        names: end,
+        names: end + second.len(),
     }
 }
 
@@ -111,12 +113,11 @@ pub fn needed(
     text: &[u8],
     marks: &[u32],
 ) -> Used
-    requires ready { (a : Action) → decision text.now marks.now d ≡ ok a → ReadyFor rows.now used head a }
+    requires ready { (a : Action) → decision text.now marks.now (Ok d) ≡ ok a → ReadyFor rows.now used head a }
     requires small { Small used (length text.now) }
-    ensures { Needed rows.now used head (decision text.now marks.now d) result }
+    ensures { Needed rows.now used head (decision text.now marks.now (Ok d)) result }
 {
     match d {
-        Decision::Refuse(_) => used,
         Decision::Keep => used,
         Decision::Root(at) => needed_text(rows, used, 1, 0, pair_part(text, marks, at).len()),
         Decision::OpenSimple(n) => with_row(used, pair_part(text, marks, n.name).len()),

@@ -8,9 +8,9 @@ ghost use Rattle.rows.specs.Append.{Appended};
 ghost use Rattle.xsd_replace.specs.Head.{HeadRoom, HeadReplaced};
 ghost use Rattle.xsd_replace.specs.Spots.{TextRoom, TextReplaced};
 ghost use Rattle.xsd_actions.specs.Answers.{text_at_mark, new_row};
-ghost use Rattle.xsd_act.specs.Contents.{content_pairs, content_numbers};
+ghost use Rattle.xsd_act.specs.Contents.{content_pairs, content_text, content_numbers};
 
-use crate::needs::few_pairs;
+use crate::needs::{content_text, few_pairs};
 use rows::append::append;
 use rows::numbers::{RowNumbers, Used, numbers_at};
 use tape::pairs::pair_part;
@@ -102,13 +102,10 @@ pub fn add_row(
 }
 
 // The pairs of a content's head: its name, and the text that may follow.
-fn content_pairs(follows: bool) -> usize
-    ensures { result ≡ content_pairs follows }
+fn content_pairs(second: Option<usize>) -> usize
+    ensures { result ≡ content_pairs second }
 {
-    if follows {
-        return 2;
-    }
-    1
+    if second.is_some() { 2 } else { 1 }
 }
 
 // Replaces the open type's content by another one. The event's number stays that of the name.
@@ -121,9 +118,9 @@ pub fn put_content(
     text: &[u8],
     marks: &[u32],
 ) -> Used
-    requires head { HeadRoom rows.old names.old used head (content_pairs n.follows) (length (text_at_mark text.now marks.now n.second)) }
+    requires head { HeadRoom rows.old names.old used head (content_pairs n.second) (length (content_text text.now marks.now n.second)) }
     requires names { length names.old ≤ names_limit }
-    ensures { HeadReplaced rows.old names.old used head (content_numbers n (get_or rows.old (10 * head + 9) 0)) (content_pairs n.follows) (text_at_mark text.now marks.now n.second) rows.new names.new result }
+    ensures { HeadReplaced rows.old names.old used head (content_numbers n (get_or rows.old (10 * head + 9) 0)) (content_pairs n.second) (content_text text.now marks.now n.second) rows.new names.new result }
 {
     let old = numbers_at(rows, head);
     let numbers = RowNumbers {
@@ -132,7 +129,7 @@ pub fn put_content(
         b: 0,
         c: old.c,
     };
-    let second = pair_part(text, marks, n.second);
-    let pairs = content_pairs(n.follows);
+    let second = content_text(text, marks, n.second);
+    let pairs = content_pairs(n.second);
     replace_head(rows, names, used, head, numbers, second, pairs)
 }

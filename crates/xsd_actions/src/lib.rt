@@ -2,7 +2,6 @@
 #![tactic(auto)]
 
 use number::{CharacterCount, DigitCount};
-use sheet::refusal::Refusal;
 
 // What the handlers go by, beside the open head: the context, nesting, root seen and extension flag of row 0.
 #[derive(Clone, Copy)]
@@ -13,7 +12,8 @@ pub struct Mode {
     pub extension: bool,
 }
 
-// A row to add: its tag, how many pairs it uses, where their pairs stand in the marks, and its numbers.
+// A row to add: its tag, how many pairs it uses, where their pairs stand in the marks, and its numbers. An Option for the second would be no plainer: the writer
+// asks for both texts and the number of pairs.
 #[derive(Clone, Copy)]
 pub struct NewRow {
     pub tag: u32,
@@ -32,40 +32,31 @@ pub struct NewType {
     pub event: u32,
 }
 
-// The row of a length facet to add.
+// The row of a facet that counts to add: characters for a length facet, digits for a digit facet.
 #[derive(Clone, Copy)]
-pub struct CharacterFacet {
+pub struct Facet<Count> {
     pub tag: u32,
-    pub count: CharacterCount,
+    pub count: Count,
 }
 
-// The row of a digit facet to add.
-#[derive(Clone, Copy)]
-pub struct DigitFacet {
-    pub tag: u32,
-    pub count: DigitCount,
-}
-
-// Another content for the open complex type: its tag, whether a text follows the name, where that text's pair stands in the marks.
+// Another content for the open complex type: its tag, and where the pair of the text that follows the name stands in the marks, if one does.
 #[derive(Clone, Copy)]
 pub struct NewContent {
     pub tag: u32,
-    pub follows: bool,
-    pub second: usize,
+    pub second: Option<usize>,
     pub a: u32,
 }
 
 // What is to be done for an event. Texts are given by the places of their pairs in the marks; past the end is the empty text.
 #[derive(Clone, Copy)]
 pub enum Decision {
-    Refuse(Refusal),
     Keep,
     Root(usize),
     OpenSimple(NewType),
     OpenComplex(NewType),
     Add(NewRow),
-    Characters(CharacterFacet),
-    Digits(DigitFacet),
+    Characters(Facet<CharacterCount>),
+    Digits(Facet<DigitCount>),
     Content(NewContent),
     Base(usize),
 }

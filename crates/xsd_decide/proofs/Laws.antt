@@ -5,3 +5,4 @@ pub mod Typed
 pub mod Attribute
 pub mod Names
 pub mod Facets
+pub mod Refused

@@ -1,5 +1,5 @@
 // What start and empty tags decide inside a complex type (000, `on_start` and `on_empty`, `Context::ComplexType`).
-ghost use Rattle.std.specs.Prelude.{◌≡◌, List, ℕ, suc};
+ghost use Rattle.std.specs.Prelude.{◌≡◌, List, ℕ, suc, Ok};
 ghost use Rattle.text.specs.Text.{Text};
 ghost use Rattle.xsd_parser.specs.Handlers.{ok};
 ghost use Rattle.xsd_actions.specs.Answers.{decision};
@@ -7,7 +7,8 @@ ghost use Rattle.xsd_actions.specs.Decided.{content_start, extended, start_at_tw
 ghost use Rattle.tape.specs.Lookup.{value_at, seen_at};
 
 use crate::shared::{attribute_inside, base_set, content_alone, element_inside};
-use crate::values::{Found, place_found};
+use crate::values::place_found;
+use sheet::refusal::Refusal;
 use tape::attributes::SeenTag;
 use xsd_actions::{Decision, NewContent};
 use xsd_parser::words::Word;
@@ -15,7 +16,7 @@ use xsd_types::tags;
 
 // A content begins; the base of a simple content is empty as yet, so its pair is past the end of the marks.
 fn content_start(marks: &[u32], t: SeenTag) -> Decision
-    ensures { (text : Text) → decision text marks.now result ≡ ok (content_start (seen_at text marks.now t)) }
+    ensures { (text : Text) → decision text marks.now (Ok result) ≡ ok (content_start (seen_at text marks.now t)) }
 {
     let word = t.word;
     match word {
@@ -25,8 +26,7 @@ fn content_start(marks: &[u32], t: SeenTag) -> Decision
             let second = marks.len();
             Decision::Content(NewContent {
                 tag: tags::SIMPLE_CONTENT,
-                follows: true,
-                second,
+                second: Some(second),
                 a: 0,
             })
         }
@@ -36,7 +36,7 @@ fn content_start(marks: &[u32], t: SeenTag) -> Decision
 
 // An extension sets the base of a simple content.
 fn extension_start(text: &[u8], marks: &[u32], t: SeenTag, head: u32) -> Decision
-    ensures { decision text.now marks.now result ≡ ok (extended (seen_at text.now marks.now t) head) }
+    ensures { decision text.now marks.now (Ok result) ≡ ok (extended (seen_at text.now marks.now t) head) }
 {
     if head == tags::SIMPLE_CONTENT {
         return base_set(text, marks, t);
@@ -45,14 +45,14 @@ fn extension_start(text: &[u8], marks: &[u32], t: SeenTag, head: u32) -> Decisio
 }
 
 // A start at depth 2: an extension or an element.
-fn start_at_two(text: &[u8], marks: &[u32], t: SeenTag, head: u32) -> Decision
+fn start_at_two(text: &[u8], marks: &[u32], t: SeenTag, head: u32) -> Result<Decision, Refusal>
     ensures { decision text.now marks.now result ≡ start_at_two (seen_at text.now marks.now t) head }
 {
     let word = t.word;
     match word {
-        Word::Extension => extension_start(text, marks, t, head),
+        Word::Extension => Ok(extension_start(text, marks, t, head)),
         Word::Element => element_inside(text, marks, t, head),
-        _ => Decision::Keep,
+        _ => Ok(Decision::Keep),
     }
 }
 
@@ -63,30 +63,29 @@ pub fn start_in_complex_type(
     t: SeenTag,
     nesting: u32,
     head: u32,
-) -> Decision
+) -> Result<Decision, Refusal>
     ensures { decision text.now marks.now result ≡ start_in_complex_type (seen_at text.now marks.now t) (suc nesting) head }
 {
     if nesting == 0 {
-        return content_start(marks, t);
+        return Ok(content_start(marks, t));
     }
     if nesting == 1 {
         return start_at_two(text, marks, t, head);
     }
-    Decision::Keep
+    Ok(Decision::Keep)
 }
 
 // An `any` is the content, with its namespace if it has one.
 fn any_content(t: SeenTag) -> Decision
-    ensures { (text : Text) (marks : List ℕ) → decision text marks result ≡ ok (any_content (value_at text marks t.namespace)) }
+    ensures { (text : Text) (marks : List ℕ) → decision text marks (Ok result) ≡ ok (any_content (value_at text marks t.namespace)) }
 {
     match place_found(t.namespace) {
-        Found::At(second) => Decision::Content(NewContent {
+        Some(second) => Decision::Content(NewContent {
             tag: tags::ANY,
-            follows: true,
-            second,
+            second: Some(second),
             a: 1,
         }),
-        Found::Nothing => content_alone(tags::ANY),
+        None => content_alone(tags::ANY),
     }
 }
 
@@ -97,14 +96,14 @@ pub fn empty_in_complex_type(
     t: SeenTag,
     flag: bool,
     head: u32,
-) -> Decision
+) -> Result<Decision, Refusal>
     ensures { decision text.now marks.now result ≡ empty_in_complex_type (seen_at text.now marks.now t) flag head }
 {
     let word = t.word;
     match word {
         Word::Element => element_inside(text, marks, t, head),
-        Word::Any => any_content(t),
-        Word::Attribute => attribute_inside(text, marks, t, flag),
-        _ => Decision::Keep,
+        Word::Any => Ok(any_content(t)),
+        Word::Attribute => Ok(attribute_inside(text, marks, t, flag)),
+        _ => Ok(Decision::Keep),
     }
 }

@@ -1,6 +1,7 @@
 // Clearing a schema sheet.
 ghost use Rattle.std.specs.Prelude.{◌≤◌, ◌≡◌, eqb};
-ghost use Rattle.sheet.specs.Calls.{sheet, answered};
+ghost use Rattle.sheet.specs.Calls.{sheet};
+ghost use Rattle.rows.specs.Answers.{answer_of};
 ghost use Rattle.xsd_types.specs.State.{first_state};
 ghost use Rattle.xsd_types.specs.Rows.{row0};
 ghost use Rattle.xsd_types.specs.Clear.{ClearIs};
@@ -8,9 +9,11 @@ ghost use Rattle.xsd_good.specs.Row0.{as_row0};
 
 use crate::row0;
 use crate::row0::Row0;
+use rows::answers::Answer;
 use rows::lengths::sheet_lengths;
-use rows::{Answer, row};
-use sheet::{limits, returned};
+use rows::row;
+use sheet::limits;
+use sheet::refusal::Refusal;
 use xsd_types::{contexts, tags};
 
 // Row 0 of a cleared sheet: two rows are used, and nothing was read.
@@ -34,22 +37,14 @@ fn cleared_row0(choice: u32) -> Row0
 
 // Clears a sheet: two rows, tag 1 in row 1, the choice in row 0, all else zero. Under 1 nothing is changed.
 pub fn clear(rows: &mut [u32], names: &mut [u8], choice: u32) -> Answer
-    ensures { ClearIs choice (sheet rows.old names.old) (answered result.number result.place) (sheet rows.new names.new) }
+    ensures { ClearIs choice (sheet rows.old names.old) (answer_of result) (sheet rows.new names.new) }
 {
     if !(sheet_lengths(rows.len(), names.len()) & (choice <= 1)) {
-        return Answer {
-            number: returned::BAD_LENGTH,
-            place: 0,
-        };
+        return Err(Refusal::BadLength.into());
     }
-    let n = rows.len();
-    let m = names.len();
-    buffer::zero_rows(rows, 0, n);
-    buffer::zero_names(names, 0, m);
+    rows.fill(0);
+    names.fill(0);
     row::put_row(rows, 0, row0::row0_numbers(cleared_row0(choice)));
     rows[limits::ROW] = tags::NAMESPACE;
-    Answer {
-        number: returned::ACCEPTED,
-        place: 0,
-    }
+    Ok(0)
 }

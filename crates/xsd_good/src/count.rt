@@ -10,6 +10,7 @@ ghost use Rattle.xsd_good.specs.End.{finished_end};
 
 use crate::{row0, scan};
 use rows::numbers::wide;
+use rows::part::SheetPart;
 use xsd_refused::count_refused;
 
 // Where the count stands: row 1 begins behind ten numbers, and a is the eighth of a row.
@@ -39,5 +40,7 @@ pub fn count_of(rows: &[u32], names: &[u8]) -> usize
     ensures count { result ≡ count_of (state_of (sheet rows.now names.now)) }
     ensures few { result ≤ length rows.now }
 {
-    count_refused(rows, names, 2, finished_place(rows))
+    let end = finished_place(rows);
+    let part = SheetPart { rows, names, end };
+    count_refused(&part, 2)
 }

@@ -31,9 +31,10 @@ pub fn is_bare_good(rows: &[u32], names: &[u8]) -> bool
     }
     let n = z.rows_used as usize;
     let used = z.names_used as usize;
-    let s = scan::scan_sheet(rows, n, z.names_used);
+    let Some(s) = scan::scan_sheet(rows, n, z.names_used) else {
+        return false;
+    };
     tests::row0_form(z)
-        & s.ok
         & (s.end == used)
         & behind::zeros_behind(rows, names, n, used)
         & behind::names_test(names, used)
@@ -49,8 +50,5 @@ pub fn is_bare_good(rows: &[u32], names: &[u8]) -> bool
 pub fn is_good(rows: &[u32], names: &[u8]) -> bool
     ensures { result ≡ good (sheet rows.now names.now) }
 {
-    if !is_bare_good(rows, names) {
-        return false;
-    }
-    count::count_in(rows) == count::count_of(rows, names)
+    is_bare_good(rows, names) && count::count_in(rows) == count::count_of(rows, names)
 }

@@ -9,6 +9,7 @@ ghost use Rattle.xsd_good.specs.Row0.{as_row0};
 use rows::ten::ten_of;
 
 // "Row 0 instead: 0, rows used, names used, context .., nesting, root seen, events done, open tags, extension flag", and order 3's choice.
+// Flags and the context stay numbers: they are read before the tests say that the sheet is good.
 #[derive(Clone, Copy)]
 pub struct Row0 {
     pub first: u32,

@@ -7,7 +7,6 @@ use Rattle.xsd_actions.specs.declared.Decision.{Decision}
 use Rattle.xsd_actions.specs.declared.Mode.{Mode}
 
 abbrev pub context_of : Bool → Decision → ℕ → ℕ
-context_of start (Decision.Refuse r) context = context
 context_of start Decision.Keep context = context
 context_of start (Decision.Root at) context = if start then schema_context else context
 context_of start (Decision.OpenSimple at) context = simple_type_context
@@ -19,7 +18,6 @@ context_of start (Decision.Content n) context = context
 context_of start (Decision.Base at) context = context
 
 abbrev pub opens_of : Decision → Bool
-opens_of (Decision.Refuse r) = false
 opens_of Decision.Keep = false
 opens_of (Decision.Root at) = false
 opens_of (Decision.OpenSimple at) = true
@@ -37,7 +35,6 @@ unfoldable pub nesting_of : Bool → ℕ → ℕ
 nesting_of raised nesting = if raised then suc nesting else nesting
 
 abbrev pub root_of : Decision → Bool → Bool
-root_of (Decision.Refuse r) seen = seen
 root_of Decision.Keep seen = seen
 root_of (Decision.Root at) seen = true
 root_of (Decision.OpenSimple at) seen = seen
@@ -49,7 +46,6 @@ root_of (Decision.Content n) seen = seen
 root_of (Decision.Base at) seen = seen
 
 abbrev pub flag_of : Decision → Bool → Bool → Bool
-flag_of (Decision.Refuse r) complex flag = flag
 flag_of Decision.Keep complex flag = flag
 flag_of (Decision.Root at) complex flag = flag
 flag_of (Decision.OpenSimple at) complex flag = flag

@@ -7,7 +7,7 @@ pub mod mode;
 pub mod open_tags;
 
 ghost use Rattle.std.specs.Prelude.{true, ◌≡◌, ◌*◌, ◌≤◌, length};
-ghost use Rattle.sheet.specs.Rows.{ten, bit};
+ghost use Rattle.sheet.specs.Rows.{ten};
 ghost use Rattle.sheet.specs.Form.{rows_used_in, words};
 ghost use Rattle.xsd_progress.specs.Progress.{progress_in, row0_numbers};
 
@@ -55,12 +55,6 @@ pub fn progress_of(rows: &[u32]) -> Progress
     }
 }
 
-fn flag(b: bool) -> u32
-    ensures { result ≡ bit b }
-{
-    if b { 1 } else { 0 }
-}
-
 // Row 0 of where a reading stands, as numbers.
 pub fn row0_of(p: Progress) -> [u32; 10]
     requires { (p.used.rows ≤ 65536) × (p.used.names ≤ 65536) }
@@ -72,10 +66,10 @@ pub fn row0_of(p: Progress) -> [u32; 10]
         names_used: p.used.names as u32,
         context: p.mode.context,
         nesting: p.mode.nesting,
-        root_seen: flag(p.mode.root_seen),
+        root_seen: u32::from(p.mode.root_seen),
         events: p.events,
         open_tags: p.open_tags,
-        extension: flag(p.mode.extension),
-        choice: flag(p.by_standard),
+        extension: u32::from(p.mode.extension),
+        choice: u32::from(p.by_standard),
     })
 }

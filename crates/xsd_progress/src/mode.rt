@@ -1,8 +1,9 @@
 // The mode of the reader and the open tags after an event.
-ghost use Rattle.std.specs.Prelude.{◌≡◌, List, ℕ, ◌≤◌};
+ghost use Rattle.std.specs.Prelude.{◌≡◌, List, ℕ, ◌≤◌, Ok};
 ghost use Rattle.text.specs.Text.{Text};
 ghost use Rattle.sheet.specs.Limits.{open_tags_limit};
 ghost use Rattle.xsd_parser.specs.Event.{Tag, Event};
+ghost use Rattle.xsd_parser.specs.Kinds.{kind_number};
 ghost use Rattle.xsd_parser.specs.Handlers.{ok};
 ghost use Rattle.xsd_parser.specs.Step.{tags_after};
 ghost use Rattle.xsd_actions.specs.Actions.{Action, tag_mode, close_mode};
@@ -13,31 +14,18 @@ ghost use Rattle.xsd_progress.specs.Answers.{tags, event_as};
 use sheet::limits;
 use sheet::refusal::Refusal;
 use xsd_actions::{Decision, Mode};
-use xsd_parser::kinds;
+use xsd_parser::kinds::Kind;
 use xsd_types::contexts;
-
-// How many tags are open, or the refusal.
-#[derive(Clone, Copy)]
-pub enum Tags {
-    Open(u32),
-    Refused(Refusal),
-}
 
 // Only a start enters the schema; a type that is opened is the context.
 fn context_after(start: bool, d: Decision, context: u32) -> u32
     ensures { result ≡ context_of start d context }
 {
     match d {
-        Decision::Root(_) => if start { contexts::SCHEMA } else { context },
+        Decision::Root(_) if start => contexts::SCHEMA,
         Decision::OpenSimple(_) => contexts::SIMPLE_TYPE,
         Decision::OpenComplex(_) => contexts::COMPLEX_TYPE,
-        Decision::Refuse(_) => context,
-        Decision::Keep => context,
-        Decision::Add(_) => context,
-        Decision::Characters(_) => context,
-        Decision::Digits(_) => context,
-        Decision::Content(_) => context,
-        Decision::Base(_) => context,
+        _ => context,
     }
 }
 
@@ -45,18 +33,7 @@ fn context_after(start: bool, d: Decision, context: u32) -> u32
 fn opens_type(d: Decision) -> bool
     ensures { result ≡ opens_of d }
 {
-    match d {
-        Decision::OpenSimple(_) => true,
-        Decision::OpenComplex(_) => true,
-        Decision::Refuse(_) => false,
-        Decision::Keep => false,
-        Decision::Root(_) => false,
-        Decision::Add(_) => false,
-        Decision::Characters(_) => false,
-        Decision::Digits(_) => false,
-        Decision::Content(_) => false,
-        Decision::Base(_) => false,
-    }
+    matches!(d, Decision::OpenSimple(_) | Decision::OpenComplex(_))
 }
 
 // A start raises the nesting where a type was open before it, and by the standard in the schema too, unless it opens a type there.
@@ -79,18 +56,7 @@ fn nesting_after(raised: bool, nesting: u32) -> u32
 pub fn root_after(d: Decision, seen: bool) -> bool
     ensures { result ≡ root_of d seen }
 {
-    match d {
-        Decision::Root(_) => true,
-        Decision::Refuse(_) => seen,
-        Decision::Keep => seen,
-        Decision::OpenSimple(_) => seen,
-        Decision::OpenComplex(_) => seen,
-        Decision::Add(_) => seen,
-        Decision::Characters(_) => seen,
-        Decision::Digits(_) => seen,
-        Decision::Content(_) => seen,
-        Decision::Base(_) => seen,
-    }
+    seen | matches!(d, Decision::Root(_))
 }
 
 // Another content starts without the flag; the base of simple content sets it.
@@ -100,21 +66,14 @@ fn flag_after(d: Decision, complex: bool, flag: bool) -> bool
     match d {
         Decision::Content(_) => false,
         Decision::Base(_) => complex,
-        Decision::Refuse(_) => flag,
-        Decision::Keep => flag,
-        Decision::Root(_) => flag,
-        Decision::OpenSimple(_) => flag,
-        Decision::OpenComplex(_) => flag,
-        Decision::Add(_) => flag,
-        Decision::Characters(_) => flag,
-        Decision::Digits(_) => flag,
+        _ => flag,
     }
 }
 
 // The mode after a start (start is true) or an empty tag.
 pub fn tag_mode(by_standard: bool, start: bool, d: Decision, m: Mode) -> Mode
     requires { m.nesting ≤ open_tags_limit }
-    ensures { (text : Text) (marks : List ℕ) (a : Action) → decision text marks d ≡ ok a → result ≡ tag_mode by_standard start a m }
+    ensures { (text : Text) (marks : List ℕ) (a : Action) → decision text marks (Ok d) ≡ ok a → result ≡ tag_mode by_standard start a m }
 {
     let raised = start & raises(by_standard, d, m.context);
     Mode {
@@ -131,57 +90,50 @@ pub fn close_mode(m: Mode) -> Mode
 {
     if m.nesting != 0 {
         return Mode {
-            context: m.context,
             nesting: m.nesting - 1,
-            root_seen: m.root_seen,
-            extension: m.extension,
+            ..m
         };
     }
     if m.context <= contexts::SCHEMA {
         return Mode {
             context: contexts::NONE,
-            nesting: 0,
-            root_seen: m.root_seen,
-            extension: m.extension,
+            ..m
         };
     }
     Mode {
         context: contexts::SCHEMA,
-        nesting: 0,
-        root_seen: m.root_seen,
         extension: false,
+        ..m
     }
 }
 
-fn start_tags(open_tags: u32) -> Tags
+fn start_tags(open_tags: u32) -> Result<u32, Refusal>
     ensures { (t : Tag) → tags result ≡ tags_after (Event.start t) open_tags }
 {
     if open_tags < limits::OPEN_TAGS {
-        Tags::Open(open_tags + 1)
+        Ok(open_tags + 1)
     } else {
-        Tags::Refused(Refusal::TooManyOpen)
+        Err(Refusal::TooManyOpen)
     }
 }
 
-fn close_tags(open_tags: u32) -> Tags
+fn close_tags(open_tags: u32) -> Result<u32, Refusal>
     ensures { tags result ≡ tags_after Event.close open_tags }
 {
     if open_tags == 0 {
-        Tags::Refused(Refusal::NoTagOpen)
+        Err(Refusal::NoTagOpen)
     } else {
-        Tags::Open(open_tags - 1)
+        Ok(open_tags - 1)
     }
 }
 
-// The open tags after an event of a kind.
-pub fn tags_after(kind: u32, open_tags: u32) -> Tags
-    ensures { (t : Tag) → tags result ≡ tags_after (event_as kind t) open_tags }
+// How many tags are open after an event of a kind, or the refusal.
+pub fn tags_after(kind: Kind, open_tags: u32) -> Result<u32, Refusal>
+    ensures { (t : Tag) → tags result ≡ tags_after (event_as (kind_number kind) t) open_tags }
 {
-    if kind == kinds::START {
-        return start_tags(open_tags);
+    match kind {
+        Kind::Start => start_tags(open_tags),
+        Kind::Empty => Ok(open_tags),
+        Kind::Close => close_tags(open_tags),
     }
-    if kind == kinds::CLOSE {
-        return close_tags(open_tags);
-    }
-    Tags::Open(open_tags)
 }

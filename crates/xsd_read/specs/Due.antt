@@ -8,13 +8,14 @@
 --     Refuses, Accepts    the outcome is a refusal, and the sheet is left; it is a state, and the sheet holds its rows
 --     Ended         what an answer says of an outcome
 --     Stepped       the answer for every event that is due: 11, or the state after it
-use Rattle.std.specs.Prelude.{ℕ, ◌+◌, ◌≡◌, true, List, ltb, length, if◌then◌else◌}
+use Rattle.std.specs.Prelude.{ℕ, ◌+◌, ◌≡◌, true, List, ltb, length, if◌then◌else◌, Result, Ok, Err}
 use Rattle.text.specs.Text.{Text}
 use Rattle.sheet.specs.declared.refusal.Refusal.{Refusal}
 use Rattle.sheet.specs.Returned.{refusal_number}
 use Rattle.xsd_types.specs.Contexts.{simple_type_context}
 use Rattle.xsd_types.specs.State.{Reader, State, proper}
 use Rattle.xsd_parser.specs.Event.{Tag, Event}
+use Rattle.xsd_parser.specs.Kinds.{kind_number}
 use Rattle.xsd_parser.specs.Handlers.{Outcome, ok, refuse}
 use Rattle.xsd_parser.specs.Step.{counted, room_for}
 use Rattle.rows.specs.declared.numbers.Used.{Used}
@@ -26,7 +27,6 @@ use Rattle.xsd_progress.specs.declared.open_tags.Arrived.{Arrived}
 use Rattle.xsd_progress.specs.Change.{EventAfter}
 use Rattle.xsd_progress.specs.declared.Progress.{Progress}
 use Rattle.xsd_progress.specs.Progress.{At, lent_to, Lent}
-use Rattle.xsd_read.specs.declared.carry.Step.{Step}
 
 unfoldable pub head_after : Progress → ℕ
 head_after p = if ltb p.mode.context simple_type_context then p.used.rows else p.head
@@ -43,9 +43,9 @@ pub record StandsAfter (p : Progress) (x : Arrival) (used : Used) (p' : Progress
 pub record Due (rows names : List ℕ) (text : Text) (marks : List ℕ) (p : Progress) (x : Arrival) (s : State) (e : Event) (r : Reader) : Type 0 where
   pub at : At s rows names p
   pub tag : Tag
-  pub event_is : e ≡ event_as x.kind tag
+  pub event_is : e ≡ event_as (kind_number x.kind) tag
   pub action : Action
-  pub decided : decision text marks x.decision ≡ ok action
+  pub decided : decision text marks (Ok x.decision) ≡ ok action
   pub choice : x.by_standard ≡ s.by_standard
   pub acted : Acted s.by_standard e s.reader action r
   pub proper_after : proper (counted s x.open_tags r) ≡ true
@@ -67,11 +67,11 @@ pub record Accepts (o : Outcome State) (rows' names' : List ℕ) (p : Progress) 
   pub accepted : o ≡ ok s'
   pub stands : At s' rows' names' p
 
-unfoldable pub Ended : Outcome State → List ℕ → List ℕ → List ℕ → List ℕ → Step → Type 0
-Ended o rows names rows' names' (Step.Refused r) = Refuses o rows names rows' names' r
-Ended o rows names rows' names' (Step.Done p) = Accepts o rows' names' p
+unfoldable pub Ended : Outcome State → List ℕ → List ℕ → List ℕ → List ℕ → Result Progress Refusal → Type 0
+Ended o rows names rows' names' (Err r) = Refuses o rows names rows' names' r
+Ended o rows names rows' names' (Ok p) = Accepts o rows' names' p
 
-pub record Stepped (rows names : List ℕ) (text : Text) (marks : List ℕ) (p : Progress) (x : Arrival) (y : Step) (rows' names' : List ℕ) : Type 0 where
+pub record Stepped (rows names : List ℕ) (text : Text) (marks : List ℕ) (p : Progress) (x : Arrival) (y : Result Progress Refusal) (rows' names' : List ℕ) : Type 0 where
   pub rows_length : length rows' ≡ length rows
   pub names_length : length names' ≡ length names
   pub ended : (s : State) (e : Event) (r : Reader) → Due rows names text marks p x s e r

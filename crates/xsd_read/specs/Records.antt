@@ -1,11 +1,10 @@
 -- What reading the records of a piece does to a sheet that holds a state's rows.
 --     stopped_at     a reading that stops with a refusal
---     RecordsRead   number, place and the state reached are the definition's, for every state whose rows the sheet held
-use Rattle.std.specs.Prelude.{ℕ, ◌≡◌, List, length}
+--     RecordsRead   the answer and the state reached are the definition's, for every state whose rows the sheet held
+use Rattle.std.specs.Prelude.{ℕ, ◌≡◌, List, length, Err}
 use Rattle.text.specs.Text.{Text}
 use Rattle.sheet.specs.declared.refusal.Refusal.{Refusal}
-use Rattle.sheet.specs.Returned.{refusal_number}
-use Rattle.sheet.specs.Calls.{answered}
+use Rattle.rows.specs.Answers.{answer_of}
 use Rattle.xsd_types.specs.State.{State}
 use Rattle.xsd_parser.specs.Read.{Reading, read_state}
 use Rattle.xsd_progress.specs.declared.Progress.{Progress}
@@ -13,10 +12,10 @@ use Rattle.xsd_progress.specs.Progress.{At, lent_to}
 use Rattle.xsd_read.specs.declared.records.ReadTo.{ReadTo}
 
 abbrev pub stopped_at : Refusal → ℕ → Progress → ReadTo
-stopped_at r place p = record { number = refusal_number r; place = place; progress = p }
+stopped_at r place p = record { answer = Err (record { refusal = r; place = place }); progress = p }
 
 pub record Reached (rows names : List ℕ) (x : Reading) (r : ReadTo) : Type 0 where
-  pub answer : answered r.number r.place ≡ x.answer
+  pub answer : answer_of r.answer ≡ x.answer
   pub at : At x.state rows names r.progress
 
 pub record RecordsRead (rows names : List ℕ) (text : Text) (marks : List ℕ) (p : Progress) (r : ReadTo) (rows' names' : List ℕ) : Type 0 where

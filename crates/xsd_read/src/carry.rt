@@ -11,13 +11,6 @@ use xsd_progress::Progress;
 use xsd_progress::open_tags::{Arrival, event_after};
 use xsd_types::contexts;
 
-// An event that is refused, or where the reading stands after it.
-#[derive(Clone, Copy)]
-pub enum Step {
-    Refused(Refusal),
-    Done(Progress),
-}
-
 // The row of the open type's head after an event: a type that an event opens stands behind the rows used before it.
 fn head_after(p: Progress) -> usize
     ensures { result ≡ head_after p }
@@ -47,7 +40,8 @@ fn stands_after(p: Progress, a: Arrival, used: Used) -> Progress
     }
 }
 
-// What was decided is done, or 11 where the rows and names after it have no room. Where the sheet is kept, as for most events, it has room.
+// What was decided is done, and where the reading stands after it; or 11 where the rows and names after it have no room. Where the sheet is kept, as for
+// most events, it has room.
 pub fn carry_out(
     rows: &mut [u32],
     names: &mut [u8],
@@ -55,18 +49,18 @@ pub fn carry_out(
     marks: &[u32],
     p: Progress,
     a: Arrival,
-) -> Step
+) -> Result<Progress, Refusal>
     requires { DueRoom rows.old names.old text.now marks.now p a }
     ensures { Stepped rows.old names.old text.now marks.now p a result rows.new names.new }
 {
     let d = a.decision;
     if let Decision::Keep = d {
-        return Step::Done(stands_after(p, a, p.used));
+        return Ok(stands_after(p, a, p.used));
     }
     let need = needs::needed(rows, p.used, p.head, d, text, marks);
     if !has_room(need, rows.len(), names.len()) {
-        return Step::Refused(Refusal::NoRoom);
+        return Err(Refusal::NoRoom);
     }
     let used = xsd_act::act(rows, names, p.used, p.head, d, text, marks);
-    Step::Done(stands_after(p, a, used))
+    Ok(stands_after(p, a, used))
 }

@@ -7,13 +7,17 @@ pub mod records;
 
 ghost use Rattle.std.specs.Prelude.{◌&&◌, ◌≡◌};
 ghost use Rattle.sheet.specs.Lengths.{sheet_lengths, tape_lengths};
-ghost use Rattle.sheet.specs.Calls.{sheet, answered};
+ghost use Rattle.sheet.specs.Calls.{sheet};
+ghost use Rattle.rows.specs.Answers.{answer_of};
 ghost use Rattle.xsd_parser.specs.Read.{ReadIs};
 ghost use Rattle.xsd_read.specs.Good.{GoodSheet, GoodRead, CountedSheet, CountedRead};
 
 use crate::records::read_records;
-use rows::{Answer, lengths, row};
-use sheet::{limits, returned};
+use rows::answers::Answer;
+use rows::part::SheetPart;
+use rows::{lengths, row};
+use sheet::limits;
+use sheet::refusal::Refusal;
 use xsd_good::count;
 use xsd_refused::count_refused;
 
@@ -24,40 +28,30 @@ fn read_lengths(rows: usize, names: usize, text: usize, marks: usize) -> bool
     lengths::sheet_lengths(rows, names) & ((text <= limits::TEXT) & (marks <= limits::MARKS))
 }
 
-// A call that is refused before any record is read.
-fn refused(number: u32) -> Answer
-    ensures { answered result.number result.place ≡ answered number 0 }
-{
-    Answer { number, place: 0 }
-}
-
 // Reads the piece into a good sheet that has 0 for its count, and sets its row 0 anew.
 fn read_good(rows: &mut [u32], names: &mut [u8], text: &[u8], marks: &[u32]) -> Answer
     requires { GoodSheet rows.old names.old text.now }
-    ensures { GoodRead rows.old names.old text.now marks.now (answered result.number result.place) (sheet rows.new names.new) }
+    ensures { GoodRead rows.old names.old text.now marks.now (answer_of result) (sheet rows.new names.new) }
 {
     let from = xsd_progress::progress_of(rows);
     let to = read_records(rows, names, text, marks, from);
     let row0 = xsd_progress::row0_of(to.progress);
     row::put_row0(rows, row0);
-    Answer {
-        number: to.number,
-        place: to.place,
-    }
+    to.answer
 }
 
 // Order 7: the count is taken out, so that what reads knows of none, and is set again at the end. Items are only added, so the rows behind those that were
 // finished before are counted alone. The calls before the end see the sheet as it was before the order.
 fn read_counted(rows: &mut [u32], names: &mut [u8], text: &[u8], marks: &[u32]) -> Answer
     requires { CountedSheet rows.old names.old text.now }
-    ensures { CountedRead rows.old names.old text.now marks.now (answered result.number result.place) (sheet rows.new names.new) }
+    ensures { CountedRead rows.old names.old text.now marks.now (answer_of result) (sheet rows.new names.new) }
 {
     let before = count::count_in(rows);
     let from = count::finished_place(rows);
     rows[count::COUNT] = 0;
     let answer = read_good(rows, names, text, marks);
     let end = count::finished_place(rows);
-    let more = count_refused(rows, names, from, end);
+    let more = count_refused(&SheetPart { rows, names, end }, from);
     rows[count::COUNT] = (before + more) as u32;
     answer
 }
@@ -65,13 +59,13 @@ fn read_counted(rows: &mut [u32], names: &mut [u8], text: &[u8], marks: &[u32]) 
 // Reads a piece of a tape into a schema sheet. Under 1 and 2 nothing is changed; where a record is refused, the sheet holds the state
 // after the events before it.
 pub fn read(rows: &mut [u32], names: &mut [u8], text: &[u8], marks: &[u32]) -> Answer
-    ensures { ReadIs (sheet rows.old names.old) text.now marks.now (answered result.number result.place) (sheet rows.new names.new) }
+    ensures { ReadIs (sheet rows.old names.old) text.now marks.now (answer_of result) (sheet rows.new names.new) }
 {
     if !read_lengths(rows.len(), names.len(), text.len(), marks.len()) {
-        return refused(returned::BAD_LENGTH);
+        return Err(Refusal::BadLength.into());
     }
     if !xsd_good::is_good(rows, names) {
-        return refused(returned::NOT_GOOD);
+        return Err(Refusal::NotGood.into());
     }
     read_counted(rows, names, text, marks)
 }

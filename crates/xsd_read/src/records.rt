@@ -4,19 +4,17 @@ ghost use Rattle.text.specs.Text.{is_text};
 ghost use Rattle.xsd_progress.specs.Progress.{Standing};
 ghost use Rattle.xsd_read.specs.Records.{stopped_at, RecordsRead};
 
-use crate::carry::Step;
 use crate::event::on_event;
-use sheet::refusal::{Refusal, number_of};
-use sheet::returned;
-use tape::{Record, record_at};
+use rows::answers::{Answer, Refused};
+use sheet::refusal::Refusal;
+use tape::record_at;
 use text::is_text;
 use xsd_progress::Progress;
 
-// How far a reading came: its number, the events read, and where it stands.
+// How far a reading came: the events read or the refusal, and where it stands.
 #[derive(Clone, Copy)]
 pub struct ReadTo {
-    pub number: u32,
-    pub place: usize,
+    pub answer: Answer,
     pub progress: Progress,
 }
 
@@ -35,8 +33,7 @@ fn stopped_at(refusal: Refusal, place: usize, progress: Progress) -> ReadTo
     ensures { result ≡ stopped_at refusal place progress }
 {
     ReadTo {
-        number: number_of(refusal),
-        place,
+        answer: Err(Refused { refusal, place }),
         progress,
     }
 }
@@ -57,23 +54,21 @@ pub fn read_records(
     let mut place = 0;
     let mut at = 0;
     loop {
-        match record_at(text, marks, at, plain) {
-            Record::End => {
+        let t = match record_at(text, marks, at, plain) {
+            Ok(Some(t)) => t,
+            Ok(None) => {
                 return ReadTo {
-                    number: returned::ACCEPTED,
-                    place,
+                    answer: Ok(place),
                     progress,
                 };
             }
-            Record::Bad(refusal) => return stopped_at(refusal, place, progress),
-            Record::Event(t) => match on_event(rows, names, text, marks, t, progress) {
-                Step::Refused(refusal) => return stopped_at(refusal, place, progress),
-                Step::Done(next) => {
-                    at = t.next;
-                    progress = next;
-                    place += 1;
-                }
-            },
-        }
+            Err(refusal) => return stopped_at(refusal, place, progress),
+        };
+        progress = match on_event(rows, names, text, marks, t, progress) {
+            Ok(next) => next,
+            Err(refusal) => return stopped_at(refusal, place, progress),
+        };
+        at = t.next;
+        place += 1;
     }
 }

@@ -2,7 +2,7 @@
 // at place 0.
 #![tactic(auto)]
 
-ghost use Rattle.std.specs.Prelude.{ℕ, ◌+◌, ◌*◌, ◌<◌, ◌≤◌, ◌≡◌, List, length};
+ghost use Rattle.std.specs.Prelude.{ℕ, ◌+◌, ◌<◌, ◌≤◌, ◌≡◌, List, MatchOption};
 ghost use Rattle.builtin.specs.Builtin.{map_builtin, reference};
 ghost use Rattle.xsd_types.specs.Places.{row_at, rows_from};
 ghost use Rattle.xsd_types.specs.Refused.{only_codes, is_code_enum, refused_row, refused_place};
@@ -10,38 +10,32 @@ ghost use Rattle.xsd_types.specs.Count.{refused_rows};
 
 use builtin::{map_builtin, reference_number};
 use rows::form::in_range;
-use rows::numbers::row_tag;
-use rows::parts::pair_text;
-use sheet::limits;
+use rows::part::SheetPart;
 use xsd_types::tags;
 
-fn only_codes(rows: &[u32], from: usize, end: usize) -> bool
-    requires { 10 * end ≤ length rows.now }
-    ensures { (names : List ℕ) → result ≡ only_codes (rows_from rows.now names from end) }
+fn only_codes(part: &SheetPart<'_>, from: usize) -> bool
+    ensures { (names : List ℕ) → result ≡ only_codes (rows_from part.now.rows.now names from part.now.end) }
 {
-    let mut p = from;
-    while p < end {
-        let tag = row_tag(rows, p);
+    for p in from..part.end {
+        let tag = part.tag(p);
         if tag != tags::ENUMERATION {
             return !in_range(tags::PATTERN, tags::FRACTION_DIGITS, tag);
         }
-        p += 1;
     }
     true
 }
 
-// "Facets all enumerations and not none: code enum"
-pub fn is_code_enum(rows: &[u32], from: usize, end: usize) -> bool
-    requires { 10 * end ≤ length rows.now }
-    ensures { (names : List ℕ) → result ≡ is_code_enum (rows_from rows.now names from end) }
+// "Facets all enumerations and not none: code enum". The rows are those from a place on.
+pub fn is_code_enum(part: &SheetPart<'_>, from: usize) -> bool
+    ensures { (names : List ℕ) → result ≡ is_code_enum (rows_from part.now.rows.now names from part.now.end) }
 {
-    if end <= from {
+    if part.end <= from {
         return false;
     }
-    if row_tag(rows, from) != tags::ENUMERATION {
+    if part.tag(from) != tags::ENUMERATION {
         return false;
     }
-    only_codes(rows, from + 1, end)
+    only_codes(part, from + 1)
 }
 
 // 0 named, 1 to 5 built-in.
@@ -52,46 +46,36 @@ pub fn reference_of(name: &[u8]) -> u32
 }
 
 // 13: whether lowering refuses the simple type whose head stands at a place. A code enum's base is not looked at.
-pub fn is_refused(rows: &[u32], names: &[u8], place: usize, end: usize) -> bool
-    requires { (place < end) × (10 * end ≤ length rows.now) }
-    ensures { result ≡ refused_row (row_at rows.now names.now place) (rows_from rows.now names.now (place + 1) end) }
+pub fn is_refused(part: &SheetPart<'_>, place: usize) -> bool
+    requires { place < part.now.end }
+    ensures { result ≡ refused_row (row_at part.now.rows.now part.now.names.now place) (rows_from part.now.rows.now part.now.names.now (place + 1) part.now.end) }
 {
-    if row_tag(rows, place) != tags::SIMPLE_TYPE {
+    if part.tag(place) != tags::SIMPLE_TYPE {
         return false;
     }
-    if is_code_enum(rows, place + 1, end) {
+    if is_code_enum(part, place + 1) {
         return false;
     }
-    reference_of(pair_text(rows, names, limits::ROW * place + 3)) == 0
+    reference_of(part.text(place, 1)) == 0
 }
 
-// The place of the first such head before `end`, 0 where there is none.
-pub fn first_refused(rows: &[u32], names: &[u8], end: usize) -> usize
-    requires { (2 ≤ end) × (10 * end ≤ length rows.now) }
-    ensures { result ≡ refused_place 2 (rows_from rows.now names.now 2 end) }
+// The place of the first such head.
+pub fn first_refused(part: &SheetPart<'_>) -> Option<usize>
+    requires { 2 ≤ part.now.end }
+    ensures { let place = refused_place 2 (rows_from part.now.rows.now part.now.names.now 2 part.now.end) in MatchOption result (place ≡ 0) (λ p. (0 < p) × (place ≡ p)) }
 {
-    let mut p = 2;
-    while p < end {
-        if is_refused(rows, names, p, end) {
-            return p;
+    for p in 2..part.end {
+        if is_refused(part, p) {
+            return Some(p);
         }
-        p += 1;
     }
-    0
+    None
 }
 
-// Order 7: how many such heads stand from one place up to another. The rows behind a head decide whether it is a code enum, so they are looked at up to the same end.
-pub fn count_refused(rows: &[u32], names: &[u8], from: usize, end: usize) -> usize
-    requires { (from ≤ end) × (10 * end ≤ length rows.now) }
-    ensures { result ≡ refused_rows (rows_from rows.now names.now from end) }
+// Order 7: how many such heads stand from a place on.
+pub fn count_refused(part: &SheetPart<'_>, from: usize) -> usize
+    requires { from ≤ part.now.end }
+    ensures { result ≡ refused_rows (rows_from part.now.rows.now part.now.names.now from part.now.end) }
 {
-    let mut n = 0;
-    let mut p = from;
-    while p < end {
-        if is_refused(rows, names, p, end) {
-            n += 1;
-        }
-        p += 1;
-    }
-    n
+    (from..part.end).filter(|p| is_refused(part, *p)).count()
 }

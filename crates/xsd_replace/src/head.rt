@@ -6,7 +6,6 @@ ghost use Rattle.text.specs.Text.{Text};
 ghost use Rattle.sheet.specs.Rows.{Row, names_of};
 ghost use Rattle.xsd_replace.specs.Head.{HeadAt, HeadRoom, HeadReplaced};
 
-use buffer::{zero_names, zero_rows};
 use rows::numbers::{RowNumbers, Used, pair_at};
 use rows::row::set_row;
 use rows::texts::put_texts;
@@ -27,8 +26,8 @@ fn cut(rows: &mut [u32], names: &mut [u8], used: Used, place: usize, end: usize)
     ensures rows { rows.new ≡ paste rows.old (10 * place) (replicate (10 * (used.rows - place)) 0) (10 * (used.rows - place)) }
     ensures names { names.new ≡ paste names.old end (replicate (used.names - end) 0) (used.names - end) }
 {
-    zero_rows(rows, 10 * place, 10 * (used.rows - place));
-    zero_names(names, end, used.names - end);
+    rows[10 * place..10 * used.rows].fill(0);
+    names[end..used.names].fill(0);
 }
 
 // Gives the open type's row other numbers and a second text, keeps its name, and frees the rows

@@ -28,10 +28,8 @@ pub fn reoffset(rows: &mut [u32], place: usize, end: usize, at: usize) -> usize
     ensures { (goal : List ℕ) (total : ℕ) → Offsets rows.old place end at goal total → (rows.new ≡ goal) × (result ≡ total) }
 {
     let mut next = at;
-    let mut i = place;
-    while i < end {
+    for i in place..end {
         next = reoffset_row(rows, i, end, next);
-        i += 1;
     }
     next
 }

@@ -1,5 +1,5 @@
 -- The parts of a row's text as the code writes them (the crate `xsd_written`, specs/ByRows.antt, has the whole).
---     row_of         a row of numbers with its texts
+--     row_of         a row of numbers with its texts; as_row: that of the code's row
 --     quoted        a value between its quotes
 --     named         an opening that ends before the name's value, the name, and the type
 --     content_text   what a complex type opens behind its name
@@ -8,6 +8,7 @@ use Rattle.std.specs.Prelude.{ℕ, List, [], ◌∷◌, ◌++◌, eqb, if◌then
 use Rattle.text.specs.Text.{Text, bytes}
 use Rattle.sheet.specs.Rows.{Row, unpack_row}
 use Rattle.rows.specs.declared.ten.Ten.{Ten as Numbers}
+use Rattle.xsd_write.specs.declared.part.Row.{Row as Given}
 use Rattle.rows.specs.Ten.{as_ten}
 use Rattle.xsd_types.specs.Tags.{sequence_tag, choice_tag, simple_content_tag}
 use Rattle.xsd_types.specs.Good.{used_pairs, is_head}
@@ -17,6 +18,9 @@ use Rattle.xsd_written.specs.ByRows.{attribute_text, any_text, head_text, child_
 
 abbrev pub row_of : List ℕ → Numbers → Row
 row_of names t = unpack_row used_pairs names (as_ten t)
+
+abbrev pub as_row : Given → Row
+as_row r = row_of r.names.now r.numbers
 
 unfoldable pub quoted : Text → Text
 quoted v = quote_of v ∷ (v ++ quote_of v ∷ [])

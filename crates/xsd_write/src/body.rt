@@ -1,67 +1,61 @@
 // All rows one behind the other: a head first closes the one before it.
-ghost use Rattle.std.specs.Prelude.{◌++◌, ◌*◌, ◌≤◌, length};
+ghost use Rattle.std.specs.Prelude.{◌++◌, ◌≤◌};
 ghost use Rattle.text.specs.Text.{bytes};
-ghost use Rattle.xsd_types.specs.Back.{text0};
-ghost use Rattle.xsd_types.specs.Places.{row_at, rows_from};
 ghost use Rattle.xsd_written.specs.ByRows.{rows_text};
-ghost use Rattle.xsd_write.specs.Texts.{row_of, row_text, schema_rows};
-ghost use Rattle.xsd_write.specs.Puts.{Puts};
+ghost use Rattle.xsd_write.specs.Texts.{as_row, row_text};
+ghost use Rattle.xsd_write.specs.Parts.{part_rows, part_text};
+ghost use Rattle.xsd_write.specs.Puts.{Puts, Writes};
 
 use crate::child::put_child;
 use crate::head::{put_close, put_head};
-use crate::part::first_text;
-use crate::put::{put, put_value};
-use rows::ten::{Ten, ten_at};
-use sheet::limits;
+use crate::part::Row;
+use crate::put::Writer;
+use rows::part::SheetPart;
 use xsd_good::forms::row::{head_after, is_head};
 
-fn put_row(out: &mut [u8], at: usize, names: &[u8], t: Ten, pending: u32) -> usize
-    requires { length out.old ≤ 65536 }
-    ensures { Puts (row_text pending (row_of names.now t)) at out.old result out.new }
+fn put_row(writer: &mut Writer, row: Row, pending: u32)
+    ensures { Writes (row_text pending (as_row row.entry)) writer.old writer.new }
 {
-    if is_head(t.tag) {
-        let a = put_close(out, at, pending);
-        return put_head(out, a, names, t);
+    if is_head(row.numbers.tag) {
+        put_close(writer, pending);
+        put_head(writer, row);
+    } else {
+        put_child(writer, row);
     }
-    put_child(out, at, names, t)
 }
 
 // The rows of the items, from row 2 up to the end.
-fn put_rows(out: &mut [u8], from: usize, rows: &[u32], names: &[u8], end: usize) -> usize
-    requires { (length out.old ≤ 65536) × (10 * end ≤ length rows.now) }
-    ensures { Puts (rows_text 0 (rows_from rows.now names.now 2 end)) from out.old result out.new }
+fn put_rows(writer: &mut Writer, part: &SheetPart)
+    ensures { Writes (rows_text 0 (part_rows part.now 2)) writer.old writer.new }
 {
-    let mut at = from;
     let mut pending: u32 = 0;
-    let mut place = 2;
-    while place < end {
-        let t = ten_at(rows, limits::ROW * place);
-        at = put_row(out, at, names, t, pending);
-        pending = head_after(pending, t.tag);
-        place += 1;
+    for place in 2..part.end {
+        let row = Row::at(part, place);
+        put_row(writer, row, pending);
+        pending = head_after(pending, row.numbers.tag);
     }
-    put_close(out, at, pending)
+    put_close(writer, pending);
 }
 
-fn put_body(out: &mut [u8], at: usize, rows: &[u32], names: &[u8], end: usize) -> usize
-    requires { (length out.old ≤ 65536) × (10 * end ≤ length rows.now) }
-    ensures { Puts (bytes ">" ++ (rows_text 0 (rows_from rows.now names.now 2 end) ++ bytes "</xs:schema>")) at out.old result out.new }
+fn put_body(writer: &mut Writer, part: &SheetPart)
+    ensures { Writes (bytes ">" ++ (rows_text 0 (part_rows part.now 2) ++ bytes "</xs:schema>")) writer.old writer.new }
 {
-    let a = put(out, at, b">");
-    let b = put_rows(out, a, rows, names, end);
-    put(out, b, b"</xs:schema>")
+    writer.put(b">");
+    put_rows(writer, part);
+    writer.put(b"</xs:schema>");
 }
 
-pub fn put_schema(out: &mut [u8], rows: &[u32], names: &[u8], end: usize) -> usize
-    requires { (length out.old ≤ 65536) × (2 ≤ end) × (10 * end ≤ length rows.now) }
-    ensures { Puts (schema_rows (text0 (row_at rows.now names.now 1)) (rows_from rows.now names.now 2 end)) 0 out.old result out.new }
+// The whole into a lent buffer: the offset behind it, past the buffer's end where it has no room.
+pub fn put_schema(out: &mut [u8], part: &SheetPart) -> usize
+    requires { 2 ≤ part.now.end }
+    ensures { Puts (part_text part.now) 0 out.old result out.new }
 {
-    let namespace = first_text(names, ten_at(rows, limits::ROW));
-    let a = put_value(
-        out,
-        0,
+    let row = Row::at(part, 1);
+    let mut writer = Writer { out, at: 0 };
+    writer.put_value(
         b"<xs:schema xmlns:xs=\"http://www.w3.org/2001/XMLSchema\" targetNamespace=",
-        namespace,
+        row.first_text(),
     );
-    put_body(out, a, rows, names, end)
+    put_body(&mut writer, part);
+    writer.at
 }

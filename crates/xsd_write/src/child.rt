@@ -1,115 +1,105 @@
 // A child: a facet, an element of a sequence or a choice, an attribute.
-ghost use Rattle.std.specs.Prelude.{◌++◌, ◌≤◌, length};
+ghost use Rattle.std.specs.Prelude.{◌++◌};
 ghost use Rattle.text.specs.Text.{bytes};
 ghost use Rattle.xsd_written.specs.ByRows.{attribute_text, empty_text, named_text, facet_word_text, facet_value_text, max_occurs_text, occurs_text, use_text, child_text};
-ghost use Rattle.xsd_write.specs.Texts.{row_of};
-ghost use Rattle.xsd_write.specs.Puts.{Puts};
+ghost use Rattle.xsd_write.specs.Texts.{as_row};
+ghost use Rattle.xsd_write.specs.Puts.{Writes};
 
 use crate::head::{put_element, put_named};
-use crate::part::{first_text, length_of};
-use crate::put::{put, put_number, put_value};
+use crate::part::{Row, length_of};
+use crate::put::Writer;
 use rows::form::in_range;
-use rows::ten::Ten;
 use xsd_types::tags;
 
-fn put_word(out: &mut [u8], at: usize, tag: u32) -> usize
-    requires { length out.old ≤ 65536 }
-    ensures { Puts (bytes "<xs:" ++ facet_word_text tag) at out.old result out.new }
+fn put_word(writer: &mut Writer, tag: u32)
+    ensures { Writes (bytes "<xs:" ++ facet_word_text tag) writer.old writer.new }
 {
     match tag {
-        tags::ENUMERATION => put(out, at, b"<xs:enumeration"),
-        tags::PATTERN => put(out, at, b"<xs:pattern"),
-        tags::MIN_LENGTH => put(out, at, b"<xs:minLength"),
-        tags::MAX_LENGTH => put(out, at, b"<xs:maxLength"),
-        tags::MIN_INCLUSIVE => put(out, at, b"<xs:minInclusive"),
-        tags::MAX_INCLUSIVE => put(out, at, b"<xs:maxInclusive"),
-        tags::TOTAL_DIGITS => put(out, at, b"<xs:totalDigits"),
-        _ => put(out, at, b"<xs:fractionDigits"),
+        tags::ENUMERATION => writer.put(b"<xs:enumeration"),
+        tags::PATTERN => writer.put(b"<xs:pattern"),
+        tags::MIN_LENGTH => writer.put(b"<xs:minLength"),
+        tags::MAX_LENGTH => writer.put(b"<xs:maxLength"),
+        tags::MIN_INCLUSIVE => writer.put(b"<xs:minInclusive"),
+        tags::MAX_INCLUSIVE => writer.put(b"<xs:maxInclusive"),
+        tags::TOTAL_DIGITS => writer.put(b"<xs:totalDigits"),
+        _ => writer.put(b"<xs:fractionDigits"),
     }
 }
 
-fn put_facet_value(out: &mut [u8], at: usize, names: &[u8], t: Ten) -> usize
-    requires { length out.old ≤ 65536 }
-    ensures { Puts (attribute_text "value" (facet_value_text (row_of names.now t))) at out.old result out.new }
+fn put_facet_value(writer: &mut Writer, row: Row)
+    ensures { Writes (attribute_text "value" (facet_value_text (as_row row.entry))) writer.old writer.new }
 {
-    if in_range(tags::MIN_LENGTH, tags::MAX_LENGTH, t.tag) {
-        return put_number(out, at, b" value=", length_of(t.a, t.b));
+    if in_range(tags::MIN_LENGTH, tags::MAX_LENGTH, row.numbers.tag) {
+        writer.put_number(b" value=", length_of(row.numbers.a, row.numbers.b));
+    } else if in_range(tags::TOTAL_DIGITS, tags::FRACTION_DIGITS, row.numbers.tag) {
+        writer.put_number(b" value=", row.numbers.a as u64);
+    } else {
+        writer.put_value(b" value=", row.first_text());
     }
-    if in_range(tags::TOTAL_DIGITS, tags::FRACTION_DIGITS, t.tag) {
-        return put_number(out, at, b" value=", t.a as u64);
-    }
-    put_value(out, at, b" value=", first_text(names, t))
 }
 
-fn put_facet(out: &mut [u8], at: usize, names: &[u8], t: Ten) -> usize
-    requires { length out.old ≤ 65536 }
-    ensures { Puts (empty_text (facet_word_text t.tag) (attribute_text "value" (facet_value_text (row_of names.now t)))) at out.old result out.new }
+fn put_facet(writer: &mut Writer, row: Row)
+    ensures { Writes (empty_text (facet_word_text row.entry.numbers.tag) (attribute_text "value" (facet_value_text (as_row row.entry)))) writer.old writer.new }
 {
-    let a = put_word(out, at, t.tag);
-    let b = put_facet_value(out, a, names, t);
-    put(out, b, b"/>")
+    put_word(writer, row.numbers.tag);
+    put_facet_value(writer, row);
+    writer.put(b"/>");
 }
 
-fn put_max(out: &mut [u8], at: usize, names: &[u8], t: Ten) -> usize
-    requires { length out.old ≤ 65536 }
-    ensures { Puts (attribute_text "maxOccurs" (max_occurs_text (row_of names.now t))) at out.old result out.new }
+fn put_max(writer: &mut Writer, row: Row)
+    ensures { Writes (attribute_text "maxOccurs" (max_occurs_text (as_row row.entry))) writer.old writer.new }
 {
-    if t.tag == tags::BOUND_ELEMENT {
-        return put_number(out, at, b" maxOccurs=", t.b as u64);
+    if row.numbers.tag == tags::BOUND_ELEMENT {
+        writer.put_number(b" maxOccurs=", row.numbers.b as u64);
+    } else {
+        writer.put(b" maxOccurs=\"unbounded\"");
     }
-    put(out, at, b" maxOccurs=\"unbounded\"")
 }
 
 // minOccurs and maxOccurs also where they are the defaults.
-fn put_occurs(out: &mut [u8], at: usize, names: &[u8], t: Ten) -> usize
-    requires { length out.old ≤ 65536 }
-    ensures { Puts (occurs_text (row_of names.now t)) at out.old result out.new }
+fn put_occurs(writer: &mut Writer, row: Row)
+    ensures { Writes (occurs_text (as_row row.entry)) writer.old writer.new }
 {
-    let a = put_number(out, at, b" minOccurs=", t.a as u64);
-    put_max(out, a, names, t)
+    writer.put_number(b" minOccurs=", row.numbers.a as u64);
+    put_max(writer, row);
 }
 
-fn put_occurring(out: &mut [u8], at: usize, names: &[u8], t: Ten) -> usize
-    requires { length out.old ≤ 65536 }
-    ensures { Puts (empty_text (bytes "element") (named_text (row_of names.now t) ++ occurs_text (row_of names.now t))) at out.old result out.new }
+fn put_occurring(writer: &mut Writer, row: Row)
+    ensures { Writes (empty_text (bytes "element") (named_text (as_row row.entry) ++ occurs_text (as_row row.entry))) writer.old writer.new }
 {
-    let a = put_named(out, at, b"<xs:element name=", names, t);
-    let b = put_occurs(out, a, names, t);
-    put(out, b, b"/>")
+    put_named(writer, b"<xs:element name=", row);
+    put_occurs(writer, row);
+    writer.put(b"/>");
 }
 
 // "`use` only if required"
-fn put_use(out: &mut [u8], at: usize, names: &[u8], t: Ten) -> usize
-    requires { length out.old ≤ 65536 }
-    ensures { Puts (use_text (row_of names.now t)) at out.old result out.new }
+fn put_use(writer: &mut Writer, row: Row)
+    ensures { Writes (use_text (as_row row.entry)) writer.old writer.new }
 {
-    if t.a == 1 {
-        return put(out, at, b" use=\"required\"");
+    if row.numbers.a == 1 {
+        writer.put(b" use=\"required\"");
     }
-    at
 }
 
-fn put_attribute(out: &mut [u8], at: usize, names: &[u8], t: Ten) -> usize
-    requires { length out.old ≤ 65536 }
-    ensures { Puts (empty_text (bytes "attribute") (named_text (row_of names.now t) ++ use_text (row_of names.now t))) at out.old result out.new }
+fn put_attribute(writer: &mut Writer, row: Row)
+    ensures { Writes (empty_text (bytes "attribute") (named_text (as_row row.entry) ++ use_text (as_row row.entry))) writer.old writer.new }
 {
-    let a = put_named(out, at, b"<xs:attribute name=", names, t);
-    let b = put_use(out, a, names, t);
-    put(out, b, b"/>")
+    put_named(writer, b"<xs:attribute name=", row);
+    put_use(writer, row);
+    writer.put(b"/>");
 }
 
-pub fn put_child(out: &mut [u8], at: usize, names: &[u8], t: Ten) -> usize
-    requires { length out.old ≤ 65536 }
-    ensures { Puts (child_text (row_of names.now t)) at out.old result out.new }
+pub fn put_child(writer: &mut Writer, row: Row)
+    ensures { Writes (child_text (as_row row.entry)) writer.old writer.new }
 {
-    if in_range(tags::ENUMERATION, tags::FRACTION_DIGITS, t.tag) {
-        return put_facet(out, at, names, t);
+    let tag = row.numbers.tag;
+    if in_range(tags::ENUMERATION, tags::FRACTION_DIGITS, tag) {
+        put_facet(writer, row);
+    } else if in_range(tags::BOUND_ELEMENT, tags::UNBOUNDED_ELEMENT, tag) {
+        put_occurring(writer, row);
+    } else if tag == tags::CHOICE_VARIANT {
+        put_element(writer, row);
+    } else {
+        put_attribute(writer, row);
     }
-    if in_range(tags::BOUND_ELEMENT, tags::UNBOUNDED_ELEMENT, t.tag) {
-        return put_occurring(out, at, names, t);
-    }
-    if t.tag == tags::CHOICE_VARIANT {
-        return put_element(out, at, names, t);
-    }
-    put_attribute(out, at, names, t)
 }

@@ -9,7 +9,7 @@ fn digit(n: u64) -> u8
     48 + n as u8
 }
 
-// The digits stand from `from` on, up to the end.
+// The digits stand from `from` on, up to the end: an array of twenty and a start, since there is no heap.
 #[derive(Clone, Copy)]
 pub struct Spelled {
     pub digits: [u8; 20],
@@ -19,6 +19,7 @@ pub struct Spelled {
 pub fn spell(n: u64) -> Spelled
     ensures { Spells n result.digits result.from }
 {
+    // No `for`: what is left of the number ends the loop, and not the place of the digit.
     let mut digits = [48; 20];
     let mut at = 19;
     let mut rest = n;

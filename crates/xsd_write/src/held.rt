@@ -1,33 +1,24 @@
 // Whether XML can hold the values of the rows in attributes: 22.
-ghost use Rattle.std.specs.Prelude.{◌≡◌, ◌*◌, ◌≤◌, true, length, take};
+ghost use Rattle.std.specs.Prelude.{◌≡◌, true, take};
 ghost use Rattle.text.specs.Text.{every};
 ghost use Rattle.sheet.specs.Rows.{text_at};
-ghost use Rattle.xsd_types.specs.Places.{rows_from};
 ghost use Rattle.xml.specs.Values.{is_in_value};
-ghost use Rattle.xml_parts.specs.Answers.{class_table};
 ghost use Rattle.xsd_written.specs.Call.{holds, unheld_from};
-ghost use Rattle.xsd_write.specs.Texts.{row_of};
+ghost use Rattle.xsd_write.specs.Texts.{as_row};
+ghost use Rattle.xsd_write.specs.Parts.{part_rows};
 ghost use Rattle.xsd_write.specs.Steps.{unheld_of};
 
+use crate::part::Row;
 use rows::numbers::wide;
+use rows::part::SheetPart;
 use rows::parts::part_of;
-use rows::ten::{Ten, ten_at};
-use sheet::limits;
 use text::has_byte;
-use xml_parts::classes::CLASSES;
+use xml_parts::classes::Classes;
 use xml_parts::values::{is_value, value_run};
 use xsd_good::forms::row::used_pairs;
 
-// The row of the first value that XML cannot hold.
-#[derive(Clone, Copy)]
-pub enum Unheld {
-    At(usize),
-    Nothing,
-}
-
 // Between the quotes that are written around it: "quotes double unless the value has one".
-fn holds(classes: &[u8; 256], value: &[u8]) -> bool
-    requires { classes.now ≡ class_table }
+fn holds(classes: &Classes, value: &[u8]) -> bool
     ensures { result ≡ holds value.now }
 {
     if has_byte(value, 34) {
@@ -37,9 +28,8 @@ fn holds(classes: &[u8; 256], value: &[u8]) -> bool
 }
 
 // The first `clear` bytes of the names need no look.
-fn pair_holds(classes: &[u8; 256], names: &[u8], clear: usize, at: u32, len: u32) -> bool
-    requires classes_value { classes.now ≡ class_table }
-    requires names_value { every is_in_value (take clear names.now) ≡ true }
+fn pair_holds(classes: &Classes, names: &[u8], clear: usize, at: u32, len: u32) -> bool
+    requires { every is_in_value (take clear names.now) ≡ true }
     ensures { result ≡ holds (text_at names.now at len) }
 {
     let start = wide(at);
@@ -50,51 +40,47 @@ fn pair_holds(classes: &[u8; 256], names: &[u8], clear: usize, at: u32, len: u32
     holds(classes, part_of(names, start, size))
 }
 
-fn row_holds(classes: &[u8; 256], names: &[u8], clear: usize, t: Ten) -> bool
-    requires classes_value { classes.now ≡ class_table }
-    requires names_value { every is_in_value (take clear names.now) ≡ true }
-    ensures { result ≡ every holds (row_of names.now t).texts }
+fn row_holds(classes: &Classes, clear: usize, row: Row) -> bool
+    requires { every is_in_value (take clear row.names.now) ≡ true }
+    ensures { result ≡ every holds (as_row row.entry).texts }
 {
+    // No chain of `||` and `&&`: a test of use and a call for each pair, with the facts of each joined again, is no plainer.
+    let t = row.numbers;
     let used = used_pairs(t.tag, t.a);
     if used == 0 {
         return true;
     }
-    if !pair_holds(classes, names, clear, t.at0, t.len0) {
+    if !pair_holds(classes, row.names, clear, t.at0, t.len0) {
         return false;
     }
     if used == 1 {
         return true;
     }
-    if !pair_holds(classes, names, clear, t.at1, t.len1) {
+    if !pair_holds(classes, row.names, clear, t.at1, t.len1) {
         return false;
     }
     if used == 2 {
         return true;
     }
-    pair_holds(classes, names, clear, t.at2, t.len2)
+    pair_holds(classes, row.names, clear, t.at2, t.len2)
 }
 
-// From row 1, the namespace, up to the end.
-fn unheld_from(classes: &[u8; 256], rows: &[u32], names: &[u8], end: usize) -> Unheld
-    requires classes_value { classes.now ≡ class_table }
-    requires end_in_bounds { 10 * end ≤ length rows.now }
-    ensures { unheld_of result ≡ unheld_from 1 (rows_from rows.now names.now 1 end) }
+// The row of the first value that XML cannot hold, from row 1, the namespace, up to the end.
+fn unheld_from(classes: &Classes, part: &SheetPart) -> Option<usize>
+    ensures { unheld_of result ≡ unheld_from 1 (part_rows part.now 1) }
 {
-    let clear = value_run(classes, names, 0);
-    let mut place = 1;
-    while place < end {
-        if !row_holds(classes, names, clear, ten_at(rows, limits::ROW * place)) {
-            return Unheld::At(place);
+    let clear = value_run(classes, part.names, 0);
+    for place in 1..part.end {
+        if !row_holds(classes, clear, Row::at(part, place)) {
+            return Some(place);
         }
-        place += 1;
     }
-    Unheld::Nothing
+    None
 }
 
-pub fn first_unheld(rows: &[u32], names: &[u8], end: usize) -> Unheld
-    requires { 10 * end ≤ length rows.now }
-    ensures { unheld_of result ≡ unheld_from 1 (rows_from rows.now names.now 1 end) }
+pub fn first_unheld(part: &SheetPart) -> Option<usize>
+    ensures { unheld_of result ≡ unheld_from 1 (part_rows part.now 1) }
 {
-    let classes = CLASSES;
-    unheld_from(&classes, rows, names, end)
+    let classes = Classes::new();
+    unheld_from(&classes, part)
 }

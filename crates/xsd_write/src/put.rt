@@ -1,54 +1,61 @@
 // Texts put one behind the other. Where one has no room, the offset answered is past the buffer's end and stays there.
-ghost use Rattle.std.specs.Prelude.{◌++◌, ◌≤◌, length};
+ghost use Rattle.std.specs.Prelude.{◌++◌};
 ghost use Rattle.xsd_written.specs.Decimal.{decimal};
 ghost use Rattle.xsd_write.specs.Texts.{quoted};
-ghost use Rattle.xsd_write.specs.Puts.{Puts};
+ghost use Rattle.xsd_write.specs.Puts.{Writes};
 
 use crate::decimal::spell;
-use buffer::copy_text;
 use text::has_byte;
 
-pub fn put(out: &mut [u8], at: usize, part: &[u8]) -> usize
-    requires { length out.old ≤ 65536 }
-    ensures { Puts part.now at out.old result out.new }
-{
-    if out.len() < at {
-        return at;
-    }
-    if out.len() - at < part.len() {
-        return out.len() + 1;
-    }
-    copy_text(out, at, part);
-    at + part.len()
+// A text put together in a lent buffer: `at` is the offset behind it. Where a part has no room, `at` is past the buffer's end and stays there.
+#[derive(Drop)]
+pub struct Writer<'a> {
+    pub out: &'a mut [u8],
+    pub at: usize,
 }
 
-fn put_between(out: &mut [u8], at: usize, left: &[u8], part: &[u8], right: &[u8]) -> usize
-    requires { length out.old ≤ 65536 }
-    ensures { Puts (left.now ++ (part.now ++ right.now)) at out.old result out.new }
-{
-    let a = put(out, at, left);
-    let b = put(out, a, part);
-    put(out, b, right)
-}
-
-// "quotes double unless the value has one"
-pub fn put_value(out: &mut [u8], at: usize, key: &[u8], value: &[u8]) -> usize
-    requires { length out.old ≤ 65536 }
-    ensures { Puts (key.now ++ quoted value.now) at out.old result out.new }
-{
-    let a = put(out, at, key);
-    if has_byte(value, 34) {
-        return put_between(out, a, b"'", value, b"'");
+impl Writer<'_> {
+    pub fn put(&mut self, part: &[u8])
+        ensures { Writes part.now self.old self.new }
+    {
+        if self.out.len() < self.at {
+            return;
+        }
+        if self.out.len() - self.at < part.len() {
+            self.at = self.out.len() + 1;
+            return;
+        }
+        let end = self.at + part.len();
+        self.out[self.at..end].copy_from_slice(part);
+        self.at = end;
     }
-    put_between(out, a, b"\"", value, b"\"")
-}
 
-pub fn put_number(out: &mut [u8], at: usize, key: &[u8], n: u64) -> usize
-    requires { length out.old ≤ 65536 }
-    ensures { Puts (key.now ++ quoted (decimal n)) at out.old result out.new }
-{
-    let spelled = spell(n);
-    let digits = spelled.digits;
-    let from = spelled.from;
-    put_value(out, at, key, &digits[from..])
+    fn put_between(&mut self, left: &[u8], part: &[u8], right: &[u8])
+        ensures { Writes (left.now ++ (part.now ++ right.now)) self.old self.new }
+    {
+        self.put(left);
+        self.put(part);
+        self.put(right);
+    }
+
+    // "quotes double unless the value has one"
+    pub fn put_value(&mut self, key: &[u8], value: &[u8])
+        ensures { Writes (key.now ++ quoted value.now) self.old self.new }
+    {
+        self.put(key);
+        if has_byte(value, 34) {
+            self.put_between(b"'", value, b"'");
+        } else {
+            self.put_between(b"\"", value, b"\"");
+        }
+    }
+
+    pub fn put_number(&mut self, key: &[u8], n: u64)
+        ensures { Writes (key.now ++ quoted (decimal n)) self.old self.new }
+    {
+        let spelled = spell(n);
+        let digits = spelled.digits;
+        let from = spelled.from;
+        self.put_value(key, &digits[from..]);
+    }
 }

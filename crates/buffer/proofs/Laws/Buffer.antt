@@ -2,9 +2,9 @@
 -- cut it. Both replace a part in the middle (`paste-at`). Assumes nothing.
 use Prim.Native.Nat.{ℕ, ◌+◌, ◌-◌, ◌≤◌}
 use mathlib.Core.Path.{◌≡◌, sym, ap, ◌∙◌}
-use mathlib.Core.List.{List, ◌++◌, append_assoc, append-nil}
+use mathlib.Core.List.{List, ◌++◌, append_assoc}
 use native.Mathlib.Omega.{arith}
-use lib.ListN.{length, take, drop, replicate, length-append, length-replicate, replicate-append-replicate, drop_of_length-le}
+use lib.ListN.{length, take, drop, replicate, length-append, length-replicate, replicate-append-replicate}
 use lib.Seq.{paste, take_at, drop_at, take_all}
 use Rattle.sheet.specs.Rows.{filled}
 use Rattle.sheet.proofs.Laws.Numbers.{length-filled}
@@ -19,14 +19,6 @@ paste-at p q r s at n ep eq es =
     let middle : take n s ≡ s = take_all n s (omega arith) in
     let back : drop (at + n) (p ++ q ++ r) ≡ r = drop_at (p ++ q) r (at + n) (simp length-append (omega arith)) in
     rw (front, middle, back)
-
--- zeros over the whole list
-pub zeros-whole : (d : List ℕ) → paste d 0 (zeros (length d)) (length d) ≡ zeros (length d)
-zeros-whole d =
-    let n = length d in
-    let middle : take n (zeros n) ≡ zeros n = take_all n (zeros n) (simp length-replicate (omega arith)) in
-    let end : n ≤ 0 + n = omega arith in
-    rw (middle, drop_of_length-le d end, append-nil)
 
 -- what a buffer holds fits into it
 pub filled-fits : (d xs : List ℕ) → d ≡ filled (length d) xs → length xs ≤ length d

@@ -62,7 +62,7 @@ stored-before n p xs y s at {d} e long place room =
 -- the whole: the text q between p and r is replaced by s
 pub text-replaced : (n : ℕ) (p q r s : List ℕ) (at len used m : ℕ) {d d₁ d₂ d₃ : List ℕ} → d ≡ filled n (p ++ q ++ r) → length d ≡ n → length p ≡ at → length q ≡ len → length (p ++ q ++ r) ≡ used
     → used ≤ n → used - len + length s ≤ n → m ≡ used - (at + length s + (used - (at + len)))
-    → d₁ ≡ paste d (at + length s) (take (used - (at + len)) (drop (at + len) d)) (used - (at + len)) → d₂ ≡ paste d₁ (at + length s + (used - (at + len))) (zeros m) m
+    → d₁ ≡ paste d (at + length s) (drop (at + len) d) (used - (at + len)) → d₂ ≡ paste d₁ (at + length s + (used - (at + len))) (zeros m) m
     → d₃ ≡ paste d₂ at s (length s) → d₃ ≡ filled n (p ++ s ++ r)
 unfolding filled
 text-replaced n p q r s at len used m {d} {d₁} {d₂} {d₃} e long place size whole fits room freed f g h =
@@ -70,7 +70,9 @@ text-replaced n p q r s at len used m {d} {d₁} {d₂} {d₃} e long place size
     let count : length r ≡ used - (at + len) = omega arith in
     let part : take (used - (at + len)) (drop (at + len) d) ≡ r = ap (λ (l : List ℕ). take (used - (at + len)) (drop (at + len) l)) e
     ∙ part-behind n p q r (at + len) (used - (at + len)) (omega arith) count in
-    let cleared = moved-cleared n (p ++ q ++ r) r (at + length s) m e long (omega arith) (omega arith) (omega arith) (rw (part, ← count) at f) (rw (← count) at g) in
+    let all : take (used - (at + len)) r ≡ r = take_all (used - (at + len)) r (omega arith) in
+    let moved : d₁ ≡ paste d (at + length s) r (used - (at + len)) = f ∙ rw (part, all) in
+    let cleared = moved-cleared n (p ++ q ++ r) r (at + length s) m e long (omega arith) (omega arith) (omega arith) (rw (← count) at moved) (rw (← count) at g) in
     let left : n - (at + length s + length r) ≡ n - length (p ++ s ++ r) = simp length-append (omega arith) in
     h ∙ ap (λ (l : List ℕ). paste l at s (length s)) cleared
     ∙ stored-before n p (q ++ r) (r ++ zeros (n - (at + length s + length r))) s at (e ∙ ap (filled n) (append_assoc p q r)) long place (omega arith)

@@ -1,36 +1,42 @@
--- `builtin::map_builtin` meets its contract: a word whose key no name has is none of them; the one name that the word can be, by its slot, is the word, or no name is. Assumes nothing.
-use mathlib.Core.Path.{◌≡◌, sym, ap, ◌∙◌}
-use mathlib.Core.Bool.{false}
-use Rattle.text.specs.Text.{Text, contains}
-use Rattle.builtin.specs.Builtin.{builtins, first_match, map_builtin}
-use Rattle.builtin.specs.Answers.{key_of, keys_of}
-use Rattle.builtin.proofs.Laws.Builtins.{no_key, place-hit, place_other, place_none}
+-- `builtin::map_builtin` meets its contract: the one name that the word can be, by its slot, is the word, or no name is. Assumes nothing.
+use Rattle.std.proofs.Common.{◌≡◌, Bool, sym, ap, ◌∙◌}
+use Rattle.std.specs.Cmp.Lexicographic.{pointwise}
+use Rattle.std.proofs.Common.{nat_eq, ℕ}
+use Rattle.std.proofs.Math.Option.{some}
+use Rattle.text.specs.Text.{Text, same, is}
+use Rattle.text.proofs.Laws.Std.{same_is}
+use Rattle.builtin.specs.Builtin.{RustType, builtins, first_match, map_builtin}
+use Rattle.builtin.specs.Answers.{entry_at, named, of_builtin}
+use Rattle.builtin.proofs.Laws.Builtins.{place-bound, place-hit, place_other, place_none}
 use Rattle.builtin.proofs.map_builtin.Goals as goal
 
-pub returns-then-not-is_key : goal.returns-then-not-is_key
-unfolding map_builtin
-returns-then-not-is_key c =
-    let none_has : contains (key_of c.word_of-word.result.now) (keys_of builtins) ≡ false = rw (← c.key_of.ensures) (sym c.is_key.ensures ∙ c.if-not-is_key.true) in
-    sym (no_key c.word_of-word.result.now builtins none_has) ∙ ap (λ (w : Text). first_match w builtins) c.word_of-word.ensures
+-- the word against the name of the entry
+compared : (word name : Text) (t : RustType) (k : ℕ) {b : Bool} → (name, t) ≡ named (entry_at k) → pointwise nat_eq word name ≡ b → is word (entry_at k).0 ≡ b
+unfolding is
+compared word name t k e h = ap (λ (n : Text × RustType). same word n.0) (sym e) ∙ sym (same_is word name) ∙ h
 
-pub returns-then-k-ge38 : goal.returns-then-k-ge38
+pub returns-in_err-place_of : goal.returns-in_err-place_of
 unfolding map_builtin
-returns-then-k-ge38 c =
-    let word = c.word_of-word in
-    sym (place_none word.result.now (rw (← c.place_of-k.ensures) c.if-k-ge38.true)) ∙ ap (λ (w : Text). first_match w builtins) word.ensures
+returns-in_err-place_of c =
+    let word = c.local_name-word in
+    ap of_builtin c.from_residual.ensures ∙ sym (place_none word.result.now (sym c.place_of.ensures ∙ c.in_err-place_of.was))
+    ∙ ap (λ (w : Text). first_match w builtins) word.ensures.bytes
 
-pub returns-then-not-is_name : goal.returns-then-not-is_name
-unfolding map_builtin
-returns-then-not-is_name c =
-    let k = c.place_of-k.ensures in
-    let word = c.word_of-word in
-    let other = place_other word.result.now (rw (← k) c.if-k-ge38.false) (rw (← k) (sym c.is_name.ensures ∙ c.if-not-is_name.true)) in
-    sym other ∙ ap (λ (w : Text). first_match w builtins) word.ensures
+pub entry_at-builtin-requires : goal.entry_at-builtin-requires
+entry_at-builtin-requires c = place-bound c.local_name-word.result.now _ (sym c.place_of.ensures ∙ c.in_ok-place_of.was)
 
-pub returns : goal.returns
+pub returns-then-eq : goal.returns-then-eq
 unfolding map_builtin
-returns c =
-    let k = c.place_of-k.ensures in
-    let word = c.word_of-word in
-    let hit = place-hit word.result.now (rw (← k) c.if-k-ge38.false) (rw (← k) (sym c.is_name.ensures ∙ c.if-not-is_name.false)) in
-    c.kind_at.ensures ∙ rw k (sym hit) ∙ ap (λ (w : Text). first_match w builtins) word.ensures
+returns-then-eq c =
+    let word = c.local_name-word in
+    let entry = c.entry_at-builtin in
+    let hit = place-hit word.result.now _ (sym c.place_of.ensures ∙ c.in_ok-place_of.was) (compared _ _ _ _ entry.ensures (sym c.if-eq.ensures)) in
+    ap (λ (n : Text × RustType). some n.1) entry.ensures ∙ sym hit ∙ ap (λ (w : Text). first_match w builtins) word.ensures.bytes
+
+pub returns-else-eq : goal.returns-else-eq
+unfolding map_builtin
+returns-else-eq c =
+    let word = c.local_name-word in
+    let entry = c.entry_at-builtin in
+    let other = place_other word.result.now _ (sym c.place_of.ensures ∙ c.in_ok-place_of.was) (compared _ _ _ _ entry.ensures (sym c.if-eq.ensures)) in
+    sym other ∙ ap (λ (w : Text). first_match w builtins) word.ensures.bytes

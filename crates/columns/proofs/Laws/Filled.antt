@@ -5,10 +5,6 @@ use Rattle.columns.specs.Columns.{modulus, minus, plus, up_to, height, in_row, i
 use Rattle.columns.specs.Filled.{Filled, above_in}
 use Rattle.columns.proofs.Laws.Places.{get_d-up_to, at-column, at_row}
 
-pub minus-wraps : (r a b : ℕ) → r < modulus → b < modulus → (r + b) % modulus ≡ a → r ≡ minus a b
-unfolding minus
-minus-wraps r a b hr hb e = omega arith
-
 pub filled_none : (f : ℕ → ℕ) (out : List ℕ) → Filled f 0 out
 unfolding up_to
 filled_none f out = record { is = refl }

@@ -1,7 +1,8 @@
 -- Laws of the test of the form: the used parts are looked at first, and where they lie inside the buffers the other parts of `graph_form` are those of
 -- row 0, of the pass over the rows and of the two buffers. Assumes nothing.
+use Rattle.std.specs.Prelude.{Option, Some, None}
 use mathlib.Core.Path.{◌≡◌, sym, ap, ◌∙◌}
-use mathlib.Core.Bool.{Bool, true, false, ◌&&◌, and_assoc}
+use mathlib.Core.Bool.{Bool, true, false, ◌&&◌, and_assoc, and-false}
 use mathlib.Core.List.{List}
 use Prim.Native.Nat.{ℕ, ◌-◌, ◌*◌, ◌≤◌, ◌<◌}
 use native.Mathlib.Omega.{arith}
@@ -53,10 +54,6 @@ pub form-inside : (rows names : List ℕ) → parts_fit (ten rows) (length rows)
 unfolding graph_form used_parts row0_of parts_fit zeros_behind tens_of
 form-inside rows names e = rw e (simp and_assoc)
 
--- the tests in the code's order, of the pass and of what the other calls give
-abbrev pub tests : Ten → Scan → Bool → Bool → Bool → Bool
-tests z s f b n = f && s.ok && eqb s.end z.len0 && eqb z.at1 s.roots && eqb z.len1 s.types && b && n
-
 pub form-scanned : (rows names : List ℕ) → parts_fit (ten rows) (length rows) (length names) ≡ true
     → row0_form (graph_row0_from (ten rows))
     && (ends (ten rows).len0 (counts (ten rows)) (scanned_sheet (ten rows).len0 (tens ((ten rows).at0 - 1) (drop 10 rows)))
@@ -68,12 +65,19 @@ form-scanned rows names h =
     (sheet-ends (graph_row0_from (ten rows)) (tens_of (sheet rows names)))
     ∙ sym (form-inside rows names h)
 
-pub form-is : (rows names : List ℕ) (z : Ten) (s : Scan) → z ≡ ten rows → parts_fit z (length rows) (length names) ≡ true
-    → s ≡ scanned_sheet z.len0 (tens (z.at0 - 1) (drop 10 rows))
-    → tests z s (row0_form (graph_row0_from z)) (zeros rows names z) (is_text (take z.len0 names)) ≡ graph_form (sheet rows names)
-form-is rows names z s e h d = simp and_assoc (rw (d, e) (simp and_assoc at (form-scanned rows names (rw e at h))))
+-- the tests in the code's order, of the pass and of what the other calls give
+abbrev pub tests : Ten → Scan → Bool → Bool → Bool → Bool
+tests z s f b n = f && eqb s.end z.len0 && eqb z.at1 s.roots && eqb z.len1 s.types && b && n
 
-pub form-tests : (rows names : List ℕ) (z : Ten) (s : Scan) {f b n : Bool} → f ≡ row0_form (graph_row0_from z) → b ≡ zeros rows names z
-    → n ≡ is_text (take z.len0 names) → z ≡ ten rows → parts_fit z (length rows) (length names) ≡ true
-    → s ≡ scanned_sheet z.len0 (tens (z.at0 - 1) (drop 10 rows)) → tests z s f b n ≡ graph_form (sheet rows names)
-form-tests rows names z s f b n e h d = rw (f, b, n) (form-is rows names z s e h d)
+module _ (rows names : List ℕ) (z : Ten) (e : z ≡ ten rows) (h : parts_fit z (length rows) (length names) ≡ true) where
+  form-is : {o : Option Scan} → o ≡ scanned_sheet z.len0 (tens (z.at0 - 1) (drop 10 rows))
+      → row0_form (graph_row0_from z) && (ends z.len0 (counts z) o && behind rows names z) ≡ graph_form (sheet rows names)
+  form-is d = rw (d, e) (form-scanned rows names (rw e at h))
+
+  pub form-tests : (s : Scan) {f b n : Bool} → f ≡ row0_form (graph_row0_from z) → b ≡ zeros rows names z → n ≡ is_text (take z.len0 names)
+      → Some s ≡ scanned_sheet z.len0 (tens (z.at0 - 1) (drop 10 rows)) → tests z s f b n ≡ graph_form (sheet rows names)
+  form-tests s f b n d = rw (f, b, n) (simp and_assoc (simp and_assoc at (form-is d)))
+
+  -- a row failed
+  pub form-fails : None ≡ scanned_sheet z.len0 (tens (z.at0 - 1) (drop 10 rows)) → false ≡ graph_form (sheet rows names)
+  form-fails d = sym (and-false (row0_form (graph_row0_from z))) ∙ form-is d

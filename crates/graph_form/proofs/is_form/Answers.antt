@@ -9,7 +9,7 @@ use lib.ListN.{length}
 use Rattle.sheet.specs.Rows.{Ten}
 use Rattle.rows.specs.Ten.{as_ten}
 use Rattle.graph_form.specs.Scan.{parts_fit}
-use Rattle.graph_form.proofs.Laws.Form.{parts_in, not-inside, too_short, form-tests}
+use Rattle.graph_form.proofs.Laws.Form.{parts_in, not-inside, too_short, form-tests, form-fails}
 use Rattle.graph_form.proofs.is_form.Goals as goal
 
 -- behind the second test the used parts lie inside the buffers
@@ -31,11 +31,22 @@ returns-then-not-used_parts c =
     let f = sym c.used_parts.ensures ∙ c.if-not-used_parts.true in
     sym (not-inside a.rows.now a.names.now (rw c.ten_of-z.ensures at f))
 
-pub scan_sheet-s-requires : goal.scan_sheet-s-requires
-scan_sheet-s-requires c =
+pub scan_sheet-requires : goal.scan_sheet-requires
+scan_sheet-requires c =
     let a = c.args in
     let h = inside (as_ten c.ten_of-z.result) a.rows.now a.names.now c.used_parts.ensures c.if-not-used_parts.false in
-    (h.0, omega arith, h.1)
+    (h.0, omega arith)
+
+pub invariant_of-part : goal.invariant_of-part
+invariant_of-part c =
+    let a = c.args in
+    let h = inside (as_ten c.ten_of-z.result) a.rows.now a.names.now c.used_parts.ensures c.if-not-used_parts.false in
+    omega (arith, h.1)
+
+pub returns-in_default : goal.returns-in_default
+returns-in_default c =
+    let a = c.args in
+    form-fails a.rows.now a.names.now (as_ten c.ten_of-z.result) c.ten_of-z.ensures (fits _ a.rows.now a.names.now c.used_parts.ensures c.if-not-used_parts.false) c.in_default.ensures
 
 pub zeros_behind-requires : goal.zeros_behind-requires
 zeros_behind-requires c =
@@ -51,7 +62,5 @@ names_test-requires c =
 pub returns : goal.returns
 returns c =
     let a = c.args in
-    let z = as_ten c.ten_of-z.result in
-    form-tests a.rows.now a.names.now z c.scan_sheet-s.result
-    c.row0_form.ensures c.zeros_behind.ensures c.names_test.ensures
-    c.ten_of-z.ensures (fits z a.rows.now a.names.now c.used_parts.ensures c.if-not-used_parts.false) c.scan_sheet-s.ensures
+    form-tests a.rows.now a.names.now (as_ten c.ten_of-z.result) c.ten_of-z.ensures (fits _ a.rows.now a.names.now c.used_parts.ensures c.if-not-used_parts.false)
+    c.in-Some.s c.row0_form.ensures c.zeros_behind.ensures c.names_test.ensures c.in-Some.ensures

@@ -2,7 +2,8 @@
 -- needs more than there is needs it with more behind it too. One row: it has room, and then is added where it is stored behind the used parts, or not.
 -- Assumes nothing.
 use Prim.Native.Nat.{ℕ, ◌+◌, ◌*◌, ◌≤◌, ◌<◌}
-use mathlib.Core.Path.{◌≡◌, refl, ap, subst, ◌∙◌}
+use Rattle.std.specs.Prelude.{Option, Some, None}
+use mathlib.Core.Path.{◌≡◌, refl, ap, ◌∙◌}
 use mathlib.Core.Bool.{false, and-false}
 use mathlib.Core.List.{List, [], ◌∷◌, ◌++◌, append_assoc, append-nil}
 use native.Mathlib.Nat.{le_refl}
@@ -20,7 +21,6 @@ use Rattle.rows.specs.declared.numbers.Used.{Used}
 use Rattle.rows.specs.Packing.{numbers_of}
 use Rattle.rows.proofs.Laws.Write.{names-one, length-numbers_of}
 use Rattle.rows.proofs.Laws.More.{holds_more}
-use Rattle.ir_append.specs.declared.Grown.{Grown}
 use Rattle.ir_append.specs.Grows.{Room, GrownTo, Short, Grows}
 
 -- no row added
@@ -64,10 +64,10 @@ short-then {xs = xs} {ys = ys} g k =
       short = λ z rs h. rw (← append_assoc rs xs ys, ← g.rows_length, ← g.names_length) (k.short z (rs ++ xs) (g.holds z rs h));
     }
 
-pub grows_then : {rows names rows₁ names₁ : List ℕ} {used used₁ : Used} {xs : List Row} (ys : List Row) (rows₂ names₂ : List ℕ) (r : Grown) → GrownTo rows names used xs rows₁ names₁ used₁
+pub grows_then : {rows names rows₁ names₁ : List ℕ} {used used₁ : Used} {xs : List Row} (ys : List Row) (rows₂ names₂ : List ℕ) (r : Option Used) → GrownTo rows names used xs rows₁ names₁ used₁
     → Grows rows₁ names₁ used₁ ys rows₂ names₂ r → Grows rows names used (xs ++ ys) rows₂ names₂ r
-grows_then ys rows₂ names₂ (Grown.To used₂) g k = grown-then g k
-grows_then ys rows₂ names₂ Grown.Full g k = short-then g k
+grows_then ys rows₂ names₂ (Some used₂) g k = grown-then g k
+grows_then ys rows₂ names₂ None g k = short-then g k
 
 -- what needs more than there is, needs it with more behind it too
 fits-less : (r n r' n' lr ln : ℕ) → r ≤ r' → n ≤ n' → fits r n lr ln ≡ false → fits r' n' lr ln ≡ false
@@ -135,12 +135,3 @@ grown-one {rows} {names} {rows'} {names'} {used} r end rows_room names_room e f 
       names_inside = omega arith;
       holds = λ z rs h. holds_more r end h (omega arith) names_room e f g;
     }
-
--- what an answer says, by its case
-pub grown-of : (rows names : List ℕ) (used : Used) (more : List Row) (rows' names' : List ℕ) (r : Grown) {used' : Used} → Grows rows names used more rows' names' r
-    → r ≡ Grown.To used' → GrownTo rows names used more rows' names' used'
-grown-of rows names used more rows' names' r g e = subst (λ (r : Grown). Grows rows names used more rows' names' r) e g
-
-pub short-of : (rows names : List ℕ) (used : Used) (more : List Row) (rows' names' : List ℕ) (r : Grown) → Grows rows names used more rows' names' r → r ≡ Grown.Full
-    → Short rows names used more rows' names'
-short-of rows names used more rows' names' r g e = subst (λ (r : Grown). Grows rows names used more rows' names' r) e g

@@ -1,6 +1,6 @@
 -- The row that a recipe gives: its bytes are those of the three texts, and its ten numbers are `row_numbers`. By cases on which texts there are; an unused
 -- text is empty. Assumes nothing.
-use Rattle.std.specs.Prelude.{if◌then◌else◌}
+use Rattle.std.specs.Prelude.{Option, Some, None, if◌then◌else◌}
 use Prim.Native.Nat.{ℕ, ◌+◌}
 use mathlib.Core.Path.{◌≡◌, refl, sym, ap, ◌∙◌}
 use mathlib.Core.Bool.{Bool, true, false, not, ◌&&◌, ◌||◌, false≢true}
@@ -15,14 +15,9 @@ use Rattle.ir_append.specs.Spelled.{spelled_text, is_nothing, spelled_texts, rec
 use Rattle.ir_append.specs.Stored.{recipe_bytes, row_numbers}
 
 -- no text has no bytes
-nothing-empty : (k : Spelling) (t u : Text) → is_nothing k ≡ true → spelled_text k t u ≡ []
-nothing-empty Spelling.Nothing t u e = refl
-nothing-empty Spelling.First t u e = absurd (false≢true e)
-nothing-empty Spelling.FirstNormalized t u e = absurd (false≢true e)
-nothing-empty Spelling.FirstSnake t u e = absurd (false≢true e)
-nothing-empty Spelling.FirstPascal t u e = absurd (false≢true e)
-nothing-empty Spelling.Second t u e = absurd (false≢true e)
-nothing-empty Spelling.SecondNormalized t u e = absurd (false≢true e)
+nothing-empty : (k : Option Spelling) (t u : Text) → is_nothing k ≡ true → spelled_text k t u ≡ []
+nothing-empty None t u e = refl
+nothing-empty (Some how) t u e = absurd (false≢true e)
 
 -- a text or none before others
 join-before : (b : Bool) (x : Text) (ts : List Text) → (b ≡ true → x ≡ []) → join ((if b then [] else x ∷ []) ++ ts) ≡ x ++ join ts
@@ -30,7 +25,7 @@ unfolding join
 join-before true x ts h = rw (h refl)
 join-before false x ts h = refl
 
-join-spelled : (k : Spelling) (t u : Text) (ts : List Text) → join (spelled_texts k t u ++ ts) ≡ spelled_text k t u ++ join ts
+join-spelled : (k : Option Spelling) (t u : Text) (ts : List Text) → join (spelled_texts k t u ++ ts) ≡ spelled_text k t u ++ join ts
 unfolding spelled_texts
 join-spelled k t u ts = join-before (is_nothing k) (spelled_text k t u) ts (nothing-empty k t u)
 

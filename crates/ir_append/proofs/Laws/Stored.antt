@@ -1,6 +1,6 @@
 -- A text that a writer was to put into the part of the names from a place on is stored there or has no room, and three texts stored one behind the other
 -- are one text stored. By the definitions of `placed` and `paste`. Assumes nothing.
-use Rattle.std.specs.Prelude.{if◌then◌else◌}
+use Rattle.std.specs.Prelude.{Option, Some, None, if◌then◌else◌}
 use Prim.Native.Nat.{ℕ, ◌+◌, ◌-◌, ◌≤◌, ◌<◌}
 use mathlib.Core.Path.{◌≡◌, refl, ap, ◌∙◌}
 use mathlib.Core.Bool.{Bool, true, false}
@@ -12,7 +12,6 @@ use lib.Seq.{paste, paste-zero, take_all, take-length, drop-drop, length-paste}
 use borrow.Author.Tests.{leb-true, leb-false}
 use borrow.Rule.Slice.PartMut.{mid_of, put_mid}
 use Rattle.text.specs.Text.{Text}
-use Rattle.names.specs.declared.Written.{Written}
 use Rattle.names.specs.Answers.{Put, written, placed}
 use Rattle.buffer.proofs.Laws.Copy.{paste-paste}
 use Rattle.ir_append.specs.declared.Recipe.{Recipe}
@@ -20,11 +19,11 @@ use Rattle.ir_append.specs.Spelled.{spelled_text}
 use Rattle.ir_append.specs.Stored.{Stored, Stores, recipe_bytes, Spread}
 
 -- what an answer says of the test that it was made by
-bytes_fit : (b : Bool) (n k : ℕ) → Written.Bytes n ≡ (if b then Written.Bytes k else Written.NoRoom) → (b ≡ true) × (n ≡ k)
+bytes_fit : (b : Bool) (n k : ℕ) → Some n ≡ (if b then Some k else None) → (b ≡ true) × (n ≡ k)
 bytes_fit true n k e = (refl, cc)
 bytes_fit false n k e = absurd (let z : ◌≡◌ {A = ℕ} 0 1 = cc in let no : ⊥ = omega arith in no)
 
-no_room : (b : Bool) (k : ℕ) → Written.NoRoom ≡ (if b then Written.Bytes k else Written.NoRoom) → b ≡ false
+no_room : (b : Bool) (k : ℕ) → None ≡ (if b then Some k else None) → b ≡ false
 no_room true k e = absurd (let z : ◌≡◌ {A = ℕ} 0 1 = cc in let no : ⊥ = omega arith in no)
 no_room false k e = refl
 
@@ -41,9 +40,9 @@ module _ (names : List ℕ) (at : ℕ) (inside : at ≤ length names) where
       rw (whole, none, append-nil, drop-drop, take-length t, append_assoc)
 
   -- what a writer into the part says of the whole
-  pub stores-part : (t after : Text) (r : Written) → Put t (mid_of at (length names - at) names) r after → Stores names at t (put_mid at (length names - at) names after) r
+  pub stores-part : (t after : Text) (r : Option ℕ) → Put t (mid_of at (length names - at) names) r after → Stores names at t (put_mid at (length names - at) names after) r
   unfolding written
-  stores-part t after (Written.Bytes n) h =
+  stores-part t after (Some n) h =
       let put = rw part-rest at h in
       let fit = bytes_fit (leb (length t) (length (drop at names))) n (length t) put.counted in
       let room : at + length t ≤ length names = omega (arith, leb-true (length t) (length (drop at names)) fit.0, length-drop at names) in
@@ -52,7 +51,7 @@ module _ (names : List ℕ) (at : ℕ) (inside : at ≤ length names) where
         inside = omega (arith, fit.1);
         holds = rw (fit.1, put.holds) (part-put t room);
       }
-  stores-part t after Written.NoRoom h =
+  stores-part t after None h =
       let put = rw part-rest at h in
       let fit = no_room (leb (length t) (length (drop at names))) (length t) put.counted in
       omega (arith, leb-false (length t) (length (drop at names)) fit, length-drop at names)

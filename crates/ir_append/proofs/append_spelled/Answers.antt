@@ -8,45 +8,26 @@ use Rattle.ir_append.proofs.Laws.Stored.{stored-whole}
 use Rattle.ir_append.proofs.Laws.Recipe.{recipe-bytes, recipe-numbers}
 use Rattle.ir_append.proofs.append_spelled.Goals as goal
 
-pub returns-then-rows-place : goal.returns-then-rows-place
-returns-then-rows-place c =
+pub returns-then-rows-used : goal.returns-then-rows-used
+returns-then-rows-used c =
     let a = c.args in
-    short-rows (recipe_row a.recipe a.first.now a.second.now) c.if-rows-place.true
+    short-rows (recipe_row a.recipe a.first.now a.second.now) c.if-rows-used.true
 
-pub returns-in_default : goal.returns-in_default
-returns-in_default c =
+pub returns-in_err-n : goal.returns-in_err-n
+returns-in_err-n c =
     let put = c.put_texts in
     let a = c.args in
-    short-names (recipe_row a.recipe a.first.now a.second.now) put.auto.names (rw (recipe-bytes a.recipe a.first.now a.second.now) (rw c.in_default.is at put.ensures))
-
-pub spelled_row-row-requires : goal.spelled_row-row-requires
-spelled_row-row-requires c =
-    let s = rw c.in-Of.is at c.put_texts.ensures in
-    omega (arith, s.stored.inside, c.requires.0.few_names)
-
-pub overflow_add-result-2 : goal.overflow_add-result-2
-overflow_add-result-2 c =
-    let s = rw c.in-Of.is at c.put_texts.ensures in
-    omega (arith, s.stored.inside, c.requires.0.few_names)
-
-pub overflow_add-result-3 : goal.overflow_add-result-3
-overflow_add-result-3 c =
-    let s = rw c.in-Of.is at c.put_texts.ensures in
-    omega (arith, s.stored.inside, c.requires.0.few_names)
-
-pub overflow_add-result-4 : goal.overflow_add-result-4
-overflow_add-result-4 c =
-    let s = rw c.in-Of.is at c.put_texts.ensures in
-    omega (arith, s.stored.inside, c.requires.0.few_names)
+    rw c.from_residual.ensures
+    (short-names (recipe_row a.recipe a.first.now a.second.now) put.auto.names (rw (recipe-bytes a.recipe a.first.now a.second.now) c.in_err-n.ensures))
 
 pub returns : goal.returns
 returns c =
     let a = c.args in
-    let s = rw c.in-Of.is at c.put_texts.ensures in
+    let s = c.in_ok-n.ensures in
     let bytes = recipe-bytes a.recipe a.first.now a.second.now in
     let numbers = c.spelled_row-row.ensures
     ∙ recipe-numbers a.recipe a.first.now a.second.now a.used.names _ _ _ c.requires.1 s.first_length s.second_length s.third_length in
     grown-one (recipe_row a.recipe a.first.now a.second.now) _
-    c.if-rows-place.false
+    c.if-rows-used.false
     (rw bytes (omega (arith, s.stored.inside, s.stored.count))) (rw (← numbers) c.put_row.ensures) (rw bytes (stored-whole s.stored))
     (rw bytes (omega (arith, s.stored.count)))

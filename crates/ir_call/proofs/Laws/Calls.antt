@@ -1,9 +1,10 @@
 -- What the steps of a lowering answer and leave is the definition's, number by number: each by the definition's tests, since zeros and room depend on
 -- lengths alone. Assumes nothing.
 use Prim.Native.Nat.{ℕ, suc, ◌+◌, ◌%◌, ◌≤◌, ◌<◌}
-use mathlib.Core.Path.{◌≡◌, refl, sym, ap, ap₂, ◌∙◌, subst}
+use mathlib.Core.Path.{◌≡◌, refl, sym, ap, ap₂, ◌∙◌}
 use mathlib.Core.Bool.{Bool, true, false, ◌&&◌}
 use mathlib.Core.Option.{Option, some, none}
+use Rattle.std.specs.Prelude.{Err}
 use mathlib.Core.List.{List, [], ◌∷◌}
 use native.Mathlib.Omega.{arith}
 use lib.Dec.{eqb, leb}
@@ -16,6 +17,10 @@ use Rattle.sheet.specs.Rows.{Row, row, ten, text_at, unpack_row}
 use Rattle.sheet.specs.Form.{words}
 use Rattle.sheet.specs.Lengths.{Answer, sheet_lengths, lengths_of, good_lengths}
 use Rattle.sheet.specs.Calls.{sheet, answered}
+use Rattle.sheet.specs.Returned.{refusal_number}
+use Rattle.sheet.specs.declared.refusal.Refusal.{Refusal}
+use Rattle.rows.specs.declared.answers.Refused.{Refused}
+use Rattle.rows.specs.Answers.{answer_of}
 use Rattle.sheet.specs.Limits.{row_numbers, least_rows, rows_limit, names_limit}
 use Rattle.rows.specs.declared.numbers.Used.{Used}
 use Rattle.xsd_types.specs.State.{State}
@@ -41,13 +46,11 @@ use Rattle.xsd_types.specs.Refused.{refused_row, refused_place}
 use Rattle.ir_rows.specs.Lowered.{lowered_row}
 use Rattle.ir_rows.specs.Types.{finished_places, heads_at}
 use Rattle.ir_rows.proofs.Laws.Graph.{finished-types, unknown-place, unknown-refused, unknown-lowered, repeated-heads, root-count, type-count, graph-rows, namespace-lowered, Stands}
-use Rattle.ir_index.specs.declared.Indexed.{Indexed}
-use Rattle.ir_index.specs.Index.{AllIn, IndexIs}
-use Rattle.ir_call.specs.Steps.{Sized, Counted, Cleared, Lowers, GraphOf, GraphStands}
+use Rattle.ir_call.specs.Steps.{Sized, lowered, Counted, Cleared, Lowers, GraphOf, GraphStands}
 
--- an answer, a graph sheet and a scratch as one value
-abbrev left : Answer → List ℕ → List ℕ → List ℕ → Lowered
-left a rows names scratch = record { answer = a; graph = sheet rows names; scratch = scratch }
+-- a refusal whose place is 0
+pub refusal_at_0 : {why : Refusal} {refused : Refused} → refused ≡ record { refusal = why; place = 0 } → answer_of (Err refused) ≡ answered (refusal_number why) 0
+refusal_at_0 e = ap (λ (r : Refused). answer_of (Err r)) e
 
 -- ---- zeros
 
@@ -75,14 +78,14 @@ cleared-zeros {rows} {names} s =
 pub known-full : (rows names scratch rows₁ names₁ scratch₁ : List ℕ) {rows₂ names₂ scratch₂ : List ℕ} {a : Answer} (g : TypeGraph)
     → graph_fits (length rows) (length names) g ≡ false → a ≡ answered 15 0
     → length rows₁ ≡ length rows → rows₂ ≡ zeros rows₁ → length names₁ ≡ length names → names₂ ≡ zeros names₁ → length scratch₁ ≡ length scratch → scratch₂ ≡ zeros scratch₁
-    → left a rows₂ names₂ scratch₂ ≡ written g (sheet rows names) scratch
+    → lowered a rows₂ names₂ scratch₂ ≡ written g (sheet rows names) scratch
 unfolding written cleared
 known-full rows names scratch rows₁ names₁ scratch₁ g short e lr r ln n ls s =
-    rw short (λ i. left (e i) ((r ∙ zeros-as rows₁ rows lr) i) ((n ∙ zeros-as names₁ names ln) i) ((s ∙ zeros-as scratch₁ scratch ls) i))
+    rw short (λ i. lowered (e i) ((r ∙ zeros-as rows₁ rows lr) i) ((n ∙ zeros-as names₁ names ln) i) ((s ∙ zeros-as scratch₁ scratch ls) i))
 
 pub known-stands : (scratch scratch₁ : List ℕ) {rows names rows₁ names₁ scratch₂ : List ℕ} {used : Used} {a : Answer} (g : TypeGraph)
     → GraphStands g rows names rows₁ names₁ used → a ≡ answered 0 used.rows
-    → length scratch₁ ≡ length scratch → scratch₂ ≡ zeros scratch₁ → left a rows₁ names₁ scratch₂ ≡ written g (sheet rows names) scratch
+    → length scratch₁ ≡ length scratch → scratch₂ ≡ zeros scratch₁ → lowered a rows₁ names₁ scratch₂ ≡ written g (sheet rows names) scratch
 unfolding written
 known-stands scratch scratch₁ g st e ls s =
     rw st.fits (λ i. record { answer = (e ∙ ap (answered 0) st.place) i; graph = st.graph i; scratch = (s ∙ zeros-as scratch₁ scratch ls) i })
@@ -98,10 +101,10 @@ written-zeros none g rows names scratch = rw (length-zeros rows, length-zeros na
 
 pub known-repeated : {rows names : List ℕ} (scratch scratch₁ : List ℕ) {scratch₂ : List ℕ} {a : Answer} {row : ℕ} (o : Option ℕ) (g : TypeGraph) → o ≡ some row
     → Cleared rows names → a ≡ answered 20 row
-    → length scratch₁ ≡ length scratch → scratch₂ ≡ zeros scratch₁ → left a rows names scratch₂ ≡ repeated_or_written o g (sheet rows names) scratch
+    → length scratch₁ ≡ length scratch → scratch₂ ≡ zeros scratch₁ → lowered a rows names scratch₂ ≡ repeated_or_written o g (sheet rows names) scratch
 unfolding cleared
 known-repeated {rows} {names} scratch scratch₁ o g q c e ls s =
-    (λ i. left (e i) (c.rows_zero i) (c.names_zero i) ((s ∙ zeros-as scratch₁ scratch ls) i)) ∙ ap (λ (r : Option ℕ). repeated_or_written r g (sheet rows names) scratch) (sym q)
+    (λ i. lowered (e i) (c.rows_zero i) (c.names_zero i) ((s ∙ zeros-as scratch₁ scratch ls) i)) ∙ ap (λ (r : Option ℕ). repeated_or_written r g (sheet rows names) scratch) (sym q)
 
 -- no name came before: the graph, or 15, by the scratch's length
 pub known-once : (rows names scratch scratch₁ : List ℕ) {x : Lowered} (o : Option ℕ) (g : TypeGraph) → o ≡ none → length scratch₁ ≡ length scratch → x ≡ written g (sheet rows names) scratch₁
@@ -109,35 +112,27 @@ pub known-once : (rows names scratch scratch₁ : List ℕ) {x : Lowered} (o : O
 unfolding written cleared
 known-once rows names scratch scratch₁ o g e ls w = w ∙ rw (zeros-as scratch₁ scratch ls) (ap (λ (r : Option ℕ). repeated_or_written r g (sheet rows names) scratch) (sym e))
 
--- what indexing answers, by its case
-module _ (rows names : List ℕ) (end : ℕ) (scratch : List ℕ) (r : Indexed) (w : IndexIs rows names end scratch r) where
-  pub all_of : (n : ℕ) → r ≡ Indexed.All n → AllIn rows names end scratch n
-  all_of n e = subst (IndexIs rows names end scratch) e w
-
-  pub repeated-of : (p : ℕ) → r ≡ Indexed.Repeated p → first_repeated [] (heads_at rows names end) ≡ some p
-  repeated-of p e = subst (IndexIs rows names end scratch) e w
-
 -- ---- 12 and 13
 
 module _ {rows names : List ℕ} {end : ℕ} {root : Bool} {s : State} (l : Lowers rows names end root s) (gr gn scratch : List ℕ) where
   pub finished-rootless : {gr₁ gn₁ scratch₁ : List ℕ} {a : Answer} → root ≡ false → a ≡ answered 12 0 → gr₁ ≡ zeros gr → gn₁ ≡ zeros gn → scratch₁ ≡ zeros scratch
-      → left a gr₁ gn₁ scratch₁ ≡ lower_finished s (sheet gr gn) scratch
+      → lowered a gr₁ gn₁ scratch₁ ≡ lower_finished s (sheet gr gn) scratch
   unfolding lower_finished cleared
   finished-rootless f e r n z =
       let seen = sym l.root ∙ f in
-      rw seen (λ i. left (e i) (r i) (n i) (z i))
+      rw seen (λ i. lowered (e i) (r i) (n i) (z i))
 
   refused-place : {gr₁ gn₁ scratch₁ : List ℕ} {a : Answer} {unknown : ℕ} (o : Option TypeGraph) → lower s.reader.schema ≡ o → (unknown ≡ 0 → ⊥)
       → unknown ≡ refused_place 2 (rows_from rows names 2 end)
       → a ≡ answered 13 unknown → gr₁ ≡ zeros gr → gn₁ ≡ zeros gn → scratch₁ ≡ zeros scratch
-      → left a gr₁ gn₁ scratch₁ ≡ refused_or_written s.reader.schema o (sheet gr gn) scratch
+      → lowered a gr₁ gn₁ scratch₁ ≡ refused_or_written s.reader.schema o (sheet gr gn) scratch
   unfolding cleared
-  refused-place none q some? u e r n z = λ i. left ((e ∙ ap (answered 13) (u ∙ l.place)) i) (r i) (n i) (z i)
+  refused-place none q some? u e r n z = λ i. lowered ((e ∙ ap (answered 13) (u ∙ l.place)) i) (r i) (n i) (z i)
   refused-place (some g) q some? u e r n z = absurd (some? (u ∙ (l.lowers g q).0))
 
   pub finished-unknown : {gr₁ gn₁ scratch₁ : List ℕ} {a : Answer} {unknown : ℕ} → root ≡ true → (unknown ≡ 0 → ⊥) → unknown ≡ refused_place 2 (rows_from rows names 2 end)
       → a ≡ answered 13 unknown → gr₁ ≡ zeros gr → gn₁ ≡ zeros gn → scratch₁ ≡ zeros scratch
-      → left a gr₁ gn₁ scratch₁ ≡ lower_finished s (sheet gr gn) scratch
+      → lowered a gr₁ gn₁ scratch₁ ≡ lower_finished s (sheet gr gn) scratch
   unfolding lower_finished
   finished-unknown t some? u e r n z =
       let seen = sym l.root ∙ t in
@@ -228,11 +223,11 @@ module _ {s : State} {rows names : List ℕ} {end : ℕ} (h : Stands s rows name
       }
 
   pub state-short : (gr gn scratch : List ℕ) {n : ℕ} {a : Answer} → n ≡ length (finished_places rows names end) → length scratch < n → a ≡ answered 14 0
-      → left a gr gn scratch ≡ lower_state s (sheet gr gn) scratch
+      → lowered a gr gn scratch ≡ lower_state s (sheet gr gn) scratch
   unfolding lower_state unchanged
   state-short gr gn scratch c l q =
       let short = lt-leb (finished_types s.reader.schema) (length scratch) (rw (← finished-types h, ← c) l) in
-      rw short (λ i. left (q i) gr gn scratch)
+      rw short (λ i. lowered (q i) gr gn scratch)
 
   pub state-enough : (gr gn scratch : List ℕ) {n : ℕ} {x : Lowered} → n ≡ length (finished_places rows names end) → n ≤ length scratch
       → x ≡ lower_finished s (sheet gr gn) scratch → x ≡ lower_state s (sheet gr gn) scratch
@@ -253,13 +248,13 @@ sized rows names e =
     record { some_rows = leb-true _ _ x.1; few_rows = leb-true _ _ x.2; few_names = leb-true _ _ x.3 }
 
 module _ (rows names gr gn scratch : List ℕ) where
-  pub lower-one : {a : Answer} → a ≡ answered 1 0 → both_lengths rows names gr gn ≡ false → left a gr gn scratch ≡ lowering (sheet rows names) (sheet gr gn) scratch
+  pub lower-one : {a : Answer} → a ≡ answered 1 0 → both_lengths rows names gr gn ≡ false → lowered a gr gn scratch ≡ lowering (sheet rows names) (sheet gr gn) scratch
   unfolding lowering unchanged good_lengths lengths_of
-  lower-one e f = rw f (λ i. left (e i) gr gn scratch)
+  lower-one e f = rw f (λ i. lowered (e i) gr gn scratch)
 
-  pub lower-two : {a : Answer} → a ≡ answered 2 0 → both_lengths rows names gr gn ≡ true → good (sheet rows names) ≡ false → left a gr gn scratch ≡ lowering (sheet rows names) (sheet gr gn) scratch
+  pub lower-two : {a : Answer} → a ≡ answered 2 0 → both_lengths rows names gr gn ≡ true → good (sheet rows names) ≡ false → lowered a gr gn scratch ≡ lowering (sheet rows names) (sheet gr gn) scratch
   unfolding lowering unchanged good_lengths lengths_of
-  lower-two e t f = rw (t, f) (λ i. left (e i) gr gn scratch)
+  lower-two e t f = rw (t, f) (λ i. lowered (e i) gr gn scratch)
 
   pub lower-through : {x : Lowered} → both_lengths rows names gr gn ≡ true → good (sheet rows names) ≡ true
       → x ≡ lower_state (state_of (sheet rows names)) (sheet gr gn) scratch → x ≡ lowering (sheet rows names) (sheet gr gn) scratch

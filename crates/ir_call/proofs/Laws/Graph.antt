@@ -19,8 +19,8 @@ use Rattle.ir_types.specs.Rows.{rows_of, rows_used, names_used, row0}
 use Rattle.ir_types.specs.Sheet.{graph_fits, graph_sheet}
 use Rattle.ir_lower.specs.Call.{zeros}
 use Rattle.ir_append.specs.Grows.{Room, GrownTo, Short}
-use Rattle.ir_append.specs.declared.Grown.{Grown}
-use Rattle.ir_call.specs.Steps.{Cleared, GraphStands, GraphWritten, row0_of}
+use Rattle.ir_append.specs.Row0.{row0_of}
+use Rattle.ir_call.specs.Steps.{Cleared, GraphStands}
 
 -- what is used of a sheet with row 0 alone
 abbrev pub first : Used
@@ -69,11 +69,3 @@ graph-stands {rows} {names} {rows₁} {names₁} {rows₂} {z} {more} {used} {ro
       graph = whole ∙ ap (λ (n : ℕ). sheet_of_rows (graph_row0_ten (row0 g)) (rows_of g) n (length names₁)) (put.rows_length ∙ grown.rows_length)
           ∙ ap (sheet_of_rows (graph_row0_ten (row0 g)) (rows_of g) (length rows)) grown.names_length;
     }
-
--- what an answer says, by its case
-pub stands_of : (g : TypeGraph) (rows names : List ℕ) (r : Grown) (rows' names' : List ℕ) {used : Used} → GraphWritten g rows names r rows' names' → r ≡ Grown.To used
-    → GraphStands g rows names rows' names' used
-stands_of g rows names r rows' names' w e = subst (λ (r : Grown). GraphWritten g rows names r rows' names') e w
-
-pub full-of : (g : TypeGraph) (rows names : List ℕ) (r : Grown) (rows' names' : List ℕ) → GraphWritten g rows names r rows' names' → r ≡ Grown.Full → graph_fits (length rows) (length names) g ≡ false
-full-of g rows names r rows' names' w e = subst (λ (r : Grown). GraphWritten g rows names r rows' names') e w

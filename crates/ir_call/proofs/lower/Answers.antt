@@ -1,18 +1,18 @@
 -- `ir_call::lower` meets its contract: 1 and 2 leave everything, and a good sheet is lowered. Assumes nothing.
 use mathlib.Core.Path.{sym, ◌∙◌}
-use Rattle.ir_call.proofs.Laws.Calls.{lower-one, lower-two, lower-through, sized-both}
+use Rattle.ir_call.proofs.Laws.Calls.{refusal_at_0, lower-one, lower-two, lower-through, sized-both}
 use Rattle.ir_call.proofs.lower.Goals as goal
 
 pub returns-then-not-lower_lengths : goal.returns-then-not-lower_lengths
 returns-then-not-lower_lengths c =
     let a = c.args in
-    lower-one a.rows.now a.names.now a.graph_rows.now a.graph_names.now a.scratch.now c.answer.ensures
+    lower-one a.rows.now a.names.now a.graph_rows.now a.graph_names.now a.scratch.now (refusal_at_0 c.into.ensures)
     (sym c.lower_lengths.ensures ∙ c.if-not-lower_lengths.true)
 
 pub returns-then-not-is_good : goal.returns-then-not-is_good
 returns-then-not-is_good c =
     let a = c.args in
-    lower-two a.rows.now a.names.now a.graph_rows.now a.graph_names.now a.scratch.now c.answer-then-not-is_good.ensures
+    lower-two a.rows.now a.names.now a.graph_rows.now a.graph_names.now a.scratch.now (refusal_at_0 c.into-then-not-is_good.ensures)
     (sym c.lower_lengths.ensures ∙ c.if-not-lower_lengths.false) (sym c.is_good.ensures ∙ c.if-not-is_good.true)
 
 pub lower_good-requires : goal.lower_good-requires

@@ -2,8 +2,7 @@
 use mathlib.Core.Path.{refl, sym}
 use native.Mathlib.Omega.{arith}
 use lib.Seq.{length-take-le}
-use Rattle.ir_call.proofs.Laws.Graph.{stands_of, full-of}
-use Rattle.ir_call.proofs.Laws.Calls.{known-full, known-stands}
+use Rattle.ir_call.proofs.Laws.Calls.{refusal_at_0, known-full, known-stands}
 use Rattle.ir_call.proofs.lower_distinct.Goals as goal
 
 pub slice_bounds-entries-end-2 : goal.slice_bounds-entries-end-2
@@ -23,7 +22,7 @@ returns-in_default c =
     let w = c.write_graph-grown in
     let s = c.zero_scratch in
     λ g o. known-full a.graph_rows.now a.graph_names.now a.scratch.now w.new.graph_rows w.new.graph_names a.scratch.now g
-    (full-of g _ _ w.result _ _ (w.ensures g o) c.in_default.is) c.answer.ensures
+    (rw c.in_default.is at (w.ensures g o)) (refusal_at_0 c.into.ensures)
     w.auto.graph_rows c.zero_graph.ensures.0 w.auto.graph_names c.zero_graph.ensures.1 refl s.ensures
 
 pub returns : goal.returns
@@ -32,4 +31,4 @@ returns c =
     let w = c.write_graph-grown in
     let s = c.zero_scratch in
     λ g o. known-stands a.scratch.now a.scratch.now g
-    (stands_of g _ _ w.result _ _ (w.ensures g o) c.in-To.is) c.answer-2.ensures refl s.ensures
+    (rw c.in-Some.is at (w.ensures g o)) refl refl s.ensures

@@ -18,7 +18,7 @@ use Rattle.xsd_good.specs.Row0.{as_row0}
 use Rattle.xsd_good.proofs.Laws.Bare.{bare-used}
 use Rattle.ir_rows.proofs.Laws.Graph.{Stands}
 use Rattle.ir_call.specs.Steps.{Counted}
-use Rattle.ir_call.proofs.Laws.Calls.{good-root, good-end, good-stands, good-counted, lowers-held, state-short, state-enough}
+use Rattle.ir_call.proofs.Laws.Calls.{refusal_at_0, good-root, good-end, good-stands, good-counted, lowers-held, state-short, state-enough}
 use Rattle.ir_call.proofs.lower_good.Goals as goal
 
 module _ (rows names : List ℕ) (g : good (sheet rows names) ≡ true) (w : words rows ≡ true) (z : Numbers) {end : ℕ}
@@ -46,18 +46,24 @@ finished_end-end-requires c =
     let names = c.args.names.now in
     rw (ap (λ (z : Row0). z.rows_used) c.row0_at-z.ensures) (bare-used rows names (good-bare (sheet rows names) c.requires.0)).1
 
+pub invariant_of-part : goal.invariant_of-part
+invariant_of-part c =
+    let room = counts c.args.rows.now c.args.names.now c.requires.0 c.finished_end-end.ensures.words c.row0_at-z.result c.row0_at-z.ensures
+    c.finished_end-end.ensures.place in
+    record { within = room.inside }
+
 pub count_types-requires : goal.count_types-requires
 count_types-requires c =
     let room = counts c.args.rows.now c.args.names.now c.requires.0 c.finished_end-end.ensures.words c.row0_at-z.result c.row0_at-z.ensures
     c.finished_end-end.ensures.place in
-    (room.at_least, room.inside)
+    room.at_least
 
 pub returns-then-scratch-count_types : goal.returns-then-scratch-count_types
 returns-then-scratch-count_types c =
     let a = c.args in
     let end = c.finished_end-end.ensures in
     let stands = finished a.rows.now a.names.now c.requires.0 end.words c.row0_at-z.result c.row0_at-z.ensures end.place in
-    state-short stands a.graph_rows.now a.graph_names.now a.scratch.now (c.count_types.ensures a.names.now) c.if-scratch-count_types.true c.answer.ensures
+    state-short stands a.graph_rows.now a.graph_names.now a.scratch.now (c.count_types.ensures a.names.now) c.if-scratch-count_types.true (refusal_at_0 c.into.ensures)
 
 pub lower_finished-requires : goal.lower_finished-requires
 lower_finished-requires c =

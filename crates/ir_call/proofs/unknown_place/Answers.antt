@@ -9,10 +9,10 @@ count_in-requires c = let p = c.requires in omega (arith, p.at_least, p.inside)
 
 pub returns-then-count_in-eq0 : goal.returns-then-count_in-eq0
 returns-then-count_in-eq0 c =
-    sym (none-refused 2 _ (sym c.requires.count ∙ sym c.count_in.ensures ∙ c.if-count_in-eq0.true))
+    none-refused 2 _ (sym c.requires.count ∙ sym c.count_in.ensures ∙ c.if-count_in-eq0.true)
 
 pub first_refused-requires : goal.first_refused-requires
-first_refused-requires c = let p = c.requires in (p.at_least, p.inside)
+first_refused-requires c = c.requires.at_least
 
 pub returns : goal.returns
 returns c = c.first_refused.ensures

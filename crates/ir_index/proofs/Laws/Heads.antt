@@ -1,7 +1,7 @@
 -- The head of a finished type has a name, in its first pair. By the law of a head's first text. Assumes nothing.
 use Prim.Native.Nat.{ℕ, ◌*◌}
 use mathlib.Core.Path.{◌≡◌, ap, ◌∙◌}
-use mathlib.Core.Bool.{Bool, true, false}
+use mathlib.Core.Bool.{true}
 use mathlib.Core.List.{List}
 use native.Mathlib.Nat.{add-zero}
 use lib.ListN.{get_or, drop}
@@ -14,12 +14,14 @@ use Rattle.ir_rows.specs.Places.{name_at}
 use Rattle.ir_rows.specs.Types.{is_simple, is_complex, is_type}
 use Rattle.xsd_types.proofs.Laws.Places.{name-at as first-text}
 use Rattle.ir_rows.proofs.Laws.Inside.{type-head}
-use Rattle.ir_index.specs.Entries.{is_kind, head_name}
+use Rattle.ir_index.specs.declared.Kind.{Kind}
+use Rattle.name_index.specs.Index.{head_name}
+use Rattle.ir_index.specs.Entries.{is_kind}
 
-pub kind-type : (complex : Bool) (tag : ℕ) → is_kind complex tag ≡ true → is_type tag ≡ true
+pub kind-type : (kind : Kind) (tag : ℕ) → is_kind kind tag ≡ true → is_type tag ≡ true
 unfolding is_kind is_type
-kind-type true tag e = or_right (is_simple tag) e
-kind-type false tag e = or_left (is_complex tag) e
+kind-type Kind.Simple tag e = or_left (is_complex tag) e
+kind-type Kind.Complex tag e = or_right (is_simple tag) e
 
 pub name-at : (rows names : List ℕ) (p : ℕ) → is_type (get_or rows (10 * p) 0) ≡ true → name_at rows names p ≡ normalize_type_name (head_name rows names p)
 unfolding name_at row_at head_name ten

@@ -1,4 +1,5 @@
 -- A fingerprint is below 65,536, and the bytes of a normalised name go in one by one. Assumes nothing.
+use Rattle.std.specs.List.{fold}
 use Prim.Native.Nat.{ℕ, zero, suc, ◌/◌, ◌≤◌, ◌<◌}
 use Prim.Native.Char.{code}
 use mathlib.Core.Path.{◌≡◌, sym, ◌∙◌}
@@ -7,8 +8,7 @@ use mathlib.Core.List.{List, [], ◌∷◌}
 use native.Mathlib.Nat.{not-suc-le-zero}
 use native.Mathlib.Omega.{arith}
 use lib.Dec.{eqb}
-use lib.ListN.{length, drop, get_or, drop_of_length-le}
-use lib.Seq.{drop-cons}
+use lib.ListN.{length, drop, get_or}
 use borrow.Author.Tests.{eq-eqb}
 use Rattle.text.specs.Text.{Text}
 use Rattle.names.specs.Scans.{cased_byte, segments}
@@ -45,15 +45,11 @@ module _ (h : ℕ) (up : Bool) (name : Text) (i : ℕ) where
   unfolding print_from
   print-end k = rw (segments-end (code "_") false up name i k)
 
--- whether an entry has a fingerprint, from entry k on
-module _ (f : ℕ) (entries : List ℕ) (k : ℕ) (found : Bool) where
-  pub has-print-on : k < length entries → (found || eqb (get_or entries k 0 / 65536) f) || has_print f (drop (suc k) entries) ≡ found || has_print f (drop k entries)
-  unfolding has_print
-  has-print-on h = rw (drop-cons entries k 0 h) (or_assoc found (eqb (get_or entries k 0 / 65536) f) (has_print f (drop (suc k) entries)))
-
-  pub has-print-end : length entries ≤ k → found || has_print f (drop k entries) ≡ found
-  unfolding has_print
-  has-print-end h = rw (drop_of_length-le entries h) (or-false found)
+-- whether an entry has a fingerprint, as a fold says it
+pub has-print-fold : (f : ℕ) (found : Bool) (entries : List ℕ) → fold (λ (b : Bool) (e : ℕ). b || eqb (e / 65536) f) found entries ≡ found || has_print f entries
+unfolding has_print
+has-print-fold f found [] = sym (or-false found)
+has-print-fold f found (e ∷ es) = has-print-fold f (found || eqb (e / 65536) f) es ∙ or_assoc found (eqb (e / 65536) f) (has_print f es)
 
 -- none has it
 pub no-print : (f : ℕ) (entries : List ℕ) → has_print f entries ≡ false → (k : ℕ) → k < length entries → get_or entries k 0 / 65536 ≡ f → ⊥

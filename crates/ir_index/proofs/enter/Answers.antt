@@ -10,7 +10,8 @@ use Rattle.names.specs.Names.{normalize_type_name}
 use Rattle.ir_rows.specs.Places.{name_at}
 use Rattle.sheet.specs.Limits.{rows_limit}
 use Rattle.ir_types.specs.Distinct.{among}
-use Rattle.ir_index.specs.Entries.{HeadAt, head_name, Known, names_in}
+use Rattle.name_index.specs.Index.{head_name}
+use Rattle.ir_index.specs.Entries.{HeadAt, Known, names_in}
 use Rattle.ir_index.specs.Prints.{fingerprint}
 use Rattle.ir_index.proofs.Laws.Heads.{name-at}
 use Rattle.ir_index.proofs.Laws.Entries.{Putting, put-print, put-place, put-new}
@@ -41,7 +42,7 @@ name_came-requires c =
     record {
       known = c.requires.known;
       head_at = c.requires.head_at;
-      print_value = print-is c.args.rows.now c.args.names.now c.args.place c.requires.head_at c.name_at.ensures c.print_of-print.ensures;
+      print_value = print-is c.args.part.now.rows.now c.args.part.now.names.now c.args.place c.requires.head_at c.name_at.ensures c.print_of-print.ensures;
     }
 
 pub returns-then-name_came : goal.returns-then-name_came

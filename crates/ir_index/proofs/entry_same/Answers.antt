@@ -4,7 +4,7 @@ use mathlib.Core.Path.{◌≡◌, sym, ◌∙◌}
 use Rattle.names.specs.Names.{normalize_type_name}
 use Rattle.ir_rows.specs.Places.{name_at}
 use Rattle.text.specs.Text.{same}
-use Rattle.ir_index.specs.Entries.{head_name}
+use Rattle.name_index.specs.Index.{head_name}
 use Rattle.ir_index.proofs.Laws.Heads.{name-at}
 use Rattle.ir_index.proofs.Laws.Entries.{prints-differ}
 use Rattle.ir_index.proofs.entry_same.Goals as goal
@@ -16,8 +16,8 @@ returns-then-entry-print c =
 
 pub returns : goal.returns
 returns c =
-    let rows = c.args.rows.now in
-    let names = c.args.names.now in
+    let rows = c.args.part.now.rows.now in
+    let names = c.args.part.now.names.now in
     let place : c.wide.result ≡ c.args.entry % 65536 = c.wide.ensures in
     let held : c.name_at-held.result.now ≡ head_name rows names (c.args.entry % 65536) = c.name_at-held.ensures ∙ rw place in
     let asked : c.name_at-asked.result.now ≡ head_name rows names c.args.place = c.name_at-asked.ensures in

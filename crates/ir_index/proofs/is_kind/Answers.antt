@@ -4,10 +4,10 @@ use Rattle.ir_rows.specs.Types.{is_simple, is_complex}
 use Rattle.ir_index.specs.Entries.{is_kind}
 use Rattle.ir_index.proofs.is_kind.Goals as goal
 
-pub returns-then-complex : goal.returns-then-complex
-unfolding is_kind is_complex between
-returns-then-complex c = rw c.if-complex.true
-
-pub returns-else-complex : goal.returns-else-complex
+pub returns-in-Simple : goal.returns-in-Simple
 unfolding is_kind is_simple
-returns-else-complex c = rw c.if-complex.false
+returns-in-Simple c = rw c.in-Simple.is
+
+pub returns-in-Complex : goal.returns-in-Complex
+unfolding is_kind is_complex between
+returns-in-Complex c = rw c.in-Complex.is

@@ -10,8 +10,8 @@ use Rattle.ir_index.proofs.name_came.Goals as goal
 pub returns-then-unseen : goal.returns-then-unseen
 returns-then-unseen c =
     let a = c.args in
-    let f : c.wide.result ≡ fingerprint (name_at a.rows.now a.names.now a.place) = c.wide.ensures ∙ c.requires.print_value in
-    sym (flag-none a.rows.now a.names.now a.place a.scratch.now a.n a.flags.now c.requires.known (rw f at (sym c.unseen.ensures ∙ c.if-unseen.true)))
+    let f : c.wide.result ≡ fingerprint (name_at a.part.now.rows.now a.part.now.names.now a.place) = c.wide.ensures ∙ c.requires.print_value in
+    sym (flag-none a.part.now.rows.now a.part.now.names.now a.place a.scratch.now a.n a.flags.now c.requires.known (rw f at (sym c.unseen.ensures ∙ c.if-unseen.true)))
 
 pub slice_bounds-has_print-end : goal.slice_bounds-has_print-end
 slice_bounds-has_print-end c =
@@ -20,5 +20,5 @@ slice_bounds-has_print-end c =
 pub returns-then-not-has_print : goal.returns-then-not-has_print
 returns-then-not-has_print c =
     let a = c.args in
-    sym (print-none a.rows.now a.names.now a.place a.scratch.now a.n c.requires.known.entries
+    sym (print-none a.part.now.rows.now a.part.now.names.now a.place a.scratch.now a.n c.requires.known.entries
     (rw c.requires.print_value at (sym c.has_print.ensures ∙ c.if-not-has_print.true)))

@@ -1,5 +1,5 @@
 -- The first word of a text and what is behind it. Assumes nothing.
-use Prim.Native.Nat.{ℕ, suc, ◌+◌, ◌≤◌, ◌<◌}
+use Prim.Native.Nat.{ℕ, zero, suc, ◌+◌, ◌≤◌, ◌<◌}
 use mathlib.Core.Path.{◌≡◌, refl, ap, ◌∙◌}
 use mathlib.Core.List.{List, [], ◌∷◌}
 use native.Mathlib.Omega.{arith}
@@ -35,6 +35,17 @@ line_on s i h e = rw (drop-cons s i 0 h, ne_eqb (get_or s i 0) 10 e) (front-firs
 pub line-end : (s : Text) (i : ℕ) → length s ≤ i → line_length (drop i s) ≡ 0
 unfolding line_length words_of newline split
 line-end s i h = rw (drop_of_length-le s h)
+
+-- the first word by the place of the first newline byte
+pub line-first : (s : Text) (i : ℕ) → i < length s → get_or s i 0 ≡ 10 → ((k : ℕ) → k < i → get_or s k 0 ≡ 10 → ⊥) → line_length s ≡ i
+line-first [] i h e p = absurd (omega (arith, h))
+line-first (b ∷ s) zero h e p = line-hit (b ∷ s) 0 h e
+line-first (b ∷ s) (suc i) h e p =
+    line_on (b ∷ s) 0 (omega arith) (p 0 (omega arith)) ∙ ap suc (line-first s i (omega arith) e (λ k l. p (suc k) (omega arith)))
+
+pub line-none : (s : Text) → ((k : ℕ) → k < length s → get_or s k 0 ≡ 10 → ⊥) → line_length s ≡ length s
+line-none [] p = line-end [] 0 (omega arith)
+line-none (b ∷ s) p = line_on (b ∷ s) 0 (omega arith) (p 0 (omega arith)) ∙ ap suc (line-none s (λ k l. p (suc k) (omega arith)))
 
 -- behind the first word, one byte off, stand the others
 front_rest : (b : ℕ) (ws us : List Text) → ws ≡ get_or ws 0 [] ∷ us → in_front b ws ≡ get_or (in_front b ws) 0 [] ∷ us

@@ -1,9 +1,7 @@
--- `ir_label::label_number` meets its contract: it is the number that was found. Assumes nothing.
-use mathlib.Core.Path.{ap}
-use Rattle.ir_label.specs.Spot.{spot_of}
-use Rattle.ir_label.specs.declared.Spot.{Spot}
+-- `ir_label::label_number` meets its contract: the number of what was found is the label's. Assumes nothing.
+use Rattle.std.proofs.Common.{sym, ◌∙◌}
+use Rattle.ir_label.proofs.Laws.Spots.{spot-number}
 use Rattle.ir_label.proofs.label_number.Goals as goal
 
 pub returns : goal.returns
-unfolding spot_of
-returns c = ap (λ (s : Spot). s.number) c.find_label-s.ensures
+returns c = c.returned_number.ensures ∙ sym (spot-number _ c.find_label.result c.find_label.ensures)

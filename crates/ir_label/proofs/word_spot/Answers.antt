@@ -1,17 +1,11 @@
 -- `ir_label::word_spot` meets its contract: in a good list each word ends at the first newline byte behind its start. Assumes nothing.
-use Prim.Native.Nat.{◌-◌}
-use mathlib.Core.Path.{sym, ap, ◌∙◌}
-use native.Mathlib.Omega.{arith}
+use Rattle.std.proofs.Common.{◌-◌, refl, sym, ◌∙◌, arith}
 use Rattle.ir_types.proofs.Laws.Words.{six-words, word-part}
-use Rattle.ir_label.specs.Spot.{spot_of}
 use Rattle.ir_label.proofs.Laws.Spots.{word-bad, word-here}
 use Rattle.ir_label.proofs.word_spot.Goals as goal
 
 pub returns-then-not-five_words : goal.returns-then-not-five_words
-returns-then-not-five_words c =
-    let a = c.args in
-    let bad = sym c.five_words.ensures ∙ c.if-not-five_words.true in
-    c.nowhere.ensures ∙ ap spot_of (sym (word-bad a.words.now a.a bad))
+returns-then-not-five_words c = (word-bad c.args.words.now c.args.a (sym c.five_words.ensures ∙ c.if-not-five_words.true), refl)
 
 pub word_start-at-requires : goal.word_start-at-requires
 word_start-at-requires c =

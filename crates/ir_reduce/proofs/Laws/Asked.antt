@@ -1,20 +1,21 @@
 -- What a row asks for, by its numbers: the texts under the pairs that a root, a value with attributes, a field, a variant and an attribute use. And so the place that
 -- is stored for a row is that of the head that it leads to. By the tags. Assumes nothing.
-use Rattle.std.specs.Prelude.{if◌then◌else◌}
+use Rattle.std.specs.Prelude.{if◌then◌else◌, Option, Some, None}
+use Rattle.std.specs.Option.{unwrap_or}
 use mathlib.Core.Path.{◌≡◌, refl, sym, ap, ◌∙◌}
-use mathlib.Core.Bool.{Bool, true, false, not, ◌&&◌, ◌||◌, false≢true}
+use mathlib.Core.Bool.{Bool, true, false, ◌&&◌, ◌||◌, false≢true}
 use mathlib.Core.List.{List, [], ◌∷◌, ◌++◌, map}
 use Prim.Native.Nat.{ℕ, zero, suc, ◌+◌, ◌-◌, ◌*◌, ◌≤◌, ◌<◌}
 use native.Mathlib.Omega.{arith}
 use lib.Dec.{eqb, leb}
-use lib.ListN.{length, get_or, take, drop}
+use lib.ListN.{get_or, take, drop}
 use lib.Seq.{get_or-drop}
-use borrow.Author.Tests.{eqb-true, eqb-false, ne_eqb, eq-eqb, leb-true, lt-leb}
+use borrow.Author.Tests.{eqb-true, eqb-false, leb-true, lt-leb}
 use Rattle.text.specs.Text.{Text, between}
-use Rattle.text.proofs.Laws.Tests.{and-true-left, and-true-right, two}
+use Rattle.text.proofs.Laws.Tests.{and-true-right, two}
 use Rattle.names.specs.Names.{normalize_type_name}
 use Rattle.names.specs.Same.{spelled}
-use Rattle.sheet.specs.Rows.{Ten, Row, row, ten, text_at, unpack_row}
+use Rattle.sheet.specs.Rows.{Row, row, ten, text_at, unpack_row}
 use Rattle.ir_types.specs.Tags.{root_tag}
 use Rattle.ir_types.specs.Form.{used_pairs, is_type_tag}
 use Rattle.ir_types.specs.Back.{text}
@@ -108,9 +109,13 @@ module _ (b c : ℕ) (x y z : Text) where
 number_at : (rows : List ℕ) (p i k : ℕ) → 10 * p + i ≡ k → get_or (drop (10 * p) rows) i 0 ≡ get_or rows k 0
 number_at rows p i k e = get_or-drop (10 * p) rows i 0 ∙ ap (λ (j : ℕ). get_or rows j 0) e
 
+abbrev texts_at : Option ℕ → (ℕ → Text) → List Text
+texts_at None text_of = []
+texts_at (Some k) text_of = text_of k ∷ []
+
 by_tests : (names : List ℕ) (b₁ b₂ b₃ : Bool) (text_of : ℕ → Text) (tag a : ℕ) → eqb tag 2 ≡ b₁ → eqb tag 7 && eqb a 0 ≡ b₂ → (between 9 10 tag || eqb tag 19) && eqb a 0 ≡ b₃
     → (if b₁ then normalize_type_name (text_of 3) ∷ [] else if b₂ then text_of 3 ∷ [] else if b₃ then text_of 5 ∷ [] else [])
-    ≡ (if eqb (asked_pair tag a) 0 then [] else spelled (eqb tag root_tag) (text_of (asked_pair tag a)) ∷ [])
+    ≡ texts_at (asked_pair tag a) (λ k. spelled (eqb tag root_tag) (text_of k))
 unfolding asked_pair spelled
 by_tests names true b₂ b₃ text_of tag a e g h = rw e
 by_tests names false true b₃ text_of tag a e g h = rw (e, g)
@@ -145,17 +150,17 @@ module _ (rows names : List ℕ) (p : ℕ) where
         f,
       )
 
-  abbrev asked_text : Text
-  asked_text = spelled (eqb tag_at root_tag) (text_of (asked_pair tag_at a_at))
+  abbrev asked_text : ℕ → Text
+  asked_text k = spelled (eqb tag_at root_tag) (text_of k)
 
-  pub asked-at : asked (row_at rows names p) ≡ (if eqb (asked_pair tag_at a_at) 0 then [] else asked_text ∷ [])
+  pub asked-at : asked (row_at rows names p) ≡ texts_at (asked_pair tag_at a_at) asked_text
   asked-at =
       ap asked (row_is _ _ refl refl)
       ∙ asked-row _ _ (text_of 1) (text_of 3) (text_of 5) tag_at a_at (eqb tag_at 2) (eqb tag_at 7 && eqb a_at 0) ((between 9 10 tag_at || eqb tag_at 19) && eqb a_at 0) refl refl refl
       ∙ chosen (eqb tag_at 2) (eqb tag_at 7 && eqb a_at 0) ((between 9 10 tag_at || eqb tag_at 19) && eqb a_at 0) refl refl refl
     where
       chosen : (b₁ b₂ b₃ : Bool) → eqb tag_at 2 ≡ b₁ → eqb tag_at 7 && eqb a_at 0 ≡ b₂ → (between 9 10 tag_at || eqb tag_at 19) && eqb a_at 0 ≡ b₃
-          → (if b₁ then normalize_type_name (text_of 3) ∷ [] else if b₂ then text_of 3 ∷ [] else if b₃ then text_of 5 ∷ [] else []) ≡ (if eqb (asked_pair tag_at a_at) 0 then [] else asked_text ∷ [])
+          → (if b₁ then normalize_type_name (text_of 3) ∷ [] else if b₂ then text_of 3 ∷ [] else if b₃ then text_of 5 ∷ [] else []) ≡ texts_at (asked_pair tag_at a_at) asked_text
       chosen b₁ b₂ b₃ e g h = by_tests names b₁ b₂ b₃ (text_of) tag_at a_at e g h
 
   pub name-at : head_at rows p ≡ true → text 0 (row_at rows names p) ≡ name_of rows names false p
@@ -170,41 +175,50 @@ module _ (rows names : List ℕ) (p : ℕ) where
 
 -- ---- what is stored for a row is where it leads
 module _ (rows names to : List ℕ) (end : ℕ) (put : TargetsPut rows names end end to) (distinct : distinct_texts (head_names rows names (head_places rows end)) ≡ true) where
-  abbrev asks : ℕ → Bool
-  asks p = eqb (asked_pair (get_or rows (10 * p) 0) (get_or rows (10 * p + 7) 0)) 0
+  abbrev pair_of : ℕ → Option ℕ
+  pair_of p = asked_pair (get_or rows (10 * p) 0) (get_or rows (10 * p + 7) 0)
+
+  abbrev Hits : ℕ → ℕ → Type 0
+  Hits row r = (r < end) × (is_head (row_at rows names) r ≡ true) × In (text 0 (row_at rows names r)) (asked (row_at rows names row))
 
   pub targets-are : Targets (row_at rows names) end to
   targets-are =
       record {
-        hit = λ row a b h. hit-by row a b h (asks row) refl;
-        found = λ row q a b c d k i. found-by row q a b c d k (asks row) refl i;
+        hit = λ row a b h. hit-by row a b h (pair_of row) refl;
+        found = λ row q a b c d k i. found-by row q a b c d k (pair_of row) refl i;
       }
     where
-      hit-at : (row : ℕ) → asks row ≡ false → 0 < place_of (name_of rows names false) (asked_text rows names row) (head_places rows end) → (r : ℕ)
-          → place_of (name_of rows names false) (asked_text rows names row) (head_places rows end) ≡ r
-          → (r < end) × (is_head (row_at rows names) r ≡ true) × In (text 0 (row_at rows names r)) (asked (row_at rows names row))
-      hit-at row e h r s =
-          let w = found_in (name_of rows names false) (asked_text rows names row) (head_places rows end) h in
+      hit-at : (row k : ℕ) → pair_of row ≡ Some k → (r : ℕ) → place_of (name_of rows names false) (asked_text rows names row k) (head_places rows end) ≡ Some r → Hits row r
+      hit-at row k e r s =
+          let w = found_in (name_of rows names false) (asked_text rows names row k) (head_places rows end) r s in
           let head = heads-in rows (end - 1) 1 w.among in
-          let at = s in
-          let name : text 0 (row_at rows names r) ≡ asked_text rows names row = rw (← at) (name-at rows names _ head.head ∙ w.named) in
-          (rw (← at) (omega (arith, head.from, head.inside)), rw (← at) (head-is rows names _ ∙ head.head), rw (asked-at rows names row, e, name) In.here)
+          let name : text 0 (row_at rows names r) ≡ asked_text rows names row k = name-at rows names r head.head ∙ w.named in
+          (omega (arith, head.from, head.inside), head-is rows names r ∙ head.head, rw (asked-at rows names row, e, name) In.here)
 
-      hit-by : (row : ℕ) → 0 < row → row < end → 0 < get_or to row 0 → (b : Bool) → asks row ≡ b
-          → (get_or to row 0 < end) × (is_head (row_at rows names) (get_or to row 0) ≡ true) × In (text 0 (row_at rows names (get_or to row 0))) (asked (row_at rows names row))
-      hit-by row a l h true e = absurd (let no : ⊥ = omega (arith, put.put row a l, target_none rows names (head_places rows end) row refl (eqb-true _ 0 e)) in no)
-      hit-by row a l h false e =
-          let t = put.put row a l ∙ target-some rows names (head_places rows end) row refl (eqb-false _ 0 e) in
-          hit-at row e (rw t at h) (get_or to row 0) (sym t)
+      -- what is stored, by the answer
+      stored : (row : ℕ) → 0 < row → row < end → {o : Option ℕ} → target_of rows names (head_places rows end) row ≡ o → get_or to row 0 ≡ unwrap_or o 0
+      stored row a l e = put.put row a l ∙ ap (λ (o : Option ℕ). unwrap_or o 0) e
 
-      found-by : (row q : ℕ) → 0 < row → row < end → 0 < q → q < end → is_head (row_at rows names) q ≡ true → (b : Bool) → asks row ≡ b
+      hit-found : (row : ℕ) → 0 < row → row < end → 0 < get_or to row 0 → (k : ℕ) → pair_of row ≡ Some k → (o : Option ℕ)
+          → place_of (name_of rows names false) (asked_text rows names row k) (head_places rows end) ≡ o → Hits row (get_or to row 0)
+      hit-found row a l h k e None s =
+          absurd (let no : ⊥ = omega (arith, stored row a l (target-some rows names (head_places rows end) row (sym e) ∙ s)) in no)
+      hit-found row a l h k e (Some r) s =
+          let at : get_or to row 0 ≡ r = stored row a l (target-some rows names (head_places rows end) row (sym e) ∙ s) in
+          rw at (hit-at row k e r s)
+
+      hit-by : (row : ℕ) → 0 < row → row < end → 0 < get_or to row 0 → (o : Option ℕ) → pair_of row ≡ o → Hits row (get_or to row 0)
+      hit-by row a l h None e = absurd (let no : ⊥ = omega (arith, stored row a l (sym (target_none rows names (head_places rows end) row (sym e)))) in no)
+      hit-by row a l h (Some k) e = hit-found row a l h k e _ refl
+
+      found-by : (row q : ℕ) → 0 < row → row < end → 0 < q → q < end → is_head (row_at rows names) q ≡ true → (o : Option ℕ) → pair_of row ≡ o
           → In (text 0 (row_at rows names q)) (asked (row_at rows names row)) → get_or to row 0 ≡ q
-      found-by row q a l c d k true e i = in-none (rw (asked-at rows names row, e) at i)
-      found-by row q a l c d k false e i =
+      found-by row q a l c d k None e i = in-none (rw (asked-at rows names row, e) at i)
+      found-by row q a l c d k (Some j) e i =
           let head : head_at rows q ≡ true = sym (head-is rows names q) ∙ k in
-          let name : name_of rows names false q ≡ asked_text rows names row = sym (name-at rows names q head) ∙ in_one (rw (asked-at rows names row, e) at i) in
-          put.put row a l ∙ target-some rows names (head_places rows end) row refl (eqb-false _ 0 e)
-          ∙ place_found (name_of rows names false) (asked_text rows names row) q (head_places rows end) (in-heads rows (end - 1) 1 q c (omega arith) head) name distinct
+          let name : name_of rows names false q ≡ asked_text rows names row j = sym (name-at rows names q head) ∙ in_one (rw (asked-at rows names row, e) at i) in
+          stored row a l (target-some rows names (head_places rows end) row (sym e)
+          ∙ place_found (name_of rows names false) (asked_text rows names row j) q (head_places rows end) (in-heads rows (end - 1) 1 q c (omega arith) head) name distinct)
 
 -- ---- the names of the types
 type-name : (rows names : List ℕ) (end p : ℕ) → head_at rows p ≡ true → type_name (type_at (row_at rows names) end p) ≡ name_of rows names false p

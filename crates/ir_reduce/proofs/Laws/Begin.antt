@@ -1,8 +1,8 @@
 -- The marks and the queue before anything is marked: zeros hold no mark, and row 1 is marked first. Assumes nothing.
-use mathlib.Core.Path.{◌≡◌, refl, sym, ap, subst, ◌∙◌}
+use mathlib.Core.Path.{◌≡◌, refl, sym}
 use mathlib.Core.Bool.{Bool, true, false, ◌&&◌}
-use mathlib.Core.List.{List, [], ◌∷◌}
-use Prim.Native.Nat.{ℕ, zero, suc, ◌+◌, ◌*◌, ◌%◌, ◌≤◌, ◌<◌}
+use mathlib.Core.List.{List}
+use Prim.Native.Nat.{ℕ, zero, suc, ◌%◌, ◌≤◌, ◌<◌}
 use native.Mathlib.Omega.{arith}
 use lib.Dec.{eqb, leb}
 use borrow.Author.Tests.{eqb-true, eqb-false, leb-true, leb-false}
@@ -10,9 +10,8 @@ use lib.ListN.{length, get_or, replicate, length-replicate}
 use Rattle.text.proofs.Laws.Tests.{and-true-left, and-true-right}
 use Rattle.sheet.specs.Lengths.{sheet_lengths}
 use Rattle.ir_types.specs.Distinct.{distinct_texts}
-use Rattle.ir_reduce.specs.Index.{head_places, head_names, AllIndexed, IndexedIs, TargetsPut}
-use Rattle.ir_reduce.specs.declared.index.Indexed.{Indexed}
-use Rattle.ir_reduce.specs.Marks.{head_flags, Reached, ones, pick, Marked, Marking, Room, AllDone}
+use Rattle.ir_reduce.specs.Index.{head_places, head_names, TargetsPut}
+use Rattle.ir_reduce.specs.Marks.{head_flags, Reached, ones, Marked, Marking, Room, AllDone}
 use Rattle.ir_reduce.specs.Steps.{Graph, MarksDone}
 use Rattle.ir_reduce.proofs.Laws.Marks.{flags-length, marking-more}
 use Rattle.ir_reduce.proofs.Laws.Facts.{at_least, rows_inside_lem}
@@ -82,13 +81,6 @@ pub marks-done : {rows names to : List ℕ} {end : ℕ} (g : Graph rows names en
 marks-done {to = to} g put m all =
     let w = all (marking-first g to m) in
     record { to = to; queue = _; count = _; targets = put; marking = w.marking; done = w.done; first = w.grown.kept 1 (first-marked m) }
-
-pub all_of : (rows names : List ℕ) (end : ℕ) (table : List ℕ) (r : Indexed) {n : ℕ} → IndexedIs rows names end table r → r ≡ Indexed.All n → AllIndexed rows names end table n
-all_of rows names end table r w e = subst (λ (r : Indexed). IndexedIs rows names end table r) e w
-
-pub repeated-of : (rows names : List ℕ) (end : ℕ) (table : List ℕ) (r : Indexed) → IndexedIs rows names end table r → r ≡ Indexed.Repeated
-    → distinct_texts (head_names rows names (head_places rows end)) ≡ false
-repeated-of rows names end table r w e = subst (λ (r : Indexed). IndexedIs rows names end table r) e w
 
 -- the lengths of the source
 pub source-lengths : (rows names rows₁ names₁ : ℕ) → sheet_lengths rows names && sheet_lengths rows₁ names₁ ≡ true → (20 ≤ rows) × (rows ≤ 40960)

@@ -1,22 +1,20 @@
 -- The steps of the call put together: the marks are those of what chains reach, so the rows that are kept are those of the reduced graph, and they are written into
 -- a target of zeros or have no room. Assumes nothing.
-use Rattle.std.specs.Prelude.{if◌then◌else◌}
 use mathlib.Core.Path.{◌≡◌, refl, sym, ap, subst, ◌∙◌}
-use mathlib.Core.Logic.{◌⊎◌, inl, inr}
-use mathlib.Core.Bool.{Bool, true, false, not, ◌&&◌, false≢true, and-false}
-use mathlib.Core.List.{List, [], ◌∷◌, ◌++◌, map}
-use Prim.Native.Nat.{ℕ, zero, suc, ◌+◌, ◌-◌, ◌*◌, ◌%◌, ◌≤◌, ◌<◌}
+use mathlib.Core.Bool.{Bool, true, false, ◌&&◌, and-false}
+use mathlib.Core.List.{List, [], ◌∷◌, ◌++◌}
+use Prim.Native.Nat.{ℕ, ◌+◌, ◌-◌, ◌*◌, ◌%◌}
 use native.Mathlib.Nat.{sub-zero}
 use native.Mathlib.Omega.{arith}
 use lib.Dec.{eqb, leb}
-use lib.ListN.{length, get_or, replicate, length-replicate, replicate-append-replicate}
-use borrow.Author.Tests.{eqb-true, eqb-false, eq-eqb, ne_eqb, leb-true, leb-false, le-leb}
+use lib.ListN.{length, replicate, length-replicate, replicate-append-replicate}
+use borrow.Author.Tests.{eqb-true, eqb-false, leb-true, le-leb}
 use Rattle.text.specs.Text.{between}
 use Rattle.text.proofs.Laws.Tests.{and-true-left, and-true-right, and-true, two, not-true-false}
 use Rattle.sheet.specs.Rows.{Row, Sheet, bit, numbers, pack, names_of, filled, sheet_of_rows}
 use Rattle.sheet.specs.Lengths.{sheet_lengths, fits, Answer}
 use Rattle.sheet.specs.Calls.{sheet, answered}
-use Rattle.sheet.specs.Returned.{accepted, bad_length, no_room_in_graph, not_in_form}
+use Rattle.sheet.specs.Returned.{accepted, no_room_in_graph}
 use Rattle.rows.specs.declared.numbers.Used.{Used}
 use Rattle.rows.specs.Packing.{Packs, Holds, Row0Put}
 use Rattle.rows.proofs.Laws.Sheet.{packs-sheet}
@@ -24,20 +22,19 @@ use Rattle.ir_types.specs.Form.{is_type_tag, count, graph_form}
 use Rattle.ir_types.specs.Distinct.{distinct_texts}
 use Rattle.ir_types.specs.Row0.{graph_row0_ten}
 use Rattle.ir_append.specs.Grows.{Room, GrownTo, Short}
-use Rattle.ir_append.specs.declared.Grown.{Grown}
-use Rattle.ir_reduce.specs.Groups.{GraphType, Parted, parted, rows_of, rows_of_types, type_name}
-use Rattle.ir_reduce.specs.Reach.{Chain, Kept, Reduced}
+use Rattle.ir_reduce.specs.Groups.{Parted, parted, rows_of}
+use Rattle.ir_reduce.specs.Reach.{Reduced}
 use Rattle.ir_reduce.specs.Call.{graph_in, in_form, row0_of, graph_of, lengths_fit, graph_fits, emptied, Reduction}
 use Rattle.ir_reduce.specs.Places.{row_at, rows_from, kept_rows}
-use Rattle.ir_reduce.specs.Index.{head_places, head_names, AllIndexed, TargetsPut}
-use Rattle.ir_reduce.specs.Marks.{head_flags, Reached, ones, pick, Marked, Marking, Done, Room as MarkRoom, AllDone}
-use Rattle.ir_reduce.specs.Steps.{Graph, MarksDone, Cleared, row0_numbers, Written, WrittenIs, Placed}
+use Rattle.ir_reduce.specs.Index.{head_places, head_names}
+use Rattle.ir_reduce.specs.Marks.{head_flags}
+use Rattle.ir_reduce.specs.Steps.{Graph, MarksDone, Cleared, row0_numbers, Written, Placed}
 use Rattle.ir_reduce.proofs.Laws.Chains.{Flagged}
 use Rattle.ir_reduce.proofs.Laws.Marked.{reduced_graph, reduced-is, rows-reduced}
 use Rattle.ir_reduce.proofs.Laws.Kept.{tagged}
 use Rattle.ir_reduce.proofs.Laws.Marks.{flags-length, flag_at}
 use Rattle.ir_reduce.proofs.Laws.Asked.{head-is, targets-are, type-names}
-use Rattle.ir_reduce.proofs.Laws.Facts.{at_least, rows_inside_lem, rows-ordered, graph_is}
+use Rattle.ir_reduce.proofs.Laws.Facts.{at_least, rows-ordered, graph_is}
 
 -- ---- a target of zeros
 abbrev pub first : Used
@@ -124,12 +121,6 @@ written-to {rows} {names} {rows₁} {names₁} {rows₂} {z} {rs} {used} {roots}
       graph = whole ∙ ap (λ (n : ℕ). sheet_of_rows (graph_row0_ten (row0_of rs)) rs n (length names₁)) (put.rows_length ∙ grown.rows_length)
           ∙ ap (sheet_of_rows (graph_row0_ten (row0_of rs)) rs (length rows)) grown.names_length;
     }
-
-pub written_of : (rs : List Row) (rows names rows' names' : List ℕ) (r : Grown) {used : Used} → WrittenIs rs rows names rows' names' r → r ≡ Grown.To used → Written rs rows names rows' names' used
-written_of rs rows names rows' names' r w e = subst (λ (r : Grown). WrittenIs rs rows names rows' names' r) e w
-
-pub full-of : (rs : List Row) (rows names rows' names' : List ℕ) (r : Grown) → WrittenIs rs rows names rows' names' r → r ≡ Grown.Full → graph_fits rs (sheet rows names) ≡ false
-full-of rs rows names rows' names' r w e = subst (λ (r : Grown). WrittenIs rs rows names rows' names' r) e w
 
 pub record ReducedRows (p : Parted) (rs : List Row) : Type 0 where
   pub graph : Parted

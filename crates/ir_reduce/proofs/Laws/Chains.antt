@@ -1,22 +1,20 @@
 -- What the queue reaches is what chains reach. A place that is reached from row 1 by rows that lead to it is the head of a type that a chain reaches, step by
 -- step; and each step of a chain is a row that leads to the head's place. Assumes nothing.
-use Rattle.std.specs.Prelude.{if◌then◌else◌}
 use mathlib.Core.Path.{◌≡◌, refl, sym, ap, ◌∙◌}
 use mathlib.Core.Logic.{◌⊎◌, inl, inr}
-use mathlib.Core.Bool.{Bool, true, false, not, false≢true}
+use mathlib.Core.Bool.{Bool, true, false, false≢true}
 use mathlib.Core.List.{List, [], ◌∷◌, ◌++◌}
-use Prim.Native.Nat.{ℕ, zero, suc, ◌+◌, ◌-◌, ◌≤◌, ◌<◌}
+use Prim.Native.Nat.{ℕ, suc, ◌+◌, ◌-◌, ◌≤◌, ◌<◌}
 use native.Mathlib.Omega.{arith}
 use lib.Dec.{eqb}
 use lib.ListN.{length, get_or}
-use borrow.Author.Tests.{eqb-true, eqb-false, eq-eqb, ne_eqb}
+use borrow.Author.Tests.{eqb-true, eqb-false, ne_eqb}
 use Rattle.text.specs.Text.{Text}
 use Rattle.sheet.specs.Rows.{Row, bit}
 use Rattle.ir_types.specs.Tags.{root_tag}
-use Rattle.ir_types.specs.Form.{is_type_tag}
 use Rattle.ir_types.specs.Back.{text}
 use Rattle.ir_reduce.specs.Groups.{GraphType, Parted, parted, type_name, root_type, reference_in, references_in, references}
-use Rattle.ir_reduce.specs.Reach.{In, Chain, Reduced}
+use Rattle.ir_reduce.specs.Reach.{In, Chain}
 use Rattle.ir_reduce.specs.Places.{rows_from, asked}
 use Rattle.ir_reduce.specs.Marks.{InGroup, Leads, Reached}
 use Rattle.ir_reduce.proofs.Laws.Reach.{chain-in}

@@ -4,17 +4,17 @@ use Rattle.std.specs.Prelude.{if◌then◌else◌}
 use mathlib.Core.Path.{◌≡◌, refl, sym, ap, ◌∙◌}
 use mathlib.Core.Bool.{Bool, true, false}
 use mathlib.Core.List.{List, [], ◌∷◌, ◌++◌}
-use Prim.Native.Nat.{ℕ, zero, suc, ◌+◌, ◌*◌, ◌≤◌, ◌<◌}
+use Prim.Native.Nat.{ℕ, ◌+◌, ◌*◌, ◌≤◌}
 use native.Mathlib.Omega.{arith}
 use lib.Dec.{leb}
-use lib.ListN.{length, take, drop, length-append, length-drop}
+use lib.ListN.{length, take, drop}
 use lib.Seq.{take_at}
-use borrow.Author.Tests.{le-leb, leb-true, leb-false}
+use borrow.Author.Tests.{le-leb, leb-false}
 use Rattle.text.specs.Text.{Text, join}
-use Rattle.sheet.specs.Rows.{Ten, Row, Pairs, ten, pairs, pack_row, unpack_row, numbers}
+use Rattle.sheet.specs.Rows.{Ten, ten, pairs, pack_row, unpack_row, numbers}
 use Rattle.sheet.specs.Form.{pair_form, row_covers, end_of, counted}
 use Rattle.sheet.proofs.Laws.Packs.{counted-used, counted-small, end_of-pack}
-use Rattle.sheet.proofs.Laws.Unpacks.{few, row-again, names-row, counted-unpack, row_covers-pairs, pairs_of, cover-parts, pair-used, pair-unused}
+use Rattle.sheet.proofs.Laws.Unpacks.{few, row-again, names-row, counted-unpack, row_covers-pairs, pairs_of, cover-parts, pair-used}
 use Rattle.rows.specs.Packing.{numbers_of}
 use Rattle.ir_types.specs.Form.{used_pairs}
 use Rattle.ir_reduce.specs.Places.{row_at}

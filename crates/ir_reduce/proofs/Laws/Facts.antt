@@ -1,10 +1,9 @@
 -- What is known of a graph sheet in the form: how many rows are used, that their texts stand in the names, the order of the rows, and the rows with their texts by
 -- their places. Assumes nothing.
-use Rattle.std.specs.Prelude.{if◌then◌else◌}
 use mathlib.Core.Path.{◌≡◌, refl, sym, ap, ◌∙◌}
-use mathlib.Core.Bool.{Bool, true, false, not, ◌&&◌, ◌||◌, false≢true}
-use mathlib.Core.List.{List, [], ◌∷◌, map}
-use Prim.Native.Nat.{ℕ, zero, suc, ◌+◌, ◌-◌, ◌*◌, ◌≤◌, ◌<◌}
+use mathlib.Core.Bool.{Bool, true, false, ◌&&◌, false≢true}
+use mathlib.Core.List.{List, [], ◌∷◌}
+use Prim.Native.Nat.{ℕ, ◌-◌, ◌*◌, ◌≤◌, ◌<◌}
 use native.Mathlib.Omega.{arith}
 use lib.Dec.{eqb, leb}
 use lib.ListN.{length, get_or, take, drop}
@@ -13,7 +12,7 @@ use borrow.Author.Tests.{eqb-true, eqb-false, leb-true, le-leb}
 use Rattle.text.specs.Text.{Text, every, is_text, between}
 use Rattle.text.proofs.Laws.Tests.{and-true-left, and-true-right, and-true, two}
 use Rattle.text.proofs.Laws.Every.{every-weaken}
-use Rattle.sheet.specs.Rows.{Ten, Row, ten, tens}
+use Rattle.sheet.specs.Rows.{Ten, ten, tens}
 use Rattle.sheet.specs.Form.{row0_of, tens_of, used_parts, zeros_behind, covers, covered}
 use Rattle.sheet.specs.Lengths.{fits}
 use Rattle.sheet.specs.Calls.{sheet}

@@ -2,23 +2,21 @@
 -- rows from a place on. Assumes nothing.
 use Rattle.std.specs.Prelude.{if◌then◌else◌}
 use mathlib.Core.Path.{◌≡◌, refl, sym, ap, ◌∙◌}
-use mathlib.Core.Logic.{◌⊎◌, inl, inr}
-use mathlib.Core.Bool.{Bool, true, false, not, ◌&&◌, ◌||◌, false≢true, and-false}
-use mathlib.Core.List.{List, [], ◌∷◌, ◌++◌, map}
-use Prim.Native.Nat.{ℕ, zero, suc, ◌+◌, ◌-◌, ◌*◌, ◌≤◌, ◌<◌}
+use mathlib.Core.Bool.{Bool, true, false, ◌||◌, false≢true, and-false}
+use mathlib.Core.List.{List, [], ◌∷◌, map}
+use Prim.Native.Nat.{ℕ, zero, suc, ◌+◌, ◌*◌, ◌≤◌, ◌<◌}
 use native.Mathlib.Omega.{arith}
 use lib.Dec.{eqb, leb}
-use lib.ListN.{length, get_or, take, drop}
+use lib.ListN.{length, get_or, drop}
 use lib.Seq.{drop-drop, get_or-drop}
-use borrow.Author.Tests.{eqb-true, eqb-false, eq-eqb, ne_eqb, leb-true, leb-false, le-leb, lt-leb}
-use Rattle.text.specs.Text.{Text, every, between}
+use borrow.Author.Tests.{eqb-true, eqb-false, leb-true, lt-leb}
+use Rattle.text.specs.Text.{every, between}
 use Rattle.text.proofs.Laws.Tests.{and-true-left, and-true-right, two}
 use Rattle.text.proofs.Laws.Every.{every-head, every-tail}
-use Rattle.sheet.specs.Rows.{Ten, Row, ten, tens, unpack_row}
+use Rattle.sheet.specs.Rows.{Ten, ten, tens, unpack_row}
 use Rattle.sheet.specs.Form.{is_flag, row_covers, end_of, covers, covered}
 use Rattle.sheet.proofs.Laws.Unpacks.{covered-from}
-use Rattle.ir_types.specs.Tags.{root_tag}
-use Rattle.ir_types.specs.Form.{used_pairs, is_type_tag, form_a, ten_form, is_child, may_follow, head_after, in_order, tags_of}
+use Rattle.ir_types.specs.Form.{used_pairs, is_type_tag, form_a, is_child, may_follow, head_after, in_order, tags_of}
 use Rattle.ir_reduce.specs.Places.{row_at, rows_from}
 use Rattle.ir_reduce.specs.Copy.{Stands}
 

@@ -1,15 +1,17 @@
 -- The index of the heads: a name is found at its one head, and what is found is a head of that name. Assumes nothing.
-use Rattle.std.specs.Prelude.{if◌then◌else◌}
+use Rattle.std.specs.Prelude.{if◌then◌else◌, Option, Some, None, is_some}
+use Rattle.std.specs.Option.{option_and_then, unwrap_or}
+use Rattle.std.proofs.lemmas.Option.{none-some, same_Some}
 use mathlib.Core.Path.{◌≡◌, refl, sym, ap, subst, ◌∙◌}
 use mathlib.Core.Logic.{◌⊎◌, inl, inr}
 use mathlib.Core.Bool.{Bool, true, false, not, ◌&&◌, ◌||◌, false≢true}
 use mathlib.Core.List.{List, [], ◌∷◌, ◌++◌, map, append_assoc, append-nil, map-append}
 use Prim.Native.Nat.{ℕ, zero, suc, ◌+◌, ◌-◌, ◌*◌, ◌≤◌, ◌<◌}
 use native.Mathlib.Omega.{arith}
-use lib.Dec.{eqb, ltb}
+use lib.Dec.{eqb}
 use lib.ListN.{length, get_or, set}
 use lib.Seq.{get_or-set_same, get_or-set_other}
-use borrow.Author.Tests.{eqb-true, eqb-false, ne_eqb, not-true, lt-ltb}
+use borrow.Author.Tests.{eqb-true, eqb-false, not-true}
 use Rattle.text.specs.Text.{Text, same, between}
 use Rattle.text.proofs.Laws.Texts.{same_refl}
 use Rattle.text.proofs.Laws.Tests.{and-true-left, and-true-right, or-false-left, or-false-right, not-true-false}
@@ -19,17 +21,12 @@ use Rattle.ir_types.specs.Tags.{root_tag, value_with_attributes_tag, field_tag, 
 use Rattle.ir_types.specs.Distinct.{among, distinct_texts}
 use Rattle.ir_types.proofs.Laws.Distinct.{distinct_snoc, distinct-before}
 use Rattle.name_index.specs.Index.{name_of, place_from, place_of, places_in, Index, Entered}
-use Rattle.name_index.proofs.Laws.Places.{Hit, place-hit}
-use Rattle.name_index.proofs.Laws.Answers.{index-among, hit-inside}
+use Rattle.name_index.proofs.Laws.Places.{place-hit, place-among}
+use Rattle.name_index.proofs.Laws.Answers.{hit-inside}
 use Rattle.ir_reduce.specs.Reach.{In}
 use Rattle.ir_reduce.specs.Marks.{head_at}
-use Rattle.ir_reduce.specs.declared.index.Indexed.{Indexed}
-use Rattle.ir_reduce.specs.Index.{buckets, place_if, heads_from, head_places, head_names, AllIndexed, NewHead, OldHead, EnteredHead, asked_pair, target_of, TargetsPut}
+use Rattle.ir_reduce.specs.Index.{buckets, place_if, heads_from, head_places, head_names, AllIndexed, NewHead, OldHead, asked_pair, target_of, TargetsPut}
 use Rattle.ir_reduce.proofs.Laws.Places.{in-none, in-cons}
-
-at_least : (r : ℕ) {l : ℕ} → (0 < r → 10 * r + 10 ≤ l) → 10 * r ≤ l
-at_least zero h = omega arith
-at_least (suc r) h = omega (arith, h (omega arith))
 
 -- ---- places and their heads
 at_in : (ps : List ℕ) (j : ℕ) → j < length ps → In (get_or ps j 0) ps
@@ -71,31 +68,31 @@ in-heads rows (suc m) p q l k h = step (eqb q p) refl (head_at rows p) refl (λ 
 
 -- ---- a name among distinct ones is found where it stands
 module _ (name : ℕ → Text) (t : Text) where
-  not_found : (found : ℕ) (ps : List ℕ) → among t (map name ps) ≡ false → place_from found name t ps ≡ found
+  not_found : (found : Option ℕ) (ps : List ℕ) → among t (map name ps) ≡ false → place_from found name t ps ≡ found
   unfolding place_from among
   not_found found [] h = refl
   not_found found (p ∷ ps) h = rw (or-false-left (same (name p) t) (among t (map name ps)) h) (not_found found ps (or-false-right (same (name p) t) (among t (map name ps)) h))
 
-  found_from : (found q : ℕ) (ps : List ℕ) → In q ps → name q ≡ t → distinct_texts (map name ps) ≡ true → place_from found name t ps ≡ q
+  found_from : (found : Option ℕ) (q : ℕ) (ps : List ℕ) → In q ps → name q ≡ t → distinct_texts (map name ps) ≡ true → place_from found name t ps ≡ Some q
   unfolding place_from distinct_texts
   found_from found q [] i e d = elim i [ ]
   found_from found q (p ∷ ps) In.here e d =
       let new = not-true (among (name p) (map name ps)) (and-true-left (not (among (name p) (map name ps))) (distinct_texts (map name ps)) d) in
-      rw (← e, same_refl (name p)) (rw e (not_found p ps (rw e at new)))
+      rw (← e, same_refl (name p)) (rw e (not_found (Some p) ps (rw e at new)))
   found_from found q (p ∷ ps) (In.there i) e d =
-      found_from (if same (name p) t then p else found) q ps i e (and-true-right (not (among (name p) (map name ps))) (distinct_texts (map name ps)) d)
+      found_from (if same (name p) t then Some p else found) q ps i e (and-true-right (not (among (name p) (map name ps))) (distinct_texts (map name ps)) d)
 
-  pub place_found : (q : ℕ) (ps : List ℕ) → In q ps → name q ≡ t → distinct_texts (map name ps) ≡ true → place_of name t ps ≡ q
+  pub place_found : (q : ℕ) (ps : List ℕ) → In q ps → name q ≡ t → distinct_texts (map name ps) ≡ true → place_of name t ps ≡ Some q
   unfolding place_of
-  place_found q ps i e d = found_from 0 q ps i e d
+  place_found q ps i e d = found_from None q ps i e d
 
   pub record FoundIn (ps : List ℕ) (r : ℕ) : Type 0 where
     pub among : In r ps
     pub named : name r ≡ t
 
-  pub found_in : (ps : List ℕ) → 0 < place_of name t ps → FoundIn ps (place_of name t ps)
-  found_in ps h =
-      let w = place-hit name t ps h in
+  pub found_in : (ps : List ℕ) (r : ℕ) → place_of name t ps ≡ Some r → FoundIn ps r
+  found_in ps r h =
+      let w = place-hit name t ps r h in
       record { among = rw (← w.place) (at_in ps w.at w.inside); named = w.named }
 
 -- ---- the heads from a place on
@@ -111,23 +108,26 @@ module _ (rows : List ℕ) (p end : ℕ) where
   unfolding heads_from
   heads-none h = let none : end - p ≡ 0 = omega arith in rw none
 
+none-is : (r : Option ℕ) → is_some r ≡ false → r ≡ None
+none-is None h = refl
+none-is (Some q) h = absurd (false≢true (sym h))
+
 -- ---- a row entered
 module _ {rows names table : List ℕ} {n : ℕ} (w : Index rows names false table buckets n) (p : ℕ) where
   pub head-none : head_at rows p ≡ false → NewHead rows names table n p table n
   head-none h = record { index = w; places = rw h (sym (append-nil (places_in buckets n table))); new = λ e. absurd (false≢true (sym h ∙ e)); few = omega arith }
 
-  pub head-old : {after : List ℕ} {r : ℕ} → Entered rows names false table buckets n p after r → (r ≡ 0 → ⊥) → head_at rows p ≡ true → OldHead rows names table n p
+  pub head-old : {after : List ℕ} {r : Option ℕ} → Entered rows names false table buckets n p after r → is_some r ≡ true → head_at rows p ≡ true → OldHead rows names table n p
   head-old {after} {r} e h k =
-      let some : 0 < place_of (name_of rows names false) (name_of rows names false p) (places_in buckets n table) = omega (arith, e.place, h) in
-      record { head = k; old = sym (index-among w (name_of rows names false p)) ∙ lt-ltb _ _ some }
+      record { head = k; old = sym (place-among (name_of rows names false) (name_of rows names false p) (places_in buckets n table)) ∙ ap is_some (sym e.place) ∙ h }
 
-  pub head-new : {after : List ℕ} {r : ℕ} → Entered rows names false table buckets n p after r → r ≡ 0 → head_at rows p ≡ true → NewHead rows names table n p after (n + 1)
+  pub head-new : {after : List ℕ} {r : Option ℕ} → Entered rows names false table buckets n p after r → is_some r ≡ false → head_at rows p ≡ true → NewHead rows names table n p after (n + 1)
   head-new {after} {r} e h k =
-      let added = e.added h in
+      let added = e.added (none-is r h) in
       record {
         index = added.index;
         places = rw k added.places;
-        new = λ _. sym (index-among w (name_of rows names false p)) ∙ rw (sym e.place ∙ h);
+        new = λ _. sym (place-among (name_of rows names false) (name_of rows names false p) (places_in buckets n table)) ∙ ap is_some (sym e.place) ∙ h;
         few = omega arith;
       }
 
@@ -174,40 +174,46 @@ entering-repeated {rows} {names} {end} {table} {n} {p} w h o =
     not-true-false _ (λ d. false≢true (sym (distinct-before (name_of rows names false p) (head_names rows names ps) (head_names rows names rest) (rw names-all at d)) ∙ o.old))
 
 -- ---- what a row leads to
-pub asked-few : (tag a : ℕ) → asked_pair tag a ≤ 5
+pub asked-at-most : (tag a : ℕ) {k : ℕ} → Some k ≡ asked_pair tag a → k ≤ 5
 unfolding asked_pair
-asked-few tag a = by_tests (eqb tag root_tag) (eqb tag value_with_attributes_tag && eqb a 0) ((between field_tag variant_tag tag || eqb tag attribute_tag) && eqb a 0)
+asked-at-most tag a {k} e = by_tests (eqb tag root_tag) (eqb tag value_with_attributes_tag && eqb a 0) ((between field_tag variant_tag tag || eqb tag attribute_tag) && eqb a 0) e
   where
-    by_tests : (b c d : Bool) → (if b then 3 else if c then 3 else if d then 5 else 0) ≤ 5
-    by_tests true c d = omega arith
-    by_tests false true d = omega arith
-    by_tests false false true = omega arith
-    by_tests false false false = omega arith
+    three : Some k ≡ Some 3 → k ≤ 5
+    three h = let is : k ≡ 3 = same_Some k 3 h in omega arith
+
+    by_tests : (b c d : Bool) → Some k ≡ (if b then Some 3 else if c then Some 3 else if d then Some 5 else None) → k ≤ 5
+    by_tests true c d h = three h
+    by_tests false true d h = three h
+    by_tests false false true h = let is : k ≡ 5 = same_Some k 5 h in omega arith
+    by_tests false false false h = absurd (none-some k (sym h))
 
 module _ (rows names ps : List ℕ) (p : ℕ) where
-  pub target_none : {k : ℕ} → k ≡ asked_pair (get_or rows (10 * p) 0) (get_or rows (10 * p + 7) 0) → k ≡ 0 → 0 ≡ target_of rows names ps p
+  pub target_none : None ≡ asked_pair (get_or rows (10 * p) 0) (get_or rows (10 * p + 7) 0) → None ≡ target_of rows names ps p
   unfolding target_of
-  target_none e h = rw (sym e ∙ h)
+  target_none e = rw (← e)
 
-  pub target-some : {k : ℕ} → k ≡ asked_pair (get_or rows (10 * p) 0) (get_or rows (10 * p + 7) 0) → (k ≡ 0 → ⊥)
+  pub target-some : {k : ℕ} → Some k ≡ asked_pair (get_or rows (10 * p) 0) (get_or rows (10 * p + 7) 0)
       → target_of rows names ps p ≡ place_of (name_of rows names false) (spelled (eqb (get_or rows (10 * p) 0) root_tag) (text_at names (get_or rows (10 * p + k) 0) (get_or rows (10 * p + k + 1) 0))) ps
   unfolding target_of
-  target-some {k} e h = rw (← e, ne_eqb k 0 h)
+  target-some e = rw (← e)
 
 -- the place lies inside the rows
-pub target-inside : {rows names table : List ℕ} {n : ℕ} → Index rows names false table buckets n → (p : ℕ) → 10 * target_of rows names (places_in buckets n table) p ≤ length rows
-target-inside {rows} {names} {table} {n} w p = by-test (eqb (asked_pair (get_or rows (10 * p) 0) (get_or rows (10 * p + 7) 0)) 0) refl
+pub target-inside : {rows names table : List ℕ} {n : ℕ} → Index rows names false table buckets n → (p : ℕ) → 10 * unwrap_or (target_of rows names (places_in buckets n table) p) 0 ≤ length rows
+unfolding target_of
+target-inside {rows} {names} {table} {n} w p = by-pair (asked_pair (get_or rows (10 * p) 0) (get_or rows (10 * p + 7) 0))
   where
-    found : (t : Text) → 10 * place_of (name_of rows names false) t (places_in buckets n table) ≤ length rows
-    found t = at_least (place_of (name_of rows names false) t (places_in buckets n table)) (λ h. hit-inside w (place-hit (name_of rows names false) t (places_in buckets n table) h))
+    found : (t : Text) (o : Option ℕ) → place_of (name_of rows names false) t (places_in buckets n table) ≡ o → 10 * unwrap_or o 0 ≤ length rows
+    found t None e = omega arith
+    found t (Some r) e = omega (arith, hit-inside w (place-hit (name_of rows names false) t (places_in buckets n table) r e))
 
-    by-test : (b : Bool) → eqb (asked_pair (get_or rows (10 * p) 0) (get_or rows (10 * p + 7) 0)) 0 ≡ b → 10 * target_of rows names (places_in buckets n table) p ≤ length rows
-    by-test true e = rw (← target_none rows names (places_in buckets n table) p refl (eqb-true _ 0 e)) (omega arith)
-    by-test false e = rw (target-some rows names (places_in buckets n table) p refl (eqb-false _ 0 e)) (found _)
+    by-pair : (o : Option ℕ)
+        → 10 * unwrap_or (option_and_then (λ (k : ℕ). place_of (name_of rows names false) (spelled (eqb (get_or rows (10 * p) 0) root_tag) (text_at names (get_or rows (10 * p + k) 0) (get_or rows (10 * p + k + 1) 0))) (places_in buckets n table)) o) 0 ≤ length rows
+    by-pair None = omega arith
+    by-pair (Some k) = found _ _ refl
 
 -- ---- the targets stored
 pub targets-step : {rows names to : List ℕ} {end k : ℕ} {v : ℕ} → TargetsPut rows names end k to → 0 < k → k < length to
-    → v ≡ target_of rows names (head_places rows end) k → TargetsPut rows names end (k + 1) (set to k v)
+    → v ≡ unwrap_or (target_of rows names (head_places rows end) k) 0 → TargetsPut rows names end (k + 1) (set to k v)
 targets-step {rows} {names} {to} {end} {k} {v} w a h e =
     record {
       first = get_or-set_other to k 0 v 0 (λ x. omega arith) ∙ w.first;
@@ -215,19 +221,9 @@ targets-step {rows} {names} {to} {end} {k} {v} w a h e =
       rest = λ p c. get_or-set_other to k p v 0 (λ x. omega arith) ∙ w.rest p (omega arith);
     }
   where
-    by_place : (p : ℕ) → 0 < p → p < k + 1 → (b : Bool) → eqb p k ≡ b → get_or (set to k v) p 0 ≡ target_of rows names (head_places rows end) p
+    by_place : (p : ℕ) → 0 < p → p < k + 1 → (b : Bool) → eqb p k ≡ b → get_or (set to k v) p 0 ≡ unwrap_or (target_of rows names (head_places rows end) p) 0
     by_place p b c true s = rw (eqb-true p k s) (get_or-set_same to k v 0 h ∙ e)
     by_place p b c false s = get_or-set_other to k p v 0 (eqb-false p k s) ∙ w.put p b (omega (arith, eqb-false p k s))
-
--- what an answer says, by its case
-pub new-of : (rows names before : List ℕ) (n p : ℕ) (after : List ℕ) (r : Indexed) {m : ℕ} → EnteredHead rows names before n p after r → r ≡ Indexed.All m → NewHead rows names before n p after m
-new-of rows names before n p after r g e = subst (λ (r : Indexed). EnteredHead rows names before n p after r) e g
-
-pub old_of : (rows names before : List ℕ) (n p : ℕ) (after : List ℕ) (r : Indexed) → EnteredHead rows names before n p after r → r ≡ Indexed.Repeated → OldHead rows names before n p
-old_of rows names before n p after r g e = subst (λ (r : Indexed). EnteredHead rows names before n p after r) e g
-
-pub asked-at-most : (tag a : ℕ) {k : ℕ} → k ≡ asked_pair tag a → k ≤ 5
-asked-at-most tag a e = rw e (asked-few tag a)
 
 pub targets-end : {rows names to : List ℕ} {end k : ℕ} → TargetsPut rows names end k to → k ≡ end → TargetsPut rows names end end to
 targets-end {rows} {names} {to} {end} {k} w e = subst (λ (k : ℕ). TargetsPut rows names end k to) e w

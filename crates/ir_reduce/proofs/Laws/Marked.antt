@@ -1,14 +1,14 @@
 -- Keeping the rows of the marked heads is reducing, where the marks are those of what is reached from row 1. Assumes nothing.
 use mathlib.Core.Path.{◌≡◌, refl}
-use mathlib.Core.Bool.{Bool, true, false, not, false≢true}
+use mathlib.Core.Bool.{true, not, false≢true}
 use mathlib.Core.List.{List}
 use Prim.Native.Nat.{ℕ, zero, suc, ◌+◌, ◌<◌}
 use native.Mathlib.Omega.{arith}
 use lib.Dec.{eqb}
-use lib.ListN.{length, get_or}
+use lib.ListN.{get_or}
 use borrow.Author.Tests.{ne_eqb}
 use Rattle.sheet.specs.Rows.{Row}
-use Rattle.ir_reduce.specs.Groups.{GraphType, Parted, parted, rows_of}
+use Rattle.ir_reduce.specs.Groups.{Parted, parted, rows_of}
 use Rattle.ir_reduce.specs.Reach.{Chain, Reduced}
 use Rattle.ir_reduce.specs.Places.{rows_from, kept_rows}
 use Rattle.ir_reduce.specs.Marks.{Marking, Done}

@@ -1,19 +1,19 @@
 -- Laws of the marking. Assumes nothing.
 use mathlib.Core.Path.{◌≡◌, refl, sym, ap, ◌∙◌}
-use mathlib.Core.Bool.{Bool, true, false, not, ◌&&◌, false≢true}
+use mathlib.Core.Bool.{Bool, true, false, ◌&&◌, false≢true}
 use mathlib.Core.List.{List, [], ◌∷◌}
-use mathlib.Core.Logic.{⊎_elim, ◌≢◌, ◌⊎◌, inl, inr}
-use Prim.Native.Nat.{ℕ, zero, suc, ◌+◌, ◌-◌, ◌≤◌, ◌<◌}
+use mathlib.Core.Logic.{◌⊎◌, inl, inr}
+use Prim.Native.Nat.{ℕ, zero, suc, ◌+◌, ◌≤◌, ◌<◌}
 use native.Mathlib.Omega.{arith}
 use native.Mathlib.Nat.{add-zero, zero-add}
-use native.Mathlib.Nat.{eq-or-lt_of_le, lt_of_not-le}
+use native.Mathlib.Nat.{lt_of_not-le}
 use lib.Dec.{eqb, ltb}
-use borrow.Author.Tests.{eqb-true, eqb-false, eq-eqb, ne_eqb, ltb-true, lt-ltb}
+use borrow.Author.Tests.{eqb-true, eqb-false, ltb-true, lt-ltb}
 use lib.ListN.{length, get_or, set, length-set}
 use lib.Seq.{get_or-set_same, get_or-set_other}
 use Rattle.text.proofs.Laws.Tests.{two}
 use Rattle.sheet.specs.Rows.{bit}
-use Rattle.ir_reduce.specs.Marks.{head_at, flags_from, head_flags, InGroup, Leads, Reached, pick, ones, Marked, Targeted, Room, Grown, Led, GroupDone, AllDone, Queued, Marking, Done}
+use Rattle.ir_reduce.specs.Marks.{head_at, flags_from, head_flags, Leads, Reached, pick, ones, Marked, Targeted, Room, Grown, Led, GroupDone, AllDone, Queued, Marking, Done}
 
 pub ones-set : (m : List ℕ) (i : ℕ) → i < length m → get_or m i 0 ≡ 0 → ones (set m i 1) ≡ suc (ones m)
 unfolding ones
@@ -88,16 +88,6 @@ all-marked {tags} {to} w d f (Reached.onward p q r l) =
     let u = w.queued p (all-marked w d f r) in
     d.led u.at q u.before (rw u.holds l)
 
-pub marked-before : (marks queue : List ℕ) (n place : ℕ) → (get_or marks place 0 ≡ 0 → ⊥) → Marked marks queue n place marks queue n
-marked-before marks queue n place h =
-    let e = ne_eqb (get_or marks place 0) 0 h in
-    record { flag = rw e; entry = rw e; count = rw e }
-
-pub marked-now : (marks queue : List ℕ) (n place : ℕ) → get_or marks place 0 ≡ 0 → Marked marks queue n place (set marks place 1) (set queue n place) (n + 1)
-marked-now marks queue n place h =
-    let e = eq-eqb (get_or marks place 0) 0 h in
-    record { flag = rw e; entry = rw e; count = rw e }
-
 -- ---- a target
 marked-grown : {marks queue marks' queue' : List ℕ} {n n' q : ℕ} → Marked marks queue n q marks' queue' n' → q < length marks → Grown marks queue n marks' queue' n'
 marked-grown {marks} {queue} {marks'} {queue'} {n} {n'} {q} m h = rw (m.flag, m.entry, m.count) (step (eqb (get_or marks q 0) 0))
@@ -158,12 +148,6 @@ led-all {tags} {to} {m} {p} {row} l stop q w =
     before (inl h) = omega (arith, w.in_group.inside)
     before (inr h) = lt_of_not-le (λ k. h.1 (w.in_group.children row h.0 k))
 
-pub targeted-none : (marks queue : List ℕ) (n q : ℕ) → q ≡ 0 → Targeted (eqb q 0) marks queue n q marks queue n
-targeted-none marks queue n q h = rw (eq-eqb q 0 h) (refl, refl, refl)
-
-pub targeted-some : {marks' queue' : List ℕ} {n' : ℕ} (marks queue : List ℕ) (n q : ℕ) → (q ≡ 0 → ⊥) → Marked marks queue n q marks' queue' n' → Targeted (eqb q 0) marks queue n q marks' queue' n'
-targeted-some marks queue n q h m = rw (ne_eqb q 0 h) m
-
 pub record Grouping (tags to : List ℕ) (p row : ℕ) (m₀ q₀ : List ℕ) (n₀ : ℕ) (m q : List ℕ) (n : ℕ) : Type 0 where
   pub marking : Marking tags to m q n
   pub grown : Grown m₀ q₀ n₀ m q n
@@ -209,14 +193,6 @@ room-more {tags} {to} {m} {q} {m'} {q'} {n} {n'} {k} false r h t = rw (t.flag, t
 
 pub room-there : {tags to m q : List ℕ} {n k : ℕ} → Room tags to m q n → k < length tags → get_or m k 0 ≡ 0 → n < length q
 room-there {tags} {to} {m} {q} {n} {k} r h z = omega (arith, r.count, ones-less m k (omega (arith, r.long)) z, r.long, r.room)
-
-set_long : (b : Bool) (q : List ℕ) (n k : ℕ) → length (pick b (set q n k) q) ≡ length q
-set_long true q n k = length-set q n k
-set_long false q n k = refl
-
-pub target-long : (m q m' q' : List ℕ) (n n' k : ℕ) (b : Bool) → Targeted b m q n k m' q' n' → (length m' ≡ length m) × (length q' ≡ length q)
-target-long m q m' q' n n' k true t = (ap length t.0, ap length t.1)
-target-long m q m' q' n n' k false t = (ap length t.flag ∙ set_long (eqb (get_or m k 0) 0) m k 1, ap length t.entry ∙ set_long (eqb (get_or m k 0) 0) q n k)
 
 -- the tags of rows
 pub flags-length : (rows : List ℕ) (p n : ℕ) → length (flags_from rows p n) ≡ n

@@ -6,7 +6,7 @@ use mathlib.Core.Bool.{Bool, true, false}
 use mathlib.Core.List.{List, [], ◌∷◌, map}
 use lib.Dec.{eqb}
 use Rattle.text.specs.Text.{Text}
-use Rattle.sheet.specs.Rows.{Row, Sheet}
+use Rattle.sheet.specs.Rows.{Row}
 use Rattle.ir_types.specs.Tags.{struct_tag, enum_tag, newtype_tag, code_enum_tag, value_with_attributes_tag}
 use Rattle.ir_types.specs.Types.{TypeDef, TypeGraph, name_of}
 use Rattle.ir_types.specs.Distinct.{type_names}
@@ -16,7 +16,7 @@ use Rattle.ir_types.specs.Rows.{rows_of}
 use Rattle.ir_types.specs.Sheet.{graph_sheet}
 use Rattle.ir_types.specs.Back.{text, type_of, Behind, with_row, types_back}
 use Rattle.ir_types.proofs.Laws.Back.{sheet-rows, rows-types}
-use Rattle.ir_reduce.specs.Groups.{GraphType, Parted, add_row, parted, type_name}
+use Rattle.ir_reduce.specs.Groups.{Parted, add_row, parted, type_name}
 use Rattle.ir_reduce.specs.Call.{rows_in, graph_in}
 
 pick-name : (b : Bool) (d e : TypeDef) (t : Text) → name_of d ≡ t → name_of e ≡ t → name_of (if b then d else e) ≡ t

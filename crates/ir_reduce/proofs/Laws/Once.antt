@@ -1,12 +1,11 @@
 -- The answer is one: two results of the relation are equal. By cases: a test is not both true and false, and there is one reduced graph. Assumes nothing.
-use mathlib.Core.Path.{◌≡◌, refl, sym, ap, ◌∙◌}
+use mathlib.Core.Path.{◌≡◌, refl, sym, ◌∙◌}
 use mathlib.Core.Bool.{Bool, true, false, false≢true}
-use mathlib.Core.List.{List}
-use Rattle.sheet.specs.Rows.{Row, Sheet}
+use Rattle.sheet.specs.Rows.{Sheet}
 use Rattle.sheet.specs.Lengths.{Answer}
-use Rattle.ir_reduce.specs.Groups.{GraphType, Parted, rows_of}
+use Rattle.ir_reduce.specs.Groups.{Parted}
 use Rattle.ir_reduce.specs.Reach.{Reduced}
-use Rattle.ir_reduce.specs.Call.{in_form, lengths_fit, graph_fits, Reduction}
+use Rattle.ir_reduce.specs.Call.{Reduction}
 use Rattle.ir_reduce.proofs.Laws.Reach.{kept-once}
 
 pub reduced-once : {p q r : Parted} → Reduced p q → Reduced p r → q ≡ r

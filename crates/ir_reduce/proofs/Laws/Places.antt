@@ -1,20 +1,19 @@
 -- The parted rows by their places: the types are those of the heads, a type's rows are those of its head's group, and the rows that are kept by marks are the
 -- front and the marked types. By induction over the rows from a place on. Assumes nothing.
 use Rattle.std.specs.Prelude.{if◌then◌else◌}
-use mathlib.Core.Path.{◌≡◌, refl, sym, ap, ◌∙◌}
+use mathlib.Core.Path.{◌≡◌, refl, sym, ◌∙◌}
 use mathlib.Core.Logic.{◌⊎◌, inl, inr}
 use mathlib.Core.Bool.{Bool, true, false, not, false≢true}
-use mathlib.Core.List.{List, [], ◌∷◌, ◌++◌, append_assoc}
+use mathlib.Core.List.{List, [], ◌∷◌, ◌++◌}
 use Prim.Native.Nat.{ℕ, zero, suc, ◌+◌, ◌-◌, ◌≤◌, ◌<◌}
 use native.Mathlib.Omega.{arith}
 use lib.Dec.{eqb}
 use lib.ListN.{length, get_or}
 use borrow.Author.Tests.{eqb-true, eqb-false}
-use Rattle.text.specs.Text.{Text}
 use Rattle.sheet.specs.Rows.{Row}
 use Rattle.ir_types.specs.Form.{is_type_tag}
-use Rattle.ir_reduce.specs.Groups.{GraphType, Parted, add_row, parted, rows_of_types, rows_of}
-use Rattle.ir_reduce.specs.Reach.{In, Kept, Reduced}
+use Rattle.ir_reduce.specs.Groups.{GraphType, add_row, parted, rows_of_types}
+use Rattle.ir_reduce.specs.Reach.{In, Kept}
 use Rattle.ir_reduce.specs.Places.{rows_from, keeps, kept_rows}
 
 in_some : {A : Type 0} {x : A} {xs : List A} → In x xs → 0 < length xs

@@ -1,5 +1,5 @@
 -- What each recipe gives is what lowering makes of the row of its tag. By the definitions; a reference's text by its number. Assumes nothing.
-use Rattle.std.specs.Prelude.{if◌then◌else◌}
+use Rattle.std.specs.Prelude.{Option, Some, None, if◌then◌else◌}
 use Prim.Native.Nat.{ℕ}
 use mathlib.Core.Path.{◌≡◌, refl, sym, ap, ap₂, ◌∙◌}
 use mathlib.Core.List.{List, [], ◌∷◌, append-nil}
@@ -37,7 +37,7 @@ pub lowers-read : {e : Bool} {tag a b c n : ℕ} {r : Recipe} {first second t u 
     → lowered_as e tag a b c t u ≡ recipe_row r first second ∷ []
 lowers-read {first = first} {second = second} l h w p q = rw (← p, ← q) (l.lowers first second h w)
 
-spelled-if : (x : Bool) (s : Spelling) (t u v : Text) → spelled_texts s t u ≡ v ∷ [] → spelled_texts (if x then s else Spelling.Nothing) t u ≡ (if x then v ∷ [] else [])
+spelled-if : (x : Bool) (s : Option Spelling) (t u v : Text) → spelled_texts s t u ≡ v ∷ [] → spelled_texts (if x then s else None) t u ≡ (if x then v ∷ [] else [])
 unfolding spelled_texts
 spelled-if true s t u v e = e
 spelled-if false s t u v e = refl
@@ -45,10 +45,10 @@ spelled-if false s t u v e = refl
 -- the text of a reference
 reference-texts : (n : ℕ) (t u : Text) → n ≡ reference (map_builtin u) → spelled_texts (reference_spelling n) t u ≡ reference_texts u
 unfolding reference_spelling reference_texts spelled_texts
-reference-texts n t u e = rw e (spelled-if (eqb (reference (map_builtin u)) 0) Spelling.SecondNormalized t u (normalize_type_name u) refl)
+reference-texts n t u e = rw e (spelled-if (eqb (reference (map_builtin u)) 0) (Some Spelling.SecondNormalized) t u (normalize_type_name u) refl)
 
 -- a row whose first text is there and whose third is not
-order-two : (s : Spelling) (tag a c : ℕ) → orderly (texts_recipe tag a c Spelling.FirstNormalized s) ≡ true
+order-two : (s : Option Spelling) (tag a c : ℕ) → orderly (texts_recipe tag a c Spelling.FirstNormalized s) ≡ true
 unfolding orderly
 order-two s tag a c = or_right (not (is_nothing s)) refl
 
@@ -65,7 +65,7 @@ value_row_lem n c t u w =
 opaque-row : (a c : ℕ) (t u : Text) → opaque_row a c t u ≡ recipe_row (texts_recipe 8 a c Spelling.FirstNormalized (namespace_spelling a)) t u
 unfolding opaque_row recipe_row spelled_texts namespace_spelling
 opaque-row a c t u =
-    let second = append-nil (spelled_texts (namespace_spelling a) t u) ∙ spelled-if (eqb a 1) Spelling.Second t u u refl in
+    let second = append-nil (spelled_texts (namespace_spelling a) t u) ∙ spelled-if (eqb a 1) (Some Spelling.Second) t u u refl in
     ap (λ (ts : List Text). row 8 (normalize_type_name t ∷ ts) a 0 c) (sym second)
 
 -- a child's row with its Rust name, and a variant's, whose name is kept
@@ -81,35 +81,35 @@ module _ (tag b c n : ℕ) (t u : Text) (w : n ≡ reference (map_builtin u)) wh
       ap₂ (λ (m : ℕ) (ts : List Text). row tag (t ∷ t ∷ ts) m b c) (sym w) (sym (reference-texts n t u w))
 
 module _ (e : Bool) (a b c n : ℕ) where
-  pub lowers-1 : Lowers e 1 a b c n (texts_recipe 1 0 0 Spelling.First Spelling.Nothing)
+  pub lowers-1 : Lowers e 1 a b c n (texts_recipe 1 0 0 Spelling.First None)
   unfolding lowered_as recipe_row spelled_texts orderly
   lowers-1 = record { in_order = refl; lowers = λ t u h q. refl }
 
-  pub lowers-2 : Lowers e 2 a b c n (texts_recipe 2 0 c Spelling.First Spelling.Second)
+  pub lowers-2 : Lowers e 2 a b c n (texts_recipe 2 0 c Spelling.First (Some Spelling.Second))
   unfolding lowered_as recipe_row spelled_texts orderly
   lowers-2 = record { in_order = refl; lowers = λ t u h q. refl }
 
-  pub lowers-4 : e ≡ true → Lowers e 4 a b c n (texts_recipe 18 0 0 Spelling.First Spelling.FirstPascal)
+  pub lowers-4 : e ≡ true → Lowers e 4 a b c n (texts_recipe 18 0 0 Spelling.First (Some Spelling.FirstPascal))
   unfolding lowered_as code_rows recipe_row spelled_texts orderly
   lowers-4 in_enum = record { in_order = refl; lowers = λ t u h q. rw in_enum }
 
-  pub lowers-5 : Lowers e 5 a b c n (texts_recipe 11 0 0 Spelling.First Spelling.Nothing)
+  pub lowers-5 : Lowers e 5 a b c n (texts_recipe 11 0 0 Spelling.First None)
   unfolding lowered_as recipe_row spelled_texts orderly
   lowers-5 = record { in_order = refl; lowers = λ t u h q. refl }
 
-  pub lowers-8 : Lowers e 8 a b c n (texts_recipe 14 0 0 Spelling.First Spelling.Nothing)
+  pub lowers-8 : Lowers e 8 a b c n (texts_recipe 14 0 0 Spelling.First None)
   unfolding lowered_as recipe_row spelled_texts orderly
   lowers-8 = record { in_order = refl; lowers = λ t u h q. refl }
 
-  pub lowers-9 : Lowers e 9 a b c n (texts_recipe 15 0 0 Spelling.First Spelling.Nothing)
+  pub lowers-9 : Lowers e 9 a b c n (texts_recipe 15 0 0 Spelling.First None)
   unfolding lowered_as recipe_row spelled_texts orderly
   lowers-9 = record { in_order = refl; lowers = λ t u h q. refl }
 
-  pub lowers-12 : Lowers e 12 a b c n (texts_recipe 3 0 c Spelling.FirstNormalized Spelling.Nothing)
+  pub lowers-12 : Lowers e 12 a b c n (texts_recipe 3 0 c Spelling.FirstNormalized None)
   unfolding lowered_as recipe_row spelled_texts orderly
   lowers-12 = record { in_order = refl; lowers = λ t u h q. refl }
 
-  pub lowers-13 : Lowers e 13 a b c n (texts_recipe 4 0 c Spelling.FirstNormalized Spelling.Nothing)
+  pub lowers-13 : Lowers e 13 a b c n (texts_recipe 4 0 c Spelling.FirstNormalized None)
   unfolding lowered_as recipe_row spelled_texts orderly
   lowers-13 = record { in_order = refl; lowers = λ t u h q. refl }
 
@@ -147,10 +147,10 @@ module _ (e : Bool) (a b c n : ℕ) where
   unfolding lowered_as refers between orderly
   lowers-20 = record { in_order = refl; lowers = λ t u h q. ap one (snake-row 19 a 0 n t u (q refl)) }
 
-pub lowers-code-enum : (a b c n : ℕ) → Lowers true 3 a b c n (texts_recipe 6 0 c Spelling.FirstNormalized Spelling.Nothing)
+pub lowers-code-enum : (a b c n : ℕ) → Lowers true 3 a b c n (texts_recipe 6 0 c Spelling.FirstNormalized None)
 unfolding lowered_as simple_row recipe_row spelled_texts orderly
 lowers-code-enum a b c n = record { in_order = refl; lowers = λ t u h q. refl }
 
-pub lowers-newtype : (a b c n : ℕ) → Lowers false 3 a b c n (texts_recipe 5 n c Spelling.FirstNormalized Spelling.Nothing)
+pub lowers-newtype : (a b c n : ℕ) → Lowers false 3 a b c n (texts_recipe 5 n c Spelling.FirstNormalized None)
 unfolding lowered_as simple_row recipe_row spelled_texts orderly refers
 lowers-newtype a b c n = record { in_order = refl; lowers = λ t u h q. rw (q refl) }

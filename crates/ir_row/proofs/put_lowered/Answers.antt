@@ -15,28 +15,28 @@ put_spelled-requires c =
 pub returns-in-6 : goal.returns-in-6
 returns-in-6 c =
     let args = c.args in
-    rw (characters-read args.codes args.rows.now args.names.now args.place c.ten_at-t.result c.ten_at-t.ensures
+    rw (characters-read args.codes args.part.now.rows.now args.part.now.names.now args.place c.ten-t.result c.ten-t.ensures
     c.count_of.result.0 (inl (c.in-6.is, refl)) c.count_of.ensures) c.grow_characters.ensures
 
 pub returns-in-7 : goal.returns-in-7
 returns-in-7 c =
     let args = c.args in
-    rw (characters-read args.codes args.rows.now args.names.now args.place c.ten_at-t.result c.ten_at-t.ensures
+    rw (characters-read args.codes args.part.now.rows.now args.part.now.names.now args.place c.ten-t.result c.ten-t.ensures
     c.count_of-in-7.result.0 (inr (c.in-7.is, refl)) c.count_of-in-7.ensures) c.grow_characters-in-7.ensures
 
 pub returns-in-10 : goal.returns-in-10
 returns-in-10 c =
     let args = c.args in
-    rw (digits-read args.codes args.rows.now args.names.now args.place c.ten_at-t.result c.ten_at-t.ensures
+    rw (digits-read args.codes args.part.now.rows.now args.part.now.names.now args.place c.ten-t.result c.ten-t.ensures
     (inl (c.in-10.is, refl))) c.grow_digits.ensures
 
 pub returns-in-11 : goal.returns-in-11
 returns-in-11 c =
     let args = c.args in
-    rw (digits-read args.codes args.rows.now args.names.now args.place c.ten_at-t.result c.ten_at-t.ensures
+    rw (digits-read args.codes args.part.now.rows.now args.part.now.names.now args.place c.ten-t.result c.ten-t.ensures
     (inr (c.in-11.is, refl))) c.grow_digits-in-11.ensures
 
 pub returns-in_default : goal.returns-in_default
 returns-in_default c =
     let args = c.args in
-    rw (lowered-read args.codes args.rows.now args.names.now args.place c.ten_at-t.result c.ten_at-t.ensures) c.put_spelled.ensures
+    rw (lowered-read args.codes args.part.now.rows.now args.part.now.names.now args.place c.ten-t.result c.ten-t.ensures) c.put_spelled.ensures

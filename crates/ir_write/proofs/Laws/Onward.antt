@@ -1,10 +1,10 @@
 -- Rows added one after the other, told by what is still to be added. By the laws of rows added together. Assumes nothing.
+use Rattle.std.specs.Prelude.{Some, None}
 use Prim.Native.Nat.{ℕ}
 use mathlib.Core.Path.{◌≡◌}
 use mathlib.Core.List.{List, [], ◌++◌}
 use Rattle.sheet.specs.Rows.{Row}
 use Rattle.rows.specs.declared.numbers.Used.{Used}
-use Rattle.ir_append.specs.declared.Grown.{Grown}
 use Rattle.ir_append.specs.Grows.{Room, GrownTo, Short}
 use Rattle.ir_append.proofs.Laws.Grows.{grows_none, room_after, grows_then, short-more}
 use Rattle.ir_write.specs.Onward.{Onward}
@@ -23,8 +23,8 @@ onward-step xs ys o e g =
 
 pub onward-end : {rows₀ names₀ rows names : List ℕ} {used₀ used : Used} {all rest : List Row} → Onward rows₀ names₀ used₀ all rows names used rest → rest ≡ []
     → GrownTo rows₀ names₀ used₀ all rows names used
-onward-end {rows = rows} {names} {used = used} o e = o.on rows names (Grown.To used) (rw e (grows_none o.room))
+onward-end {rows = rows} {names} {used = used} o e = o.on rows names (Some used) (rw e (grows_none o.room))
 
 pub onward-full : {rows₀ names₀ rows names rows' names' : List ℕ} {used₀ used : Used} {all rest : List Row} (xs ys : List Row) → Onward rows₀ names₀ used₀ all rows names used rest → rest ≡ xs ++ ys
     → Short rows names used xs rows' names' → Short rows₀ names₀ used₀ all rows' names'
-onward-full {rows' = rows'} {names'} xs ys o e s = o.on rows' names' Grown.Full (rw e (short-more ys s))
+onward-full {rows' = rows'} {names'} xs ys o e s = o.on rows' names' None (rw e (short-more ys s))

@@ -1,5 +1,4 @@
 -- `ir_write::put_children` meets its contract. The invariant: the children from the first place on are added where those from the place at hand on are (`Onward`). Assumes nothing.
-use Prim.Native.Nat.{◌-◌}
 use mathlib.Core.Path.{◌≡◌}
 use lib.ListN.{length}
 use Rattle.xsd_types.specs.Places.{rows_from}
@@ -9,9 +8,6 @@ use Rattle.ir_write.proofs.put_children.Given as goal
 
 abbrev pub invariant-loop-place : goal.invariant-loop-place
 invariant-loop-place l =
-    Onward l.initial.graph_rows l.initial.graph_names l.initial.used (child_rows l.children.code_enum (rows_from l.rows l.names l.children.first l.children.end)) l.graph_rows l.graph_names l.used
-    (child_rows l.children.code_enum (rows_from l.rows l.names l.place l.children.end)) × (length l.graph_rows ≡ length l.initial.graph_rows)
+    Onward l.initial.graph_rows l.initial.graph_names l.initial.used (child_rows l.fn.children.code_enum (rows_from l.part.rows.now l.part.names.now l.fn.children.first l.part.end)) l.graph_rows l.graph_names l.used
+    (child_rows l.fn.children.code_enum (rows_from l.part.rows.now l.part.names.now l.place l.part.end)) × (length l.graph_rows ≡ length l.initial.graph_rows)
     × (length l.graph_names ≡ length l.initial.graph_names)
-
-abbrev pub decreases-loop-place : goal.decreases-loop-place
-decreases-loop-place l = l.children.end - l.place

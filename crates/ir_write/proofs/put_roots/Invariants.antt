@@ -1,5 +1,4 @@
 -- `ir_write::put_roots` meets its contract. The invariant: all elements are added where those from the place at hand on are (`Onward`). Assumes nothing.
-use Prim.Native.Nat.{◌-◌}
 use mathlib.Core.Path.{◌≡◌}
 use lib.ListN.{length}
 use Rattle.xsd_types.specs.Places.{rows_from}
@@ -9,8 +8,5 @@ use Rattle.ir_write.proofs.put_roots.Given as goal
 
 abbrev pub invariant-loop-place : goal.invariant-loop-place
 invariant-loop-place l =
-    Onward l.initial.graph_rows l.initial.graph_names l.initial.used (root_rows (rows_from l.rows l.names 2 l.end)) l.graph_rows l.graph_names l.used (root_rows (rows_from l.rows l.names l.place l.end))
+    Onward l.initial.graph_rows l.initial.graph_names l.initial.used (root_rows (rows_from l.part.rows.now l.part.names.now 2 l.part.end)) l.graph_rows l.graph_names l.used (root_rows (rows_from l.part.rows.now l.part.names.now l.place l.part.end))
     × (length l.graph_rows ≡ length l.initial.graph_rows) × (length l.graph_names ≡ length l.initial.graph_names)
-
-abbrev pub decreases-loop-place : goal.decreases-loop-place
-decreases-loop-place l = l.end - l.place

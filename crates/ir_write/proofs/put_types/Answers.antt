@@ -9,7 +9,6 @@ use borrow.Author.Tests.{ltb-true}
 use borrow.Author.Rules.{rules}
 use Rattle.text.proofs.Laws.Tests.{two}
 use Rattle.ir_rows.specs.Lowered.{type_rows_of}
-use Rattle.ir_append.proofs.Laws.Grows.{grown-of, short-of}
 use Rattle.xsd_types.specs.Places.{rows_from}
 use Rattle.text.specs.Text.{every}
 use Rattle.ir_rows.specs.Types.{types_rows, entry_places}
@@ -33,34 +32,34 @@ rest : (rows names : List ℕ) (end k : ℕ) (entries : List ℕ) {place : ℕ} 
     ≡ type_rows_of (rows_from rows names place end) ++ types_rows rows names end (entry_places (drop (k + 1) entries))
 rest rows names end k entries h e = rw e (ap (types_rows rows names end) (left k entries h) ∙ types-on rows names _ end _)
 
-pub loop-k-init : goal.loop-k-init
-loop-k-init c =
-    (onward-start _ c.requires.room.0, refl, refl, c.requires.places)
+pub loop-entry-init : goal.loop-entry-init
+loop-entry-init c =
+    (onward-start _ c.requires.room, refl, refl, c.requires.places)
 
-pub put_type-grown-requires : goal.put_type-grown-requires
-put_type-grown-requires c =
-    (c.loop-k.invariant.0.room, search rules, rw c.place_of-place.ensures (ltb-true _ _ (inside c.args.end c.loop-k.k c.args.entries.now c.loop-k-test.true c.loop-k.invariant.3).0))
+pub put_type-requires : goal.put_type-requires
+put_type-requires c =
+    (c.loop-entry.invariant.0.room, rw c.place_of-place.ensures (ltb-true _ _ (inside c.args.part.now.end c.loop-entry.entry-index c.args.entries.now c.loop-entry-test.true c.loop-entry.invariant.3).0))
 
-pub returns-in_default : goal.returns-in_default
-returns-in_default c =
+pub returns-in_err-used : goal.returns-in_err-used
+returns-in_err-used c =
     let a = c.args in
-    onward-full (type_rows_of (rows_from a.rows.now a.names.now c.place_of-place.result a.end))
-    (types_rows a.rows.now a.names.now a.end (entry_places (drop (c.loop-k.k + 1) a.entries.now)))
-    c.loop-k.invariant.0 (rest a.rows.now a.names.now a.end c.loop-k.k a.entries.now c.loop-k-test.true c.place_of-place.ensures) (short-of _ _ _ _ _ _ _ c.put_type-grown.ensures c.in_default.is)
+    rw c.from_residual.ensures (onward-full (type_rows_of (rows_from a.part.now.rows.now a.part.now.names.now c.place_of-place.result a.part.now.end))
+    (types_rows a.part.now.rows.now a.part.now.names.now a.part.now.end (entry_places (drop (c.loop-entry.entry-index + 1) a.entries.now)))
+    c.loop-entry.invariant.0 (rest a.part.now.rows.now a.part.now.names.now a.part.now.end c.loop-entry.entry-index a.entries.now c.loop-entry-test.true c.place_of-place.ensures) c.in_err-used.ensures)
 
-pub loop-k-preserved : goal.loop-k-preserved
-loop-k-preserved c =
+pub loop-entry-preserved : goal.loop-entry-preserved
+loop-entry-preserved c =
     let a = c.args in (
-      onward-step (type_rows_of (rows_from a.rows.now a.names.now c.place_of-place.result a.end))
-          (types_rows a.rows.now a.names.now a.end (entry_places (drop (c.loop-k.k + 1) a.entries.now)))
-          c.loop-k.invariant.0 (rest a.rows.now a.names.now a.end c.loop-k.k a.entries.now c.loop-k-test.true c.place_of-place.ensures) (grown-of _ _ _ _ _ _ _ c.put_type-grown.ensures c.in-To.is),
+      onward-step (type_rows_of (rows_from a.part.now.rows.now a.part.now.names.now c.place_of-place.result a.part.now.end))
+          (types_rows a.part.now.rows.now a.part.now.names.now a.part.now.end (entry_places (drop (c.loop-entry.entry-index + 1) a.entries.now)))
+          c.loop-entry.invariant.0 (rest a.part.now.rows.now a.part.now.names.now a.part.now.end c.loop-entry.entry-index a.entries.now c.loop-entry-test.true c.place_of-place.ensures) c.in_ok-used.ensures,
       search rules,
       search rules,
-      (inside c.args.end c.loop-k.k c.args.entries.now c.loop-k-test.true c.loop-k.invariant.3).1,
+      (inside c.args.part.now.end c.loop-entry.entry-index c.args.entries.now c.loop-entry-test.true c.loop-entry.invariant.3).1,
     )
 
 pub returns : goal.returns
 returns c =
     let a = c.args in
-    onward-end c.loop-k.invariant.0 (ap (types_rows a.rows.now a.names.now a.end) (entries-end a.entries.now c.loop-k.k c.loop-k-test.false)
-    ∙ types-end a.rows.now a.names.now a.end)
+    onward-end c.loop-entry.invariant.0 (ap (types_rows a.part.now.rows.now a.part.now.names.now a.part.now.end) (entries-end a.entries.now c.loop-entry.entry-index c.loop-entry-test.false)
+    ∙ types-end a.part.now.rows.now a.part.now.names.now a.part.now.end)

@@ -1,12 +1,18 @@
 -- A law of specs/Exported.antt. Assumes nothing.
-use Prim.Native.Nat.{ℕ}
-use mathlib.Core.Path.{◌≡◌, ap}
+use Rattle.std.specs.Prelude.{ℕ, Option, Some, None, MatchOption}
+use mathlib.Core.Path.{◌≡◌, ap, sym, ◌∙◌}
 use Rattle.number.specs.Number.{Parsed}
+use Rattle.number.specs.Answers.{of_number}
 use Rattle.lubiksan.specs.Exported.{Exported, number_of, value_of}
 
--- the number and the value of an answer are those of what it equals
-pub exported-as : {p q : Parsed} (before : ℕ) → p ≡ q → Exported q before (number_of p) (value_of p before)
-exported-as before e = record {
-  number = ap number_of e;
-  value = ap (λ (p : Parsed). value_of p before) e;
+-- the number and the value of an answer are those of what it says
+pub exported-as : (answer : Option ℕ) (p : Parsed) (before r after : ℕ) → of_number answer ≡ p
+    → MatchOption answer ((r ≡ 10) × (after ≡ before)) (λ v. (r ≡ 0) × (after ≡ v)) → Exported p before r after
+exported-as None p before r after e h = record {
+  number = h.0 ∙ ap number_of e;
+  value = h.1 ∙ ap (λ (p : Parsed). value_of p before) e;
+}
+exported-as (Some v) p before r after e h = record {
+  number = h.0 ∙ ap number_of e;
+  value = h.1 ∙ ap (λ (p : Parsed). value_of p before) e;
 }

@@ -1,7 +1,7 @@
 -- What a table says of the names entered. Why a name is found by its bucket alone: behind the last entry of its bucket a name does not stand, so the place of
 -- a name among the first n entries is its place among the first as many as the last entry of its bucket counts. A walk along a bucket keeps that, and its
 -- count falls. Assumes nothing.
-use Rattle.std.specs.Prelude.{if◌then◌else◌}
+use Rattle.std.specs.Prelude.{if◌then◌else◌, Option, Some, None}
 use Prim.Native.Nat.{ℕ, zero, suc, ◌+◌, ◌-◌, ◌*◌, ◌/◌, ◌%◌, ◌≤◌, ◌<◌}
 use mathlib.Core.Path.{◌≡◌, refl, sym, ap, ◌∙◌}
 use mathlib.Core.Bool.{Bool, true, false}
@@ -23,9 +23,9 @@ use Rattle.name_index.proofs.Laws.Hash.{bucket-below}
 use Rattle.name_index.proofs.Laws.Places.{place-more, places-more, places-set}
 
 -- the place of the last of the first n entries that has a name
-unfoldable pub place_to : (ℕ → Text) → (ℕ → ℕ) → Text → ℕ → ℕ
-place_to name place t zero = 0
-place_to name place t (suc n) = if same (name n) t then place n else place_to name place t n
+unfoldable pub place_to : (ℕ → Text) → (ℕ → ℕ) → Text → ℕ → Option ℕ
+place_to name place t zero = None
+place_to name place t (suc n) = if same (name n) t then Some (place n) else place_to name place t n
 
 -- names of other buckets are other names
 other-bucket : (k : ℕ) (s t : Text) → eqb (bucket_of k s) (bucket_of k t) ≡ false → same s t ≡ false
@@ -58,7 +58,7 @@ module _ (k : ℕ) (name : ℕ → Text) where
   place-last place t zero = refl
   place-last place t (suc n) =
       if-cases
-      (λ r. (if same (name n) t then place n else place_to name place t n) ≡ place_to name place t r)
+      (λ r. (if same (name n) t then Some (place n) else place_to name place t n) ≡ place_to name place t r)
       (eqb (bucket_of k (name n)) (bucket_of k t))
       (λ e. refl)
       (λ e. rw (other-bucket k (name n) t e) (place-last place t n))
@@ -70,7 +70,7 @@ unfolding place_to place_of place_from places_in
 place-to rows names normalised table k t zero h = refl
 place-to rows names normalised table k t (suc n) h =
     rw (places-more k n table (omega arith), place-more (name_of rows names normalised) t (places_in k n table) (place_in table k n))
-    (ap (λ (r : ℕ). if same (name_in rows names normalised table k n) t then place_in table k n else r) (place-to rows names normalised table k t n (omega arith)))
+    (ap (λ (r : Option ℕ). if same (name_in rows names normalised table k n) t then Some (place_in table k n) else r) (place-to rows names normalised table k t n (omega arith)))
 
 -- ---- a walk along a bucket: the place of t among the first n entries is that among the first e, the last of which is in its bucket
 
@@ -80,10 +80,10 @@ pub record Onward (rows names : List ℕ) (normalised : Bool) (table : List ℕ)
   pub bucket : 0 < e → bucket_of k (name_in rows names normalised table k (e - 1)) ≡ bucket_of k t
 
 -- among the first e: it is the last of them, or before it
-place-first : (name : ℕ → Text) (place : ℕ → ℕ) (t : Text) (e : ℕ) → 0 < e → place_to name place t e ≡ (if same (name (e - 1)) t then place (e - 1) else place_to name place t (e - 1))
+place-first : (name : ℕ → Text) (place : ℕ → ℕ) (t : Text) (e : ℕ) → 0 < e → place_to name place t e ≡ (if same (name (e - 1)) t then Some (place (e - 1)) else place_to name place t (e - 1))
 unfolding place_to
 place-first name place t zero h = absurd (omega arith)
-place-first name place t (suc e) h = ap (λ (j : ℕ). if same (name j) t then place j else place_to name place t j) (omega arith)
+place-first name place t (suc e) h = ap (λ (j : ℕ). if same (name j) t then Some (place j) else place_to name place t j) (omega arith)
 
 pub bucket-inside : {rows names : List ℕ} {normalised : Bool} {table : List ℕ} {k n b : ℕ} (t : Text) → Index rows names normalised table k n → b ≡ bucket_of k t → b < length table
 bucket-inside {k = k} t w e = rw e (omega (arith, bucket-below k t w.some, w.inside))
@@ -113,11 +113,11 @@ module _ {rows names : List ℕ} {normalised : Bool} {table : List ℕ} {k n : �
   walk_start = to_last n _ (le_refl n) refl (w.heads (bucket_of k t) (bucket-below k t w.some))
 
   module _ {e : ℕ} (o : Onward rows names normalised table k t n e) where
-    pub walk-hit : 0 < e → same (name_in rows names normalised table k (e - 1)) t ≡ true → place_in table k (e - 1) ≡ place_of (name_of rows names normalised) t (places_in k n table)
+    pub walk-hit : 0 < e → same (name_in rows names normalised table k (e - 1)) t ≡ true → Some (place_in table k (e - 1)) ≡ place_of (name_of rows names normalised) t (places_in k n table)
     walk-hit h e' =
         sym (place-to rows names normalised table k t n w.inside ∙ o.place ∙ place-first (name_in rows names normalised table k) (place_in table k) t e h ∙ rw e')
 
-    pub walk_end : e ≡ 0 → 0 ≡ place_of (name_of rows names normalised) t (places_in k n table)
+    pub walk_end : e ≡ 0 → None ≡ place_of (name_of rows names normalised) t (places_in k n table)
     unfolding place_to
     walk_end h = sym (place-to rows names normalised table k t n w.inside ∙ o.place ∙ rw h)
 

@@ -1,5 +1,6 @@
 -- The places entered, entry by entry, and the last of them that has a name. Assumes nothing.
-use Rattle.std.specs.Prelude.{if◌then◌else◌}
+use Rattle.std.specs.Prelude.{if◌then◌else◌, Option, Some, None, is_some}
+use Rattle.std.proofs.lemmas.Option.{none-some, same_Some}
 use Prim.Native.Nat.{ℕ, suc, ◌+◌, ◌%◌, ◌≤◌, ◌<◌}
 use mathlib.Core.Path.{◌≡◌, refl, sym, ap, ◌∙◌}
 use mathlib.Core.Bool.{Bool, true, false, ◌||◌, or-false}
@@ -7,11 +8,10 @@ use mathlib.Core.List.{List, [], ◌∷◌, ◌++◌, map, map-append}
 use mathlib.Core.Logic.{◌⊎◌, inl, inr, ⊎_elim}
 use native.Mathlib.Omega.{arith}
 use native.Mathlib.Numerals.{add-one}
-use lib.Dec.{ltb}
 use lib.ListN.{length, get_or, take, drop, set, length-map, length-drop, get_or-map}
 use lib.Seq.{length-take-le, get_or-take, get_or-drop, take-suc, take-suc-set, drop-set-lt, drop-set-add}
-use Rattle.text.specs.Text.{Text, same, every}
-use Rattle.text.proofs.Laws.Tests.{and-true-left, and-true-right, or_right}
+use Rattle.text.specs.Text.{Text, same}
+use Rattle.text.proofs.Laws.Tests.{or_right}
 use Rattle.text.proofs.Laws.Texts.{same-eq}
 use Rattle.ir_types.specs.Distinct.{among}
 use Rattle.name_index.specs.Index.{place_from, place_of, places_in, place_in}
@@ -20,30 +20,29 @@ use Rattle.name_index.specs.Index.{place_from, place_of, places_in, place_in}
 
 module _ (name : ℕ → Text) (t : Text) where
   -- one place more, behind the others
-  from_more : (found : ℕ) (ps : List ℕ) (p : ℕ) → place_from found name t (ps ++ (p ∷ [])) ≡ (if same (name p) t then p else place_from found name t ps)
+  from_more : (found : Option ℕ) (ps : List ℕ) (p : ℕ) → place_from found name t (ps ++ (p ∷ [])) ≡ (if same (name p) t then Some p else place_from found name t ps)
   unfolding place_from
   from_more found [] p = refl
-  from_more found (q ∷ ps) p = from_more (if same (name q) t then q else found) ps p
+  from_more found (q ∷ ps) p = from_more (if same (name q) t then Some q else found) ps p
 
-  pub place-more : (ps : List ℕ) (p : ℕ) → place_of name t (ps ++ (p ∷ [])) ≡ (if same (name p) t then p else place_of name t ps)
+  pub place-more : (ps : List ℕ) (p : ℕ) → place_of name t (ps ++ (p ∷ [])) ≡ (if same (name p) t then Some p else place_of name t ps)
   unfolding place_of
-  place-more ps p = from_more 0 ps p
+  place-more ps p = from_more None ps p
 
-  -- there is one exactly if the name is among theirs, where all are above 0
-  from_step : (b : Bool) (p found : ℕ) (rest : Bool) → ltb 0 p ≡ true → ltb 0 (if b then p else found) || rest ≡ ltb 0 found || (b || rest)
-  from_step true p found rest e = rw e (sym (or_right (ltb 0 found) refl))
-  from_step false p found rest e = refl
+  -- there is one exactly if the name is among theirs
+  from_step : (b : Bool) (p : ℕ) (found : Option ℕ) (rest : Bool) → is_some (if b then Some p else found) || rest ≡ is_some found || (b || rest)
+  from_step true p found rest = sym (or_right (is_some found) refl)
+  from_step false p found rest = refl
 
-  from-among : (found : ℕ) (ps : List ℕ) → every (λ p. ltb 0 p) ps ≡ true → ltb 0 (place_from found name t ps) ≡ ltb 0 found || among t (map name ps)
-  unfolding place_from among every
-  from-among found [] h = sym (or-false (ltb 0 found))
-  from-among found (p ∷ ps) h =
-      from-among (if same (name p) t then p else found) ps (and-true-right (ltb 0 p) _ h)
-      ∙ from_step (same (name p) t) p found (among t (map name ps)) (and-true-left (ltb 0 p) _ h)
+  from-among : (found : Option ℕ) (ps : List ℕ) → is_some (place_from found name t ps) ≡ is_some found || among t (map name ps)
+  unfolding place_from among
+  from-among found [] = sym (or-false (is_some found))
+  from-among found (p ∷ ps) =
+      from-among (if same (name p) t then Some p else found) ps ∙ from_step (same (name p) t) p found (among t (map name ps))
 
-  pub place-among : (ps : List ℕ) → every (λ p. ltb 0 p) ps ≡ true → ltb 0 (place_of name t ps) ≡ among t (map name ps)
+  pub place-among : (ps : List ℕ) → is_some (place_of name t ps) ≡ among t (map name ps)
   unfolding place_of
-  place-among ps h = from-among 0 ps h
+  place-among ps = from-among None ps
 
 -- r is one of the places, and has the name
 pub record Hit (name : ℕ → Text) (t : Text) (ps : List ℕ) (r : ℕ) : Type 0 where
@@ -56,22 +55,22 @@ module _ (name : ℕ → Text) (t : Text) where
   hit-on : (p : ℕ) (ps : List ℕ) (r : ℕ) → Hit name t ps r → Hit name t (p ∷ ps) r
   hit-on p ps r w = record { at = suc w.at; inside = omega (arith, w.inside); place = w.place; named = w.named }
 
-  from-head : (b : Bool) (p found : ℕ) (ps : List ℕ) → same (name p) t ≡ b → (if b then p else found ≡ found) ⊎ Hit name t (p ∷ ps) (if b then p else found)
-  from-head true p found ps e = inr (record { at = 0; inside = omega arith; place = refl; named = same-eq (name p) t e })
-  from-head false p found ps e = inl refl
+  from-head : (b : Bool) (p : ℕ) (found : Option ℕ) (ps : List ℕ) (r : ℕ) → same (name p) t ≡ b → (if b then Some p else found) ≡ Some r
+      → (found ≡ Some r) ⊎ Hit name t (p ∷ ps) r
+  from-head true p found ps r e h =
+      let is : p ≡ r = same_Some p r h in
+      inr (record { at = 0; inside = omega arith; place = is; named = ap name (sym is) ∙ same-eq (name p) t e })
+  from-head false p found ps r e h = inl h
 
-  from-hit : (found : ℕ) (ps : List ℕ) → (place_from found name t ps ≡ found) ⊎ Hit name t ps (place_from found name t ps)
+  from-hit : (found : Option ℕ) (ps : List ℕ) (r : ℕ) → place_from found name t ps ≡ Some r → (found ≡ Some r) ⊎ Hit name t ps r
   unfolding place_from
-  from-hit found [] = inl refl
-  from-hit found (p ∷ ps) =
-      ⊎_elim
-      (λ e. rw e (from-head (same (name p) t) p found ps refl))
-      (λ w. inr (hit-on p ps _ w))
-      (from-hit (if same (name p) t then p else found) ps)
+  from-hit found [] r e = inl e
+  from-hit found (p ∷ ps) r e =
+      ⊎_elim (from-head (same (name p) t) p found ps r refl) (λ w. inr (hit-on p ps r w)) (from-hit (if same (name p) t then Some p else found) ps r e)
 
-  pub place-hit : (ps : List ℕ) → 0 < place_of name t ps → Hit name t ps (place_of name t ps)
+  pub place-hit : (ps : List ℕ) (r : ℕ) → place_of name t ps ≡ Some r → Hit name t ps r
   unfolding place_of
-  place-hit ps h = ⊎_elim (λ e. absurd (omega arith)) (λ w. w) (from-hit 0 ps)
+  place-hit ps r e = ⊎_elim (λ n. absurd (none-some r n)) (λ w. w) (from-hit None ps r e)
 
 -- ---- the places in a table
 

@@ -8,7 +8,7 @@ use Rattle.name_index.proofs.bucket_of.Goals as goal
 pub overflow_mul-result : goal.overflow_mul-result
 overflow_mul-result c =
     let a = c.args in
-    let h = share-fits (spelled a.normalised a.name.now) a.buckets c.requires in
+    let h = share-fits (spelled a.asked.normalised a.asked.name.now) a.buckets c.requires in
     omega (arith, rw (← c.hash_of.ensures) at h)
 
 pub returns : goal.returns

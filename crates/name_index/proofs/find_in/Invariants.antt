@@ -5,7 +5,7 @@ use Rattle.name_index.proofs.Laws.Buckets.{Onward}
 use Rattle.name_index.proofs.find_in.Given as goal
 
 abbrev pub invariant-loop-e : goal.invariant-loop-e
-invariant-loop-e l = Onward l.rows l.names l.normalised l.table l.buckets (spelled l.asked_normalised l.asked) l.entries l.e
+invariant-loop-e l = Onward l.heads.rows.now l.heads.names.now l.heads.normalised l.table.numbers.now l.table.buckets (spelled l.asked.normalised l.asked.name.now) l.table.entries l.e
 
 abbrev pub decreases-loop-e : goal.decreases-loop-e
 decreases-loop-e l = l.e

@@ -3,7 +3,6 @@
 use mathlib.Core.Path.{sym, ◌∙◌}
 use native.Mathlib.Omega.{arith}
 use Rattle.names.proofs.Laws.Spelled.{spelled-whole}
-use Rattle.names.proofs.Laws.Next.{next-byte, next-end}
 use Rattle.name_index.specs.Hash.{hash}
 use Rattle.name_index.proofs.Laws.Hash.{mixed-below, hash-on, hash-end}
 use Rattle.name_index.proofs.hash_of.Goals as goal
@@ -14,16 +13,16 @@ loop-b-init c =
     let a = c.args in
     (omega arith, rw (c.starts_up-up.ensures, spelled-whole a.normalised a.name.now))
 
-pub returns-in_default : goal.returns-in_default
-returns-in_default c =
+pub returns : goal.returns
+returns c =
     let a = c.args in
-    sym (hash-end c.loop-b.h (next-end a.normalised a.name.now c.loop-b.at c.loop-b.up c.next_spelled-next.ensures c.in_default.is)) ∙ c.loop-b.invariant.1
+    sym (hash-end c.loop-b.h (rw c.in_default.is at c.next_spelled.ensures)) ∙ c.loop-b.invariant.1
 
 pub loop-b-smaller : goal.loop-b-smaller
 loop-b-smaller c =
-    omega (arith, next-byte c.next_spelled-next.ensures c.in-Byte.is)
+    omega (arith, c.in-Some.ensures)
 
 pub loop-b-preserved : goal.loop-b-preserved
 loop-b-preserved c =
-    let on = hash-on c.loop-b.h (next-byte c.next_spelled-next.ensures c.in-Byte.is) in
+    let on = hash-on c.loop-b.h (c.in-Some.ensures) in
     rw c.mix-h.ensures (mixed-below _ _, sym on ∙ c.loop-b.invariant.1)

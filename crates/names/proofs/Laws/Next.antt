@@ -1,26 +1,23 @@
 -- Laws of specs/Same.antt: what the next bytes of two names say of their comparison. Assumes nothing.
+use Rattle.std.specs.Prelude.{Option, Some, None, not}
+use Rattle.std.specs.Option.{is_some}
 use Prim.Native.Nat.{ℕ}
-use mathlib.Core.Path.{◌≡◌}
-use mathlib.Core.Bool.{Bool, false}
+use mathlib.Core.Path.{◌≡◌, sym}
+use mathlib.Core.Bool.{Bool, true, false, false≢true}
 use mathlib.Core.List.{[]}
 use lib.ListN.{drop}
 use Rattle.text.specs.Text.{Text, same}
 use Rattle.text.proofs.Laws.Texts.{same-cons-on, same-cons-differ}
-use Rattle.names.specs.Same.{spelled_from, NextByte, NextIs, is_end}
-use Rattle.names.specs.declared.same.Next.{Next}
-
--- what the next byte says
-pub next-byte : {normalised : Bool} {name : Text} {from : ℕ} {up : Bool} {r : Next} {b to : ℕ} → NextIs normalised name from up r → r ≡ Next.Byte b to → NextByte normalised name from up b to
-next-byte h e = rw e at h
-
-pub next-end : (normalised : Bool) (name : Text) (from : ℕ) (up : Bool) {r : Next} → NextIs normalised name from up r → r ≡ Next.End → spelled_from normalised up (drop from name) ≡ []
-next-end normalised name from up h e = rw e at h
+use Rattle.names.specs.Same.{spelled_from, NextByte, NextIs}
 
 -- the first name has ended: the names are the same where the second has
-pub same_ended : (normalised : Bool) (name : Text) (from : ℕ) (up : Bool) (r : Next) → NextIs normalised name from up r → same [] (spelled_from normalised up (drop from name)) ≡ is_end r
+pub same_ended : (normalised : Bool) (name : Text) (from : ℕ) (up : Bool) (r : Option (ℕ × ℕ)) (ended : Bool) → NextIs normalised name from up r → is_some r ≡ not ended
+    → same [] (spelled_from normalised up (drop from name)) ≡ ended
 unfolding same
-same_ended normalised name from up (Next.Byte b to) h = rw h.reads
-same_ended normalised name from up Next.End h = rw h
+same_ended normalised name from up (Some p) false h e = rw h.reads
+same_ended normalised name from up (Some p) true h e = absurd (false≢true (sym e))
+same_ended normalised name from up None true h e = rw h
+same_ended normalised name from up None false h e = absurd (false≢true e)
 
 pub same-longer : {normalised : Bool} {a : Text} {i : ℕ} {up : Bool} {p m : ℕ} → NextByte normalised a i up p m → same (spelled_from normalised up (drop i a)) [] ≡ false
 unfolding same

@@ -1,5 +1,6 @@
 -- A text written byte by byte into a lent part: what holds at each step, and what follows at the end. Assumes nothing.
 use Prim.Native.Nat.{ℕ, suc, ◌+◌, ◌≤◌, ◌<◌}
+use Rattle.std.specs.Prelude.{Option, Some, None}
 use mathlib.Core.Path.{◌≡◌, refl, sym, ap, ◌∙◌}
 use mathlib.Core.List.{[], ◌∷◌, ◌++◌, append_assoc}
 use native.Mathlib.Numerals.{add-one}
@@ -8,7 +9,6 @@ use lib.ListN.{length, take, drop, set, get_or, length-drop, length-append, drop
 use lib.Seq.{take_all, length-take-le, take-suc, drop-cons, set_at}
 use borrow.Author.Tests.{le-leb, lt-leb}
 use Rattle.text.specs.Text.{Text}
-use Rattle.names.specs.declared.Written.{Written}
 use Rattle.names.specs.Answers.{Put, written, placed}
 
 -- n bytes of t stand in the part, which was `before` and is `out` now; `rest` is still to be written
@@ -44,16 +44,16 @@ writing_more {t} {before} {n} {b} {out} {rest} w h =
       left = er;
     })
 
-pub writing-end : {t before : Text} {n : ℕ} {out : Text} → Writing t before n out [] → Put t before (Written.Bytes n) out
+pub writing-end : {t before : Text} {n : ℕ} {out : Text} → Writing t before n out [] → Put t before (Some n) out
 unfolding written placed
 writing-end {t} {before} {n} w =
     let e : n ≡ length t = omega (arith, writing-rest w) in
     record {
-      counted = rw (le-leb (length t) (length before) (omega arith)) (ap Written.Bytes e);
+      counted = rw (le-leb (length t) (length before) (omega arith)) (ap Some e);
       holds = w.holds ∙ rw (take_all n t (omega arith), take_all (length before) t (omega arith), e);
     }
 
-pub writing-full : {t before : Text} {n b : ℕ} {out rest : Text} → Writing t before n out (b ∷ rest) → length before ≤ n → Put t before Written.NoRoom out
+pub writing-full : {t before : Text} {n b : ℕ} {out rest : Text} → Writing t before n out (b ∷ rest) → length before ≤ n → Put t before None out
 unfolding written placed
 writing-full {t} {before} {n} w h =
     let e : n ≡ length before = omega (arith, w.fits) in
@@ -64,5 +64,5 @@ writing-full {t} {before} {n} w h =
     }
 
 -- the text that was put, under another name
-pub put_as : {t t' before : Text} {answer : Written} {after : Text} → Put t before answer after → t ≡ t' → Put t' before answer after
+pub put_as : {t t' before : Text} {answer : Option ℕ} {after : Text} → Put t before answer after → t ≡ t' → Put t' before answer after
 put_as h e = rw e at h

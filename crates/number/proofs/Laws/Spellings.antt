@@ -1,17 +1,17 @@
 -- Laws of the spellings that order 2 adds (specs/Number.antt): a text that paper 01 takes keeps its value, and what is taken is white space around such a
 -- text or around minus zeros, and nothing else. Such a core has no white space, so trimming gives it back whole. No contract cites them. Assumes nothing.
-use Rattle.std.specs.Prelude.{if◌then◌else◌}
+use Rattle.std.specs.Prelude.{if◌then◌else◌, ◌&&◌}
+use Rattle.std.specs.List.{list_all}
 use mathlib.Core.Path.{◌≡◌, refl, sym}
 use mathlib.Core.Logic.{◌↔◌, inl, inr}
 use mathlib.Core.Bool.{Bool, true, false, false≢true}
 use mathlib.Core.List.{[], ◌∷◌, append-nil}
-use Prim.Native.Nat.{ℕ, suc, ◌^◌, ◌≤◌, ◌<◌}
+use Prim.Native.Nat.{ℕ, ◌^◌, ◌≤◌, ◌<◌}
 use Prim.Native.Char.{code}
 use native.Mathlib.Omega.{arith}
 use native.Mathlib.Nat.{not-suc-le-zero}
 use lib.Dec.{eqb}
-use lib.ListN.{length, get_or, drop, drop_of_length-le}
-use lib.Seq.{drop-cons}
+use lib.ListN.{length, get_or, drop}
 use borrow.Author.Tests.{eqb-true, eq-eqb, ne_eqb}
 use Rattle.text.specs.Text.{Text, every, between, is_digit}
 use Rattle.text.specs.Trim.{is_white_space, is_solid, trimmed, Around}
@@ -20,19 +20,6 @@ use Rattle.text.proofs.Laws.Every.{every-cons, every-weaken}
 use Rattle.text.proofs.Laws.Trim.{trimmed-around, around-trimmed}
 use Rattle.number.specs.Number.{parsed, refused, after_plus, is_numeral, value, below, numeral, plain_below, plain_number, is_zero, is_minus_zeros, number_below, number, SpellsBelow, Spells}
 use Rattle.number.proofs.Laws.Numbers.{digit-within, kept}
-
--- zeros from place i on
-pub zeros-on : (s : Text) (i : ℕ) → i < length s → get_or s i 0 ≡ code "0" → every is_zero (drop i s) ≡ every is_zero (drop (suc i) s)
-unfolding every
-zeros-on s i h e = rw (drop-cons s i 0 h, eq-eqb (get_or s i 0) (code "0") e)
-
-pub zeros-stop : (s : Text) (i : ℕ) → i < length s → (get_or s i 0 ≡ code "0" → ⊥) → every is_zero (drop i s) ≡ false
-unfolding every
-zeros-stop s i h e = rw (drop-cons s i 0 h, ne_eqb (get_or s i 0) (code "0") e)
-
-pub zeros-end : (s : Text) (i : ℕ) → length s ≤ i → every is_zero (drop i s) ≡ true
-unfolding every
-zeros-end s i h = rw (drop_of_length-le s h)
 
 pub minus-short : (s : Text) → length s < 2 → is_minus_zeros s ≡ false
 unfolding is_minus_zeros
@@ -46,11 +33,26 @@ minus-other [] h = refl
 minus-other (b ∷ []) h = refl
 minus-other (b ∷ c ∷ s) h = rw (ne_eqb b (code "-") h)
 
-pub minus-start : (s : Text) → 2 ≤ length s → get_or s 0 0 ≡ code "-" → every is_zero (drop 1 s) ≡ is_minus_zeros s
-unfolding is_minus_zeros
-minus-start [] h e = absurd (not-suc-le-zero h)
-minus-start (b ∷ []) h e = absurd (omega arith)
-minus-start (b ∷ c ∷ s) h e = rw (eq-eqb b (code "-") e)
+every-all : (p : ℕ → Bool) (s : Text) → list_all p s ≡ every p s
+unfolding every
+every-all p [] = refl
+every-all p (b ∷ s) = rw (every-all p s)
+
+pub minus-second : (s : Text) → (get_or s 1 0 ≡ code "0" → ⊥) → is_minus_zeros s ≡ false
+unfolding is_minus_zeros every
+minus-second [] h = refl
+minus-second (b ∷ []) h = refl
+minus-second (b ∷ c ∷ s) h = rw (ne_eqb c (code "0") h) (and-false (eqb b (code "-")))
+  where
+    and-false : (t : Bool) → (t && false) ≡ false
+    and-false true = refl
+    and-false false = refl
+
+pub minus-all : (s : Text) → 2 ≤ length s → get_or s 0 0 ≡ code "-" → get_or s 1 0 ≡ code "0" → list_all is_zero (drop 2 s) ≡ is_minus_zeros s
+unfolding is_minus_zeros every
+minus-all [] h e f = absurd (not-suc-le-zero h)
+minus-all (b ∷ []) h e f = absurd (omega arith)
+minus-all (b ∷ c ∷ s) h e f = rw (eq-eqb b (code "-") e, eq-eqb c (code "0") f) (every-all is_zero s)
 
 -- no digit and no sign is white space
 other-solid : (b : ℕ) → 32 < b → is_solid b ≡ true

@@ -1,28 +1,28 @@
--- `number::is_minus_zeros` meets its contract. The loop's invariant: behind the minus, what is left from i on answers for the whole. The measure is how much
--- is left. Assumes nothing.
+-- `number::is_minus_zeros` meets its contract: behind a minus and a zero all bytes are zeros. Assumes nothing.
+use Rattle.std.proofs.Common.{rules, tests}
+use Rattle.std.proofs.lemmas.Iterator.{YieldsList-from_slice}
+use Rattle.std.proofs.lemmas.Iterator.Search.{all_from_yields_List}
 use mathlib.Core.Path.{sym, ◌∙◌}
-use native.Mathlib.Numerals.{add-one}
 use native.Mathlib.Omega.{arith}
-use Rattle.number.proofs.Laws.Spellings.{minus-short, minus-other, minus-start, zeros-on, zeros-stop, zeros-end}
+use native.Mathlib.Nat.{le_of_eq}
+use lib.ListN.{drop, length-drop}
+use lib.Seq.{take_all}
+use Rattle.number.specs.Number.{is_zero}
+use Rattle.number.proofs.Laws.Spellings.{minus-short, minus-other, minus-second, minus-all}
 use Rattle.number.proofs.is_minus_zeros.Goals as goal
 
-pub returns-then-s-lt2 : goal.returns-then-s-lt2
-returns-then-s-lt2 c = sym (minus-short c.args.s.now c.if-s-lt2.true)
+pub returns-in-45 : goal.returns-in-45
+returns-in-45 c =
+    let s = c.args.s.now in
+    let rest = c.iter.ensures.rest ∙ take_all _ (drop 2 s) (le_of_eq (length-drop 2 s)) in
+    all_from_yields_List is_zero _ _ c.all.result c.all.ensures.ran (YieldsList-from_slice (drop 2 s) rest) (λ x b q k. search (rules, tests))
+    ∙ minus-all s (omega arith) (omega arith) (omega arith)
 
-pub returns-then-s-ne45 : goal.returns-then-s-ne45
-returns-then-s-ne45 c = sym (minus-other c.args.s.now c.if-s-ne45.true)
+pub returns-in_default : goal.returns-in_default
+returns-in_default c = sym (minus-short c.args.s.now (omega arith))
 
-pub loop-i-init : goal.loop-i-init
-loop-i-init c = (omega arith, minus-start c.args.s.now (omega arith) c.if-s-ne45.false)
+pub returns-in_default-2 : goal.returns-in_default-2
+returns-in_default-2 c = sym (minus-second c.args.s.now (λ h. omega arith))
 
-pub returns-then-s-i-ne48 : goal.returns-then-s-i-ne48
-returns-then-s-i-ne48 c =
-    sym (zeros-stop c.args.s.now c.loop-i.i (omega arith) c.if-s-i-ne48.true) ∙ c.loop-i.invariant.1
-
-pub loop-i-preserved : goal.loop-i-preserved
-loop-i-preserved c =
-    (omega arith, rw add-one (sym (zeros-on c.args.s.now c.loop-i.i (omega arith) c.if-s-i-ne48.false) ∙ c.loop-i.invariant.1))
-
-pub returns : goal.returns
-returns c =
-    sym (zeros-end c.args.s.now c.loop-i.i (omega arith)) ∙ c.loop-i.invariant.1
+pub returns-in_default-3 : goal.returns-in_default-3
+returns-in_default-3 c = sym (minus-other c.args.s.now (λ h. omega arith))

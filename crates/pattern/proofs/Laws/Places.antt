@@ -16,7 +16,7 @@ use Rattle.text.proofs.Laws.Texts.{first-drop}
 use Rattle.xml.specs.Classes.{is_char}
 use Rattle.pattern.specs.Grammar.{char_but, is_mark, is_in_class, is_single, is_multi}
 use Rattle.pattern.specs.Answers.{Goes, Ends, is_close, is_tail, is_bracket, any_byte}
-use Rattle.pattern.specs.declared.End.{End}
+use Rattle.std.specs.Prelude.{Option, Some, None}
 use Rattle.pattern.specs.Scan.{Mode, start, atom, State, stop, go, is_escaped, is_plain, fresh, inside, step, final, scan}
 use Rattle.pattern.proofs.Laws.Derived.{plain-fresh, plain-unmarked, unmarked-scan}
 
@@ -59,21 +59,14 @@ module _ (m n : Mode) (steps : (d b : ℕ) → step (go d m) b ≡ (if is_escape
       bool_cases (ltb i (length s)) (λ h. off_at (go d m) s i (ltb-true i (length s) h) (steps d (get_or s i 0) ∙ rw f))
       (λ h. end-at (go d m) s i (ltb-false i (length s) h) ∙ ends d)
 
--- what an answer says
-pub goes : {s : Text} {m : Mode} {at : ℕ} {n : Mode} {least : ℕ} {P : ℕ → Bool} {r : End} {e : ℕ} → Ends s m at n least P r → r ≡ End.At e → Goes s m at n least e P
-goes h w = rw w at h
-
-pub bad : (s : Text) (m : Mode) (at : ℕ) (n : Mode) (least : ℕ) (P : ℕ → Bool) {r : End} → Ends s m at n least P r → r ≡ End.Bad → (d : ℕ) → scan (go d m) (drop at s) ≡ false
-bad s m at n least P h w = rw w at h
-
 pub byte-to : (q : State) {q' : State} (s : Text) (i c : ℕ) → i < length s → get_or s i 0 ≡ c → step q c ≡ q' → scan q (drop i s) ≡ scan q' (drop (i + 1) s)
 byte-to q s i c h e k = to_at q s i h (ap (step q) e ∙ k)
 
 -- a step before a part
 pub before : (s : Text) (m n : Mode) (at next : ℕ) (l : Mode) (least : ℕ) (P : ℕ → Bool) → ((d : ℕ) → scan (go d m) (drop at s) ≡ scan (go d n) (drop next s))
-    → (r : End) → Ends s n next l least P r → Ends s m at l least P r
-before s m n at next l least P e (End.At x) g = record { onward = g.onward; within = g.within; stops = g.stops; reads = λ d. e d ∙ g.reads d }
-before s m n at next l least P e End.Bad g = λ d. e d ∙ g d
+    → (r : Option ℕ) → Ends s n next l least P r → Ends s m at l least P r
+before s m n at next l least P e (Some x) g = record { onward = g.onward; within = g.within; stops = g.stops; reads = λ d. e d ∙ g.reads d }
+before s m n at next l least P e None g = λ d. e d ∙ g d
 
 pub open-final : (d : ℕ) → final (go (suc d) start) ≡ false
 unfolding final

@@ -3,48 +3,20 @@
 use Prim.Native.Nat.{ℕ, ◌+◌, ◌-◌, ◌*◌, ◌/◌, ◌^◌, ◌≤◌, ◌<◌}
 use mathlib.Core.Path.{◌≡◌, refl, sym, ap, ap₂, ◌∙◌}
 use mathlib.Core.List.{List}
-use mathlib.Core.Bool.{Bool, true, not, ◌||◌}
+use mathlib.Core.Bool.{Bool, true}
 use native.Mathlib.Omega.{arith}
 use native.Mathlib.Nat.{le_refl, not-le_of_lt}
-use borrow.Author.Tests.{ltb-true, ltb-false, eq-eqb}
-use lib.Dec.{eqb, ltb}
+use borrow.Author.Tests.{ltb-true, ltb-false}
+use lib.Dec.{ltb}
 use lib.ListN.{length, get_or}
 use lib.Bits.{bit_and, and_block, and_lt}
 use lib.Count.{count_trailing_zeros, trailing_le, trailing_of_zero}
-use Rattle.text.specs.Text.{between}
 use Rattle.text.proofs.Laws.Tests.{bool_cases}
-use Rattle.text.proofs.Laws.Table.{passes, at}
-use Rattle.plain_bytes.specs.Scan.{is_text_run, is_value_run, is_comment_run, Skips}
-use Rattle.plain_bytes.specs.Words.{bytes_at, WordAt, ones, others, plains, stops, text_stops, value_stops, comment_stops}
-use Rattle.plain_bytes.proofs.Laws.Words.{Below, op-word, spread, word-le}
+use Rattle.plain_bytes.specs.Scan.{Skips}
+use Rattle.plain_bytes.specs.Words.{bytes_at, WordAt, ones}
+use Rattle.plain_bytes.specs.Laws.Words.{Below, op-word, spread, word-le}
 use Rattle.plain_bytes.proofs.Laws.Zeros.{clear, clear_zero}
-use Rattle.plain_bytes.proofs.Laws.Bytewise.{Bytewise, text-by, value-by, comment-by}
-
--- ---- one byte
-
--- where f is 0 the test p passes
-abbrev zero_then : (ℕ → ℕ) → (ℕ → Bool) → ℕ → Bool
-zero_then f p b = not (eqb (f b) 0) || p b
-
-zero-then : (f : ℕ → ℕ) (p : ℕ → Bool) (n : ℕ) → passes (zero_then f p) n ≡ true → (b : ℕ) → b < n → f b ≡ 0 → p b ≡ true
-zero-then f p n t b l e = rw (eq-eqb (f b) 0 e) at (at (zero_then f p) n t b l)
-
--- the stops F leave no byte that is not of the run p
-pub record Finds (F : ℕ → ℕ → ℕ) (p : ℕ → Bool) : Type 0 where
-  pub bytewise : Bytewise F
-  pub sound : passes (zero_then (F 1) p) 128 ≡ true
-
-pub text-finds : Finds text_stops is_text_run
-unfolding text_stops others plains stops is_text_run between
-text-finds = record { bytewise = text-by; sound = refl }
-
-pub value-finds : Finds value_stops is_value_run
-unfolding value_stops others stops is_value_run between
-value-finds = record { bytewise = value-by; sound = refl }
-
-pub comment-finds : Finds comment_stops is_comment_run
-unfolding comment_stops others plains stops is_comment_run between
-comment-finds = record { bytewise = comment-by; sound = refl }
+use Rattle.plain_bytes.specs.Laws.Finds.{zero-then, Finds}
 
 -- ---- words without a bit 7
 

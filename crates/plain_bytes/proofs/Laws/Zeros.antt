@@ -9,7 +9,7 @@ use lib.Bits.{block_half, block_odd}
 use lib.Count.{under, count_trailing_zeros, trailing_of_zero}
 use native.Mathlib.Numerals.{add-one}
 use Rattle.plain_bytes.specs.Words.{word_of}
-use Rattle.plain_bytes.proofs.Laws.Words.{Below}
+use Rattle.plain_bytes.specs.Laws.Words.{Below}
 
 -- zeros below a digit: the digit is 0, and the others are zeros of the rest
 under-zero : (d z t : ℕ) → suc t ≤ under d z → (d ≡ 0) × (t ≤ z)

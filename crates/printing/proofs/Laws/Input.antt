@@ -1,15 +1,25 @@
 -- What the input is, by the tests that lead to it, and that a tape lies inside it. Assumes nothing.
-use Prim.Native.Nat.{ℕ, ◌+◌, ◌*◌, ◌≤◌}
+use Rattle.std.specs.Prelude.{Option, Some, None, MatchOption}
+use Prim.Native.Nat.{ℕ, ◌+◌, ◌*◌, ◌≤◌, ◌<◌}
 use mathlib.Core.Path.{◌≡◌}
-use mathlib.Core.Bool.{true, false, ◌&&◌}
+use mathlib.Core.Bool.{Bool, true, false, ◌&&◌}
 use mathlib.Core.List.{List}
 use native.Mathlib.Omega.{arith}
-use lib.Dec.{leb}
+use lib.Dec.{leb, ltb}
 use lib.ListN.{length}
-use borrow.Author.Tests.{leb-true}
+use borrow.Author.Tests.{leb-true, le-leb, lt-leb}
 use Rattle.text.proofs.Laws.Tests.{and-true-right, if-cases}
 use Rattle.printing.specs.Input.{number_at, too_long, input_of}
 use Rattle.printing.specs.declared.Input.{Input}
+
+-- the number at a place, where its four bytes are there
+abbrev pub Read : List ℕ → ℕ → Option ℕ → Type 0
+Read s at o = MatchOption o (length s < at + 4) (λ n. (at + 4 ≤ length s) × (n ≡ number_at at s))
+
+-- whether it is past a limit
+pub read-long : (s : List ℕ) (at limit : ℕ) (o : Option ℕ) (r : Bool) → Read s at o → MatchOption o (r ≡ false) (λ n. r ≡ ltb limit n) → r ≡ leb (at + 4) (length s) && ltb limit (number_at at s)
+read-long s at limit None r h e = rw (lt-leb (at + 4) (length s) h) e
+read-long s at limit (Some n) r h e = rw (le-leb (at + 4) (length s) h.0) (rw h.1 at e)
 
 pub input-long : (s : List ℕ) → too_long s ≡ true → Input.TooLong ≡ input_of s
 unfolding input_of

@@ -1,44 +1,41 @@
 -- Laws of the cut at a byte. Assumes nothing.
-use Prim.Native.Nat.{ℕ, suc, ◌-◌, ◌≤◌, ◌<◌}
+use Prim.Native.Nat.{ℕ, zero, suc, ◌-◌, ◌≤◌, ◌<◌}
+use mathlib.Core.Logic.{◌≢◌}
 use mathlib.Core.Path.{◌≡◌, refl, ap}
 use mathlib.Core.List.{[], ◌∷◌}
 use native.Mathlib.Omega.{arith}
 use lib.Dec.{eqb}
-use lib.ListN.{length, get_or, take, drop, drop_of_length-le}
-use lib.Seq.{drop-cons}
+use lib.ListN.{length, get_or, take, drop}
 use borrow.Author.Tests.{eq-eqb, ne_eqb}
 use Rattle.text.specs.Text.{Text}
-use Rattle.text.proofs.Laws.Tests.{if-cases, bool_cases}
+use Rattle.text.proofs.Laws.Tests.{if-cases}
 use Rattle.program.specs.Lines.{before_first, behind_first}
 
-pub before-hit : (c : ℕ) (s : Text) (i : ℕ) → i < length s → get_or s i 0 ≡ c → before_first c (drop i s) ≡ []
+-- the cut by the place of the byte
+pub before-at : (c : ℕ) (s : Text) (i : ℕ) → i < length s → get_or s i 0 ≡ c → ((k : ℕ) → k < i → get_or s k 0 ≢ c) → before_first c s ≡ take i s
 unfolding before_first
-before-hit c s i h e = rw (drop-cons s i 0 h, eq-eqb (get_or s i 0) c e)
+before-at c [] i inside here before = absurd (omega arith)
+before-at c (b ∷ s) zero inside here before = rw (eq-eqb b c here)
+before-at c (b ∷ s) (suc i) inside here before =
+    rw (ne_eqb b c (before 0 (omega arith))) (ap (λ (t : Text). b ∷ t) (before-at c s i (omega arith) here (λ k below. before (suc k) (omega arith))))
 
-pub before_on : (c : ℕ) (s : Text) (i : ℕ) → i < length s → (get_or s i 0 ≡ c → ⊥) → length (before_first c (drop i s)) ≡ suc (length (before_first c (drop (suc i) s)))
+pub behind-at : (c : ℕ) (s : Text) (i : ℕ) → i < length s → get_or s i 0 ≡ c → ((k : ℕ) → k < i → get_or s k 0 ≢ c) → behind_first c s ≡ drop (suc i) s
+unfolding behind_first
+behind-at c [] i inside here before = absurd (omega arith)
+behind-at c (b ∷ s) zero inside here before = rw (eq-eqb b c here)
+behind-at c (b ∷ s) (suc i) inside here before =
+    rw (ne_eqb b c (before 0 (omega arith))) (behind-at c s i (omega arith) here (λ k below. before (suc k) (omega arith)))
+
+-- and where the byte stands nowhere
+pub before-none : (c : ℕ) (s : Text) → ((k : ℕ) → k < length s → get_or s k 0 ≢ c) → before_first c s ≡ s
 unfolding before_first
-before_on c s i h e = rw (drop-cons s i 0 h, ne_eqb (get_or s i 0) c e)
+before-none c [] none = refl
+before-none c (b ∷ s) none = rw (ne_eqb b c (none 0 (omega arith))) (ap (λ (t : Text). b ∷ t) (before-none c s (λ k below. none (suc k) (omega arith))))
 
-pub before-end : (c : ℕ) (s : Text) (i : ℕ) → length s ≤ i → before_first c (drop i s) ≡ []
-unfolding before_first
-before-end c s i h = rw (drop_of_length-le s h)
-
-pub before-bound : (c : ℕ) (s : Text) → length (before_first c s) ≤ length s
-unfolding before_first
-before-bound c [] = omega arith
-before-bound c (b ∷ s) =
-    if-cases (λ (t : Text). length t ≤ length (b ∷ s)) (eqb b c) (λ e. omega arith) (λ e. omega (arith, before-bound c s))
-
-pub before-take : (c : ℕ) (s : Text) → take (length (before_first c s)) s ≡ before_first c s
-unfolding before_first
-before-take c [] = refl
-before-take c (b ∷ s) =
-    if-cases (λ (t : Text). take (length t) (b ∷ s) ≡ t) (eqb b c) (λ e. refl) (λ e. ap (λ (t : Text). b ∷ t) (before-take c s))
-
-pub behind-drop : (c : ℕ) (s : Text) → drop (suc (length (before_first c s))) s ≡ behind_first c s
-unfolding before_first behind_first
-behind-drop c [] = refl
-behind-drop c (b ∷ s) = bool_cases (eqb b c) (λ e. rw e) (λ e. rw e (behind-drop c s))
+pub behind-none : (c : ℕ) (s : Text) → ((k : ℕ) → k < length s → get_or s k 0 ≢ c) → behind_first c s ≡ []
+unfolding behind_first
+behind-none c [] none = refl
+behind-none c (b ∷ s) none = rw (ne_eqb b c (none 0 (omega arith))) (behind-none c s (λ k below. none (suc k) (omega arith)))
 
 pub behind-shorter : (c : ℕ) (s : Text) → length (behind_first c s) ≤ length s - 1
 unfolding behind_first

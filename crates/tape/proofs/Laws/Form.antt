@@ -1,13 +1,16 @@
 -- The parts of `form_test` one after the other, and what a good form says. Laws of xsd_parser's Tape. No contract cites them. Assumes nothing.
 use Rattle.std.specs.Prelude.{if◌then◌else◌}
-use mathlib.Core.Path.{◌≡◌}
+use mathlib.Core.Logic.{◌⊎◌, inl, inr}
+use mathlib.Core.Path.{◌≡◌, sym, ap, ◌∙◌}
 use mathlib.Core.Bool.{true, false, ◌&&◌}
 use Prim.Native.Nat.{ℕ, ◌*◌, ◌≤◌, ◌<◌}
 use native.Mathlib.Omega.{arith}
-use lib.Dec.{leb, eqb}
-use borrow.Author.Tests.{leb-true, le-leb, lt-leb, ne_eqb}
+use lib.Dec.{leb, ltb, eqb}
+use borrow.Author.Tests.{leb-true, ltb-true, ltb-false, le-leb, lt-leb, ne_eqb}
 use Rattle.text.specs.Text.{between}
-use Rattle.text.proofs.Laws.Tests.{and-true-left, and-true-right}
+use Rattle.text.proofs.Laws.Tests.{and-true-left, and-true-right, bool_cases}
+use Rattle.xsd_parser.specs.Kinds.{kind_number}
+use Rattle.xsd_parser.specs.declared.kinds.Kind.{Kind}
 use Rattle.xsd_parser.specs.Tape.{pair_count, form_test}
 
 module _ (kind count left : ℕ) where
@@ -41,3 +44,24 @@ module _ (kind count left : ℕ) where
   form-room e n =
       let r = and-true-right (between 1 3 kind && leb count 32) (if eqb kind 3 then eqb count 0 else leb (2 * pair_count count) left) e in
       leb-true (2 * pair_count count) left (rw (ne_eqb kind 3 n) at r)
+
+-- a kind's number is 1 to 3, and 3 that of a close alone
+pub kind-least : (k : Kind) → 1 ≤ kind_number k
+kind-least Kind.Start = omega arith
+kind-least Kind.Empty = omega arith
+kind-least Kind.Close = omega arith
+
+pub kind-most : (k : Kind) → kind_number k ≤ 3
+kind-most Kind.Start = omega arith
+kind-most Kind.Empty = omega arith
+kind-most Kind.Close = omega arith
+
+pub kind-tag : {k : Kind} → (k ≡ Kind.Start) ⊎ (k ≡ Kind.Empty) → kind_number k ≡ 3 → ⊥
+kind-tag (inl s) e = omega (arith, sym (ap kind_number s) ∙ e)
+kind-tag (inr s) e = omega (arith, sym (ap kind_number s) ∙ e)
+
+-- a number that is no kind's has no good form
+pub form-none : (n count left : ℕ) → (n ≡ 1 → ⊥) → (n ≡ 2 → ⊥) → (n ≡ 3 → ⊥) → form_test n count left ≡ false
+form-none n count left a b c =
+    bool_cases (ltb n 1) (λ e. form-below n count left (ltb-true n 1 e))
+    (λ e. form-above n count left (omega (arith, ltb-false n 1 e, a, b, c)))

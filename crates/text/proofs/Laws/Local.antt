@@ -57,7 +57,7 @@ unfolding local_name
 local_name-length name = after_last-length colon name name (length name) (le_refl (length name)) (le_refl (length name))
 
 -- behind a separator whose rest has none is that rest
-after_last-at : (c : ℕ) (kept s : Text) (i : ℕ) → i < length s → get_or s i 0 ≡ c → contains c (drop (suc i) s) ≡ false → after_last c kept s ≡ drop (suc i) s
+pub after_last-at : (c : ℕ) (kept s : Text) (i : ℕ) → i < length s → get_or s i 0 ≡ c → contains c (drop (suc i) s) ≡ false → after_last c kept s ≡ drop (suc i) s
 unfolding after_last
 after_last-at c kept [] i h e f = absurd (not-suc-le-zero h)
 after_last-at c kept (b ∷ s) zero h e f =

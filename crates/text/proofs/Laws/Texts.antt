@@ -1,16 +1,16 @@
 -- Laws of specs/Text.antt. No contract cites them. Assumes nothing.
 use Rattle.std.specs.Prelude.{if◌then◌else◌}
 use mathlib.Core.Path.{◌≡◌, refl, ap}
-use mathlib.Core.Bool.{Bool, true, false, ◌&&◌, ◌||◌, false≢true, and_assoc, and-true, or_assoc, or-false}
+use mathlib.Core.Bool.{Bool, true, false, ◌||◌, false≢true, or_assoc, or-false}
 use mathlib.Core.List.{[], ◌∷◌}
 use Prim.Native.Nat.{ℕ, zero, suc, ◌+◌, ◌-◌, ◌≤◌, ◌<◌}
 use native.Mathlib.Omega.{arith}
-use lib.Dec.{eqb, leb, ltb}
+use lib.Dec.{eqb, leb}
 use lib.ListN.{length, get_or, take, drop, drop_of_length-le}
 use lib.Seq.{drop-cons, drop-nil, take-nil}
 use borrow.Author.Tests.{leb-true, lt-leb, le-leb, eqb-true, eq-eqb, ne_eqb, ltb-true, lt-ltb}
 use Rattle.text.proofs.Laws.Tests.{and-true-left, and-true-right, not-true-false, if-cases}
-use Rattle.text.specs.Text.{Text, between, is_upper, is_lower, upper, lower, is_text_byte, contains, first, same, after_last, every, is_text}
+use Rattle.text.specs.Text.{Text, between, is_upper, is_lower, upper, lower, is_text_byte, contains, first, same, after_last}
 
 pub between-low : (low high b : ℕ) → between low high b ≡ true → low ≤ b
 unfolding between
@@ -91,10 +91,6 @@ pub after_last-on : (c : ℕ) (kept s : Text) (i : ℕ) → i < length s → (ge
 unfolding after_last
 after_last-on c kept s i h e = rw (drop-cons s i 0 h) (ap (λ (b : Bool). after_last c (if b then drop (suc i) s else kept) (drop (suc i) s)) (ne_eqb (get_or s i 0) c e))
 
-pub after_last-end : (c : ℕ) (kept s : Text) (i : ℕ) → length s ≤ i → after_last c kept (drop i s) ≡ kept
-unfolding after_last
-after_last-end c kept s i h = rw (drop_of_length-le s h)
-
 pub contains-end : (c : ℕ) (s : Text) (i : ℕ) (found : Bool) → length s ≤ i → found || contains c (drop i s) ≡ found
 unfolding contains
 contains-end c s i found h = rw (drop_of_length-le s h) (or-false found)
@@ -121,15 +117,6 @@ upper-text b e =
 pub lower-text : (b : ℕ) → is_text_byte b ≡ true → is_text_byte (lower b) ≡ true
 unfolding lower is_text_byte
 lower-text b e = if-cases (λ r. is_text_byte r ≡ true) (is_upper b) (λ u. lt-ltb (b + 32) 128 (omega (arith, between-high 65 90 b u))) (λ u. e)
-
--- which bytes may stand in a text, from place i on: the byte there decides, or the rest does
-pub text-on : (s : Text) (i : ℕ) (ok : Bool) → i < length s → (ok && ltb (get_or s i 0) 128) && is_text (drop (suc i) s) ≡ ok && is_text (drop i s)
-unfolding is_text every is_text_byte
-text-on s i ok h = rw (drop-cons s i 0 h) (and_assoc ok (ltb (get_or s i 0) 128) (is_text (drop (suc i) s)))
-
-pub text-end : (s : Text) (i : ℕ) (ok : Bool) → length s ≤ i → ok && is_text (drop i s) ≡ ok
-unfolding is_text every
-text-end s i ok h = rw (drop_of_length-le s h) (and-true ok)
 
 -- a part past the end
 pub part-past : (s : Text) (offset size : ℕ) → length s ≤ offset → take size (drop offset s) ≡ []

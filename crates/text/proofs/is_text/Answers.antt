@@ -1,19 +1,12 @@
--- `text::is_text` meets its contract. The loop's invariant: the bits of all bytes so far, with what is left from i on, answer for the whole. The measure is
--- how much is left. Assumes nothing.
-use mathlib.Core.Path.{sym, ◌∙◌}
-use native.Mathlib.Numerals.{add-one}
-use native.Mathlib.Omega.{arith}
-use lib.Dec.{ltb}
-use Rattle.text.proofs.Laws.Texts.{text-on, text-end}
-use Rattle.text.proofs.Laws.Bits.{or-small}
+-- `text::is_text` meets its contract. Assumes nothing.
+use Rattle.std.proofs.Common.{◌∙◌, ap, nat_lt, bit_or, rules}
+use Rattle.std.proofs.lemmas.Iterator.{YieldsList-from_slice}
+use Rattle.std.proofs.lemmas.Iterator.Consumers.{fold_from_yields_List}
+use Rattle.text.proofs.Laws.Std.{text_fold}
 use Rattle.text.proofs.is_text.Goals as goal
-
-pub loop-i-preserved : goal.loop-i-preserved
-loop-i-preserved c =
-    let a = c.args in
-    rw (add-one, or-small) (text-on a.s.now c.loop-i.i (ltb c.loop-i.all 128) (omega arith) ∙ c.loop-i.invariant)
 
 pub returns : goal.returns
 returns c =
-    let a = c.args in
-    sym (text-end a.s.now c.loop-i.i (ltb c.loop-i.all 128) c.loop-i-test.false) ∙ c.loop-i.invariant
+    let s = c.args.s.now in
+    let all = fold_from_yields_List _ bit_or 0 c.fold.result c.fold.ensures.ran (YieldsList-from_slice s (cc)) (λ a x b q k. search rules) in
+    ap (λ r. nat_lt r 128) all ∙ text_fold 0 s

@@ -1,28 +1,13 @@
--- `text::trim_start` meets its contract. The loop's invariant: what is left from i on gives what the whole gives. The measure is how much is left.
--- Assumes nothing.
-use mathlib.Core.Path.{refl, sym, ◌∙◌}
-use native.Mathlib.Numerals.{add-one}
-use native.Mathlib.Omega.{arith}
+-- `text::trim_start` meets its contract. Assumes nothing.
+use Rattle.std.proofs.Common.{rules, sym, ◌∙◌}
 use Rattle.text.proofs.Laws.Table.{part-from}
-use Rattle.text.proofs.Laws.Trim.{trim_start-on, trim_start-stop, trim_start-end}
+use Rattle.text.proofs.Laws.Std.{trim_start-first, trim_start-white, white-from}
 use Rattle.text.proofs.trim_start.Goals as goal
 
-pub loop-i-init : goal.loop-i-init
-loop-i-init c = (omega arith, refl)
-
-pub returns-then-not-is_white_space : goal.returns-then-not-is_white_space
-returns-then-not-is_white_space c =
+pub returns-in-Some : goal.returns-in-Some
+returns-in-Some c =
     let s = c.args.s.now in
-    let e = sym c.is_white_space.ensures ∙ c.if-not-is_white_space.true in
-    part-from s c.loop-i.i ∙ sym (trim_start-stop s c.loop-i.i (omega arith) e) ∙ c.loop-i.invariant.1
+    part-from s _ ∙ sym (trim_start-first s c.in-Some.i (search rules) (search rules) (search rules))
 
-pub loop-i-preserved : goal.loop-i-preserved
-loop-i-preserved c =
-    let s = c.args.s.now in
-    let e = sym c.is_white_space.ensures ∙ c.if-not-is_white_space.false in
-    (omega arith, rw add-one (sym (trim_start-on s c.loop-i.i (omega arith) e) ∙ c.loop-i.invariant.1))
-
-pub returns : goal.returns
-returns c =
-    let s = c.args.s.now in
-    part-from s c.loop-i.i ∙ sym (trim_start-end s c.loop-i.i (omega arith)) ∙ c.loop-i.invariant.1
+pub returns-in-None : goal.returns-in-None
+returns-in-None c = let s = c.args.s.now in sym (trim_start-white s (white-from s 0 (search rules)))

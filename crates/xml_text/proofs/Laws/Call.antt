@@ -1,21 +1,23 @@
 -- Laws of the call (specs/Document.antt). Assumes nothing.
-use Prim.Native.Nat.{ℕ, ◌+◌, ◌-◌, ◌≤◌}
+use Prim.Native.Nat.{ℕ, ◌+◌, ◌-◌, ◌≤◌, ◌<◌}
 use mathlib.Core.Path.{◌≡◌, refl, sym, ap, ◌∙◌}
 use mathlib.Core.List.{List, ◌++◌, append-nil}
 use native.Mathlib.Omega.{arith}
-use lib.Dec.{leb}
-use lib.ListN.{length, take, drop, replicate, length-replicate, drop_of_length-le}
-use borrow.Author.Tests.{leb-true}
+use lib.ListN.{length, take, replicate, length-replicate, drop_of_length-le}
+use borrow.Author.Tests.{lt-leb, le-leb}
 use Rattle.sheet.specs.Rows.{filled}
-use Rattle.text.proofs.Laws.Tests.{bool_cases}
 use lib.Seq.{sets, sets-eq, paste, take_at, take_all, length-take-le}
-use Rattle.text.specs.Text.{Text}
-use Rattle.xml.specs.Tape.{TapeEvent, tape_marks}
-use Rattle.xml.specs.Root.{Rooted, unrooted, rooted}
-use Rattle.xml.specs.Document.{Document, written, taken_of}
-use Rattle.xml_text.specs.Answers.{IsRoot, FoundIs, answer_of}
-use Rattle.xml_text.specs.declared.call.Found.{Found}
-use Rattle.xml_text.specs.declared.root.WholeRoot.{WholeRoot}
+use Rattle.sheet.specs.Lengths.{tape_lengths}
+use Rattle.xml.specs.Tape.{tape_marks}
+use Rattle.xml.specs.Call.{TapeIs}
+use Rattle.xml.proofs.Laws.Grammar.Taken.{tape-is}
+use Rattle.text.specs.Text.{is_text}
+use Rattle.sheet.specs.Returned.{refusal_number}
+use Rattle.sheet.specs.declared.refusal.Refusal.{Refusal}
+use Rattle.xml.specs.Document.{Document, with_doctype, not_well_formed, well_formed, document, Taken, refused, written, taken_of, tape_of}
+use Rattle.xml_text.specs.Answers.{fault_of, FoundIs, taken, StoredIs}
+use Rattle.std.specs.Prelude.{true, Option, Some, None, Result, Ok, Err}
+use Rattle.std.proofs.lemmas.Option.{none-some}
 
 -- zeros from a place on
 pub zeros-behind : (m : List ℕ) (from : ℕ) → from ≤ length m → paste m from (replicate (length m - from) 0) (length m - from) ≡ filled (length m) (take from m)
@@ -31,22 +33,50 @@ zeros-behind m from h =
 pub tape-stored : (m tape : List ℕ) → length tape ≤ length m → take (length tape) (sets m 0 tape) ≡ tape
 tape-stored m tape h = ap (take (length tape)) (sets-eq tape m 0 (omega arith)) ∙ take_at tape _ (length tape) refl
 
--- what was found, with the marks stored so far, is the definition's answer
-pub found-taken : (lent : ℕ) (marks after : List ℕ) (found : Found) (d : Document) → length marks ≡ lent → length after ≡ lent → FoundIs marks after found d → answer_of after found ≡ taken_of lent d
-unfolding answer_of taken_of written
-found-taken lent marks after Found.Doctype d m h p = rw (p, h)
-found-taken lent marks after Found.Malformed d m h p = rw (p, h)
-found-taken lent marks after (Found.Needs n) d m h p =
-    let tape = tape_marks p.0 in
-    rw (p.1, h, p.2)
-    (bool_cases (leb (length tape) lent)
-    (λ y. rw (y, ap (take (length tape)) p.3 ∙ tape-stored marks tape (omega (arith, leb-true (length tape) lent y))))
-    (λ y. rw y))
+-- a text without a tape is refused by its fault
+abbrev refusal_in : Option Refusal → ℕ
+refusal_in None = 0
+refusal_in (Some refusal) = refusal_number refusal
 
--- what an answer says of the definition's root
-pub root-bad : (text : Text) (marks after : List ℕ) {m : WholeRoot} {d : Rooted} → m ≡ WholeRoot.Bad → IsRoot text marks 0 after m d → d ≡ unrooted
-root-bad text marks after t p = rw t at p
+faulty : (after : List ℕ) (lent : ℕ) (refusal : Refusal) (d : Document) → length after ≡ lent → fault_of d ≡ Some refusal → taken after (Err refusal) ≡ taken_of lent d
+unfolding taken_of refused
+faulty after lent refusal with_doctype k h = ap (λ (n : ℕ). refused (length after) n) (sym (ap refusal_in h)) ∙ ap (λ (n : ℕ). refused n 18) k
+faulty after lent refusal not_well_formed k h = ap (λ (n : ℕ). refused (length after) n) (sym (ap refusal_in h)) ∙ ap (λ (n : ℕ). refused n 17) k
+faulty after lent refusal (well_formed events) k h = absurd (none-some refusal h)
 
-pub root-to : (text : Text) (marks after : List ℕ) {m : WholeRoot} {d : Rooted} {n a : ℕ} → m ≡ WholeRoot.To n a → IsRoot text marks 0 after m d → (events : List TapeEvent)
-    × (d ≡ rooted events a (drop a text)) × (n ≡ length (tape_marks events)) × (after ≡ sets marks 0 (tape_marks events))
-root-to text marks after t p = let q = rw t at p in (q.0, q.1, omega (arith, q.2), q.3)
+module _ (text before after : List ℕ) (a : is_text text ≡ true) (k : length after ≡ length before) where
+  pub stored-faulty : (refusal : Refusal) → fault_of (document text) ≡ Some refusal → StoredIs text before after (Err refusal)
+  stored-faulty refusal h = record { kept = k; room = tt; is = rw a (faulty after (length before) refusal (document text) k h) }
+
+  pub stored-short : (n : ℕ) → FoundIs before after (Ok n) (document text) → length after < n → StoredIs text before after (Err Refusal.ShortMarks)
+  unfolding taken_of written
+  stored-short n p h =
+      let m : length before < length (tape_marks p.0) = omega (arith, k, h, p.2) in
+      record { kept = k; room = tt; is = rw (a, p.1, k, lt-leb _ _ m) }
+
+  pub stored-whole : (n : ℕ) → FoundIs before after (Ok n) (document text) → n ≤ length after → StoredIs text before after (Ok n)
+  unfolding taken_of written
+  stored-whole n p h =
+      let tape = tape_marks p.0 in
+      let m : length tape ≤ length before = omega (arith, k, h, p.2) in
+      record { kept = k; room = h; is = rw (a, p.1, k, p.2, le-leb _ _ m, ap (take (length tape)) p.3 ∙ tape-stored before tape m) }
+
+abbrev ascribed : ℕ → ℕ → List ℕ → Taken
+ascribed number place marks = record { number = number; place = place; marks = marks }
+
+-- the call's answer is the definition's, once the marks behind those used are zeroed
+module _ (text before after zeroed : List ℕ) (l : tape_lengths (length text) (length before) ≡ true) where
+  read : (found : Result ℕ Refusal) → StoredIs text before after found → taken after found ≡ tape_of text before
+  unfolding tape_of
+  read found s = rw l s.is
+
+  pub tape-refused : (refusal : Refusal) (found : Result ℕ Refusal) (from : ℕ) → found ≡ Err refusal → from ≡ 0 → StoredIs text before after found → zeroed ≡ filled (length after) (take from after)
+      → TapeIs text before (refusal_number refusal) 0 zeroed
+  unfolding refused
+  tape-refused refusal found from e f s z =
+      tape-is _ _ _ _ _ (ap (ascribed (refusal_number refusal) 0) (z ∙ ap (λ (n : ℕ). filled (length after) (take n after)) f) ∙ ap (taken after) (sym e) ∙ read found s)
+
+  pub tape-accepted : (used : ℕ) (found : Result ℕ Refusal) (from : ℕ) → found ≡ Ok used → from ≡ used → StoredIs text before after found → zeroed ≡ filled (length after) (take from after)
+      → TapeIs text before 0 used zeroed
+  tape-accepted used found from e f s z =
+      tape-is _ _ _ _ _ (ap (ascribed 0 used) (z ∙ ap (λ (n : ℕ). filled (length after) (take n after)) f) ∙ ap (taken after) (sym e) ∙ read found s)

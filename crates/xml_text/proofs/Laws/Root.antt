@@ -11,16 +11,15 @@ use borrow.Author.Tests.{eq-eqb, ne_eqb}
 use Rattle.text.specs.Text.{Text, same}
 use Rattle.text.proofs.Laws.Tests.{bool_cases}
 use Rattle.xsd_parser.specs.Tape.{Pair}
-use Rattle.xml.specs.Steps.{Step, bad, behind, name, name_of}
+use Rattle.xml.specs.Steps.{bad, behind, name, name_of}
 use Rattle.xml.specs.Tape.{AttributePairs, TapeEvent, tape_marks, event_marks}
-use Rattle.xml.specs.Tags.{Tagged, untagged, tagged}
-use Rattle.xml.specs.Root.{Piece, passed, starting, passed_by, ending_by, Level, stop, on, opened, level_of_tag, level_of_close, level_of, Rooted, rooted, add_events, none_open, inside}
+use Rattle.xml.specs.Tags.{tagged}
+use Rattle.xml.specs.Root.{ending_by, Level, stop, on, opened, level_of_tag, level_of_close, level_of, Rooted, rooted, add_events, none_open, inside}
 use Rattle.xml_parts.specs.Answers.{matched}
-use Rattle.xml_text.specs.Answers.{names_up_to, next_piece, PieceIn, IsTag, GoesOn, IsRoot}
+use Rattle.xml_text.specs.Answers.{names_up_to, GoesOn, IsRoot}
 use Rattle.xml_text.specs.declared.root.WholeRoot.{WholeRoot}
-use Rattle.xml_text.specs.declared.root.Content.{Content}
-use Rattle.xml_text.specs.declared.root.Onward.{Onward}
-use Rattle.xml_text.specs.declared.tags.WholeTag.{WholeTag}
+use Rattle.xml_text.specs.declared.onward.Onward.{Onward}
+use Rattle.std.specs.Prelude.{Option, Some, None}
 use Rattle.xml_text.proofs.Laws.Marks.{sets-append}
 use Rattle.xml.proofs.Laws.Names.{bad-not}
 use Rattle.xml.proofs.Laws.Root.{closing, unmatched, tape-append}
@@ -37,14 +36,6 @@ pub put-close : (m : List ℕ) (used : ℕ) → set (set m used 3) (used + 1) 0 
 unfolding tape_marks event_marks
 put-close m used = let one : used + 1 ≡ suc used = omega arith in rw one
 
--- what an answer says of the definition's tag
-pub tag-bad : (text : Text) (at : ℕ) (marks : List ℕ) (used : ℕ) (after : List ℕ) {m : WholeTag} {d : Tagged} → m ≡ WholeTag.Bad → IsTag text at marks used after m d → d ≡ untagged
-tag-bad text at marks used after t p = rw t at p
-
-pub tag-to : (text : Text) (at : ℕ) (marks : List ℕ) (used : ℕ) (after : List ℕ) {m : WholeTag} {d : Tagged} {kind name n a : ℕ} → m ≡ WholeTag.To kind name n a
-    → IsTag text at marks used after m d → IsTag text at marks used after (WholeTag.To kind name n a) d
-tag-to text at marks used after t p = rw t at p
-
 -- a tag behind the open tags, where the slots below are as they were
 pub open-start : (text : Text) (slots after : List ℕ) (count start kind : ℕ) (pair : Pair) (xs : List AttributePairs) (a : ℕ) (r : Text) → kind ≡ 1 → take count after ≡ take count slots
     → count < length after
@@ -59,34 +50,10 @@ pub open-empty : (text : Text) (slots after : List ℕ) (count start kind : ℕ)
 unfolding opened
 open-empty text slots after count start kind pair xs a r k e = rw (names-cong text after slots count e, ne_eqb kind 1 k)
 
--- a step without an event lies where the step lies
-pub passed-in : (text : Text) (at : ℕ) (r : Content) (d : Step) → ((e : ℕ) → d ≡ behind e (drop e text) → (at < e) × (e ≤ length text)) → next_piece text r ≡ passed_by d → PieceIn (length text) at r
-passed-in text at Content.Wrong d h q = tt
-passed-in text at (Content.Passed a) bad h q = let z : ◌≡◌ {A = ℕ} 0 1 = cc in absurd (omega arith)
-passed-in text at (Content.Passed a) (behind e r) h q = h a (cc)
-passed-in text at (Content.Starting a) bad h q = let z : ◌≡◌ {A = ℕ} 0 1 = cc in absurd (omega arith)
-passed-in text at (Content.Starting a) (behind e r) h q = let z : ◌≡◌ {A = ℕ} 0 1 = cc in absurd (omega arith)
-
-pub goes-weaken : (text : Text) (at start : ℕ) (slots marks : List ℕ) (used : ℕ) (after : List ℕ) (r : Onward) (d : Level) → at ≤ start → GoesOn text start slots marks used after r d
+pub goes-weaken : (text : Text) (at start : ℕ) (slots marks : List ℕ) (used : ℕ) (after : List ℕ) (r : Option Onward) (d : Level) → at ≤ start → GoesOn text start slots marks used after r d
     → GoesOn text at slots marks used after r d
-goes-weaken text at start slots marks used after Onward.Stop d h p = p
-goes-weaken text at start slots marks used after (Onward.On count n a) d h p = (p.0, p.1, p.2, p.3, omega (arith, p.4), p.5, p.6, p.7)
-
--- what an answer says of the definition's piece
-pub piece-wrong : (text : Text) {m : Content} {d : Piece} → m ≡ Content.Wrong → next_piece text m ≡ d → d ≡ Piece.wrong
-piece-wrong text t q = sym q ∙ ap (next_piece text) t
-
-pub piece-passed : (text : Text) {m : Content} {d : Piece} {a : ℕ} → m ≡ Content.Passed a → next_piece text m ≡ d → d ≡ passed a (drop a text)
-piece-passed text t q = sym q ∙ ap (next_piece text) t
-
-pub piece-starting : (text : Text) {m : Content} {d : Piece} {a : ℕ} → m ≡ Content.Starting a → next_piece text m ≡ d → d ≡ starting a (drop a text)
-piece-starting text t q = sym q ∙ ap (next_piece text) t
-
-pub in-passed : (n at : ℕ) {m : Content} {a : ℕ} → m ≡ Content.Passed a → PieceIn n at m → (at < a) × (a ≤ n)
-in-passed n at t p = rw t at p
-
-pub in-starting : (n at : ℕ) {m : Content} {a : ℕ} → m ≡ Content.Starting a → PieceIn n at m → at ≤ a
-in-starting n at t p = rw t at p
+goes-weaken text at start slots marks used after None d h p = p
+goes-weaken text at start slots marks used after (Some o) d h p = (p.0, p.1, p.2, p.3, omega (arith, p.4), p.5)
 
 pub level-bad : (text : Text) (slots : List ℕ) (count j n : ℕ) → count ≡ suc j → matched text n (get_or slots j 0) ≡ bad
     → level_of (names_up_to text slots count) (ending_by (name_of (drop n text)) (closing n (drop n text))) ≡ stop
@@ -116,26 +83,18 @@ inside-end zero text slots left at s h k = absurd (omega arith)
 inside-end (suc turns) text slots zero at s h k = refl
 inside-end (suc turns) text slots (suc left) at s h k = absurd (omega arith)
 
--- what an answer says of the definition's turn
-pub goes-stop : (text : Text) (at : ℕ) (slots marks : List ℕ) (used : ℕ) (after : List ℕ) {m : Onward} {d : Level} → m ≡ Onward.Stop → GoesOn text at slots marks used after m d → d ≡ stop
-goes-stop text at slots marks used after t p = rw t at p
-
-pub goes_on : (text : Text) (at : ℕ) (slots marks : List ℕ) (used : ℕ) (after : List ℕ) {m : Onward} {d : Level} {count n a : ℕ} → m ≡ Onward.On count n a
-    → GoesOn text at slots marks used after m d → GoesOn text at slots marks used after (Onward.On count n a) d
-goes_on text at slots marks used after t p = rw t at p
-
 -- the numbers of more events
 pub tape-more : (m : List ℕ) (used n : ℕ) (xs ys : List TapeEvent) → n ≡ used + length (tape_marks xs) → sets (sets m used (tape_marks xs)) n (tape_marks ys) ≡ sets m used (tape_marks (xs ++ ys))
 tape-more m used n xs ys e =
     rw (e, tape-append xs ys) (sym (sets-append m used (tape_marks xs) (tape_marks ys)))
 
 -- the root's tag and its content together
-pub root-joined : (text : Text) (m m1 m2 : List ℕ) (n : ℕ) (es : List TapeEvent) (r : WholeRoot) (inner whole : Rooted) → whole ≡ add_events es inner → m1 ≡ sets m 0 (tape_marks es)
+pub root-joined : (text : Text) (m m1 m2 : List ℕ) (n : ℕ) (es : List TapeEvent) (r : Option WholeRoot) (inner whole : Rooted) → whole ≡ add_events es inner → m1 ≡ sets m 0 (tape_marks es)
     → n ≡ 0 + length (tape_marks es)
     → IsRoot text m1 n m2 r inner → IsRoot text m 0 m2 r whole
 unfolding add_events
-root-joined text m m1 m2 n es WholeRoot.Bad inner whole w s e p = w ∙ ap (add_events es) p
-root-joined text m m1 m2 n es (WholeRoot.To k a) inner whole w s e p = (
+root-joined text m m1 m2 n es None inner whole w s e p = w ∙ ap (add_events es) p
+root-joined text m m1 m2 n es (Some k) inner whole w s e p = (
   es ++ p.0,
   w ∙ ap (add_events es) p.1,
   omega (arith, p.2, ap length (tape-append es p.0), length-append (tape_marks es) (tape_marks p.0)),

@@ -1,7 +1,7 @@
 -- The texts of a decision: each is a part of the text, and no more than two are used. Assumes nothing.
-use Prim.Native.Nat.{ℕ, zero, suc, ◌≤◌}
-use mathlib.Core.Path.{◌≡◌, ap, ◌∙◌}
-use mathlib.Core.Bool.{true, false}
+use Prim.Native.Nat.{ℕ, zero, suc, ◌≤◌, min}
+use Rattle.std.specs.Prelude.{Option, Some, None, option_map, option_to_list}
+use mathlib.Core.Path.{◌≡◌, refl, ap, ◌∙◌}
 use mathlib.Core.List.{List, [], ◌∷◌, append-nil}
 use native.Mathlib.Omega.{arith}
 use native.Mathlib.Nat.{min-le_right}
@@ -16,6 +16,7 @@ use Rattle.xsd_actions.specs.declared.NewRow.{NewRow}
 use Rattle.xsd_actions.specs.declared.NewContent.{NewContent}
 use Rattle.xsd_actions.specs.Actions.{open_simple_row, open_complex_row}
 use Rattle.xsd_actions.specs.Answers.{text_at_mark, new_row, following}
+use Rattle.xsd_act.specs.Contents.{content_text}
 
 pub pair_text-bound : (text : Text) (p : Pair) → length (pair_text text p) ≤ length text
 unfolding pair_text
@@ -23,10 +24,10 @@ pair_text-bound text p =
     let rest = drop p.offset text in
     omega (arith, length-take p.size rest, min-le_right p.size (length rest), length-drop p.offset text)
 
-pub used_texts-two : (n : ℕ) (t u : Text) → (n ≤ 2 → ⊥) → used_texts n t u ≡ used_texts 2 t u
-used_texts-two zero t u h = absurd (h (omega arith))
-used_texts-two (suc zero) t u h = absurd (h (omega arith))
-used_texts-two (suc (suc n)) t u h = ap (λ (l : List Text). t ∷ u ∷ l) (take-nil n)
+pub used_texts-few : (n few : ℕ) (t u : Text) → few ≡ min n 2 → used_texts n t u ≡ used_texts few t u
+used_texts-few zero few t u h = let e : few ≡ 0 = omega arith in rw e
+used_texts-few (suc zero) few t u h = let e : few ≡ 1 = omega arith in rw e
+used_texts-few (suc (suc n)) few t u h = let e : few ≡ 2 = omega arith in rw e (ap (λ (l : List Text). t ∷ u ∷ l) (take-nil n))
 
 -- the bytes of one text alone
 pub join_one : (t : Text) → length (join (t ∷ [])) ≡ length t
@@ -56,11 +57,16 @@ module _ (text : Text) (marks : List ℕ) where
       let u = text_at_mark text marks n.second in
       ap (λ (l : List Text). length (join l)) (same t u) ∙ used-bytes pairs t u few
 
-  -- the bytes of the text that follows the name
-  pub following-bytes : (n : NewContent) → n.follows ≡ true → length (join (following text marks n)) ≡ length (text_at_mark text marks n.second)
-  unfolding following
-  following-bytes n e = rw e (join_one (text_at_mark text marks n.second))
+  pub content_text-bound : (second : Option ℕ) → length (content_text text marks second) ≤ length text
+  unfolding content_text
+  content_text-bound (Some at) = text_at_mark-bound at
+  content_text-bound None = omega arith
 
-  pub following-end : (n : NewContent) → n.follows ≡ false → length (join (following text marks n)) ≡ 0
-  unfolding following join
-  following-end n e = rw e
+  -- the bytes of the text that follows the name
+  pub following-bytes : (n : NewContent) → length (join (following text marks n)) ≡ length (content_text text marks n.second)
+  unfolding following content_text join
+  following-bytes n = go n.second
+    where
+      go : (second : Option ℕ) → length (join (option_to_list (option_map (text_at_mark text marks) second))) ≡ length (content_text text marks second)
+      go (Some at) = join_one (text_at_mark text marks at)
+      go None = refl

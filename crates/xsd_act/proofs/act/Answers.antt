@@ -1,4 +1,5 @@
 -- `xsd_act::act` meets its contract: each arm's writer has the room that it asks for, and leaves what the arm's action says. Assumes nothing.
+use Rattle.std.specs.Prelude.{Ok}
 use Prim.Native.Nat.{ℕ}
 use mathlib.Core.Path.{◌≡◌, refl, sym, subst, ap, ◌∙◌}
 use mathlib.Core.List.{List}
@@ -13,7 +14,6 @@ use Rattle.xsd_actions.specs.Actions.{Action, namespace_after, rows_after, open_
 use Rattle.xsd_actions.specs.Answers.{decision}
 use Rattle.xsd_act.specs.Ready.{rows_after_all}
 use Rattle.xsd_act.proofs.Laws.Parts.{open_simple-bytes, open_complex-bytes}
-use Rattle.xsd_act.proofs.Laws.Needs.{refuse-ok}
 use Rattle.xsd_act.specs.Contents.{content_pairs, content_numbers}
 use Rattle.xsd_act.proofs.Laws.Contents.{content_pairs-bound, following-used}
 use Rattle.xsd_act.specs.Acts.{ActRoom, Done}
@@ -22,14 +22,14 @@ use Rattle.xsd_act.proofs.Laws.Done.{done_more, done-root, done-base, done-conte
 use Rattle.xsd_act.proofs.act.Goals as goal
 
 -- the room and what is left to show, the decision as its arm found it
-room_as : {rows names : List ℕ} {used : Used} {head : ℕ} (text marks : List ℕ) {d : Decision} → ActRoom rows names used head (decision text marks d)
-    → (x : Decision) (a : Action) → d ≡ x → decision text marks x ≡ ok a → RoomFor rows names used head a
-room_as text marks room x a e f = room_for room a (ap (decision text marks) e ∙ f)
+room_as : {rows names : List ℕ} {used : Used} {head : ℕ} (text marks : List ℕ) {d : Decision} → ActRoom rows names used head (decision text marks (Ok d))
+    → (x : Decision) (a : Action) → d ≡ x → decision text marks (Ok x) ≡ ok a → RoomFor rows names used head a
+room_as text marks room x a e f = room_for room a (ap (λ (y : Decision). decision text marks (Ok y)) e ∙ f)
 
 done-as : {rows names : List ℕ} {used : Used} {head : ℕ} (text marks : List ℕ) {d : Decision} (x : Decision) (rows' names' : List ℕ) (r : Used) → d ≡ x
-    → Done rows names used head (decision text marks x) rows' names' r → Done rows names used head (decision text marks d) rows' names' r
+    → Done rows names used head (decision text marks (Ok x)) rows' names' r → Done rows names used head (decision text marks (Ok d)) rows' names' r
 done-as {rows} {names} {used} {head} text marks {d} x rows' names' r e h =
-    subst (λ (y : Decision). Done rows names used head (decision text marks y) rows' names' r) (sym e) h
+    subst (λ (y : Decision). Done rows names used head (decision text marks (Ok y)) rows' names' r) (sym e) h
 
 pub put_text-requires : goal.put_text-requires
 unfolding decision
@@ -79,19 +79,13 @@ put_content-requires c =
     let n = c.in-Content.n in
     let w = room_as c.args.text.now c.args.marks.now c.requires.room _ _ c.in-Content.is refl in
     let texts = following-used a.text.now a.marks.now n w.fitting.name in
-    record { head = content-room w.ready n.tag n.a _ w.fitting (content_pairs n.follows) _ (content_pairs-bound n.follows).1 texts w.roomy; names = c.requires.names }
+    record { head = content-room w.ready n.tag n.a _ w.fitting (content_pairs n.second) _ (content_pairs-bound n.second).1 texts w.roomy; names = c.requires.names }
 
 pub put_text-requires-in-Base : goal.put_text-requires-in-Base
 unfolding decision Fitting
 put_text-requires-in-Base c =
     let w = room_as c.args.text.now c.args.marks.now c.requires.room _ _ c.in-Base.is refl in
     record { text = base-room w.ready _ w.fitting w.roomy; names = c.requires.names }
-
-pub returns-in-Refuse : goal.returns-in-Refuse
-unfolding decision
-returns-in-Refuse c =
-    let a = c.args in
-    absurd (refuse-ok (sym (ap (decision a.text.now a.marks.now) c.in-Refuse.is) ∙ c.requires.room.decided))
 
 pub returns-in-Keep : goal.returns-in-Keep
 unfolding decision
@@ -180,7 +174,7 @@ returns-in-Content c =
     let a = c.args in
     let n = c.in-Content.n in
     done-as c.args.text.now c.args.marks.now _ _ _ _ c.in-Content.is
-    (done-content (content_numbers n _) _ (content_pairs n.follows) _ refl refl (following-used a.text.now a.marks.now n) c.put_content.ensures)
+    (done-content (content_numbers n _) _ (content_pairs n.second) _ refl refl (following-used a.text.now a.marks.now n) c.put_content.ensures)
 
 pub shape_of-rows-in-Base : goal.shape_of-rows-in-Base
 shape_of-rows-in-Base c = c.put_text-in-Base.auto.rows

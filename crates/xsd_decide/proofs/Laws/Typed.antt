@@ -9,7 +9,8 @@ use Rattle.xsd_parser.specs.Seen.{Seen}
 use Rattle.xsd_parser.specs.Handlers.{ok}
 use Rattle.xsd_actions.specs.Actions.{Action}
 use Rattle.xsd_actions.specs.Decided.{typed, occurs_added}
-use Rattle.xsd_decide.specs.declared.values.Typed.{Typed}
+use Rattle.std.specs.Prelude.{Option as Answer}
+use Rattle.xsd_decide.specs.declared.values.Places.{Places}
 use Rattle.xsd_decide.specs.Reads.{both, typed_values}
 
 -- what is done for two values, where both are there
@@ -30,7 +31,7 @@ occurs-both t (some n) none = refl
 occurs-both t (some n) (some v) = refl
 
 -- the same by the code's answer, once it is known
-module _ (text : Text) (marks : List ℕ) (name type_name : Option Text) {r v : Typed} (e : typed_values text marks r ≡ both name type_name) (h : r ≡ v) where
+module _ (text : Text) (marks : List ℕ) (name type_name : Option Text) {r v : Answer Places} (e : typed_values text marks r ≡ both name type_name) (h : r ≡ v) where
   pub typed-told : (f : Text → Text → Row) → typed name type_name f ≡ for_both Action.keep (λ n w. Action.add (f n w)) (typed_values text marks v)
   typed-told f = typed-both f name type_name ∙ ap (for_both Action.keep (λ n w. Action.add (f n w))) (sym e ∙ ap (typed_values text marks) h)
 

@@ -17,7 +17,7 @@ use Rattle.xsd_parser.specs.Words.{word_number, same_word, facet_word}
 use Rattle.xsd_parser.specs.Seen.{Seen, tag_is}
 use Rattle.tape.specs.Lookup.{value_at}
 use Rattle.xsd_actions.specs.Answers.{text_at_mark}
-use Rattle.xsd_decide.specs.declared.values.Found.{Found}
+use Rattle.std.specs.Prelude.{Option as Answer, Some, None}
 use Rattle.xsd_decide.specs.Reads.{found_value}
 
 -- a word that is known answers each test
@@ -127,12 +127,12 @@ facet-not Word.Attribute k = refl
 facet-not Word.Other k = refl
 
 -- a place that was found tells the value, or that there is none
-module _ (text : Text) (marks : List ℕ) (at : ℕ) {r : Found} (e : found_value text marks r ≡ value_at text marks at) where
-  pub value-at : {i : ℕ} → r ≡ Found.At i → value_at text marks at ≡ some (text_at_mark text marks i)
+module _ (text : Text) (marks : List ℕ) (at : ℕ) {r : Answer ℕ} (e : found_value text marks r ≡ value_at text marks at) where
+  pub value-at : {i : ℕ} → r ≡ Some i → value_at text marks at ≡ some (text_at_mark text marks i)
   unfolding found_value
   value-at f = sym e ∙ ap (found_value text marks) f
 
-  pub value_none : r ≡ Found.Nothing → value_at text marks at ≡ none
+  pub value_none : r ≡ None → value_at text marks at ≡ none
   unfolding found_value
   value_none f = sym e ∙ ap (found_value text marks) f
 

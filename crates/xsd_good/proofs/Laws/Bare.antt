@@ -23,8 +23,9 @@ use Rattle.xsd_good.specs.declared.scan.Scan.{Scan}
 use Rattle.xsd_good.specs.Row0.{parts_fit}
 use Rattle.xsd_good.specs.Heads.{head_row}
 use Rattle.xsd_good.specs.End.{finished_end, Held}
+use Rattle.std.specs.Prelude.{None, Some}
 use Rattle.xsd_good.specs.Scan.{scanned_sheet}
-use Rattle.xsd_good.proofs.Laws.Good.{parts_in, not-inside, too_short, good-tests}
+use Rattle.xsd_good.proofs.Laws.Good.{parts_in, not-inside, too_short, good-tests, good-none}
 use Rattle.xsd_good.proofs.Laws.Held.{good-rows, held-good, end-held}
 
 -- the rows with 0 for the count
@@ -84,13 +85,18 @@ module _ (rows names : List ℕ) where
   pub bare-tests : (z : Row0) (s : Scan) {f b n l r g k x v : Bool} {w : ℕ} → f ≡ row0_form z → w ≡ z.names_used
       → b ≡ (all_zero (drop (10 * z.rows_used) rows) && all_zero (drop z.names_used names)) → n ≡ is_text (take z.names_used names) → l ≡ limits z → r ≡ root_test z
       → g ≡ nesting_test z → k ≡ context_test z.context s.head → x ≡ extension_test z s.head → v ≡ events_test z.events (tens (z.rows_used - 1) (drop 10 rows))
-      → z ≡ row0_from (ten rows) → parts_fit z (length rows) (length names) ≡ true → s ≡ scanned_sheet z.names_used (tens (z.rows_used - 1) (drop 10 (bare_rows rows)))
-      → f && s.ok && eqb s.end w && b && n && l && r && g && k && x && v ≡ bare_good (bare (sheet rows names))
+      → z ≡ row0_from (ten rows) → parts_fit z (length rows) (length names) ≡ true → Some s ≡ scanned_sheet z.names_used (tens (z.rows_used - 1) (drop 10 (bare_rows rows)))
+      → f && eqb s.end w && b && n && l && r && g && k && x && v ≡ bare_good (bare (sheet rows names))
   unfolding bare with_count
   bare-tests z s f w b n l r g k x v e h d =
       let behind = drop-count rows 0 (10 * z.rows_used) (omega (arith, parts_in z (length rows) (length names) h)) in
       good-tests (bare_rows rows) names z s f w (b ∙ ap (λ (y : List ℕ). all_zero y && all_zero (drop z.names_used names)) (sym behind)) n l r g k x
       (v ∙ sym (events-bare z.events (z.rows_used - 1) rows)) (row0-bare e) (fit-bare z true h) d
+
+  pub bare-none : (z : Row0) → z ≡ row0_from (ten rows) → parts_fit z (length rows) (length names) ≡ true
+      → None ≡ scanned_sheet z.names_used (tens (z.rows_used - 1) (drop 10 (bare_rows rows))) → false ≡ bare_good (bare (sheet rows names))
+  unfolding bare with_count
+  bare-none z e h d = good-none (bare_rows rows) names z (row0-bare e) (fit-bare z true h) d
 
 -- ---- the places
 

@@ -1,7 +1,7 @@
 -- Laws of the test of a good sheet: the used parts are looked at first, and where they lie inside the buffers
 -- the other parts of `good` are those of row 0, of the pass over the rows and of the two buffers. Assumes nothing.
 use mathlib.Core.Path.{◌≡◌, sym, ap, ◌∙◌}
-use mathlib.Core.Bool.{Bool, true, false, ◌&&◌, and_assoc}
+use mathlib.Core.Bool.{Bool, true, false, ◌&&◌, and_assoc, and-false}
 use mathlib.Core.List.{List}
 use Prim.Native.Nat.{ℕ, ◌-◌, ◌*◌, ◌≤◌, ◌<◌}
 use native.Mathlib.Omega.{arith}
@@ -17,6 +17,7 @@ use Rattle.xsd_types.specs.Good.{row0_form, rows_form, names_form, names_test, l
 use Rattle.xsd_good.specs.declared.scan.Scan.{Scan}
 use Rattle.sheet.specs.Calls.{sheet}
 use Rattle.xsd_good.specs.Row0.{parts_fit}
+use Rattle.std.specs.Prelude.{None, Some}
 use Rattle.xsd_good.specs.Scan.{scanned_sheet}
 use Rattle.xsd_good.proofs.Laws.Scan.{ends, sheet-ends}
 use Rattle.sheet.specs.Form.{row0_of, tens_of, used_parts, zeros_behind}
@@ -64,16 +65,25 @@ good-scanned rows names h =
 
 -- the tests in the code's order
 pub good-is : (rows names : List ℕ) (z : Row0) (s : Scan) → z ≡ row0_from (ten rows) → parts_fit z (length rows) (length names) ≡ true
-    → s ≡ scanned_sheet z.names_used (tens (z.rows_used - 1) (drop 10 rows))
-    → row0_form z && s.ok && eqb s.end z.names_used && (all_zero (drop (10 * z.rows_used) rows) && all_zero (drop z.names_used names))
+    → Some s ≡ scanned_sheet z.names_used (tens (z.rows_used - 1) (drop 10 rows))
+    → row0_form z && eqb s.end z.names_used && (all_zero (drop (10 * z.rows_used) rows) && all_zero (drop z.names_used names))
     && is_text (take z.names_used names) && limits z && root_test z && nesting_test z && context_test z.context s.head && extension_test z s.head
     && events_test z.events (tens (z.rows_used - 1) (drop 10 rows)) ≡ bare_good (sheet rows names)
-good-is rows names z s e h d = simp and_assoc (rw (d, e) (simp and_assoc at (good-scanned rows names (rw e at h))))
+good-is rows names z s e h d =
+    let passed = rw e at d in
+    rw e (simp and_assoc (simp and_assoc at (rw (← passed) at (good-scanned rows names (rw e at h)))))
+
+-- where a row fails
+pub good-none : (rows names : List ℕ) (z : Row0) → z ≡ row0_from (ten rows) → parts_fit z (length rows) (length names) ≡ true
+    → None ≡ scanned_sheet z.names_used (tens (z.rows_used - 1) (drop 10 rows)) → false ≡ bare_good (sheet rows names)
+good-none rows names z e h d =
+    let failed = rw e at d in
+    sym (and-false (row0_form (row0_from (ten rows)))) ∙ (rw (← failed) at (good-scanned rows names (rw e at h)))
 
 -- of the results that the code's calls give
 pub good-tests : (rows names : List ℕ) (z : Row0) (s : Scan) {f b n l r g k x v : Bool} {w : ℕ} → f ≡ row0_form z → w ≡ z.names_used
     → b ≡ (all_zero (drop (10 * z.rows_used) rows) && all_zero (drop z.names_used names)) → n ≡ is_text (take z.names_used names) → l ≡ limits z → r ≡ root_test z
     → g ≡ nesting_test z → k ≡ context_test z.context s.head → x ≡ extension_test z s.head → v ≡ events_test z.events (tens (z.rows_used - 1) (drop 10 rows))
-    → z ≡ row0_from (ten rows) → parts_fit z (length rows) (length names) ≡ true → s ≡ scanned_sheet z.names_used (tens (z.rows_used - 1) (drop 10 rows))
-    → f && s.ok && eqb s.end w && b && n && l && r && g && k && x && v ≡ bare_good (sheet rows names)
+    → z ≡ row0_from (ten rows) → parts_fit z (length rows) (length names) ≡ true → Some s ≡ scanned_sheet z.names_used (tens (z.rows_used - 1) (drop 10 rows))
+    → f && eqb s.end w && b && n && l && r && g && k && x && v ≡ bare_good (sheet rows names)
 good-tests rows names z s f w b n l r g k x v e h d = rw (f, w, b, n, l, r, g, k, x, v) (good-is rows names z s e h d)

@@ -7,7 +7,7 @@ use lib.ListN.{length}
 use Rattle.xsd_types.specs.Row0.{Row0}
 use Rattle.xsd_good.specs.Row0.{as_row0, parts_fit}
 use Rattle.xsd_good.proofs.Laws.Good.{parts_in}
-use Rattle.xsd_good.proofs.Laws.Bare.{bare-short, bare-outside, bare-tests}
+use Rattle.xsd_good.proofs.Laws.Bare.{bare-short, bare-outside, bare-tests, bare-none}
 use Rattle.xsd_good.proofs.is_bare_good.Goals as goal
 
 -- behind the second test the used parts lie inside the buffers
@@ -25,8 +25,8 @@ returns-then-not-used_parts c =
     let f = sym c.used_parts.ensures ∙ c.if-not-used_parts.true in
     sym (bare-outside a.rows.now a.names.now (as_row0 c.row0_at-z.result) c.row0_at-z.ensures f)
 
-pub scan_sheet-s-requires : goal.scan_sheet-s-requires
-scan_sheet-s-requires c =
+pub scan_sheet-requires : goal.scan_sheet-requires
+scan_sheet-requires c =
     let h = inside (as_row0 c.row0_at-z.result) (length c.args.rows.now) (length c.args.names.now) c.used_parts.ensures c.if-not-used_parts.false in
     (h.0, h.1)
 
@@ -49,7 +49,12 @@ pub returns : goal.returns
 returns c =
     let a = c.args in
     let z = as_row0 c.row0_at-z.result in
-    bare-tests a.rows.now a.names.now z c.scan_sheet-s.result c.row0_form.ensures refl c.zeros_behind.ensures c.names_test.ensures
+    bare-tests a.rows.now a.names.now z c.in-Some.s c.row0_form.ensures refl c.zeros_behind.ensures c.names_test.ensures
     c.limits.ensures c.root_test.ensures c.nesting_test.ensures
     c.context_test.ensures c.extension_test.ensures c.events_test.ensures c.row0_at-z.ensures (sym c.used_parts.ensures ∙ c.if-not-used_parts.false)
-    c.scan_sheet-s.ensures
+    c.in-Some.ensures
+
+pub returns-in_default : goal.returns-in_default
+returns-in_default c =
+    let a = c.args in
+    bare-none a.rows.now a.names.now (as_row0 c.row0_at-z.result) c.row0_at-z.ensures (sym c.used_parts.ensures ∙ c.if-not-used_parts.false) (c.in_default.ensures)

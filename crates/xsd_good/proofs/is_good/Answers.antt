@@ -4,20 +4,17 @@ use native.Mathlib.Omega.{arith}
 use Rattle.xsd_good.proofs.Laws.Bare.{bare-used, good-not, good-by-count}
 use Rattle.xsd_good.proofs.is_good.Goals as goal
 
-pub returns-then-not-is_bare_good : goal.returns-then-not-is_bare_good
-returns-then-not-is_bare_good c =
-    let a = c.args in
-    sym (good-not a.rows.now a.names.now (sym c.is_bare_good.ensures ∙ c.if-not-is_bare_good.true))
-
 pub count_in-requires : goal.count_in-requires
 count_in-requires c =
     let a = c.args in
-    omega (arith, (bare-used a.rows.now a.names.now (sym c.is_bare_good.ensures ∙ c.if-not-is_bare_good.false)).0)
+    omega (arith, (bare-used a.rows.now a.names.now (sym c.is_bare_good.ensures ∙ c.if-is_bare_good.true)).0)
 
-pub count_of-requires : goal.count_of-requires
-count_of-requires c = sym c.is_bare_good.ensures ∙ c.if-not-is_bare_good.false
-
-pub returns : goal.returns
-returns c =
+pub returns-then-is_bare_good : goal.returns-then-is_bare_good
+returns-then-is_bare_good c =
     let a = c.args in
-    good-by-count a.rows.now a.names.now (sym c.is_bare_good.ensures ∙ c.if-not-is_bare_good.false) c.count_in.ensures c.count_of.ensures.count
+    good-by-count a.rows.now a.names.now (sym c.is_bare_good.ensures ∙ c.if-is_bare_good.true) c.count_in.ensures c.count_of.ensures.count
+
+pub returns-else-is_bare_good : goal.returns-else-is_bare_good
+returns-else-is_bare_good c =
+    let a = c.args in
+    c.if-is_bare_good.false ∙ sym (good-not a.rows.now a.names.now (sym c.is_bare_good.ensures ∙ c.if-is_bare_good.false))

@@ -57,23 +57,16 @@ pub fn row_form(tag: u32, a: u32, b: u32, c: u32) -> bool
 }
 
 // How many pairs a row uses.
+#[tactic(auto, unfolding(xsd_types::specs::Good::used_pairs, text::specs::Text::between))]
 pub fn used_pairs(tag: u32, a: u32) -> usize
     ensures { result ≡ used_pairs tag a }
 {
-    if in_range(tags::MIN_LENGTH, tags::MAX_LENGTH, tag)
-        | in_range(tags::TOTAL_DIGITS, tags::FRACTION_DIGITS, tag)
-    {
-        return 0;
-    }
-    if tag == tags::ANY {
-        return 1 + wide(a);
-    }
-    if in_range(tags::ELEMENT, tags::SIMPLE_TYPE, tag)
-        | (tag == tags::SIMPLE_CONTENT)
-        | in_range(tags::BOUND_ELEMENT, tags::ATTRIBUTE, tag)
-    {
-        2
-    } else {
-        1
+    match tag {
+        tags::MIN_LENGTH..=tags::MAX_LENGTH | tags::TOTAL_DIGITS..=tags::FRACTION_DIGITS => 0,
+        tags::ANY => 1 + wide(a),
+        tags::ELEMENT..=tags::SIMPLE_TYPE
+        | tags::SIMPLE_CONTENT
+        | tags::BOUND_ELEMENT..=tags::ATTRIBUTE => 2,
+        _ => 1,
     }
 }

@@ -1,4 +1,5 @@
 -- The record after an event, by the kind of the event. Laws of specs/Change.antt. No contract cites them. Assumes nothing.
+use Rattle.std.specs.Prelude.{Ok}
 use Prim.Native.Nat.{ℕ}
 use mathlib.Core.Path.{◌≡◌, refl, sym, ap, ◌∙◌}
 use mathlib.Core.Bool.{Bool, true, false}
@@ -7,6 +8,7 @@ use borrow.Author.Tests.{eqb-true, eqb-false}
 use lib.Dec.{eqb, leb}
 use Rattle.text.specs.Text.{Text}
 use Rattle.xsd_parser.specs.Event.{Tag, Event}
+use Rattle.xsd_parser.specs.Kinds.{kind_number}
 use Rattle.xsd_parser.specs.Handlers.{ok}
 use Rattle.xsd_actions.specs.declared.Decision.{Decision}
 use Rattle.xsd_actions.specs.declared.Mode.{Mode}
@@ -35,7 +37,7 @@ pub mode-close : {by_standard : Bool} {kind : ℕ} {d : Decision} {m m' : Mode} 
 mode-close {by_standard} {kind} {d} {m} {m'} k f = record { is = λ t text marks a q. f ∙ sym (after-close by_standard kind t a m k) }
 
 pub mode-tag : {by_standard : Bool} {kind : ℕ} {d : Decision} {m m' : Mode} → (kind ≡ 3 → ⊥)
-    → ((text : Text) (marks : List ℕ) (a : Action) → decision text marks d ≡ ok a → m' ≡ tag_mode by_standard (eqb kind 1) a m) → ModeAfter by_standard kind d m m'
+    → ((text : Text) (marks : List ℕ) (a : Action) → decision text marks (Ok d) ≡ ok a → m' ≡ tag_mode by_standard (eqb kind 1) a m) → ModeAfter by_standard kind d m m'
 mode-tag {by_standard} {kind} {d} {m} {m'} k f = record { is = λ t text marks a q. f text marks a q ∙ sym (after_tag by_standard kind t a m (eqb kind 1) refl k) }
 
 -- root seen stands beside the other three: it changes none of them
@@ -56,13 +58,13 @@ mode-beside s (Event.start t) a o seen = refl
 mode-beside s (Event.empty t) a o seen = refl
 mode-beside s Event.close a o seen = close-beside o seen (leb o.context 1) (eqb o.nesting 0) refl refl
 
-pub changed : {x : Arrival} {o : OpenTags} {m : Mode} → ModeAfter x.by_standard x.kind x.decision (mode_with false o) m
+pub changed : {x : Arrival} {o : OpenTags} {m : Mode} → ModeAfter x.by_standard (kind_number x.kind) x.decision (mode_with false o) m
     → Changed x o (record { context = m.context; nesting = m.nesting; open_tags = x.open_tags; extension = m.extension })
 unfolding mode_with
 changed {x} {o} {m} g =
     record {
       opened = refl;
-      mode_is = λ seen t text marks a q. let e = event_as x.kind t in ap (beside (mode_after x.by_standard e a (mode_with seen o))) (g.is t text marks a q)
+      mode_is = λ seen t text marks a q. let e = event_as (kind_number x.kind) t in ap (beside (mode_after x.by_standard e a (mode_with seen o))) (g.is t text marks a q)
           ∙ mode-beside x.by_standard e a o seen;
     }
 
@@ -88,7 +90,7 @@ seen-tag {kind} {d} {seen} {seen'} k f =
 -- the record and root seen together
 pub event-after : {x : Arrival} {m : Mode} {n : ℕ} {next : OpenTags} {seen : Bool} {m' : Mode}
     → Changed x (record { context = m.context; nesting = m.nesting; open_tags = n; extension = m.extension }) next
-    → SeenAfter x.kind x.decision m.root_seen seen → m' ≡ mode_with seen next
+    → SeenAfter (kind_number x.kind) x.decision m.root_seen seen → m' ≡ mode_with seen next
     → EventAfter x m (record { mode = m'; open_tags = next.open_tags })
 unfolding mode_with
 event-after {x} {m} {n} {next} {seen} {m'} c s f =

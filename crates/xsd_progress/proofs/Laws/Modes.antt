@@ -1,10 +1,10 @@
 -- A decision that says an action leads to the mode that the action leads to, and a close that is no refusal takes one tag away. Assumes nothing.
+use Rattle.std.specs.Prelude.{Ok}
 use mathlib.Core.Path.{◌≡◌, refl, sym, ap, ◌∙◌}
 use mathlib.Core.Bool.{Bool, ◌&&◌}
 use mathlib.Core.List.{List}
 use Prim.Native.Nat.{ℕ, zero, suc, ◌-◌}
 use native.Mathlib.Numerals.{sub-one}
-use native.Mathlib.Omega.{arith}
 use lib.Dec.{eqb}
 use Rattle.text.specs.Text.{Text}
 use Rattle.xsd_parser.specs.Handlers.{Outcome, ok}
@@ -27,10 +27,9 @@ mode-parts by_standard start d m e r n g h =
 pub same-action : (by_standard start : Bool) (m : Mode) (a b : Action) → ◌≡◌ {A = Outcome Action} (ok a) (ok b) → tag_mode by_standard start a m ≡ tag_mode by_standard start b m
 same-action s start m a b e = let p : a ≡ b = cc in ap (λ (x : Action). tag_mode s start x m) p
 
-pub decided-mode : (by_standard start : Bool) (m : Mode) (text : Text) (marks : List ℕ) (d : Decision) (a : Action) → decision text marks d ≡ ok a
+pub decided-mode : (by_standard start : Bool) (m : Mode) (text : Text) (marks : List ℕ) (d : Decision) (a : Action) → decision text marks (Ok d) ≡ ok a
     → decided_mode by_standard start d m ≡ tag_mode by_standard start a m
 unfolding decision decided_mode raises_of nesting_of opens_type raises tag_mode context_after root_after flag_after
-decided-mode s start m text marks (Decision.Refuse r) a e = let z : ◌≡◌ {A = ℕ} 0 1 = cc in absurd (omega arith)
 decided-mode s start m text marks Decision.Keep a e = same-action s start m _ a e
 decided-mode s start m text marks (Decision.Root at) a e = same-action s start m _ a e
 decided-mode s start m text marks (Decision.OpenSimple at) a e = same-action s start m _ a e

@@ -36,7 +36,7 @@ use Rattle.xsd_act.proofs.Laws.Done.{done-keep}
 use Rattle.xsd_act.proofs.Laws.Room.{counted-fits}
 use Rattle.xsd_progress.specs.declared.Progress.{Progress}
 use Rattle.xsd_progress.specs.Progress.{At, lent_to}
-use Rattle.xsd_read.specs.declared.carry.Step.{Step}
+use Rattle.std.specs.Prelude.{Ok, Err}
 use Rattle.xsd_read.specs.Due.{head_after, stands_at, StandsAfter, Due, DueRoom, Ended, Stepped}
 use Rattle.xsd_read.proofs.Laws.Ready.{ready_at, due-small, used-fits}
 
@@ -86,7 +86,7 @@ mode-due {rows} {names} {text} {marks} {p} {x} {s} {e} due w =
 
 -- the sheet after the action holds the state after the event
 pub at_after : {rows names rows' names' : List ℕ} {text : Text} {marks : List ℕ} {p : Progress} {x : Arrival} {s : State} {e : Event} {r : Reader} {used : Used} {after : Arrived}
-    → Due rows names text marks p x s e r → Done rows names p.used p.head (decision text marks x.decision) rows' names' used → EventAfter x p.mode after
+    → Due rows names text marks p x s e r → Done rows names p.used p.head (decision text marks (Ok x.decision)) rows' names' used → EventAfter x p.mode after
     → At (counted s x.open_tags r) rows' names' (stands_at p after used)
 unfolding counted
 at_after {rows} {names} {rows'} {names'} {text} {marks} {p} {x} {s} {e} {r} {used} {after} due y w =
@@ -104,7 +104,7 @@ at_after {rows} {names} {rows'} {names'} {text} {marks} {p} {x} {s} {e} {r} {use
 
 -- whether the state after the event has room is whether what is needed has
 pub fits_after : {rows names : List ℕ} {text : Text} {marks : List ℕ} {p : Progress} {x : Arrival} {s : State} {e : Event} {r : Reader} {need : Used} (n m : ℕ)
-    → Due rows names text marks p x s e r → Needed rows p.used p.head (decision text marks x.decision) need
+    → Due rows names text marks p x s e r → Needed rows p.used p.head (decision text marks (Ok x.decision)) need
     → state_fits n m (counted s x.open_tags r) ≡ fits need.rows need.names n m
 unfolding state_fits rows_used names_used
 fits_after {rows} {names} {text} {marks} {p} {x} {s} {e} {r} {need} n m due y =
@@ -122,8 +122,8 @@ room-given lent s e = rw e
 
 -- what has no room is refused with 11
 pub stepped-refused : {rows names : List ℕ} {text : Text} {marks : List ℕ} {p : Progress} {x : Arrival} {need : Used}
-    → Needed rows p.used p.head (decision text marks x.decision) need → fits need.rows need.names (length rows) (length names) ≡ false
-    → Stepped rows names text marks p x (Step.Refused Refusal.NoRoom) rows names
+    → Needed rows p.used p.head (decision text marks (Ok x.decision)) need → fits need.rows need.names (length rows) (length names) ≡ false
+    → Stepped rows names text marks p x (Err Refusal.NoRoom) rows names
 unfolding Ended
 stepped-refused {rows} {names} {text} {marks} {p} {x} y e =
     record {
@@ -134,9 +134,9 @@ stepped-refused {rows} {names} {text} {marks} {p} {x} y e =
 
 -- what has room is done
 pub stepped-done : {rows names rows' names' : List ℕ} {text : Text} {marks : List ℕ} {p p' : Progress} {x : Arrival} {need used : Used}
-    → Needed rows p.used p.head (decision text marks x.decision) need → fits need.rows need.names (length rows) (length names) ≡ true
-    → Done rows names p.used p.head (decision text marks x.decision) rows' names' used → StandsAfter p x used p'
-    → Stepped rows names text marks p x (Step.Done p') rows' names'
+    → Needed rows p.used p.head (decision text marks (Ok x.decision)) need → fits need.rows need.names (length rows) (length names) ≡ true
+    → Done rows names p.used p.head (decision text marks (Ok x.decision)) rows' names' used → StandsAfter p x used p'
+    → Stepped rows names text marks p x (Ok p') rows' names'
 unfolding Ended
 stepped-done {rows} {names} {rows'} {names'} {x = x} y e done w =
     record {
@@ -151,8 +151,8 @@ stepped-done {rows} {names} {rows'} {names'} {x = x} y e done w =
 
 -- a sheet that is kept needs what it uses, which has room
 pub stepped_kept : {rows names : List ℕ} {text : Text} {marks : List ℕ} {p p' : Progress} {x : Arrival} → DueRoom rows names text marks p x → x.decision ≡ Decision.Keep
-    → StandsAfter p x p.used p' → Stepped rows names text marks p x (Step.Done p') rows names
+    → StandsAfter p x p.used p' → Stepped rows names text marks p x (Ok p') rows names
 unfolding decision
 stepped_kept {text = text} {marks = marks} {x = x} q e w =
-    let kept : decision text marks x.decision ≡ ok Action.keep = ap (decision text marks) e in
+    let kept : decision text marks (Ok x.decision) ≡ ok Action.keep = ap (λ (d : Decision). decision text marks (Ok d)) e in
     stepped-done (rw kept (needed-keep (due-small q).rows_used refl)) (used-fits q.due.at) (rw kept done-keep) w

@@ -7,7 +7,7 @@ use native.Mathlib.Omega.{arith}
 use lib.ListN.{length}
 use Rattle.text.specs.Text.{Text}
 use Rattle.sheet.specs.Rows.{sheet_of_rows}
-use Rattle.sheet.specs.Calls.{sheet, answered}
+use Rattle.sheet.specs.Calls.{sheet}
 use Rattle.sheet.specs.Form.{words}
 use Rattle.xsd_types.specs.State.{State}
 use Rattle.xsd_types.specs.Row0.{Row0, row0_ten}
@@ -15,6 +15,7 @@ use Rattle.xsd_types.specs.Rows.{rows_of}
 use Rattle.xsd_types.specs.Sheet.{bare_sheet_of}
 use Rattle.xsd_types.specs.Back.{bare_state_of}
 use Rattle.rows.specs.Packing.{Row0Put}
+use Rattle.rows.specs.Answers.{answer_of}
 use Rattle.rows.proofs.Laws.Sheet.{packs-sheet}
 use Rattle.xsd_parser.specs.Read.{read_state}
 use Rattle.xsd_progress.specs.declared.Progress.{Progress}
@@ -42,7 +43,7 @@ sheet-reached {s} {rows} {names} {rows'} {p} at put =
 
 pub good-read : {rows names rows' names' rows'' z : List ℕ} {text : Text} {marks : List ℕ} {p : Progress} {r : ReadTo} → GoodSheet rows names text → words rows ≡ true → p ≡ progress_in rows
     → RecordsRead rows names text marks p r rows' names' → z ≡ row0_numbers r.progress → Row0Put rows' z rows''
-    → GoodRead rows names text marks (answered r.number r.place) (sheet rows'' names')
+    → GoodRead rows names text marks (answer_of r.answer) (sheet rows'' names')
 good-read {rows} {names} {rows'} {names'} {rows''} {z} {text} {marks} g w e read f put =
     let reached = read.reached (bare_state_of (sheet rows names)) (at_first g w e) in
     let s = (read_state (lent_to rows names) (bare_state_of (sheet rows names)) text marks).state in

@@ -9,25 +9,27 @@ use mathlib.Core.Bool.{true}
 use mathlib.Core.List.{List}
 use native.Mathlib.Omega.{arith}
 use lib.ListN.{length, drop}
+use Rattle.std.specs.Prelude.{Option, Some, None, Result, Ok, Err}
 use Rattle.text.specs.Text.{Text}
 use Rattle.sheet.specs.declared.refusal.Refusal.{Refusal}
 use Rattle.sheet.specs.Returned.{refusal_number}
-use Rattle.sheet.specs.Lengths.{Lengths}
+use Rattle.sheet.specs.Lengths.{Answer, Lengths}
+use Rattle.sheet.specs.Calls.{answered}
+use Rattle.rows.specs.declared.answers.Refused.{Refused}
+use Rattle.rows.specs.Answers.{answer_of}
 use Rattle.xsd_types.specs.State.{State}
 use Rattle.xsd_parser.specs.EventText.{event_ok}
-use Rattle.xsd_parser.specs.Kinds.{close_kind}
+use Rattle.xsd_parser.specs.Kinds.{close_kind, kind_number}
 use Rattle.xsd_parser.specs.Tape.{next, record1}
 use Rattle.xsd_parser.specs.Step.{step}
 use Rattle.xsd_parser.specs.Read.{Reading, read_state}
 use Rattle.xsd_parser.proofs.Laws.EventTexts.{next-text}
 use Rattle.xsd_parser.proofs.Laws.Reads.{stopped}
-use Rattle.tape.specs.declared.Record.{Record}
 use Rattle.tape.specs.declared.TagRecord.{TagRecord}
 use Rattle.tape.specs.Pairs.{TagInside}
 use Rattle.tape.specs.Answers.{record_event, recorded, IsPlaced, RecordAt}
 use Rattle.xsd_progress.specs.declared.Progress.{Progress}
 use Rattle.xsd_progress.specs.Progress.{At, lent_to, Standing}
-use Rattle.xsd_read.specs.declared.carry.Step.{Step}
 use Rattle.xsd_read.specs.Due.{Ended}
 use Rattle.xsd_read.specs.Events.{EventRoom, EventTaken}
 use Rattle.xsd_read.specs.Records.{stopped_at, Reached, RecordsRead}
@@ -69,11 +71,11 @@ pub lent_same : (rows names rows₀ names₀ : List ℕ) → length rows ≡ len
 lent_same rows names rows₀ names₀ e f = λ i. record { rows = e i; names = f i }
 
 -- a state that the sheet still holds where a reading ends is the one that it reached
-pub reached-here : {rows names rows' names' rest : List ℕ} {lent : Lengths} {text : Text} {p : Progress} {place : ℕ} {whole : Reading} (k : ℕ)
+pub reached-here : {rows names rows' names' rest : List ℕ} {lent : Lengths} {text : Text} {p : Progress} {place : ℕ} {whole : Reading} (a : Result ℕ Refused)
     → (h : Here rows names lent text rest p place whole) → rows' ≡ rows → names' ≡ names
-    → read_from lent place h.s text rest ≡ record { answer = record { number = k; place = place }; state = h.s }
-    → Reached rows' names' whole (record { number = k; place = place; progress = p })
-reached-here {rows} {names} {rows'} {names'} {rest} {lent} {text} {p} {place} {whole} k h e f g =
+    → read_from lent place h.s text rest ≡ record { answer = answer_of a; state = h.s }
+    → Reached rows' names' whole (record { answer = a; progress = p })
+reached-here {rows} {names} {rows'} {names'} {rest} {lent} {text} {p} {place} {whole} a h e f g =
     let q = sym g ∙ h.leads in
     record {
       answer = ap (λ (x : Reading). x.answer) q;
@@ -85,11 +87,11 @@ pub record Stops (rows names : List ℕ) (text : Text) (marks : List ℕ) (at : 
   pub names_kept : names' ≡ names
   pub reads : (n : ℕ) → read_from (lent_to rows names) n s text (drop at marks) ≡ stopped k n s
 
-reads-stopped : {rows₀ names₀ marks rows names rows' names' : List ℕ} {text : Text} {p₀ p : Progress} {place at : ℕ} (k : ℕ)
+reads-stopped : {rows₀ names₀ marks rows names rows' names' : List ℕ} {text : Text} {p₀ p : Progress} {place at : ℕ} (k : ℕ) (a : Result ℕ Refused) → answered k place ≡ answer_of a
     → Reads rows₀ names₀ text marks p₀ rows names p place at → length rows' ≡ length rows → length names' ≡ length names
     → ((s : State) → At s rows names p → Stops rows names text marks at s k rows' names')
-    → RecordsRead rows₀ names₀ text marks p₀ (record { number = k; place = place; progress = p }) rows' names'
-reads-stopped {rows₀} {names₀} {marks} {rows} {names} {rows'} {names'} {text} {p₀} {p} {place} {at} k w e f stops =
+    → RecordsRead rows₀ names₀ text marks p₀ (record { answer = a; progress = p }) rows' names'
+reads-stopped {rows₀} {names₀} {marks} {rows} {names} {rows'} {names'} {text} {p₀} {p} {place} {at} k a q w e f stops =
     record {
       rows_length = e ∙ w.rows_length;
       names_length = f ∙ w.names_length;
@@ -97,28 +99,29 @@ reads-stopped {rows₀} {names₀} {marks} {rows} {names} {rows'} {names'} {text
           let h = w.here s₀ at₀ in
           let stop = stops h.s h.stands in
           let lent = lent_same rows names rows₀ names₀ w.rows_length w.names_length in
-          reached-here k h stop.rows_kept stop.names_kept (ap (λ (l : Lengths). read_from l place h.s text (drop at marks)) (sym lent) ∙ stop.reads place);
+          reached-here a h stop.rows_kept stop.names_kept
+          (ap (λ (l : Lengths). read_from l place h.s text (drop at marks)) (sym lent) ∙ stop.reads place ∙ ap (λ (b : Answer). record { answer = b; state = h.s }) q);
     }
 
 -- no record is left, or it is refused for its form
-pub reads_end : {rows₀ names₀ marks rows names : List ℕ} {text : Text} {p₀ p : Progress} {place at : ℕ} {r : Record}
-    → Reads rows₀ names₀ text marks p₀ rows names p place at → RecordAt text marks at r → r ≡ Record.End
-    → RecordsRead rows₀ names₀ text marks p₀ (record { number = 0; place = place; progress = p }) rows names
+pub reads_end : {rows₀ names₀ marks rows names : List ℕ} {text : Text} {p₀ p : Progress} {place at : ℕ} {r : Result (Option TagRecord) Refusal} {o : Option TagRecord}
+    → Reads rows₀ names₀ text marks p₀ rows names p place at → RecordAt text marks at r → r ≡ Ok o → o ≡ None
+    → RecordsRead rows₀ names₀ text marks p₀ (record { answer = Ok place; progress = p }) rows names
 unfolding recorded
-reads_end {marks = marks} {rows = rows} {names = names} {text = text} {at = at} w x q =
-    reads-stopped 0 w refl refl (λ s a. record {
+reads_end {marks = marks} {rows = rows} {names = names} {text = text} {place = place} {at = at} w x q e =
+    reads-stopped 0 (Ok place) refl w refl refl (λ s a. record {
       rows_kept = refl;
       names_kept = refl;
       reads = λ n. reads_none (lent_to rows names) n s text (drop at marks)
-          (sym x.judged ∙ ap (recorded text marks) q);
+          (sym x.judged ∙ ap (recorded text marks) (q ∙ ap Ok e));
     })
 
-pub reads-form : {rows₀ names₀ marks rows names : List ℕ} {text : Text} {p₀ p : Progress} {place at : ℕ} {r : Record} (k : Refusal)
-    → Reads rows₀ names₀ text marks p₀ rows names p place at → RecordAt text marks at r → r ≡ Record.Bad k
+pub reads-form : {rows₀ names₀ marks rows names : List ℕ} {text : Text} {p₀ p : Progress} {place at : ℕ} {r : Result (Option TagRecord) Refusal} (k : Refusal)
+    → Reads rows₀ names₀ text marks p₀ rows names p place at → RecordAt text marks at r → r ≡ Err k
     → RecordsRead rows₀ names₀ text marks p₀ (stopped_at k place p) rows names
 unfolding recorded
-reads-form {marks = marks} {rows = rows} {names = names} {text = text} {at = at} k w x q =
-    reads-stopped (refusal_number k) w refl refl
+reads-form {marks = marks} {rows = rows} {names = names} {text = text} {place = place} {at = at} k w x q =
+    reads-stopped (refusal_number k) (Err (record { refusal = k; place = place })) refl w refl refl
     (λ s a. record {
       rows_kept = refl;
       names_kept = refl;
@@ -130,24 +133,25 @@ pub record Followed (text : Text) (marks : List ℕ) (at : ℕ) (t : TagRecord) 
   pub is : record1 text (drop at marks) ≡ next (record_event text marks t) (drop t.next marks)
   pub later : at < t.next
   pub within : t.next ≤ length marks
-  pub inside : (t.kind ≡ close_kind → ⊥) → TagInside text marks t.pairs t.count
+  pub inside : (kind_number t.kind ≡ close_kind → ⊥) → TagInside text marks t.pairs t.count
 
-pub followed : {text : Text} {marks : List ℕ} {at : ℕ} {r : Record} (t : TagRecord) → RecordAt text marks at r → r ≡ Record.Event t → Followed text marks at t
+pub followed : {text : Text} {marks : List ℕ} {at : ℕ} {r : Result (Option TagRecord) Refusal} {o : Option TagRecord} (t : TagRecord) → RecordAt text marks at r → r ≡ Ok o → o ≡ Some t → Followed text marks at t
 unfolding recorded IsPlaced
-followed {text} {marks} {at} t x q =
-    let place = subst (IsPlaced text marks at) q x.places in
-    record { is = sym x.judged ∙ ap (recorded text marks) q; later = place.later; within = place.within; inside = λ k. (place.tag k).inside }
+followed {text} {marks} {at} t x q e =
+    let is = q ∙ ap Ok e in
+    let place = subst (IsPlaced text marks at) is x.places in
+    record { is = sym x.judged ∙ ap (recorded text marks) is; later = place.later; within = place.within; inside = λ k. (place.tag k).inside }
 
 pub followed-text : {text : Text} {marks : List ℕ} {at : ℕ} {t : TagRecord} → Followed text marks at t → event_ok (record_event text marks t) ≡ true
 followed-text {text} {marks} {at} {t} f = next-text text (drop at marks) (record_event text marks t) (drop t.next marks) f.is
 
 -- the event is refused
-pub reads-refuse : {rows₀ names₀ marks rows names rows' names' : List ℕ} {text : Text} {p₀ p : Progress} {place at : ℕ} {t : TagRecord} {y : Step} (k : Refusal)
-    → Reads rows₀ names₀ text marks p₀ rows names p place at → Followed text marks at t → EventTaken rows names p (record_event text marks t) y rows' names' → y ≡ Step.Refused k
+pub reads-refuse : {rows₀ names₀ marks rows names rows' names' : List ℕ} {text : Text} {p₀ p : Progress} {place at : ℕ} {t : TagRecord} {y : Result Progress Refusal} (k : Refusal)
+    → Reads rows₀ names₀ text marks p₀ rows names p place at → Followed text marks at t → EventTaken rows names p (record_event text marks t) y rows' names' → y ≡ Err k
     → RecordsRead rows₀ names₀ text marks p₀ (stopped_at k place p) rows' names'
 unfolding Ended
-reads-refuse {marks = marks} {rows} {names} {rows'} {names'} {text} {at = at} {t = t} k w f x q =
-    reads-stopped (refusal_number k) w x.rows_length x.names_length (λ s a.
+reads-refuse {marks = marks} {rows} {names} {rows'} {names'} {text} {place = place} {at = at} {t = t} k w f x q =
+    reads-stopped (refusal_number k) (Err (record { refusal = k; place = place })) refl w x.rows_length x.names_length (λ s a.
     let e = record_event text marks t in
     let h = subst (Ended (step (lent_to rows names) s e) rows names rows' names') q (x.ended s a (followed-text f)) in
     record {
@@ -158,8 +162,8 @@ reads-refuse {marks = marks} {rows} {names} {rows'} {names'} {text} {at = at} {t
     })
 
 -- it is done, and the reading goes on behind it
-pub here-next : {rows₀ names₀ marks rows names rows' names' : List ℕ} {text : Text} {p₀ p : Progress} {place at : ℕ} {t : TagRecord} {y : Step} (p' : Progress)
-    → Reads rows₀ names₀ text marks p₀ rows names p place at → Followed text marks at t → EventTaken rows names p (record_event text marks t) y rows' names' → y ≡ Step.Done p'
+pub here-next : {rows₀ names₀ marks rows names rows' names' : List ℕ} {text : Text} {p₀ p : Progress} {place at : ℕ} {t : TagRecord} {y : Result Progress Refusal} (p' : Progress)
+    → Reads rows₀ names₀ text marks p₀ rows names p place at → Followed text marks at t → EventTaken rows names p (record_event text marks t) y rows' names' → y ≡ Ok p'
     → (s : State) → At s rows₀ names₀ p₀ → Here rows' names' (lent_to rows₀ names₀) text (drop t.next marks) p' (place + 1) (read_state (lent_to rows₀ names₀) s text marks)
 unfolding Ended
 here-next {rows₀} {names₀} {marks} {rows} {names} {rows'} {names'} {text} {p₀} {p} {place} {at} {t} p' w f x q s₀ at₀ =
@@ -172,8 +176,8 @@ here-next {rows₀} {names₀} {marks} {rows} {names} {rows'} {names'} {text} {p
     ∙ ap (λ (l : Lengths). read_from l place h.s text (drop at marks)) lent ∙ h.leads in
     record { s = go.s'; stands = go.stands; leads = rw (add-one place) on }
 
-pub reads-next : {rows₀ names₀ marks rows names rows' names' : List ℕ} {text : Text} {p₀ p : Progress} {place at : ℕ} {t : TagRecord} {y : Step} (p' : Progress)
-    → Reads rows₀ names₀ text marks p₀ rows names p place at → Followed text marks at t → EventTaken rows names p (record_event text marks t) y rows' names' → y ≡ Step.Done p'
+pub reads-next : {rows₀ names₀ marks rows names rows' names' : List ℕ} {text : Text} {p₀ p : Progress} {place at : ℕ} {t : TagRecord} {y : Result Progress Refusal} (p' : Progress)
+    → Reads rows₀ names₀ text marks p₀ rows names p place at → Followed text marks at t → EventTaken rows names p (record_event text marks t) y rows' names' → y ≡ Ok p'
     → Reads rows₀ names₀ text marks p₀ rows' names' p' (place + 1) t.next
 reads-next p' w f x q =
     record {

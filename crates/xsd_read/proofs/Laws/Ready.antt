@@ -1,4 +1,5 @@
 -- The sheet of a state is one that what was decided for an event can be done to. Assumes nothing.
+use Rattle.std.specs.Prelude.{Ok}
 use Prim.Native.Nat.{ℕ, ◌*◌, ◌≤◌}
 use mathlib.Core.Path.{◌≡◌, sym, ap, subst, ◌∙◌}
 use mathlib.Core.Bool.{true}
@@ -42,7 +43,7 @@ unfolding rows_of
 ready_at {s} at = record { holds = at.holds; here = λ r kids e. at.head (open-number s.reader.context r kids e); paired = paired-rows s }
 
 pub ready_for : {rows names : List ℕ} {text : Text} {marks : List ℕ} {p : Progress} {x : Arrival} → DueRoom rows names text marks p x
-    → (a : Action) → decision text marks x.decision ≡ ok a → ReadyFor rows p.used p.head a
+    → (a : Action) → decision text marks (Ok x.decision) ≡ ok a → ReadyFor rows p.used p.head a
 ready_for {rows} {names} q a e =
     let due = q.due in
     let last = context_rows q.s.reader.context in

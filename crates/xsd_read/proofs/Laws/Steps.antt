@@ -5,26 +5,26 @@ use mathlib.Core.Bool.{true}
 use mathlib.Core.List.{List}
 use native.Mathlib.Omega.{arith}
 use borrow.Author.Tests.{lt-ltb, le-ltb}
+use Rattle.std.specs.Prelude.{Result, Ok, Err}
 use Rattle.text.specs.Text.{Text}
 use Rattle.sheet.specs.declared.refusal.Refusal.{Refusal}
 use Rattle.sheet.specs.Returned.{refusal_number}
 use Rattle.sheet.specs.Limits.{events_limit}
 use Rattle.sheet.specs.Lengths.{Lengths}
 use Rattle.xsd_types.specs.State.{State}
+use Rattle.xsd_parser.specs.Kinds.{kind_number}
 use Rattle.xsd_parser.specs.Event.{Tag, Event}
 use Rattle.xsd_parser.specs.EventText.{event_ok}
 use Rattle.xsd_parser.specs.Handlers.{Outcome, ok, refuse, ◌and_then◌}
 use Rattle.xsd_parser.specs.Step.{handled, tags_after, counted, room_for, step}
 use Rattle.xsd_parser.proofs.Laws.Steps.{proper-parts, tags-kept, reader-kept, counted-proper}
 use Rattle.xsd_parser.proofs.Laws.Numbers.{numbers-kept}
-use Rattle.xsd_actions.specs.declared.Decision.{Decision}
 use Rattle.xsd_actions.specs.Actions.{Action}
 use Rattle.xsd_actions.specs.Answers.{decision}
 use Rattle.xsd_progress.specs.Answers.{event_as}
 use Rattle.xsd_progress.specs.declared.open_tags.Arrival.{Arrival}
 use Rattle.xsd_progress.specs.declared.Progress.{Progress}
 use Rattle.xsd_progress.specs.Progress.{At, lent_to}
-use Rattle.xsd_read.specs.declared.carry.Step.{Step}
 use Rattle.xsd_read.specs.Due.{Due, DueRoom, Ended, Stepped}
 use Rattle.xsd_read.specs.Events.{EventRoom, EventTaken}
 use Rattle.xsd_read.proofs.Laws.Decisions.{Told, Handled, told-refused, told-accepted, Accepted}
@@ -44,17 +44,17 @@ step-on lent s e n h q = rw (lt-ltb s.events events_limit h, q)
 
 -- a refusal leaves the sheet
 taken_refused : {rows names : List ℕ} {p : Progress} {e : Event} (r : Refusal) → ((s : State) → At s rows names p → step (lent_to rows names) s e ≡ refuse (refusal_number r))
-    → EventTaken rows names p e (Step.Refused r) rows names
+    → EventTaken rows names p e (Err r) rows names
 unfolding Ended
 taken_refused r f = record { rows_length = refl; names_length = refl; ended = λ s at k. record { refused = f s at; rows_kept = refl; names_kept = refl } }
 
 -- 8
-pub taken-eight : {rows names : List ℕ} {p : Progress} {e : Event} → events_limit ≤ p.events → EventTaken rows names p e (Step.Refused Refusal.TooManyEvents) rows names
+pub taken-eight : {rows names : List ℕ} {p : Progress} {e : Event} → events_limit ≤ p.events → EventTaken rows names p e (Err Refusal.TooManyEvents) rows names
 taken-eight {e = e} h = taken_refused Refusal.TooManyEvents (λ s at. step-eight _ s e (omega (arith, h, at.events)))
 
 -- 6 and 7
 pub taken-tags : {rows names : List ℕ} {p : Progress} {e : Event} (r : Refusal) → p.events < events_limit → tags_after e p.open_tags ≡ refuse (refusal_number r)
-    → EventTaken rows names p e (Step.Refused r) rows names
+    → EventTaken rows names p e (Err r) rows names
 taken-tags {e = e} r h q = taken_refused r (λ s at. step-tags _ s e (refusal_number r) (omega (arith, h, at.events)) (ap (tags_after e) (sym at.tags) ∙ q))
 
 -- an event that is counted and decided, before any state is named
@@ -62,23 +62,24 @@ pub record Arrives (rows : List ℕ) (text : Text) (marks : List ℕ) (p : Progr
   pub more : p.events < events_limit
   pub tagged : tags_after e p.open_tags ≡ ok x.open_tags
   pub tag : Tag
-  pub event_is : e ≡ event_as x.kind tag
+  pub event_is : e ≡ event_as (kind_number x.kind) tag
   pub choice : x.by_standard ≡ p.by_standard
-  pub told : Told rows text marks p e x.decision
+  pub told : Told rows text marks p e (Ok x.decision)
 
 arrives-on : {rows names : List ℕ} {text : Text} {marks : List ℕ} {p : Progress} {e : Event} {x : Arrival} {s : State} → Arrives rows text marks p e x → At s rows names p
     → step (lent_to rows names) s e ≡ (handled s.by_standard s.events e s.reader and_then (λ r. room_for (lent_to rows names) (counted s x.open_tags r)))
 arrives-on {rows} {names} {e = e} {x = x} {s = s} w at = step-on (lent_to rows names) s e x.open_tags (omega (arith, w.more, at.events)) (ap (tags_after e) (sym at.tags) ∙ w.tagged)
 
 -- 9 and 10
-pub taken-decided : {rows names : List ℕ} {text : Text} {marks : List ℕ} {p : Progress} {e : Event} {x : Arrival} (r : Refusal) → Arrives rows text marks p e x → x.decision ≡ Decision.Refuse r
-    → EventTaken rows names p e (Step.Refused r) rows names
+pub taken-decided : {rows names : List ℕ} {text : Text} {marks : List ℕ} {p : Progress} {e : Event} (n : ℕ) (r : Refusal) → p.events < events_limit → tags_after e p.open_tags ≡ ok n
+    → Told rows text marks p e (Err r) → EventTaken rows names p e (Err r) rows names
 unfolding ◌and_then◌
-taken-decided r w q = taken_refused r (λ s at. arrives-on w at ∙ rw (told-refused r w.told at q))
+taken-decided {e = e} n r more tagged told =
+    taken_refused r (λ s at. step-on _ s e n (omega (arith, more, at.events)) (ap (tags_after e) (sym at.tags) ∙ tagged) ∙ rw (told-refused r told at))
 
 -- every other event is due
 pub due-at : {rows names : List ℕ} {text : Text} {marks : List ℕ} {p : Progress} {e : Event} {x : Arrival} {s : State} {a : Action}
-    → Arrives rows text marks p e x → decision text marks x.decision ≡ ok a → At s rows names p → event_ok e ≡ true
+    → Arrives rows text marks p e x → decision text marks (Ok x.decision) ≡ ok a → At s rows names p → event_ok e ≡ true
     → (done : Handled s.by_standard s.events e s.reader a) → Due rows names text marks p x s e done.r'
 due-at {e = e} {x = x} {s = s} {a = a} w q at k done =
     let o = proper-parts s at.proper in
@@ -98,15 +99,15 @@ due-at {e = e} {x = x} {s = s} {a = a} w q at k done =
     }
 
 pub due-room : {rows names : List ℕ} {text : Text} {marks : List ℕ} {p : Progress} {e : Event} {x : Arrival} → EventRoom rows names text p e
-    → Arrives rows text marks p e x → Accepted (decision text marks x.decision)
+    → Arrives rows text marks p e x → Accepted (decision text marks (Ok x.decision))
     → DueRoom rows names text marks p x
 due-room {e = e} room w o =
     let st = room.standing in
     let done = told-accepted o.0 w.told st.at o.1 in
     record { s = st.s; e = e; r = done.r'; due = due-at w o.1 st.at room.texts done; lent = st.lent }
 
-pub taken-done : {rows names rows' names' : List ℕ} {text : Text} {marks : List ℕ} {p : Progress} {e : Event} {x : Arrival} {y : Step} → Arrives rows text marks p e x
-    → Accepted (decision text marks x.decision)
+pub taken-done : {rows names rows' names' : List ℕ} {text : Text} {marks : List ℕ} {p : Progress} {e : Event} {x : Arrival} {y : Result Progress Refusal} → Arrives rows text marks p e x
+    → Accepted (decision text marks (Ok x.decision))
     → Stepped rows names text marks p x y rows' names' → EventTaken rows names p e y rows' names'
 unfolding ◌and_then◌
 taken-done {rows} {names} {rows'} {names'} {e = e} {y = y} w o step =

@@ -1,18 +1,19 @@
 -- `xsd_read::read` meets its contract: 1 and 2 leave everything, and a good sheet is read. Assumes nothing.
-use mathlib.Core.Path.{sym, ◌∙◌}
+use mathlib.Core.Path.{refl, sym, ◌∙◌}
 use Rattle.xsd_read.proofs.Laws.Calls.{read_one, read-two, read_through, good-sheet}
 use Rattle.xsd_read.proofs.read.Goals as goal
 
 pub returns-then-not-read_lengths : goal.returns-then-not-read_lengths
 returns-then-not-read_lengths c =
     let a = c.args in
-    read_one a.rows.now a.names.now a.text.now a.marks.now c.refused.ensures (sym c.read_lengths.ensures ∙ c.if-not-read_lengths.true)
+    rw c.into.ensures (read_one a.rows.now a.names.now a.text.now a.marks.now refl (sym c.read_lengths.ensures ∙ c.if-not-read_lengths.true))
 
 pub returns-then-not-is_good : goal.returns-then-not-is_good
 returns-then-not-is_good c =
     let a = c.args in
-    read-two a.rows.now a.names.now a.text.now a.marks.now c.refused-then-not-is_good.ensures (sym c.read_lengths.ensures ∙ c.if-not-read_lengths.false)
-    (sym c.is_good.ensures ∙ c.if-not-is_good.true)
+    rw c.into-then-not-is_good.ensures
+    (read-two a.rows.now a.names.now a.text.now a.marks.now refl (sym c.read_lengths.ensures ∙ c.if-not-read_lengths.false)
+    (sym c.is_good.ensures ∙ c.if-not-is_good.true))
 
 pub read_counted-requires : goal.read_counted-requires
 read_counted-requires c =

@@ -49,13 +49,21 @@ read_good-answer-requires c = taken_out c.requires
 pub finished_place-end-requires : goal.finished_place-end-requires
 finished_place-end-requires c = used-after c.requires c.finished_place-from.ensures.words c.read_good-answer.ensures
 
+pub invariant_of-count_refused : goal.invariant_of-count_refused
+invariant_of-count_refused c =
+    let q = c.requires in
+    let from = c.finished_place-from.ensures in
+    let end = c.finished_place-end.ensures in
+    let read = c.read_good-answer.ensures in
+    record { within = (room_after q from.words read end.words (from_is q from.words from.place) (end_is q from.words read end.words end.place)).1 }
+
 pub count_refused-more-requires : goal.count_refused-more-requires
 count_refused-more-requires c =
     let q = c.requires in
     let from = c.finished_place-from.ensures in
     let end = c.finished_place-end.ensures in
     let read = c.read_good-answer.ensures in
-    room_after q from.words read end.words (from_is q from.words from.place) (end_is q from.words read end.words end.place)
+    (room_after q from.words read end.words (from_is q from.words from.place) (end_is q from.words read end.words end.place)).0
 
 pub overflow_add-rows : goal.overflow_add-rows
 overflow_add-rows c =

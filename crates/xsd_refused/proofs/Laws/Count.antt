@@ -1,11 +1,12 @@
 -- How many simple types lowering refuses, row by row; and there are no more than rows. Assumes nothing.
-use Prim.Native.Nat.{ℕ, suc, ◌+◌, ◌-◌, ◌<◌, ◌≤◌}
-use mathlib.Core.Path.{◌≡◌}
+use Prim.Native.Nat.{ℕ, zero, suc, ◌+◌, ◌-◌, ◌<◌, ◌≤◌}
+use mathlib.Core.Path.{◌≡◌, sym, ap, ◌∙◌}
 use mathlib.Core.Bool.{true, false}
 use mathlib.Core.List.{List, [], ◌∷◌}
 use native.Mathlib.Omega.{arith}
 use lib.ListN.{length}
-use Rattle.text.proofs.Laws.Tests.{if-cases}
+use Rattle.text.proofs.Laws.Tests.{if-cases, bool_cases}
+use Rattle.std.specs.List.{filter, range_with_len}
 use Rattle.sheet.specs.Rows.{Row}
 use Rattle.xsd_types.specs.Places.{row_at, rows_from}
 use Rattle.xsd_types.specs.Refused.{refused_row}
@@ -24,6 +25,15 @@ module _ (rows names : List ℕ) (p end : ℕ) where
   pub count-not-at : p < end → refused_row (row_at rows names p) (rows_from rows names (p + 1) end) ≡ false → refused_rows (rows_from rows names p end) ≡ refused_rows (rows_from rows names (p + 1) end)
   unfolding refused_rows
   count-not-at h e = rw (rows_from-cons rows names p end h, e)
+
+-- the places of such rows, among n of them from p on
+pub counted : (rows names : List ℕ) (end n p : ℕ) → p + n ≡ end → length (filter (λ (i : ℕ). refused_row (row_at rows names i) (rows_from rows names (i + 1) end)) (range_with_len p n)) ≡ refused_rows (rows_from rows names p end)
+counted rows names end zero p h = sym (count-end rows names p end (omega arith))
+counted rows names end (suc n) p h =
+    let rest = counted rows names end n (p + 1) (omega arith) in
+    bool_cases (refused_row (row_at rows names p) (rows_from rows names (p + 1) end))
+    (λ e. rw e (ap suc rest ∙ sym (count_at rows names p end (omega arith) e)))
+    (λ e. rw e (rest ∙ sym (count-not-at rows names p end (omega arith) e)))
 
 refused_rows-few : (rs : List Row) → refused_rows rs ≤ length rs
 unfolding refused_rows

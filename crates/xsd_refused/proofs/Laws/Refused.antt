@@ -34,7 +34,7 @@ module _ (rows names : List ℕ) (p : ℕ) (rs : List Row) where
   kept-code-enum e f = rw (row_at-tag rows names p, e, f)
 
   pub refused-by-base : {base : Text} {n : ℕ} → get_or rows (10 * p) 0 ≡ 3 → is_code_enum rs ≡ false
-      → base ≡ text_at names (get_or rows (10 * p + 3) 0) (get_or rows (10 * p + 3 + 1) 0) → n ≡ reference (map_builtin base) → eqb n 0 ≡ refused_row (row_at rows names p) rs
+      → base ≡ text_at names (get_or rows (10 * p + 2 + 1) 0) (get_or rows (10 * p + 2 + 2) 0) → n ≡ reference (map_builtin base) → eqb n 0 ≡ refused_row (row_at rows names p) rs
   unfolding refused_row
   refused-by-base {base} e f b r =
       rw (row_at-base rows names p e, row_at-tag rows names p, e, f, ← b, r) (reference-none (map_builtin base))

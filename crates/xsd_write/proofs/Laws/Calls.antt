@@ -1,5 +1,5 @@
 -- What the steps of a writing leave is the definition's (specs/Steps.antt; the crate `xsd_written`, specs/Call.antt). Assumes nothing.
-use Rattle.std.specs.Prelude.{if◌then◌else◌}
+use Rattle.std.specs.Prelude.{Option as Answered, Some, None, if◌then◌else◌}
 use Prim.Native.Nat.{ℕ, ◌+◌, ◌≤◌, ◌<◌}
 use native.Mathlib.Omega.{arith}
 use mathlib.Core.Path.{◌≡◌, refl, sym, ap, ◌∙◌}
@@ -15,7 +15,7 @@ use Rattle.text.proofs.Laws.Tests.{bool_cases}
 use Rattle.sheet.specs.Rows.{Ten, Row, ten, row, unpack_row, filled}
 use Rattle.sheet.specs.Lengths.{sheet_lengths, lengths_of, good_lengths}
 use Rattle.sheet.specs.Limits.{text_limit}
-use Rattle.sheet.specs.Calls.{sheet}
+use Rattle.sheet.specs.Calls.{sheet, answered}
 use Rattle.sheet.specs.Form.{words}
 use Rattle.buffer.proofs.Laws.Middle.{drop-filled}
 use Rattle.xsd_types.specs.Types.{Schema}
@@ -36,7 +36,6 @@ use Rattle.xsd_written.specs.Schema.{schema_text}
 use Rattle.xsd_written.specs.ByRows.{schema_by_rows}
 use Rattle.xsd_written.specs.Call.{Wrote, holds, unheld_from, first_unheld, unchanged, zeroed, written, unheld_or_written, write_state, write_back}
 use Rattle.xsd_written.proofs.Laws.ByRows.{schema-by-rows}
-use Rattle.xsd_write.specs.declared.held.Unheld.{Unheld}
 use Rattle.xsd_write.specs.Puts.{Puts}
 use Rattle.xsd_write.specs.Texts.{schema_rows}
 use Rattle.xsd_write.specs.Steps.{wrote, unheld_of, held_or_not, finished}
@@ -50,9 +49,9 @@ module _ {t : Text} {o : List ℕ} {r : ℕ} {o' : List ℕ} (p : Puts t 0 o r o
       (λ k. let fit : 0 + length t ≤ length o = omega (arith, leb-true (length t) (length o) k) in absurd (omega (arith, (p.fits fit).0)))
       (λ k. k)
 
-  pub written-short : {after : List ℕ} → length o < r → after ≡ filled (length o') [] → wrote 23 0 after ≡ written t (length o)
+  pub written-short : {after : List ℕ} → length o < r → after ≡ filled (length o') [] → wrote (answered 23 0) after ≡ written t (length o)
   unfolding written zeroed
-  written-short h e = rw (short h) (λ i. wrote 23 0 ((e ∙ ap (λ (n : ℕ). filled n []) p.kept) i))
+  written-short h e = rw (short h) (λ i. wrote (answered 23 0) ((e ∙ ap (λ (n : ℕ). filled n []) p.kept) i))
 
   room : r ≤ length o → 0 + length t ≤ length o
   room h =
@@ -66,31 +65,31 @@ module _ {t : Text} {o : List ℕ} {r : ℕ} {o' : List ℕ} (p : Puts t 0 o r o
       let n : 0 + length t ≡ length t = omega arith in
       sets-eq t o 0 k ∙ ap (λ (m : ℕ). t ++ drop m o) n ∙ ap (λ (l : List ℕ). t ++ l) (ap (drop (length t)) z ∙ drop-filled (length o) (length t) [] (omega arith))
 
-  pub written-whole : r ≤ length o → o ≡ filled (length o) [] → wrote 0 r o' ≡ written t (length o)
+  pub written-whole : r ≤ length o → o ≡ filled (length o) [] → wrote (answered 0 r) o' ≡ written t (length o)
   unfolding written
   written-whole h z =
       let k = room h in
       let f = p.fits k in
       let n : 0 + length t ≡ length t = omega arith in
-      rw (le-leb (length t) (length o) (omega (arith, k))) (λ i. wrote 0 ((f.0 ∙ n) i) ((f.1 ∙ over k z) i))
+      rw (le-leb (length t) (length o) (omega (arith, k))) (λ i. wrote (answered 0 ((f.0 ∙ n) i)) ((f.1 ∙ over k z) i))
 
 -- ---- 12 and 22
 
-pub finished-rootless : (root : Bool) (o : Option ℕ) (t : Text) (lent : ℕ) {after : List ℕ} → root ≡ false → after ≡ filled lent [] → wrote 12 0 after ≡ finished root o t lent
+pub finished-rootless : (root : Bool) (o : Option ℕ) (t : Text) (lent : ℕ) {after : List ℕ} → root ≡ false → after ≡ filled lent [] → wrote (answered 12 0) after ≡ finished root o t lent
 unfolding finished zeroed
-finished-rootless root o t lent r z = rw r (λ i. wrote 12 0 (z i))
+finished-rootless root o t lent r z = rw r (λ i. wrote (answered 12 0) (z i))
 
-module _ (root : Bool) (o : Option ℕ) (t : Text) (lent : ℕ) (u : Unheld) (r : root ≡ true) (e : unheld_of u ≡ o) where
-  judged : (v : Unheld) → u ≡ v → held_or_not (unheld_of v) t lent ≡ finished root o t lent
+module _ (root : Bool) (o : Option ℕ) (t : Text) (lent : ℕ) (u : Answered ℕ) (r : root ≡ true) (e : unheld_of u ≡ o) where
+  judged : (v : Answered ℕ) → u ≡ v → held_or_not (unheld_of v) t lent ≡ finished root o t lent
   unfolding finished
   judged v q = rw r (ap (λ (x : Option ℕ). held_or_not x t lent) (sym (ap unheld_of q) ∙ e))
 
-  pub finished-unheld : {place : ℕ} {after : List ℕ} → u ≡ Unheld.At place → after ≡ filled lent [] → wrote 22 place after ≡ finished root o t lent
+  pub finished-unheld : {place : ℕ} {after : List ℕ} → u ≡ Some place → after ≡ filled lent [] → wrote (answered 22 place) after ≡ finished root o t lent
   unfolding zeroed
-  finished-unheld {place} q z = (λ i. wrote 22 place (z i)) ∙ judged (Unheld.At place) q
+  finished-unheld {place} q z = (λ i. wrote (answered 22 place) (z i)) ∙ judged (Some place) q
 
-  pub finished-held : (n : ℕ) {w : Wrote} → u ≡ Unheld.Nothing → n ≡ lent → w ≡ written t n → w ≡ finished root o t lent
-  finished-held n q l w = w ∙ ap (written t) l ∙ judged Unheld.Nothing q
+  pub finished-held : (n : ℕ) {w : Wrote} → u ≡ None → n ≡ lent → w ≡ written t n → w ≡ finished root o t lent
+  finished-held n q l w = w ∙ ap (written t) l ∙ judged None q
 
 -- ---- the state
 
@@ -179,11 +178,11 @@ abbrev pub write_lengths : List ℕ → List ℕ → List ℕ → Bool
 write_lengths rows names text = sheet_lengths (length rows) (length names) && leb (length text) text_limit
 
 module _ (rows names text : List ℕ) where
-  pub write-one : write_lengths rows names text ≡ false → wrote 1 0 text ≡ write_back (sheet rows names) text
+  pub write-one : write_lengths rows names text ≡ false → wrote (answered 1 0) text ≡ write_back (sheet rows names) text
   unfolding write_back unchanged good_lengths lengths_of
   write-one f = rw f
 
-  pub write_two : write_lengths rows names text ≡ true → good (sheet rows names) ≡ false → wrote 2 0 text ≡ write_back (sheet rows names) text
+  pub write_two : write_lengths rows names text ≡ true → good (sheet rows names) ≡ false → wrote (answered 2 0) text ≡ write_back (sheet rows names) text
   unfolding write_back unchanged good_lengths lengths_of
   write_two t f = rw (t, f)
 

@@ -10,7 +10,8 @@ use borrow.Author.Tests.{leb-true, leb-false}
 use Rattle.text.specs.Text.{Text}
 use Rattle.text.proofs.Laws.Tests.{bool_cases}
 use Rattle.xml_text.proofs.Laws.Marks.{sets-append}
-use Rattle.xsd_write.specs.Puts.{Puts, Going}
+use Rattle.xsd_write.specs.Puts.{Puts, Writes, Going}
+use Rattle.xsd_write.specs.declared.put.Writer.{Writer}
 
 module _ {t u : Text} {at : ℕ} {o : List ℕ} {r : ℕ} {o' : List ℕ} {q : ℕ} {o'' : List ℕ} (p : Puts t at o r o') (k : Puts u r o' q o'') where
   both-fit : at + length (t ++ u) ≤ length o → (q ≡ at + length (t ++ u)) × (o'' ≡ sets o at (t ++ u))
@@ -30,15 +31,22 @@ module _ {t u : Text} {at : ℕ} {o : List ℕ} {r : ℕ} {o' : List ℕ} {q : �
   pub puts_then : Puts (t ++ u) at o q o''
   puts_then = record { kept = k.kept ∙ p.kept; fits = both-fit; past = one-past }
 
-pub puts_none : (at : ℕ) (o : List ℕ) → Puts [] at o at o
-puts_none at o = record { kept = refl; fits = λ h. (omega arith, refl); past = λ h. omega arith }
+pub writes_then : {t u : Text} {v w x : Writer} → Writes t v w → Writes u w x → Writes (t ++ u) v x
+writes_then p k = record { same = k.same ∙ p.same; puts = puts_then p.puts k.puts }
+
+-- what the buffer holds once the writer is gone
+pub writes_back : {t : Text} {v w : Writer} {out : List ℕ} → Writes t v w → (v.out.ghost_name ≡ w.out.ghost_name → out ≡ w.out.now) → Puts t v.at v.out.now w.at out
+writes_back p e = rw (e (sym p.same)) p.puts
+
+pub writes_none : (w : Writer) → Writes [] w w
+writes_none w = record { same = refl; puts = record { kept = refl; fits = λ h. (omega arith, refl); past = λ h. omega arith } }
 
 -- ---- on and on
 
-pub going_start : (all : Text) (at : ℕ) (o : List ℕ) → Going all at o all at o
-going_start all at o = record { kept = refl; on = λ r after p. p }
+pub going_start : (all : Text) (w : Writer) → Going all w all w
+going_start all w = record { on = λ after p. p }
 
-pub going_step : {all : Text} {at₀ : ℕ} {o₀ : List ℕ} {rest : Text} {at : ℕ} {o : List ℕ} (x y : Text) {r : ℕ} {o' : List ℕ} → Going all at₀ o₀ rest at o → rest ≡ x ++ y
-    → Puts x at o r o' → Going all at₀ o₀ y r o'
+pub going_step : {all : Text} {start : Writer} {rest : Text} {here : Writer} (x y : Text) {next : Writer} → Going all start rest here → rest ≡ x ++ y
+    → Writes x here next → Going all start y next
 going_step x y g e p =
-    record { kept = p.kept ∙ g.kept; on = λ q after k. g.on q after (rw e (puts_then p k)) }
+    record { on = λ after k. g.on after (rw e (writes_then p k)) }

@@ -18,7 +18,8 @@ use Rattle.xsd_types.specs.Places.{row_at, rows_from}
 use Rattle.xsd_types.proofs.Laws.Places.{rows_from-cons, rows_from-end}
 use Rattle.xsd_written.specs.Decimal.{decimal}
 use Rattle.xsd_written.specs.ByRows.{attribute_text, empty_text, named_text, complex_text, head_text, facet_word_text, facet_value_text, max_occurs_text, occurs_text, use_text, child_text, close_text, rows_text}
-use Rattle.xsd_write.specs.Texts.{row_of, content_text, row_text}
+use Rattle.xsd_write.specs.declared.part.Row.{Row as Given}
+use Rattle.xsd_write.specs.Texts.{row_of, as_row, content_text, row_text}
 
 -- no text where no pair is used
 first-none : (n : ℕ) (x y z : Text) → n < 1 → get_or (take n (x ∷ y ∷ z ∷ [])) 0 [] ≡ []
@@ -75,14 +76,14 @@ row_read rows names place t e = ap (unpack_row used_pairs names) e
 
 module _ (rows names : List ℕ) where
   -- what is left to be put is the row at hand, and those behind it
-  pub rest-on : (t : Numbers) (place end pending next : ℕ) → as_ten t ≡ ten (drop (10 * place) rows) → place < end → next ≡ head_after pending t.tag
-      → rows_text pending (rows_from rows names place end) ≡ row_text pending (row_of names t) ++ rows_text next (rows_from rows names (place + 1) end)
+  pub rest-on : (r : Given) (place end pending next : ℕ) → as_row r ≡ row_at rows names place → place < end → next ≡ head_after pending r.numbers.tag
+      → rows_text pending (rows_from rows names place end) ≡ row_text pending (as_row r) ++ rows_text next (rows_from rows names (place + 1) end)
   unfolding unpack_row
-  rest-on t place end pending next e h n =
+  rest-on r place end pending next e h n =
       let rest = rows_from rows names (place + 1) end in
-      ap (rows_text pending) (rows_from-cons rows names place end h ∙ ap (λ (r : Row). r ∷ rest) (sym (row_read rows names place t e)))
-      ∙ rows_on pending (row_of names t) rest
-      ∙ ap (λ (k : ℕ). row_text pending (row_of names t) ++ rows_text k rest) (sym n)
+      ap (rows_text pending) (rows_from-cons rows names place end h ∙ ap (λ (r : Row). r ∷ rest) (sym e))
+      ∙ rows_on pending (as_row r) rest
+      ∙ ap (λ (k : ℕ). row_text pending (as_row r) ++ rows_text k rest) (sym n)
 
   pub rest_end : (place end pending : ℕ) → end ≤ place → rows_text pending (rows_from rows names place end) ≡ close_text pending
   unfolding rows_text

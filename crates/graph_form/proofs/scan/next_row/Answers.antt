@@ -2,7 +2,7 @@
 use Rattle.ir_types.specs.Form.{used_pairs}
 use Rattle.rows.specs.Ten.{as_ten}
 use Rattle.graph_form.specs.Scan.{next_row}
-use Rattle.graph_form.proofs.Laws.Scan.{next-passes}
+use Rattle.graph_form.proofs.Laws.Scan.{next-passes, from-bit}
 use Rattle.graph_form.proofs.scan.next_row.Goals as goal
 
 pub returns-then-form-row_covers : goal.returns-then-form-row_covers
@@ -11,7 +11,7 @@ returns-then-form-row_covers c =
     let a = c.args in
     let e = next-passes a.limit a.s (as_ten a.t) c.row_form.ensures c.may_follow.ensures
     (c.row_covers.ensures used_pairs c.used_pairs.ensures) c.end_of-end.ensures c.wide.ensures c.if-form-row_covers.true in
-    rw (e, c.end_of-end.ensures, c.head_after.ensures, c.counted.ensures, c.counted-then-form-row_covers.ensures, c.is_type.ensures)
+    rw (e, c.end_of-end.ensures, c.head_after.ensures, from-bit _ c.from.ensures, from-bit _ c.from-then-form-row_covers.ensures, c.is_type.ensures)
 
 pub returns-else-form-row_covers : goal.returns-else-form-row_covers
 unfolding next_row
@@ -19,4 +19,4 @@ returns-else-form-row_covers c =
     let a = c.args in
     let e = next-passes a.limit a.s (as_ten a.t) c.row_form.ensures c.may_follow.ensures
     (c.row_covers.ensures used_pairs c.used_pairs.ensures) c.end_of-end.ensures c.wide.ensures c.if-form-row_covers.false in
-    rw e c.failed.ensures
+    rw e

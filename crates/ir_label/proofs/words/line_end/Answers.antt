@@ -1,24 +1,14 @@
--- `ir_label::words::line_end` meets its contract. The loop's invariant: the bytes passed and the first word of what is left are the first word.
--- The measure is how much is left. Assumes nothing.
-use mathlib.Core.Path.{refl}
-use native.Mathlib.Numerals.{add-one}
-use native.Mathlib.Omega.{arith}
-use Rattle.ir_label.proofs.Laws.Lines.{line-hit, line_on, line-end}
+-- `ir_label::words::line_end` meets its contract. Assumes nothing.
+use Rattle.std.proofs.Common.{◌+◌, drop, ap, ◌∙◌, arith, length-drop}
+use Rattle.text.proofs.Laws.Table.{part-from}
+use Rattle.ir_label.specs.Lines.{line_length}
+use Rattle.ir_label.proofs.Laws.Lines.{line-bound}
 use Rattle.ir_label.proofs.words.line_end.Goals as goal
 
-pub loop-i-init : goal.loop-i-init
-loop-i-init c = (c.requires, refl)
-
-pub returns-then-words-i-eq10 : goal.returns-then-words-i-eq10
-returns-then-words-i-eq10 c =
-    let l = line-hit c.args.words.now c.loop-i.i c.loop-i-test.true c.if-words-i-eq10.true in
-    omega (arith, l, c.loop-i.invariant.1)
-
-pub loop-i-preserved : goal.loop-i-preserved
-loop-i-preserved c =
-    let l = line_on c.args.words.now c.loop-i.i c.loop-i-test.true c.if-words-i-eq10.false in
-    (omega arith, rw add-one (omega (arith, l, c.loop-i.invariant.1)))
+pub overflow_add-result : goal.overflow_add-result
+overflow_add-result c =
+    let rest = c.line_length.ensures ∙ ap line_length (part-from c.args.words.now c.args.at) in
+    omega (arith, rest, line-bound (drop c.args.at c.args.words.now), length-drop c.args.at c.args.words.now)
 
 pub returns : goal.returns
-returns c =
-    omega (arith, line-end c.args.words.now c.loop-i.i c.loop-i-test.false, c.loop-i.invariant.1)
+returns c = ap (λ n. c.args.at + n) (c.line_length.ensures ∙ ap line_length (part-from c.args.words.now c.args.at))

@@ -11,17 +11,11 @@ pub put_targets-requires : goal.put_targets-requires
 put_targets-requires c =
     let g = c.requires.0 in (
       c.requires.1,
-      rows_inside_lem g,
       g.few,
       omega (arith, rows_inside_lem g, g.few, length-replicate {A = ℕ} 4096 0),
       omega (arith, at_least g),
       targets-start _ _ _ 4096,
     )
-
-pub mark-n-requires : goal.mark-n-requires
-mark-n-requires c =
-    let long = ap length c.requires.2 ∙ length-replicate {A = ℕ} 4096 0 in
-    (omega (arith, long), omega (arith, long), λ z. omega (arith, length-replicate {A = ℕ} 4096 0))
 
 pub mark_all-requires : goal.mark_all-requires
 mark_all-requires c =
@@ -33,7 +27,6 @@ mark_all-requires c =
           (c.put_targets.ensures.to_len_unchanged ∙ length-replicate {A = ℕ} 4096 0)
           (rw c.requires.2 at
           c.mark-n.ensures) (omega (arith, long, c.mark-n.auto)),
-      rows_inside_lem g,
       omega (arith, rows_inside_lem g, g.few),
     )
 

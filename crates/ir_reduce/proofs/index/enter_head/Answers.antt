@@ -8,24 +8,16 @@ use Rattle.ir_reduce.proofs.index.enter_head.Goals as goal
 pub returns-then-not-is_type : goal.returns-then-not-is_type
 unfolding head_at
 returns-then-not-is_type c = head-none c.requires.index c.args.place
-    (ap is_type_tag (sym c.row_tag.ensures) ∙ sym c.is_type.ensures ∙ c.if-not-is_type.true)
+    (ap is_type_tag (sym c.tag.ensures) ∙ sym c.is_type.ensures ∙ c.if-not-is_type.true)
 
-pub returns-then-enter-ne0 : goal.returns-then-enter-ne0
+pub returns-then-is_some : goal.returns-then-is_some
 unfolding head_at
-returns-then-enter-ne0 c = head-old c.requires.index
-    c.args.place c.enter.ensures c.if-enter-ne0.true
-    (ap is_type_tag (sym c.row_tag.ensures)
-    ∙ sym c.is_type.ensures ∙ c.if-not-is_type.false)
+returns-then-is_some c = head-old c.requires.index
+    c.args.place c.enter.ensures (sym c.is_some.ensures ∙ c.if-is_some.true)
+    (ap is_type_tag (sym c.tag.ensures) ∙ sym c.is_type.ensures ∙ c.if-not-is_type.false)
 
 pub returns : goal.returns
 unfolding head_at
 returns c = head-new c.requires.index
-    c.args.place c.enter.ensures c.if-enter-ne0.false
-    (ap is_type_tag (sym c.row_tag.ensures)
-    ∙ sym c.is_type.ensures ∙ c.if-not-is_type.false)
-
-pub enter-requires : goal.enter-requires
-enter-requires c = record {
-  index = c.requires.index;
-  entering = record { above = c.requires.place_nonzero.0; inside = c.requires.place_nonzero.1; small = c.requires.place_nonzero.2; room = c.requires.place_nonzero.3 };
-}
+    c.args.place c.enter.ensures (sym c.is_some.ensures ∙ c.if-is_some.false)
+    (ap is_type_tag (sym c.tag.ensures) ∙ sym c.is_type.ensures ∙ c.if-not-is_type.false)

@@ -3,17 +3,17 @@ use native.Mathlib.Omega.{arith}
 use Rattle.ir_reduce.proofs.Laws.Index.{asked-at-most, target_none, target-some}
 use Rattle.ir_reduce.proofs.index.target_at.Goals as goal
 
-pub returns-then-k-eq0 : goal.returns-then-k-eq0
-returns-then-k-eq0 c = target_none _ _ _ _ c.asked_pair-k.ensures c.if-k-eq0.true
+pub returns-in_err-pair : goal.returns-in_err-pair
+returns-in_err-pair c = rw c.from_residual.ensures (target_none _ _ _ _ c.in_err-pair.ensures)
 
 pub overflow_add-i-2 : goal.overflow_add-i-2
-overflow_add-i-2 c = omega (arith, asked-at-most _ _ c.asked_pair-k.ensures)
+overflow_add-i-2 c = omega (arith, asked-at-most _ _ c.in_ok-pair.ensures)
 
-pub pair_text-asked-requires : goal.pair_text-asked-requires
-pair_text-asked-requires c = omega (arith, asked-at-most _ _ c.asked_pair-k.ensures, c.requires.1)
+pub pair_text-requires : goal.pair_text-requires
+pair_text-requires c = omega (arith, asked-at-most _ _ c.in_ok-pair.ensures, c.requires.1)
 
 pub returns : goal.returns
 returns c =
     let a = c.args in
-    rw (target-some a.rows.now a.names.now _ a.place c.asked_pair-k.ensures c.if-k-eq0.false)
-    (rw c.pair_text-asked.ensures at c.find.ensures)
+    rw (target-some a.part.now.rows.now a.part.now.names.now _ a.place c.in_ok-pair.ensures)
+    (rw c.pair_text.ensures at c.find.ensures)

@@ -16,23 +16,23 @@ use Rattle.ir_reduce.proofs.write.append_same.Goals as goal
 pub returns-then-graph_rows-n : goal.returns-then-graph_rows-n
 returns-then-graph_rows-n c =
     let a = c.args in
-    short-rows (row_at a.rows.now a.names.now a.place) c.if-graph_rows-n.true
+    short-rows (row_at a.part.now.rows.now a.part.now.names.now a.place) c.if-graph_rows-n.true
 
 pub returns-then-graph_names-at : goal.returns-then-graph_names-at
 returns-then-graph_names-at c =
     let a = c.args in
-    let size = bytes-length a.rows.now a.names.now a.place c.requires.1 in
-    let read = c.bytes_of-size.ensures ∙ ap bytes_of c.ten_at-t.ensures in
-    short-names (row_at a.rows.now a.names.now a.place) refl (omega (arith, size, read, c.if-graph_names-at.true))
+    let size = bytes-length a.part.now.rows.now a.part.now.names.now a.place c.requires.1 in
+    let read = c.bytes_of-size.ensures ∙ ap bytes_of c.ten-t.ensures in
+    short-names (row_at a.part.now.rows.now a.part.now.names.now a.place) refl (omega (arith, size, read, c.if-graph_names-at.true))
 
 pub copy_text-requires : goal.copy_text-requires
 copy_text-requires c =
     let a = c.args in
     let s = c.requires.1 in
-    let read = c.bytes_of-size.ensures ∙ ap bytes_of c.ten_at-t.ensures in
-    let start = c.wide.ensures ∙ ap (λ (t : Ten). t.at0) c.ten_at-t.ensures in
+    let read = c.bytes_of-size.ensures ∙ ap bytes_of c.ten-t.ensures in
+    let start = c.wide.ensures ∙ ap (λ (t : Ten). t.at0) c.ten-t.ensures in
     let part = rw (read, start) at c.part_of.ensures in
-    let long = ap length (part ∙ part-whole a.rows.now a.names.now a.place s) ∙ bytes-length a.rows.now a.names.now a.place s in
+    let long = ap length (part ∙ part-whole a.part.now.rows.now a.part.now.names.now a.place s) ∙ bytes-length a.part.now.rows.now a.part.now.names.now a.place s in
     omega (arith, long, read, c.if-graph_names-at.false, c.requires.0.names_inside)
 
 pub moved_row-row-requires : goal.moved_row-row-requires
@@ -48,18 +48,18 @@ pub returns : goal.returns
 returns c =
     let a = c.args in
     let s = c.requires.1 in
-    let r = row_at a.rows.now a.names.now a.place in
-    let ten = c.ten_at-t.ensures in
+    let r = row_at a.part.now.rows.now a.part.now.names.now a.place in
+    let ten = c.ten-t.ensures in
     let read = c.bytes_of-size.ensures ∙ ap bytes_of ten in
     let start = c.wide.ensures ∙ ap (λ (t : Ten). t.at0) ten in
     let part = rw (read, start) at c.part_of.ensures in
-    let whole = part ∙ part-whole a.rows.now a.names.now a.place s in
-    let bytes = bytes-length a.rows.now a.names.now a.place s in
+    let whole = part ∙ part-whole a.part.now.rows.now a.part.now.names.now a.place s in
+    let bytes = bytes-length a.part.now.rows.now a.part.now.names.now a.place s in
     let numbers = c.moved_row-row.ensures
     ∙ ap (λ (u : ℕ). moved_numbers (as_ten
-    c.ten_at-t.result) u a.used.names)
+    c.ten-t.result) u a.used.names)
     c.used_pairs.ensures ∙ ap (λ (t : Ten). moved_numbers t (used_pairs t.tag t.a) a.used.names) ten
-    ∙ moved-numbers a.rows.now a.names.now a.place s a.used.names in
+    ∙ moved-numbers a.part.now.rows.now a.part.now.names.now a.place s a.used.names in
     grown-one r _ (omega (arith, c.if-graph_rows-n.false))
     (omega (
       arith,

@@ -1,17 +1,16 @@
 -- `lubiksan::label::lubiksan_label` meets its contract: it stores what was found, field by field. Assumes nothing.
-use mathlib.Core.Path.{ap, ◌∙◌}
+use Rattle.std.proofs.Common.{refl, sym, ap, ◌∙◌}
 use Rattle.sheet.specs.Rows.{bit}
-use Rattle.ir_label.specs.Spot.{spot_of}
-use Rattle.ir_label.specs.declared.Spot.{Spot}
+use Rattle.sheet.specs.Returned.{refusal_number}
+use Rattle.ir_types.specs.Label.{Labelled, no_label}
 use Rattle.lubiksan.proofs.label.lubiksan_label.Goals as goal
 
-pub returns : goal.returns
-unfolding spot_of
-returns c =
-    let found = c.find_label-s.ensures in
-    record {
-      number = ap (λ (s : Spot). s.number) found;
-      in_words = c.bit_of.ensures ∙ ap (λ (s : Spot). bit s.in_words) found;
-      starts = ap (λ (s : Spot). s.at) found;
-      long = ap (λ (s : Spot). s.len) found;
-    }
+pub returns-in-Ok : goal.returns-in-Ok
+returns-in-Ok c =
+    let found = c.in-Ok.ensures in
+    record { number = sym found.number; in_words = c.bit_of.ensures ∙ sym (ap bit found.in_words); starts = sym found.at; long = sym found.len }
+
+pub returns-in-Err : goal.returns-in-Err
+unfolding no_label bit
+returns-in-Err c =
+    rw c.in-Err.ensures.0 (record { number = c.from.ensures ∙ ap refusal_number c.in-Err.ensures.1; in_words = refl; starts = refl; long = refl })

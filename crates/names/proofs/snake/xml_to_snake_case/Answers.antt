@@ -1,5 +1,5 @@
 -- `names::snake::xml_to_snake_case` meets its contract. The loop's invariant: len bytes of the target are written, and the snake form of the name
--- from i on is what is still to be written. The measure is how much of the name is left. Assumes nothing.
+-- from i on is what is still to be written. Assumes nothing.
 use Prim.Native.Nat.{suc}
 use mathlib.Core.List.{◌∷◌}
 use mathlib.Core.Path.{◌≡◌, sym, ◌∙◌}
@@ -33,7 +33,7 @@ marked :
 marked c =
     let name = c.args.name.now in
     let i = c.loop-i.i in
-    let w = c.loop-i.invariant.1 in
+    let w = c.loop-i.invariant in
     ⊎_elim
     (λ v. rw (v.out-is, v.len-is) (writing_more (writing-as w (snake-marked c.loop-i.prev name i (omega arith) (starts c.before ∙ v.if-starts_word.true))) (omega (arith, writing-length w))))
     (λ v. rw (v.out-is, v.len-is) (writing-as w (snake-plain c.loop-i.prev name i (omega arith) (starts c.before ∙ v.if-starts_word.false))))
@@ -41,20 +41,20 @@ marked c =
 
 pub loop-i-init : goal.loop-i-init
 unfolding xml_to_snake_case
-loop-i-init c = (omega arith, writing_start _ _)
+loop-i-init c = writing_start _ _
 
 pub shape_of-out-then-out-len : goal.shape_of-out-then-out-len
-shape_of-out-then-out-len c = writing-length c.loop-i.invariant.1
+shape_of-out-then-out-len c = writing-length c.loop-i.invariant
 
 pub returns-then-out-len : goal.returns-then-out-len
 returns-then-out-len c =
     let name = c.args.name.now in
     let i = c.loop-i.i in
-    let w = c.loop-i.invariant.1 in
+    let w = c.loop-i.invariant in
     writing-full (writing-as w (snake-marked c.loop-i.prev name i (omega arith) (starts c.before.before.before ∙ c.if-starts_word.true))) (omega (arith, writing-length w))
 
 pub bounds-out-len : goal.bounds-out-len
-bounds-out-len c = omega (arith, writing-length c.loop-i.invariant.1)
+bounds-out-len c = omega (arith, writing-length c.loop-i.invariant)
 
 pub shape_of-out-then-out-len-2 : goal.shape_of-out-then-out-len-2
 shape_of-out-then-out-len-2 c = writing-length (marked c.before.before)
@@ -71,12 +71,12 @@ overflow_add-len-in-loop-i c = omega (arith, writing-length (marked c.before.bef
 pub loop-i-preserved : goal.loop-i-preserved
 loop-i-preserved c =
     let w = marked c.before.before.before.before in
-    (omega arith, rw (c.to_lower.ensures, add-one c.loop-i.i) (writing_more w (omega (arith, writing-length w))))
+    rw (c.to_lower.ensures, add-one c.loop-i.i) (writing_more w (omega (arith, writing-length w)))
 
 pub shape_of-out : goal.shape_of-out
-shape_of-out c = writing-length c.loop-i.invariant.1
+shape_of-out c = writing-length c.loop-i.invariant
 
 pub returns : goal.returns
 returns c =
     let a = c.args in
-    writing-end (writing-as c.loop-i.invariant.1 (snake-end c.loop-i.prev a.name.now c.loop-i.i (omega arith)))
+    writing-end (writing-as c.loop-i.invariant (snake-end c.loop-i.prev a.name.now c.loop-i.i (omega arith)))

@@ -2,11 +2,10 @@
 -- the scan goes on at i, inside the class. The measure is what is left. Assumes nothing.
 use borrow.Author.Tests.{ne_eqb}
 use native.Mathlib.Omega.{arith}
-use Prim.Native.Nat.{◌+◌}
 use mathlib.Core.Path.{refl, sym, ◌∙◌}
 use Rattle.pattern.specs.Scan.{Mode, go, step, final}
-use Rattle.pattern.specs.Answers.{is_bracket, any_byte}
-use Rattle.pattern.proofs.Laws.Places.{byte-to, end-at, goes, bad, opened-at, bracket-first}
+use Rattle.pattern.specs.Answers.{is_bracket}
+use Rattle.pattern.proofs.Laws.Places.{byte-to, end-at, opened-at, bracket-first}
 use Rattle.pattern.proofs.class.class_end.Goals as goal
 
 pub returns-then-byte_at-eq93 : goal.returns-then-byte_at-eq93
@@ -27,20 +26,15 @@ pub item-requires : goal.item-requires
 unfolding is_bracket
 item-requires c = (omega arith, ne_eqb _ 93 c.if-s-i-eq93.false)
 
-pub returns-in_default : goal.returns-in_default
-returns-in_default c =
-    let z = c.loop-i in
-    λ d. z.invariant.2 d ∙ bad _ Mode.class z.i Mode.class (z.i + 1) any_byte c.item.ensures c.in_default.is d
-
 pub loop-i-smaller : goal.loop-i-smaller
 loop-i-smaller c =
-    let g = goes c.item.ensures c.in-At.is in
+    let g = c.in_ok-i.ensures in
     omega (arith, g.onward, g.within)
 
 pub loop-i-preserved : goal.loop-i-preserved
 loop-i-preserved c =
     let z = c.loop-i in
-    let g = goes c.item.ensures c.in-At.is in
+    let g = c.in_ok-i.ensures in
     (omega (arith, g.onward), g.within, λ d. z.invariant.2 d ∙ g.reads d)
 
 pub returns : goal.returns

@@ -17,23 +17,24 @@ closing : (b : ℕ) → is_close b ≡ true → b ≡ 41
 unfolding is_close
 closing b e = eqb-true b 41 e
 
-pub atom-returns-in_default : goal.atom-returns-in_default
+pub atom-returns-in_err-e : goal.atom-returns-in_err-e
 unfolding step fresh
-atom-returns-in_default t c = λ d. byte-to (go d start) c.args.s.now c.args.at 40 c.requires.0 c.if-b-eq40.true refl ∙ c.in_default.ensures (suc d)
+atom-returns-in_err-e t c =
+    rw c.from_residual.ensures (λ d. byte-to (go d start) c.args.s.now c.args.at 40 c.requires.0 c.if-b-eq40.true refl ∙ c.in_err-e.ensures (suc d))
 
 pub atom-returns-then-s-e : goal.atom-returns-then-s-e
 unfolding step fresh
 atom-returns-then-s-e t c =
     let s = c.args.s.now in
-    λ d. byte-to (go d start) s c.args.at 40 c.requires.0 c.if-b-eq40.true refl ∙ c.in-At.ensures.reads (suc d)
-    ∙ end-at (go (suc d) start) s c.in-At.e c.if-s-e.true ∙ open-final d
+    λ d. byte-to (go d start) s c.args.at 40 c.requires.0 c.if-b-eq40.true refl ∙ c.in_ok-e.ensures.reads (suc d)
+    ∙ end-at (go (suc d) start) s c.in_ok-e.e c.if-s-e.true ∙ open-final d
 
 pub atom-returns-then-b-eq40 : goal.atom-returns-then-b-eq40
 unfolding step fresh leave
 atom-returns-then-b-eq40 t c =
     let s = c.args.s.now in
-    let g = c.in-At.ensures in
-    let e = c.in-At.e in
+    let g = c.in_ok-e.ensures in
+    let e = c.in_ok-e.e in
     record {
       onward = omega (arith, g.onward);
       within = omega arith;
@@ -102,7 +103,7 @@ branch-piece-requires t c = (omega arith, (omega arith, c.if-s-i.false))
 
 pub expression-returns-then-s-e-ne124 : goal.expression-returns-then-s-e-ne124
 expression-returns-then-s-e-ne124 t c =
-    let g = c.in_At-e.ensures in
+    let g = c.in_ok-e.ensures in
     record {
       onward = omega (arith, g.onward);
       within = g.within;
@@ -113,28 +114,28 @@ expression-returns-then-s-e-ne124 t c =
 pub expression-loop-e-preserved : goal.expression-loop-e-preserved
 unfolding step fresh
 expression-loop-e-preserved t c =
-    let g = c.in_At-e.ensures in (
+    let g = c.in_ok-e.ensures in (
       omega (arith, g.onward),
       omega arith,
-      λ d. c.loop-e.invariant.2 d ∙ g.reads d ∙ byte-to (go d start) c.args.s.now c.in_At-e.e 124 c.if-s-e.false c.if-s-e-ne124.false refl,
+      λ d. c.loop-e.invariant.2 d ∙ g.reads d ∙ byte-to (go d start) c.args.s.now c.in_ok-e.e 124 c.if-s-e.false c.if-s-e-ne124.false refl,
     )
 
 pub piece-returns-then-s-e : goal.piece-returns-then-s-e
 piece-returns-then-s-e t c =
-    let g = c.in-At.ensures in
-    record { onward = g.onward; within = g.within; stops = λ _. refl; reads = λ d. g.reads d ∙ unmarked-end d c.args.s.now c.in-At.e c.if-s-e.true }
+    let g = c.in_ok-e.ensures in
+    record { onward = g.onward; within = g.within; stops = λ _. refl; reads = λ d. g.reads d ∙ unmarked-end d c.args.s.now c.in_ok-e.e c.if-s-e.true }
 
 pub piece-returns-then-is_mark : goal.piece-returns-then-is_mark
 piece-returns-then-is_mark t c =
-    let g = c.in-At.ensures in
+    let g = c.in_ok-e.ensures in
     record {
       onward = omega (arith, g.onward);
       within = omega arith;
       stops = λ _. refl;
-      reads = λ d. g.reads d ∙ mark-at d c.args.s.now c.in-At.e c.if-s-e.false (sym c.is_mark.ensures ∙ c.if-is_mark.true);
+      reads = λ d. g.reads d ∙ mark-at d c.args.s.now c.in_ok-e.e c.if-s-e.false (sym c.is_mark.ensures ∙ c.if-is_mark.true);
     }
 
 pub piece-returns-else-is_mark : goal.piece-returns-else-is_mark
 piece-returns-else-is_mark t c =
-    let g = c.in-At.ensures in
-    record { onward = g.onward; within = g.within; stops = λ _. refl; reads = λ d. g.reads d ∙ unmarked-at d c.args.s.now c.in-At.e (sym c.is_mark.ensures ∙ c.if-is_mark.false) }
+    let g = c.in_ok-e.ensures in
+    record { onward = g.onward; within = g.within; stops = λ _. refl; reads = λ d. g.reads d ∙ unmarked-at d c.args.s.now c.in_ok-e.e (sym c.is_mark.ensures ∙ c.if-is_mark.false) }

@@ -9,7 +9,7 @@ use Rattle.text.specs.Text.{Text}
 use Rattle.pattern.specs.Grammar.{Derives, reg_exp}
 use Rattle.pattern.specs.Scan.{start, go, scan, step, fresh, leave, final}
 use Rattle.pattern.specs.Answers.{Goes, Judged, is_close}
-use Rattle.pattern.proofs.Laws.Places.{byte-to, stop-at, end-at, goes, bad}
+use Rattle.pattern.proofs.Laws.Places.{byte-to, stop-at, end-at}
 use Rattle.pattern.proofs.Laws.One.{derived-true}
 use Rattle.pattern.proofs.Laws.Sound.{scan-derived}
 use Rattle.pattern.proofs.expression.is_expression.Goals as goal
@@ -27,8 +27,8 @@ judged s e g = go_on (leb (length s) e) refl
         let h = leb-false (length s) e w in
         judged-false s (g.reads 0 ∙ byte-to (go 0 start) s e 41 h (eqb-true (get_or s e 0) 41 (g.stops h)) refl ∙ stop-at (drop (e + 1) s))
 
-pub returns-in_default : goal.returns-in_default
-returns-in_default c = judged-false c.args.s.now (bad _ start 0 start 0 is_close c.expression.ensures c.in_default.is 0)
+pub returns-in-None : goal.returns-in-None
+returns-in-None c = judged-false c.args.s.now (c.in-None.ensures 0)
 
-pub returns : goal.returns
-returns c = judged _ _ (goes c.expression.ensures c.in-At.is)
+pub returns-in-Some : goal.returns-in-Some
+returns-in-Some c = judged _ _ c.in-Some.ensures

@@ -1,5 +1,6 @@
 -- `replay::records::put_value` meets its contract: the record was read. Assumes nothing.
-use mathlib.Core.Path.{subst}
+use Rattle.std.specs.Prelude.{Ok}
+use mathlib.Core.Path.{ap, subst, ◌∙◌}
 use Rattle.tape.specs.Answers.{IsPlaced}
 use Rattle.replay.proofs.records.put_value.Goals as goal
 
@@ -7,4 +8,4 @@ pub put_tag_value-requires : goal.put_tag_value-requires
 unfolding IsPlaced
 put_tag_value-requires c =
     let a = c.args in
-    subst (IsPlaced a.text.now a.marks.now 0) c.in-Event.is c.read_at.ensures.places
+    subst (IsPlaced a.text.now a.marks.now 0) (c.in-Ok-Some.is ∙ ap Ok c.in-Ok-Some.field-0-is) c.read_at.ensures.places

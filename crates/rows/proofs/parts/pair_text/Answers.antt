@@ -4,4 +4,4 @@ use Rattle.rows.proofs.parts.pair_text.Goals as goal
 
 pub returns : goal.returns
 unfolding text_at
-returns c = rw (c.part_of.ensures, c.wide-len.ensures, c.wide-at.ensures)
+returns c = rw (c.part_of.ensures, c.pair_at-pair.ensures.0, c.pair_at-pair.ensures.1)

@@ -20,7 +20,7 @@ unfolding seen_at seen key_words
 returns c =
     let a = c.args in
     let t = tag_at a.text.now a.marks.now a.pairs a.count in
-    let p = c.find_places-places.ensures in
+    let p = c.find_places.ensures in
     let word = c.word_under-word.ensures ∙ ap (λ (l : Text). word_of (local_name l)) (sym (tag-name a.text.now a.marks.now a.pairs a.count)) in
     rw (
       word,
@@ -34,30 +34,3 @@ returns c =
       place-value t "namespace" p 7 (omega arith) refl,
       place-value t "targetNamespace" p 8 (omega arith) refl,
     )
-
-pub bounds-places-0 : goal.bounds-places-0
-bounds-places-0 c = omega (arith, c.find_places-places.ensures.many)
-
-pub bounds-places-1 : goal.bounds-places-1
-bounds-places-1 c = omega (arith, c.find_places-places.ensures.many)
-
-pub bounds-places-2 : goal.bounds-places-2
-bounds-places-2 c = omega (arith, c.find_places-places.ensures.many)
-
-pub bounds-places-3 : goal.bounds-places-3
-bounds-places-3 c = omega (arith, c.find_places-places.ensures.many)
-
-pub bounds-places-4 : goal.bounds-places-4
-bounds-places-4 c = omega (arith, c.find_places-places.ensures.many)
-
-pub bounds-places-5 : goal.bounds-places-5
-bounds-places-5 c = omega (arith, c.find_places-places.ensures.many)
-
-pub bounds-places-6 : goal.bounds-places-6
-bounds-places-6 c = omega (arith, c.find_places-places.ensures.many)
-
-pub bounds-places-7 : goal.bounds-places-7
-bounds-places-7 c = omega (arith, c.find_places-places.ensures.many)
-
-pub bounds-places-8 : goal.bounds-places-8
-bounds-places-8 c = omega (arith, c.find_places-places.ensures.many)

@@ -1,17 +1,14 @@
 -- `tape::words::eleven_word` meets its contract: the four words of the length are compared. Assumes nothing.
-use mathlib.Core.Path.{sym, ◌∙◌}
-use Rattle.text.specs.Text.{bytes}
-use Rattle.xsd_parser.specs.Words.{found, known_words}
-use Rattle.tape.specs.Keys.{numbered, word_texts}
-use Rattle.tape.proofs.Laws.Words.{sized, word-sized}
+use mathlib.Core.Path.{refl, ◌∙◌}
+use Rattle.text.specs.Text.{bytes, every}
+use Rattle.xsd_parser.specs.Words.{known_words}
+use Rattle.tape.proofs.Laws.Words.{sized, word-sized, found-then}
 use Rattle.tape.proofs.words.eleven_word.Goals as goal
 
-pub returns-then-same_text : goal.returns-then-same_text
-unfolding word_texts known_words numbered sized bytes found
-returns-then-same_text c =
-    rw (← word-sized c.args.name.now c.requires, sym c.same_text.ensures ∙ c.if-same_text.true)
-
 pub returns : goal.returns
-unfolding word_texts known_words numbered sized bytes found
+unfolding known_words sized bytes every
 returns c =
-    rw (← word-sized c.args.name.now c.requires, sym c.same_text.ensures ∙ c.if-same_text.false) c.three.ensures
+    found-then _ _ _ c.or-3.ensures
+    (found-then _ _ _ c.or-2.ensures (found-then _ _ _ c.or.ensures c.value_if.ensures c.value_if-2.ensures refl) c.facet_if.ensures refl)
+    c.facet_if-2.ensures refl
+    ∙ word-sized c.args.name.now c.requires

@@ -6,7 +6,6 @@ use mathlib.Core.Path.{sym, ap, ◌∙◌}
 use lib.ListN.{length, drop, length-drop}
 use Rattle.xml.specs.Steps.{Step, ◌and_then◌}
 use Rattle.xml.specs.Prolog.{misc_behind, misc}
-use Rattle.xml_parts.proofs.Laws.Moved.{to-of, bad-of}
 use Rattle.xml.proofs.Laws.Moves.{misc-ahead, misc-bad, misc-stop, misc-on}
 use Rattle.xml_parts.proofs.prolog.misc.Goals as goal
 
@@ -16,23 +15,23 @@ loop-i-init c =
     let i = c.spaces-i.result in
     (suc (length (drop i c.args.text.now)), omega (arith, length-drop i c.args.text.now), ap (λ (d : Step). d and_then misc_behind) c.spaces-i.ensures)
 
-pub returns-in_default : goal.returns-in_default
-returns-in_default c =
-    sym (misc-bad c.loop-i.invariant.0 c.loop-i.i _ (sym c.is_misc.ensures ∙ c.loop-i-test.true) (bad-of c.args.text.now c.in_default.is
-    c.misc_part.ensures)) ∙ c.loop-i.invariant.2
+pub returns-in_err-behind : goal.returns-in_err-behind
+returns-in_err-behind c =
+    rw c.from_residual.ensures
+    (sym (misc-bad c.loop-i.invariant.0 c.loop-i.i _ (sym c.is_misc.ensures ∙ c.loop-i-test.true) (sym c.in_err-behind.ensures)) ∙ c.loop-i.invariant.2)
 
 pub loop-i-smaller : goal.loop-i-smaller
 loop-i-smaller c =
     omega (
       arith,
       misc-ahead c.args.text.now c.loop-i.i _ _ (sym c.is_misc.ensures ∙ c.loop-i-test.true)
-          (to-of c.args.text.now c.in-To.is c.misc_part.ensures) (sym c.spaces-i-in-loop-i.ensures),
+          (sym c.in_ok-behind.ensures) (sym c.spaces-i-in-loop-i.ensures),
     )
 
 pub loop-i-preserved : goal.loop-i-preserved
 loop-i-preserved c =
     misc-on c.args.text.now c.loop-i.invariant.0 c.loop-i.i _ _ _ c.loop-i.invariant.1 (sym c.is_misc.ensures ∙ c.loop-i-test.true)
-    (to-of c.args.text.now c.in-To.is c.misc_part.ensures) (sym c.spaces-i-in-loop-i.ensures) c.loop-i.invariant.2
+    (sym c.in_ok-behind.ensures) (sym c.spaces-i-in-loop-i.ensures) c.loop-i.invariant.2
 
 pub returns : goal.returns
 returns c =

@@ -1,30 +1,42 @@
--- `xml_parts::prolog::quoted` meets its contract: the quote decides. Assumes nothing.
-use native.Mathlib.Omega.{arith}
-use mathlib.Core.Path.{sym, ◌∙◌}
+-- `xml_parts::prolog::quoted` meets its contract: a quote, what stands between, and the same quote. Assumes nothing.
+use mathlib.Core.Path.{sym, ap, ◌∙◌}
+use native.Mathlib.Nat.{le_refl}
 use native.Mathlib.Numerals.{add-one}
+use Rattle.xml.specs.Values.{is_quote}
 use Rattle.xml_parts.specs.Answers.{body_of}
-use Rattle.xml_parts.proofs.Laws.Moved.{to-of, bad-of}
 use Rattle.xml.proofs.Laws.Prolog.{quoted-past, quoted-wrong, quoted-on}
 use Rattle.xml_parts.proofs.prolog.quoted.Goals as goal
 
-pub returns-then-text-at : goal.returns-then-text-at
-returns-then-text-at c =
+pub returns-in_err-quote : goal.returns-in_err-quote
+returns-in_err-quote c =
     let a = c.args in
-    sym (quoted-past (body_of a.inner) a.text.now a.at a.at c.if-text-at.true)
+    rw c.from_residual.ensures (sym (quoted-past (body_of a.inner) a.text.now a.at a.at c.in_err-quote.ensures.lookup.3))
 
 pub returns-then-not-is_quote : goal.returns-then-not-is_quote
 returns-then-not-is_quote c =
     let a = c.args in
-    sym (quoted-wrong (body_of a.inner) a.text.now a.at a.at (omega arith) (sym c.is_quote.ensures ∙ c.if-not-is_quote.true))
+    let l = c.in_ok-quote.ensures.lookup in
+    sym (quoted-wrong (body_of a.inner) a.text.now a.at a.at l.3.0 (ap is_quote (sym (l.4 (le_refl a.at) 0)) ∙ sym c.is_quote.ensures ∙ c.if-not-is_quote.true))
 
-pub returns-in_default : goal.returns-in_default
-returns-in_default c =
+pub returns-in_err-end : goal.returns-in_err-end
+returns-in_err-end c =
     let a = c.args in
-    let b = rw (add-one a.at) at (bad-of c.args.text.now c.in_default.is c.body_end.ensures) in
-    rw (quoted-on (body_of a.inner) a.text.now a.at a.at (omega arith) (sym c.is_quote.ensures ∙ c.if-not-is_quote.false), b)
+    let l = c.in_ok-quote.ensures.lookup in
+    let b = rw (add-one a.at) at c.in_err-end.ensures in
+    rw (
+      c.from_residual-in_err-end.ensures,
+      quoted-on (body_of a.inner) a.text.now a.at a.at l.3.0
+          (ap is_quote (sym (l.4 (le_refl a.at) 0)) ∙ sym c.is_quote.ensures ∙ c.if-not-is_quote.false),
+      sym b,
+    )
 
 pub returns : goal.returns
 returns c =
     let a = c.args in
-    let b = rw (add-one a.at) at (to-of c.args.text.now c.in-To.is c.body_end.ensures) in
-    rw (quoted-on (body_of a.inner) a.text.now a.at a.at (omega arith) (sym c.is_quote.ensures ∙ c.if-not-is_quote.false), b) c.literal.ensures
+    let l = c.in_ok-quote.ensures.lookup in
+    let b = rw (add-one a.at) at c.in_ok-end.ensures in
+    rw (
+      quoted-on (body_of a.inner) a.text.now a.at a.at l.3.0 (ap is_quote (sym (l.4 (le_refl a.at) 0)) ∙ sym c.is_quote.ensures ∙ c.if-not-is_quote.false),
+      sym b,
+      sym (l.4 (le_refl a.at) 0),
+    ) c.literal.ensures

@@ -8,4 +8,4 @@ use Rattle.xml_parts.proofs.steps.comment_text.Goals as goal
 
 pub returns : goal.returns
 unfolding bytes
-returns c = c.until.ensures ∙ until-over c.skip_comment.ensures 45 (45 ∷ []) comment-run
+returns c = c.until.ensures ∙ until-over c.skip.ensures 45 (45 ∷ []) comment-run

@@ -1,13 +1,9 @@
--- `xml_parts::steps::many` meets its contract. The loop's invariant: the run from i on ends where the run from the start on ends. The measure is how much is left. Assumes nothing.
-use Prim.Native.Nat.{◌-◌}
+-- `xml_parts::steps::many` meets its contract. The loop's invariant: the run goes on where it does from the start. Assumes nothing.
 use mathlib.Core.Path.{◌≡◌}
-use lib.ListN.{length, drop}
+use lib.ListN.{drop}
 use Rattle.xml.specs.Steps.{many}
 use Rattle.xml_parts.specs.Answers.{class_of}
 use Rattle.xml_parts.proofs.steps.many.Given as goal
 
 abbrev pub invariant-loop-i : goal.invariant-loop-i
 invariant-loop-i l = many (class_of l.class) l.i (drop l.i l.text) ≡ many (class_of l.class) l.at (drop l.at l.text)
-
-abbrev pub decreases-loop-i : goal.decreases-loop-i
-decreases-loop-i l = length l.text - l.i

@@ -1,33 +1,38 @@
--- `xml_parts::steps::starts` meets its contract. The loop's invariant: the rest of the word stands at i where the word stands at the start. The measure is how much of
--- the word is left. Assumes nothing.
+-- `xml_parts::steps::starts` meets its contract. The loop's invariant: the rest of the word stands k bytes on where the word stands at the start. Assumes nothing.
+use Prim.Native.Nat.{◌+◌}
 use native.Mathlib.Omega.{arith}
-use mathlib.Core.Path.{refl, sym, ◌∙◌}
+use mathlib.Core.Path.{◌≡◌, sym, ◌∙◌}
+use native.Mathlib.Nat.{add-zero}
 use native.Mathlib.Numerals.{add-one}
 use lib.ListN.{drop}
 use Rattle.xml.proofs.Laws.Steps.{starts-end, starts-past, starts-differ, starts-on}
 use Rattle.xml_parts.proofs.steps.starts.Goals as goal
 
 pub loop-k-init : goal.loop-k-init
-loop-k-init c = (omega arith, refl)
+loop-k-init c = (omega arith, rw (add-zero c.args.at))
 
-pub returns-then-text-i : goal.returns-then-text-i
-returns-then-text-i c =
+pub returns-then-text-at : goal.returns-then-text-at
+returns-then-text-at c =
     let a = c.args in
-    sym (starts-past a.word.now a.text.now c.loop-k.k c.loop-k.i (omega arith) c.if-text-i.true) ∙ c.loop-k.invariant.1
+    let i = a.at + c.loop-k.k in
+    sym (starts-past a.word.now a.text.now c.loop-k.k i (omega arith) c.if-text-at.true) ∙ c.loop-k.invariant.1
 
-pub returns-then-text-i-2 : goal.returns-then-text-i-2
-returns-then-text-i-2 c =
+pub returns-then-text-at-2 : goal.returns-then-text-at-2
+returns-then-text-at-2 c =
     let a = c.args in
-    sym (starts-differ a.word.now a.text.now c.loop-k.k c.loop-k.i (omega arith) (omega arith) c.if-text-i-2.true) ∙ c.loop-k.invariant.1
+    let i = a.at + c.loop-k.k in
+    sym (starts-differ a.word.now a.text.now c.loop-k.k i (omega arith) (omega arith) c.if-text-at-2.true) ∙ c.loop-k.invariant.1
 
 pub loop-k-preserved : goal.loop-k-preserved
 loop-k-preserved c =
-    let a = c.args in (
-      omega arith,
-      rw (add-one c.loop-k.k, add-one c.loop-k.i) (sym (starts-on a.word.now a.text.now c.loop-k.k c.loop-k.i (omega arith) (omega arith) c.if-text-i-2.false) ∙ c.loop-k.invariant.1),
+    let a = c.args in
+    let i = a.at + c.loop-k.k in
+    let e : a.at + (c.loop-k.k + 1) ≡ i + 1 = omega arith in (
+      λ h. omega arith,
+      rw (e, add-one c.loop-k.k, add-one i) (sym (starts-on a.word.now a.text.now c.loop-k.k i (omega arith) (omega arith) c.if-text-at-2.false) ∙ c.loop-k.invariant.1),
     )
 
 pub returns : goal.returns
 returns c =
     let a = c.args in
-    sym (starts-end a.word.now (drop c.loop-k.i a.text.now) c.loop-k.k c.loop-k-test.false) ∙ c.loop-k.invariant.1
+    sym (starts-end a.word.now (drop (a.at + c.loop-k.k) a.text.now) c.loop-k.k (omega arith)) ∙ c.loop-k.invariant.1

@@ -1,14 +1,14 @@
--- `xml_parts::steps::until` meets its contract. The loop's invariant: the search from i on ends where the search from the start on ends. The measure is how much is left. Assumes nothing.
+-- `xml_parts::steps::until` meets its contract. The loop's invariant: the search from i on ends where the search from the start on ends. Assumes nothing.
 use native.Mathlib.Omega.{arith}
 use mathlib.Core.Path.{sym, ◌∙◌}
 use native.Mathlib.Numerals.{add-one}
-use Rattle.xml.proofs.Laws.Steps.{until-hit, until-wrong, until-on, until_end}
+use Rattle.xml.proofs.Laws.Steps.{literal-yes, until-hit, until-wrong, until-on, until_end}
 use Rattle.xml_parts.proofs.steps.until.Goals as goal
 
 pub returns-then-starts : goal.returns-then-starts
 returns-then-starts c =
     let a = c.args in
-    c.literal.ensures ∙ sym (until-hit a.word.now a.text.now c.loop-i.i c.loop-i.i (omega arith) (sym c.starts.ensures ∙ c.if-starts.true)) ∙ c.loop-i.invariant
+    sym (literal-yes a.word.now a.text.now c.loop-i.i (sym c.starts.ensures ∙ c.if-starts.true)) ∙ sym (until-hit a.word.now a.text.now c.loop-i.i c.loop-i.i (omega arith) (sym c.starts.ensures ∙ c.if-starts.true)) ∙ c.loop-i.invariant
 
 pub overflow_cast-text : goal.overflow_cast-text
 overflow_cast-text c = omega (arith, c.shared_slice_known-in-loop-i-1.given c.loop-i.i)

@@ -1,42 +1,26 @@
--- `xml_parts::values::digit_of` meets its contract: a byte of a range of digits is not below the range. Assumes nothing.
-use native.Mathlib.Omega.{arith}
-use mathlib.Core.Path.{sym, ◌∙◌}
-use Rattle.text.proofs.Laws.Texts.{between-low, between-high}
+-- `xml_parts::values::digit_of` meets its contract: a test that antt computes at all 256 bytes. Assumes nothing.
+use borrow.Author.Rules.{rules}
+use Prim.Native.Nat.{ℕ, ◌<◌}
+use mathlib.Core.Path.{◌≡◌, refl, ◌∙◌}
+use mathlib.Core.Bool.{cond}
+use borrow.Author.Tests.{eqb-true, lt-ltb, ltb-true}
+use lib.Dec.{eqb, ltb}
+use Rattle.std.specs.Char.{digit_value}
+use Rattle.std.specs.Option.{SomeIff, unwrap_or}
+use Rattle.std.specs.Prelude.{Option, Some, None}
+use Rattle.text.specs.Text.{between}
+use Rattle.text.proofs.Laws.Table.{at}
+use Rattle.text.proofs.Laws.Tests.{bool_cases}
 use Rattle.xml.specs.Grammar.{digit_of}
 use Rattle.xml_parts.proofs.values.digit_of.Goals as goal
 
-pub overflow_sub-result : goal.overflow_sub-result
-overflow_sub-result c = between-low 48 57 _ (sym c.is_digit.ensures ∙ c.if-is_digit.true)
+value : (b : ℕ) → b < 256 → cond (ltb (digit_value b) 16) (digit_value b) 16 ≡ digit_of b
+unfolding digit_of between
+value b h = eqb-true _ _ (at (λ (k : ℕ). eqb (cond (ltb (digit_value k) 16) (digit_value k) 16) (digit_of k)) 256 refl b h)
 
-pub overflow_cast-result : goal.overflow_cast-result
-overflow_cast-result c = omega (arith, between-high 48 57 c.args.b (sym c.is_digit.ensures ∙ c.if-is_digit.true))
-
-pub returns-then-is_digit : goal.returns-then-is_digit
-unfolding digit_of
-returns-then-is_digit c = rw (sym c.is_digit.ensures ∙ c.if-is_digit.true)
-
-pub overflow_sub-result-then-in_range : goal.overflow_sub-result-then-in_range
-overflow_sub-result-then-in_range c = omega (arith, between-low 97 102 c.args.b (sym c.in_range.ensures ∙ c.if-in_range.true))
-
-pub overflow_cast-result-then-in_range : goal.overflow_cast-result-then-in_range
-overflow_cast-result-then-in_range c = omega (arith, between-high 97 102 c.args.b (sym c.in_range.ensures ∙ c.if-in_range.true))
-
-pub returns-then-in_range : goal.returns-then-in_range
-unfolding digit_of
-returns-then-in_range c = rw (sym c.is_digit.ensures ∙ c.if-is_digit.false, sym c.in_range.ensures ∙ c.if-in_range.true)
-
-pub overflow_sub-result-then-in_range-2 : goal.overflow_sub-result-then-in_range-2
-overflow_sub-result-then-in_range-2 c = omega (arith, between-low 65 70 c.args.b (sym c.in_range-2.ensures ∙ c.if-in_range-2.true))
-
-pub overflow_cast-result-then-in_range-2 : goal.overflow_cast-result-then-in_range-2
-overflow_cast-result-then-in_range-2 c = omega (arith, between-high 65 70 c.args.b (sym c.in_range-2.ensures ∙ c.if-in_range-2.true))
-
-pub returns-then-in_range-2 : goal.returns-then-in_range-2
-unfolding digit_of
-returns-then-in_range-2 c =
-    rw (sym c.is_digit.ensures ∙ c.if-is_digit.false, sym c.in_range.ensures ∙ c.if-in_range.false, sym c.in_range-2.ensures ∙ c.if-in_range-2.true)
+digit : (r : Option ℕ) (d v : ℕ) → SomeIff r (d < 16) d → cond (ltb d 16) d 16 ≡ v → unwrap_or r 16 ≡ v
+digit (Some x) d v e h = e.1 ∙ (rw (lt-ltb d 16 e.0) at h)
+digit None d v e h = bool_cases (ltb d 16) (λ t. absurd (e (ltb-true d 16 t))) (λ t. rw t at h)
 
 pub returns : goal.returns
-unfolding digit_of
-returns c =
-    rw (sym c.is_digit.ensures ∙ c.if-is_digit.false, sym c.in_range.ensures ∙ c.if-in_range.false, sym c.in_range-2.ensures ∙ c.if-in_range-2.false)
+returns c = digit c.to_digit.result (digit_value c.args.b) (digit_of c.args.b) (rw c.from.ensures at c.to_digit.ensures.value) (value c.args.b (search rules))

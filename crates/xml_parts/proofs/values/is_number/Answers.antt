@@ -1,5 +1,5 @@
 -- `xml_parts::values::is_number` meets its contract. The loop's invariant: the value so far, with what is left from i on, answers for the whole. A value past the last
--- code point stays past it. The measure is how much is left. Assumes nothing.
+-- code point stays past it. Assumes nothing.
 use native.Mathlib.Omega.{arith}
 use Prim.Native.Nat.{suc, ◌≤◌, ◌<◌, ◌*◌, ◌+◌}
 use mathlib.Core.Path.{refl, sym, ◌∙◌}
@@ -20,7 +20,13 @@ returns-then-b-eq59 c =
 pub returns-then-base-digit : goal.returns-then-base-digit
 returns-then-base-digit c =
     let a = c.args in
-    let d : a.base ≤ digit_of (get_or a.text.now c.loop-i.i 0) = omega (arith, c.if-base-digit.true, c.digit_of-digit.ensures) in
+    let d : a.base ≤ digit_of (get_or a.text.now c.loop-i.i 0) = omega (arith, c.if-base-digit.true, c.in-Some.ensures) in
+    sym (number-wrong a.base c.loop-i.v a.text.now c.loop-i.i (omega arith) c.if-b-eq59.false d) ∙ c.loop-i.invariant.1
+
+pub returns-in_default : goal.returns-in_default
+returns-in_default c =
+    let a = c.args in
+    let d : a.base ≤ digit_of (get_or a.text.now c.loop-i.i 0) = omega (arith, c.in_default.ensures, c.requires.1) in
     sym (number-wrong a.base c.loop-i.v a.text.now c.loop-i.i (omega arith) c.if-b-eq59.false d) ∙ c.loop-i.invariant.1
 
 pub overflow_mul-v : goal.overflow_mul-v
@@ -28,24 +34,24 @@ overflow_mul-v c = omega (arith, step_fits _ _ c.loop-i.invariant.0 c.requires.1
 
 pub overflow_add-v : goal.overflow_add-v
 overflow_add-v c =
-    let digit : c.digit_of-digit.result < c.args.base = omega (arith, c.if-base-digit.false) in
+    let digit : c.in-Some.digit < c.args.base = omega (arith, c.if-base-digit.false) in
     omega (arith, step_fits _ _ c.loop-i.invariant.0 c.requires.1, c.requires.1)
 
 pub returns-then-v-gt1114111 : goal.returns-then-v-gt1114111
 returns-then-v-gt1114111 c =
     let a = c.args in
     let d = digit_of (get_or a.text.now c.loop-i.i 0) in
-    let less : d < a.base = omega (arith, c.if-base-digit.false, c.digit_of-digit.ensures) in
-    let past = number_past a.base (c.loop-i.v * a.base + d) (drop (suc c.loop-i.i) a.text.now) c.requires.0 (omega (arith, c.if-v-gt1114111.true, c.digit_of-digit.ensures)) in
+    let less : d < a.base = omega (arith, c.if-base-digit.false, c.in-Some.ensures) in
+    let past = number_past a.base (c.loop-i.v * a.base + d) (drop (suc c.loop-i.i) a.text.now) c.requires.0 (omega (arith, c.if-v-gt1114111.true, c.in-Some.ensures)) in
     sym past ∙ sym (number-on a.base c.loop-i.v a.text.now c.loop-i.i (omega arith) c.if-b-eq59.false less) ∙ c.loop-i.invariant.1
 
 pub loop-i-preserved : goal.loop-i-preserved
 loop-i-preserved c =
     let a = c.args in
     let d = digit_of (get_or a.text.now c.loop-i.i 0) in
-    let less : d < a.base = omega (arith, c.if-base-digit.false, c.digit_of-digit.ensures) in (
+    let less : d < a.base = omega (arith, c.if-base-digit.false, c.in-Some.ensures) in (
       omega (arith, c.if-v-gt1114111.false),
-      rw (add-one c.loop-i.i, c.digit_of-digit.ensures) (sym (number-on a.base c.loop-i.v a.text.now c.loop-i.i (omega arith) c.if-b-eq59.false less) ∙ c.loop-i.invariant.1),
+      rw (add-one c.loop-i.i, c.in-Some.ensures) (sym (number-on a.base c.loop-i.v a.text.now c.loop-i.i (omega arith) c.if-b-eq59.false less) ∙ c.loop-i.invariant.1),
     )
 
 pub returns : goal.returns

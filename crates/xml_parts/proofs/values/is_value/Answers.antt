@@ -13,7 +13,7 @@ use Rattle.xml_parts.proofs.values.is_value.Goals as goal
 pub loop-i-init : goal.loop-i-init
 loop-i-init c =
     let a = c.args in
-    sym (held-run a.quote c.requires.quote_value 0 a.part.now _ _ c.value_run-i.ensures)
+    sym (held-run a.quote c.requires 0 a.part.now _ _ c.value_run-i.ensures)
 
 pub returns-then-b-quote : goal.returns-then-b-quote
 returns-then-b-quote c =
@@ -38,7 +38,7 @@ pub loop-i-preserved : goal.loop-i-preserved
 loop-i-preserved c =
     let a = c.args in
     let i = c.loop-i.i in
-    sym (held-run a.quote c.requires.quote_value (i + 1) (drop (i + 1) a.part.now) _ _ c.value_run-i-in-loop-i.ensures)
+    sym (held-run a.quote c.requires (i + 1) (drop (i + 1) a.part.now) _ _ c.value_run-i-in-loop-i.ensures)
     ∙ rw (add-one i) (sym (held_on a.quote a.part.now i (omega arith) c.if-b-quote.false c.if-b-eq60.false
     (sym c.is_plain.ensures ∙ c.if-not-is_plain.false)) ∙ c.loop-i.invariant)
 

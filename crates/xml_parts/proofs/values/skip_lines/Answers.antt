@@ -25,20 +25,20 @@ is-inside : (c : lts.Then2 tie.the-claims reads.Pre reads.Post goal.the-invarian
 is-inside c = inside-some c.args.text.now c.loop-i.i 12 (is-return c)
 
 pub loop-i-init : goal.loop-i-init
-loop-i-init c = ⊎_elim (λ v. rw v.i-is (many-over v.skip_text-i.ensures is_in_text text-run)) (λ v. rw v.i-is) c.if-byte_at-ne13.branch-raw
+loop-i-init c = ⊎_elim (λ v. rw v.i-is (many-over v.skip-i.ensures is_in_text text-run)) (λ v. rw v.i-is) c.if-byte_at-ne13.branch-raw
 
 pub overflow_add-i : goal.overflow_add-i
 overflow_add-i c = omega (arith, is-inside c.before.before)
 
 pub loop-i-smaller : goal.loop-i-smaller
-loop-i-smaller c = omega (arith, c.skip_text-i-in-loop-i.ensures.from, is-inside c.before.before.before)
+loop-i-smaller c = omega (arith, c.skip-i-in-loop-i.ensures.from, is-inside c.before.before.before)
 
 pub loop-i-preserved : goal.loop-i-preserved
 loop-i-preserved c =
     let text = c.args.text.now in
     let i = c.loop-i.i in
     let e : is_in_text (get_or text i 0) ≡ true = ap is_in_text (is-return c.before.before.before) ∙ return-in-text in
-    many-over c.skip_text-i-in-loop-i.ensures is_in_text text-run ∙ rw (add-one i) (sym (many-on is_in_text text i i (is-inside c.before.before.before) e)) ∙ c.loop-i.invariant
+    many-over c.skip-i-in-loop-i.ensures is_in_text text-run ∙ rw (add-one i) (sym (many-on is_in_text text i i (is-inside c.before.before.before) e)) ∙ c.loop-i.invariant
 
 pub returns : goal.returns
 returns c = c.loop-i.invariant

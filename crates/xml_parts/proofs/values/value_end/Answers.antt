@@ -14,7 +14,7 @@ use Rattle.xml_parts.proofs.values.value_end.Goals as goal
 pub loop-i-init : goal.loop-i-init
 loop-i-init c =
     let a = c.args in
-    ap (λ (d : Step). d and_then value_end a.quote) c.value_run-i.ensures ∙ sym (value-run a.quote c.requires.quote_value a.at (drop a.at a.text.now))
+    ap (λ (d : Step). d and_then value_end a.quote) c.value_run-i.ensures ∙ sym (value-run a.quote c.requires a.at (drop a.at a.text.now))
 
 pub returns-then-b-quote : goal.returns-then-b-quote
 returns-then-b-quote c =
@@ -39,7 +39,7 @@ pub loop-i-preserved : goal.loop-i-preserved
 loop-i-preserved c =
     let a = c.args in
     let i = c.loop-i.i in
-    ap (λ (d : Step). d and_then value_end a.quote) c.value_run-i-in-loop-i.ensures ∙ sym (value-run a.quote c.requires.quote_value (i + 1) (drop (i + 1) a.text.now))
+    ap (λ (d : Step). d and_then value_end a.quote) c.value_run-i-in-loop-i.ensures ∙ sym (value-run a.quote c.requires (i + 1) (drop (i + 1) a.text.now))
     ∙ rw (add-one i) (sym (value_on a.quote a.text.now i i (omega arith) c.if-b-quote.false c.if-b-eq60.false
     (sym c.is_plain.ensures ∙ c.if-not-is_plain.false)) ∙ c.loop-i.invariant)
 

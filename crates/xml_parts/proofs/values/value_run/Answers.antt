@@ -6,4 +6,4 @@ use Rattle.xml_parts.proofs.Laws.Skips.{many-over}
 use Rattle.xml_parts.proofs.values.value_run.Goals as goal
 
 pub returns : goal.returns
-returns c = c.many.ensures ∙ many-over c.skip_value.ensures is_in_value run-in-value
+returns c = c.many.ensures ∙ many-over c.skip.ensures is_in_value run-in-value

@@ -2,22 +2,20 @@
 use mathlib.Core.Path.{sym, ◌∙◌}
 use Rattle.text.specs.Text.{bytes}
 use Rattle.xml.specs.Document.{document}
-use Rattle.xml_parts.proofs.Laws.Moved.{to-of, bad-of}
 use Rattle.xml_text.proofs.call.document.Goals as goal
 
 pub returns-in_default : goal.returns-in_default
 unfolding document
-returns-in_default c = rw (bad-of c.args.text.now c.in_default.is c.prolog.ensures)
+returns-in_default c = rw (sym c.in_default.ensures)
 
 pub returns-then-starts : goal.returns-then-starts
 unfolding document bytes
 returns-then-starts c =
-    rw (to-of c.args.text.now c.in-To.is c.prolog.ensures, sym c.starts.ensures ∙ c.if-starts.true)
+    rw (sym c.in-Some.ensures, sym c.starts.ensures ∙ c.if-starts.true)
 
 pub document_from-requires : goal.document_from-requires
 document_from-requires c = c.requires
 
 pub returns : goal.returns
 unfolding document bytes
-returns c =
-    rw (to-of c.args.text.now c.in-To.is c.prolog.ensures, sym c.starts.ensures ∙ c.if-starts.false) c.document_from.ensures
+returns c = rw (c.ok_or.ensures.value, sym c.in-Some.ensures, sym c.starts.ensures ∙ c.if-starts.false) c.document_from.ensures

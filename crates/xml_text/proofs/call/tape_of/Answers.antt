@@ -1,35 +1,27 @@
--- `xml_text::call::tape_of` meets its contract: each refusal in its order, each judged over the whole text. Assumes nothing.
-use borrow.Author.Rules.{rules}
-use mathlib.Core.Path.{refl, sym, ◌∙◌}
+-- `xml_text::call::tape_of` meets its contract: the lengths first, then what was stored. Assumes nothing.
+use mathlib.Core.Path.{sym, ◌∙◌}
 use lib.ListN.{length}
 use borrow.Author.Tests.{leb-true}
 use Rattle.text.proofs.Laws.Tests.{and-true-left}
+use Rattle.std.proofs.lemmas.Result.{err_from_is_err_and}
 use Rattle.sheet.specs.Lengths.{tape_lengths}
-use Rattle.xml_parts.specs.Answers.{class_table}
-use Rattle.xml.specs.Document.{tape_of}
-use Rattle.xml.proofs.Laws.Call.{taken_refused}
-use Rattle.xml.proofs.Laws.Grammar.Taken.{tape-is}
-use Rattle.xml_text.proofs.Laws.Call.{found-taken}
+use Rattle.xml.specs.Call.{is_too_long}
+use Rattle.xml_text.proofs.Laws.Call.{tape-refused, tape-accepted}
 use Rattle.xml_text.proofs.call.tape_of.Goals as goal
 
 pub returns-then-not-tape_lengths : goal.returns-then-not-tape_lengths
-unfolding tape_of
-returns-then-not-tape_lengths c =
-    tape-is _ _ _ _ _ (rw (sym c.tape_lengths.ensures ∙ c.if-not-tape_lengths.true))
+returns-then-not-tape_lengths c = rw c.into.ensures (is_too_long (sym c.tape_lengths.ensures ∙ c.if-not-tape_lengths.true))
 
-pub returns-then-not-is_text : goal.returns-then-not-is_text
-unfolding tape_of
-returns-then-not-is_text c =
-    let x = c.refused.ensures in
-    tape-is _ _ _ _ _ (rw (sym c.tape_lengths.ensures ∙ c.if-not-tape_lengths.false, sym c.is_text.ensures ∙ c.if-not-is_text.true) (taken_refused _ _ _ _ 5 x.0 x.1 x.2))
+pub stored-used-requires : goal.stored-used-requires
+unfolding tape_lengths
+stored-used-requires c =
+    leb-true (length c.args.text.now) 65536 (and-true-left _ _ (sym c.tape_lengths.ensures ∙ c.if-not-tape_lengths.false))
 
-pub document-found-requires : goal.document-found-requires
-unfolding tape_lengths class_table
-document-found-requires c =
-    record { text_len_bound = leb-true (length c.args.text.now) 65536 (and-true-left _ _ (sym c.tape_lengths.ensures ∙ c.if-not-tape_lengths.false)); classes_value = refl }
+pub returns-in_err-used : goal.returns-in_err-used
+returns-in_err-used c =
+    let e = err_from_is_err_and c.from_residual.result c.from_residual.ensures.1 in
+    rw (e.1, e.2) (tape-refused c.args.text.now c.args.marks.now _ _ (sym c.tape_lengths.ensures ∙ c.if-not-tape_lengths.false) _ c.stored-used.result _ c.in_err-used.was (rw c.in_err-used.was at c.unwrap_or.ensures) c.stored-used.ensures c.zero_marks.ensures)
 
 pub returns : goal.returns
-unfolding tape_of
 returns c =
-    tape-is _ _ _ _ _ (rw (sym c.tape_lengths.ensures ∙ c.if-not-tape_lengths.false, sym c.is_text.ensures ∙ c.if-not-is_text.false)
-    (c.answer_of.ensures ∙ found-taken (length c.args.marks.now) _ _ c.document-found.result _ refl (search rules) c.document-found.ensures))
+    tape-accepted c.args.text.now c.args.marks.now _ _ (sym c.tape_lengths.ensures ∙ c.if-not-tape_lengths.false) _ c.stored-used.result _ c.in_ok-used.was (rw c.in_ok-used.was at c.unwrap_or.ensures) c.stored-used.ensures c.zero_marks.ensures

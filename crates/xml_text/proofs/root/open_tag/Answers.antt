@@ -10,102 +10,86 @@ use borrow.Rule.Slice.PartMut.{put_mid, take_put}
 use Rattle.xml.specs.Tape.{TapeEvent}
 use Rattle.xml.specs.Root.{level_of_tag}
 use Rattle.xml_text.specs.Answers.{names_up_to}
-use Rattle.xml_text.proofs.Laws.Root.{tag-bad, tag-to, open-start, open-empty}
+use Rattle.xml_text.proofs.Laws.Root.{open-start, open-empty}
 use Rattle.xml.proofs.Laws.Root.{one-event}
 use Rattle.xml_text.proofs.root.open_tag.Goals as goal
 
-pub offset_bounds-slots-count : goal.offset_bounds-slots-count
-offset_bounds-slots-count c = omega (arith, c.requires)
+pub offset_bounds-slots-here : goal.offset_bounds-slots-here
+offset_bounds-slots-here c = omega (arith, c.requires, c.args.here.opened, c.args.here.stored)
 
 pub slice_bounds-tag-count : goal.slice_bounds-tag-count
-slice_bounds-tag-count c = omega (arith, c.requires)
+slice_bounds-tag-count c = omega (arith, c.requires, c.args.here.opened, c.args.here.stored)
 
 pub slice_bounds-tag-start : goal.slice_bounds-tag-start
-slice_bounds-tag-start c = omega (arith, c.requires)
+slice_bounds-tag-start c = omega (arith, c.requires, c.args.here.opened, c.args.here.stored)
 
 pub tag-requires : goal.tag-requires
-tag-requires c = record {
-  text_len_bound = (
-    omega (arith, c.requires),
-    simp (length-take, length-drop) (omega (arith, c.requires)),
-    omega
-        (arith, c.requires),
-  );
-  classes_value = search rules;
-}
+tag-requires c = (
+  omega (arith, c.requires, c.args.here.opened, c.args.here.stored),
+  simp (length-take, length-drop) (omega (arith, c.requires, c.args.here.opened, c.args.here.stored)),
+  omega
+      (arith, c.requires, c.args.here.opened, c.args.here.stored),
+)
 
-pub returns-in_default : goal.returns-in_default
-returns-in_default c = ap (level_of_tag _) (tag-bad c.args.text.now _ _ _ _ c.in_default.is
-    c.tag.ensures)
+pub returns-in_err-whole : goal.returns-in_err-whole
+returns-in_err-whole c = rw c.from_residual.ensures (ap (level_of_tag _) c.in_err-whole.ensures)
 
 pub overflow_cast-slots : goal.overflow_cast-slots
 overflow_cast-slots c = omega (
   arith,
-  (tag-to c.args.text.now
-      c.args.at _ _ _ c.in-To.is
-      c.tag.ensures).6,
-  (tag-to c.args.text.now
-      c.args.at _ _ _ c.in-To.is
-      c.tag.ensures).7,
+  c.in_ok-whole.ensures.6,
+  c.in_ok-whole.ensures.7,
   c.requires,
 )
 
-pub offset_bounds-slots-count-then-kind-eq-START : goal.offset_bounds-slots-count-then-kind-eq-START
-offset_bounds-slots-count-then-kind-eq-START c = omega (arith, c.requires)
+pub offset_bounds-slots-here-then-whole-eq-START : goal.offset_bounds-slots-here-then-whole-eq-START
+offset_bounds-slots-here-then-whole-eq-START c = omega (arith, c.requires, c.args.here.opened, c.args.here.stored)
 
 pub overflow_add-result : goal.overflow_add-result
-overflow_add-result c = omega (arith, c.requires)
+overflow_add-result c = omega (arith, c.requires, c.args.here.opened, c.args.here.stored)
 
-pub returns-then-kind-eq-START : goal.returns-then-kind-eq-START
-returns-then-kind-eq-START c =
+pub returns-then-whole-eq-START : goal.returns-then-whole-eq-START
+returns-then-whole-eq-START c =
     let a = c.args in
-    let e = tag-to c.args.text.now
-    c.args.at _ _ _ c.in-To.is
-    c.tag.ensures in
-    let kind = c.in-To.kind in
+    let e = c.in_ok-whole.ensures in
+    let kind = c.in_ok-whole.whole.kind in
     let event = TapeEvent.tag kind e.0 e.1 in (
       event ∷ [],
-      ap (level_of_tag (names_up_to a.text.now a.slots.now a.count)) e.2 ∙ open-start a.text.now a.slots.now
-          (put_mid c.args.count
-          (length c.args.slots.now - c.args.count)
+      ap (level_of_tag (names_up_to a.text.now a.slots.now a.here.count)) e.2 ∙ open-start a.text.now a.slots.now
+          (put_mid c.args.here.count
+          (length c.args.slots.now - c.args.here.count)
           c.args.slots.now
-          c.tag.new.keys) a.count _ kind e.0 e.1 _ _ c.if-kind-eq-START.true
-          (take_put c.args.count
-          (length c.args.slots.now - c.args.count)
+          c.tag.new.keys) a.here.count _ kind e.0 e.1 _ _ c.if-whole-eq-START.true
+          (take_put c.args.here.count
+          (length c.args.slots.now - c.args.here.count)
           c.args.slots.now
           c.tag.new.keys (omega
-          (arith, c.requires))) (search rules),
+          (arith, c.requires, c.args.here.opened, c.args.here.stored))) (search rules),
       omega (arith, e.3, ap length (one-event event)),
-      e.4 ∙ ap (sets a.marks.now a.used) (sym (one-event event)),
+      e.4 ∙ ap (sets a.marks.now a.here.used) (sym (one-event event)),
       omega (arith, e.8),
       e.7,
-      omega (arith, e.8, c.requires),
-      omega (arith, e.8, e.9, c.requires),
     )
 
 pub returns : goal.returns
 returns c =
     let a = c.args in
-    let e = tag-to c.args.text.now
-    c.args.at _ _ _ c.in-To.is
-    c.tag.ensures in
-    let kind = c.in-To.kind in
+    let e = c.in_ok-whole.ensures in
+    let kind = c.in_ok-whole.whole.kind in
     let event = TapeEvent.tag kind e.0 e.1 in (
       event ∷ [],
-      ap (level_of_tag (names_up_to a.text.now a.slots.now a.count)) e.2 ∙ open-empty a.text.now a.slots.now
-          (put_mid c.args.count
-          (length c.args.slots.now - c.args.count)
+      ap (level_of_tag (names_up_to a.text.now a.slots.now a.here.count)) e.2 ∙ open-empty a.text.now a.slots.now
+          (put_mid c.args.here.count
+          (length c.args.slots.now - c.args.here.count)
           c.args.slots.now
-          c.tag.new.keys) a.count c.in-To.start kind e.0 e.1 _ _ c.if-kind-eq-START.false
-          (take_put c.args.count
-          (length c.args.slots.now - c.args.count)
+          c.tag.new.keys) a.here.count c.in_ok-whole.whole.start kind e.0 e.1 _ _ c.if-whole-eq-START.false
+          (take_put c.args.here.count
+          (length c.args.slots.now - c.args.here.count)
           c.args.slots.now
           c.tag.new.keys (omega
-          (arith, c.requires))),
+          (arith, c.requires, c.args.here.opened, c.args.here.stored))),
       omega (arith, e.3, ap length (one-event event)),
-      e.4 ∙ ap (sets a.marks.now a.used) (sym (one-event event)),
+      e.4 ∙ ap (sets a.marks.now a.here.used) (sym (one-event event)),
       omega (arith, e.8),
       e.7,
-      omega (arith, e.8, c.requires),
-      omega (arith, e.8, e.9, c.requires),
     )

@@ -1,44 +1,35 @@
 -- `xml_text::tags::attribute` meets its contract: the steps one behind the other, each inside the text. Assumes nothing.
+use mathlib.Core.Path.{sym}
 use native.Mathlib.Omega.{arith}
 use Rattle.xml.specs.Tags.{attribute}
-use Rattle.xml_parts.proofs.Laws.Moved.{to-of, bad-of}
 use Rattle.xml.proofs.Laws.Moves.{inside-text, name-passes, eq-passes, value_passes, value-two}
 use Rattle.xml_text.proofs.tags.attribute.Goals as goal
 
-pub returns-in_default : goal.returns-in_default
+pub returns-in_err-key_end : goal.returns-in_err-key_end
 unfolding attribute
-returns-in_default c = (rw (bad-of c.args.text.now c.in_default.is c.name.ensures), tt)
+returns-in_err-key_end c = rw c.from_residual.ensures (rw (sym c.in_err-key_end.ensures), tt)
 
-pub returns-in_default-eq : goal.returns-in_default-eq
+pub returns-in_err-quote : goal.returns-in_err-quote
 unfolding attribute
-returns-in_default-eq c =
-    (rw (to-of c.args.text.now c.in-To.is c.name.ensures, bad-of c.args.text.now c.in_default-eq.is c.eq.ensures), tt)
+returns-in_err-quote c = rw c.from_residual-in_err-quote.ensures (rw (sym c.in_ok-key_end.ensures, sym c.in_err-quote.ensures), tt)
 
-pub returns-in_default-value : goal.returns-in_default-value
+pub returns-in_err-behind : goal.returns-in_err-behind
 unfolding attribute
-returns-in_default-value c = (
-  rw (
-    to-of c.args.text.now c.in-To.is c.name.ensures,
-    to-of c.args.text.now c.in-To-eq.is c.eq.ensures,
-    bad-of c.args.text.now
-        c.in_default-value.is c.value.ensures,
-  ),
-  tt,
-)
+returns-in_err-behind c =
+    rw c.from_residual-in_err-behind.ensures (rw (sym c.in_ok-key_end.ensures, sym c.in_ok-quote.ensures, sym c.in_err-behind.ensures), tt)
 
 pub returns : goal.returns
 unfolding attribute
 returns c =
     let text = c.args.text.now in
-    let n = inside-text name-passes text c.args.at _ (to-of c.args.text.now c.in-To.is c.name.ensures) in
-    let e = inside-text eq-passes text _ _ (to-of c.args.text.now c.in-To-eq.is c.eq.ensures) in
-    let v = inside-text value_passes text _ _ (to-of c.args.text.now c.in-To-value.is c.value.ensures) in
-    let w = value-two _ _ _ _ (to-of c.args.text.now c.in-To-value.is c.value.ensures) in (
+    let n = inside-text name-passes text c.args.at _ (sym c.in_ok-key_end.ensures) in
+    let e = inside-text eq-passes text _ _ (sym c.in_ok-quote.ensures) in
+    let v = inside-text value_passes text _ _ (sym c.in_ok-behind.ensures) in
+    let w = value-two _ _ _ _ (sym c.in_ok-behind.ensures) in (
       rw (
-        to-of c.args.text.now c.in-To.is c.name.ensures,
-        to-of c.args.text.now c.in-To-eq.is c.eq.ensures,
-        to-of c.args.text.now
-            c.in-To-value.is c.value.ensures,
+        sym c.in_ok-key_end.ensures,
+        sym c.in_ok-quote.ensures,
+        sym c.in_ok-behind.ensures,
       ),
       (omega arith, omega arith, omega arith, omega arith, omega arith),
     )

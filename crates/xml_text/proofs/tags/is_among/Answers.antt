@@ -1,33 +1,22 @@
--- `xml_text::tags::is_among` meets its contract. The loop's invariant: the names below k answer for all. The measure is k. Assumes nothing.
-use native.Mathlib.Omega.{arith}
-use Prim.Native.Nat.{◌-◌}
-use mathlib.Core.Path.{refl, sym, ◌∙◌}
-use lib.ListN.{drop}
+-- `xml_text::tags::is_among` meets its contract: the names at the keys, one after the other. Assumes nothing.
+use borrow.Author.Rules.{rules}
+use Prim.Native.Nat.{ℕ}
+use mathlib.Core.Path.{sym, ap, ◌∙◌}
+use native.Mathlib.Nat.{le_refl}
+use lib.ListN.{length, drop}
+use lib.Seq.{take_all}
+use Rattle.std.specs.List.{list_any}
+use Rattle.std.proofs.lemmas.Iterator.{YieldsList-from_slice}
+use Rattle.std.proofs.lemmas.Iterator.Search.{any_from_yields_List}
+use Rattle.text.specs.Text.{same}
 use Rattle.xml.specs.Steps.{name_of}
-use Rattle.xml_text.proofs.Laws.Tags.{among_none, among-hit, among-on}
+use Rattle.xml_text.proofs.Laws.Tags.{among-any}
 use Rattle.xml_text.proofs.tags.is_among.Goals as goal
-
-pub loop-k-init : goal.loop-k-init
-loop-k-init c = (omega arith, refl)
-
-pub overflow_cast-keys : goal.overflow_cast-keys
-overflow_cast-keys c = omega (arith, c.shared_slice_known-in-loop-k-1.given (c.loop-k.k - 1))
-
-pub returns-then-same_name : goal.returns-then-same_name
-returns-then-same_name c =
-    let a = c.args in
-    sym (among-hit (name_of (drop a.key a.text.now)) a.text.now a.keys.now c.loop-k.k (c.loop-k.k - 1) (omega arith) (sym c.same_name.ensures ∙ c.if-same_name.true))
-    ∙ c.loop-k.invariant.1
-
-pub loop-k-preserved : goal.loop-k-preserved
-loop-k-preserved c =
-    let a = c.args in (
-      omega arith,
-      sym (among-on (name_of (drop a.key a.text.now)) a.text.now a.keys.now c.loop-k.k (c.loop-k.k - 1) (omega arith)
-          (sym c.same_name.ensures ∙ c.if-same_name.false)) ∙ c.loop-k.invariant.1,
-    )
 
 pub returns : goal.returns
 returns c =
-    let a = c.args in
-    sym (among_none (name_of (drop a.key a.text.now)) a.text.now a.keys.now c.loop-k.k (omega arith)) ∙ c.loop-k.invariant.1
+    let text = c.args.text.now in
+    let keys = c.args.keys.now in
+    let f = (λ (s : ℕ). same (name_of (drop c.args.key text)) (name_of (drop s text))) in
+    any_from_yields_List f _ _ _ c.any.ensures.ran (YieldsList-from_slice keys cc) (λ x b q k. search rules)
+    ∙ ap (list_any f) (sym (take_all (length keys) keys (le_refl (length keys)))) ∙ among-any (name_of (drop c.args.key text)) text keys (length keys) (le_refl (length keys))

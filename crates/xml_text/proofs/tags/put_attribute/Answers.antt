@@ -12,5 +12,5 @@ unfolding attribute_marks
 returns c =
     let a = c.args in
     c.put_pair-2.ensures
-    ∙ ap (λ (l : List ℕ). set (set l (a.at + 2) (a.quote + 1)) (a.at + 2 + 1) (a.behind - 1 - (a.quote + 1))) c.put_pair.ensures
-    ∙ put_four a.marks.now a.at a.key (a.key_end - a.key) a.quote (a.behind - 1)
+    ∙ ap (λ (l : List ℕ). set (set l (a.at + 2) (a.it.quote + 1)) (a.at + 2 + 1) (a.it.behind - 1 - (a.it.quote + 1))) c.put_pair.ensures
+    ∙ put_four a.marks.now a.at a.it.key (a.it.key_end - a.it.key) a.it.quote (a.it.behind - 1)

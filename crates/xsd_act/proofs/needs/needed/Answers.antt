@@ -1,4 +1,5 @@
 -- `xsd_act::needs::needed` meets its contract: each decision is the action that its arm counts for. Assumes nothing.
+use Rattle.std.specs.Prelude.{Ok}
 use Prim.Native.Nat.{ℕ}
 use mathlib.Core.Path.{◌≡◌, refl, sym, subst, ap, ◌∙◌}
 use mathlib.Core.List.{List}
@@ -14,19 +15,19 @@ use Rattle.xsd_act.specs.Ready.{rows_after_all}
 use Rattle.xsd_act.specs.Needs.{RowNeeded, Needed}
 use Rattle.xsd_act.proofs.Laws.Parts.{text_at_mark-bound, open_simple-bytes, open_complex-bytes}
 use Rattle.xsd_act.proofs.Laws.Ready.{ready-root, ready-head, ready-base}
-use Rattle.xsd_act.proofs.Laws.Needs.{needed-refuse, needed-keep, needed-more, needed-root, needed-base, needed-content}
+use Rattle.xsd_act.proofs.Laws.Needs.{needed-keep, needed-more, needed-root, needed-base, needed-content}
 use Rattle.xsd_act.proofs.needs.needed.Goals as goal
 
 -- what a decision needs, the decision as its arm found it
 found_as : {rows : List ℕ} {used : Used} {head : ℕ} (text marks : List ℕ) {d : Decision} (x : Decision) (r : Used) → d ≡ x
-    → Needed rows used head (decision text marks x) r → Needed rows used head (decision text marks d) r
-found_as {rows} {used} {head} text marks {d} x r e h = subst (λ (y : Decision). Needed rows used head (decision text marks y) r) (sym e) h
+    → Needed rows used head (decision text marks (Ok x)) r → Needed rows used head (decision text marks (Ok d)) r
+found_as {rows} {used} {head} text marks {d} x r e h = subst (λ (y : Decision). Needed rows used head (decision text marks (Ok y)) r) (sym e) h
 
 pub needed_text-requires : goal.needed_text-requires
 unfolding decision text_at_mark
 needed_text-requires c =
     let a = c.args in
-    let w = c.requires.ready _ (ap (decision a.text.now a.marks.now) c.in-Root.is) in
+    let w = c.requires.ready _ (ap (λ (y : Decision). decision a.text.now a.marks.now (Ok y)) c.in-Root.is) in
     let new = ap length c.pair_part.ensures in
     record {
       text_seen = record { names = w.names; spot = _; text = ready-root w.ready };
@@ -51,24 +52,19 @@ pub needed_content-requires : goal.needed_content-requires
 unfolding decision Fitting
 needed_content-requires c =
     let a = c.args in
-    let w = c.requires.ready _ (ap (decision a.text.now a.marks.now) c.in-Content.is) in
+    let w = c.requires.ready _ (ap (λ (y : Decision). decision a.text.now a.marks.now (Ok y)) c.in-Content.is) in
     record { head_seen = record { names = w.names; z = w.z; rs = _; name = _; head = ready-head w.ready w.fitting }; small = c.requires.small }
 
 pub needed_text-requires-in-Base : goal.needed_text-requires-in-Base
 unfolding decision text_at_mark Fitting
 needed_text-requires-in-Base c =
     let a = c.args in
-    let w = c.requires.ready _ (ap (decision a.text.now a.marks.now) c.in-Base.is) in
+    let w = c.requires.ready _ (ap (λ (y : Decision). decision a.text.now a.marks.now (Ok y)) c.in-Base.is) in
     let new = ap length c.pair_part-in-Base.ensures in
     record {
       text_seen = record { names = w.names; spot = _; text = ready-base w.ready w.fitting };
       names_le_names_limit = (c.requires.small.names_used, omega (arith, text_at_mark-bound a.text.now a.marks.now c.in-Base.at));
     }
-
-pub returns-in-Refuse : goal.returns-in-Refuse
-unfolding decision
-returns-in-Refuse c =
-    found_as c.args.text.now c.args.marks.now _ _ c.in-Refuse.is (needed-refuse _ (omega (arith, c.requires.small)))
 
 pub returns-in-Keep : goal.returns-in-Keep
 unfolding decision

@@ -4,11 +4,10 @@ use mathlib.Core.Path.{ap}
 use mathlib.Core.List.{List}
 use native.Mathlib.Omega.{arith}
 use lib.ListN.{length}
-use Rattle.xsd_actions.specs.Answers.{text_at_mark}
 use Rattle.rows.specs.declared.numbers.Used.{Used}
 use Rattle.xsd_act.specs.Needs.{HeadSeen}
 use Rattle.xsd_replace.proofs.Laws.Head.{HeadNumbers, head-numbers}
-use Rattle.xsd_act.proofs.Laws.Parts.{text_at_mark-bound, following-bytes, following-end}
+use Rattle.xsd_act.proofs.Laws.Parts.{content_text-bound, following-bytes}
 use Rattle.xsd_act.proofs.needs.needed_content.Goals as goal
 
 facts : {rows : List ℕ} {used : Used} {head : ℕ} (h : HeadSeen rows used head) → HeadNumbers rows h.names used head h.rs h.name
@@ -20,33 +19,17 @@ name_end-end-requires c = omega (arith, facts c.requires.head_seen)
 pub overflow_add-result : goal.overflow_add-result
 overflow_add-result c = omega (arith, facts c.requires.head_seen)
 
-pub overflow_add-result-then-n : goal.overflow_add-result-then-n
-unfolding text_at_mark
-overflow_add-result-then-n c =
-    let a = c.args in
-    let second = ap length c.pair_part-second.ensures in
-    omega (arith, facts c.requires.head_seen, c.name_end-end.ensures _ _ _ _ _ c.requires.head_seen.head, text_at_mark-bound a.text.now a.marks.now a.n.second)
-
-pub returns-then-n : goal.returns-then-n
-unfolding text_at_mark
-returns-then-n c =
-    let a = c.args in
-    let second = ap length c.pair_part-second.ensures in
-    let more = following-bytes a.text.now a.marks.now a.n c.if-n.true in
-    record {
-      few = omega (arith, facts c.requires.head_seen);
-      counted = λ names z rs name h.
-          let end = c.name_end-end.ensures names a.used z rs name h in
-          (omega (arith, h.here), omega arith);
-    }
-
 pub overflow_add-result-2 : goal.overflow_add-result-2
-overflow_add-result-2 c = omega (arith, facts c.requires.head_seen)
+overflow_add-result-2 c =
+    let a = c.args in
+    let second = ap length c.content_text-second.ensures in
+    omega (arith, facts c.requires.head_seen, c.name_end-end.ensures _ _ _ _ _ c.requires.head_seen.head, content_text-bound a.text.now a.marks.now a.n.second)
 
 pub returns : goal.returns
 returns c =
     let a = c.args in
-    let more = following-end a.text.now a.marks.now a.n c.if-n.false in
+    let second = ap length c.content_text-second.ensures in
+    let more = following-bytes a.text.now a.marks.now a.n in
     record {
       few = omega (arith, facts c.requires.head_seen);
       counted = λ names z rs name h.

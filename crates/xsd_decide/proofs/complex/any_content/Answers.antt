@@ -6,15 +6,15 @@ use Rattle.xsd_actions.specs.Decided.{any_content}
 use Rattle.xsd_decide.proofs.Laws.Values.{value-at, value_none}
 use Rattle.xsd_decide.proofs.complex.any_content.Goals as goal
 
-pub returns-in-At : goal.returns-in-At
+pub returns-in-Some : goal.returns-in-Some
 unfolding decision following any_content
-returns-in-At c =
+returns-in-Some c =
     let t = c.args.t in
-    λ text marks. ap (λ v. ok (any_content v)) (sym (value-at text marks t.namespace (c.place_found.ensures text marks) c.in-At.is))
+    λ text marks. ap (λ v. ok (any_content v)) (sym (value-at text marks t.namespace (c.place_found.ensures text marks) c.in-Some.is))
 
-pub returns-in-Nothing : goal.returns-in-Nothing
+pub returns-in-None : goal.returns-in-None
 unfolding any_content
-returns-in-Nothing c =
+returns-in-None c =
     let t = c.args.t in
     λ text marks. c.content_alone.ensures text marks
-    ∙ ap (λ v. ok (any_content v)) (sym (value_none text marks t.namespace (c.place_found.ensures text marks) c.in-Nothing.is))
+    ∙ ap (λ v. ok (any_content v)) (sym (value_none text marks t.namespace (c.place_found.ensures text marks) c.in-None.is))

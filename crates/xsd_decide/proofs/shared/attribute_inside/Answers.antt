@@ -34,7 +34,7 @@ returns-then-is_required c =
     let on = attribute-on t c.if-not-flag.false (sym c.is_required.ensures ∙ c.if-is_required.true) in
     c.typed_row.ensures a.text.now a.marks.now
     ∙ ap ok (sym (on ∙ typed-told a.text.now a.marks.now t.name t.type_name (c.name_and_type.ensures a.text.now a.marks.now)
-    c.in-Both.is (typed_row 20 1 0 0)))
+    c.in-Some.is (typed_row 20 1 0 0)))
 
 pub returns : goal.returns
 unfolding named typed_values for_both bit seen_at
@@ -44,4 +44,4 @@ returns c =
     let on = attribute-on t c.if-not-flag.false (sym c.is_required.ensures ∙ c.if-is_required.false) in
     c.typed_row-2.ensures a.text.now a.marks.now
     ∙ ap ok (sym (on ∙ typed-told a.text.now a.marks.now t.name t.type_name (c.name_and_type.ensures a.text.now a.marks.now)
-    c.in-Both.is (typed_row 20 0 0 0)))
+    c.in-Some.is (typed_row 20 0 0 0)))

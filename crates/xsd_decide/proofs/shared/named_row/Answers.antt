@@ -9,19 +9,19 @@ use Rattle.xsd_decide.specs.Rows.{typed_row}
 use Rattle.xsd_decide.proofs.Laws.Typed.{for_both, typed-told}
 use Rattle.xsd_decide.proofs.shared.named_row.Goals as goal
 
-pub returns-in-Both : goal.returns-in-Both
+pub returns-in-Some : goal.returns-in-Some
 unfolding named typed_values for_both seen_at
-returns-in-Both c =
+returns-in-Some c =
     let a = c.args in
     let t = seen_at a.text.now a.marks.now a.t in
     c.typed_row.ensures a.text.now a.marks.now
     ∙ ap ok (sym (typed-told a.text.now a.marks.now t.name t.type_name (c.name_and_type.ensures a.text.now a.marks.now)
-    c.in-Both.is (typed_row a.tag 0 0 a.c)))
+    c.in-Some.is (typed_row a.tag 0 0 a.c)))
 
-pub returns-in-Missing : goal.returns-in-Missing
+pub returns-in-None : goal.returns-in-None
 unfolding decision named typed_values for_both seen_at
-returns-in-Missing c =
+returns-in-None c =
     let a = c.args in
     let t = seen_at a.text.now a.marks.now a.t in
     ap ok (sym (typed-told a.text.now a.marks.now t.name t.type_name (c.name_and_type.ensures a.text.now a.marks.now)
-    c.in-Missing.is (typed_row a.tag 0 0 a.c)))
+    c.in-None.is (typed_row a.tag 0 0 a.c)))

@@ -6,16 +6,16 @@ use Rattle.xsd_decide.specs.Reads.{typed_values}
 use Rattle.xsd_decide.proofs.Laws.Typed.{for_both, occurs-told}
 use Rattle.xsd_decide.proofs.shared.occurs_added.Goals as goal
 
-pub returns-in-Both : goal.returns-in-Both
+pub returns-in-Some : goal.returns-in-Some
 unfolding typed_values for_both seen_at
-returns-in-Both c =
+returns-in-Some c =
     let a = c.args in
     let t = seen_at a.text.now a.marks.now a.t in
-    c.min_added.ensures ∙ sym (occurs-told a.text.now a.marks.now t.name t.type_name (c.name_and_type.ensures a.text.now a.marks.now) c.in-Both.is t)
+    c.min_added.ensures ∙ sym (occurs-told a.text.now a.marks.now t.name t.type_name (c.name_and_type.ensures a.text.now a.marks.now) c.in-Some.is t)
 
-pub returns-in-Missing : goal.returns-in-Missing
+pub returns-in-None : goal.returns-in-None
 unfolding decision typed_values for_both seen_at
-returns-in-Missing c =
+returns-in-None c =
     let a = c.args in
     let t = seen_at a.text.now a.marks.now a.t in
-    sym (occurs-told a.text.now a.marks.now t.name t.type_name (c.name_and_type.ensures a.text.now a.marks.now) c.in-Missing.is t)
+    sym (occurs-told a.text.now a.marks.now t.name t.type_name (c.name_and_type.ensures a.text.now a.marks.now) c.in-None.is t)

@@ -7,15 +7,15 @@ use Rattle.tape.specs.Lookup.{seen_at}
 use Rattle.xsd_decide.proofs.Laws.Values.{value-at, value_none}
 use Rattle.xsd_decide.proofs.values.is_required.Goals as goal
 
-pub returns-in-At : goal.returns-in-At
+pub returns-in-Some : goal.returns-in-Some
 unfolding bytes is_required is text_at_mark seen_at
-returns-in-At c =
+returns-in-Some c =
     let a = c.args in
-    let value = value-at a.text.now a.marks.now a.t.usage (c.place_found.ensures a.text.now a.marks.now) c.in-At.is in
+    let value = value-at a.text.now a.marks.now a.t.usage (c.place_found.ensures a.text.now a.marks.now) c.in-Some.is in
     c.same_text.ensures ∙ ap (λ (v : Text). same v (bytes "required")) c.pair_part.ensures ∙ sym (ap is_required value)
 
-pub returns-in-Nothing : goal.returns-in-Nothing
+pub returns-in-None : goal.returns-in-None
 unfolding is_required seen_at
-returns-in-Nothing c =
+returns-in-None c =
     let a = c.args in
-    sym (ap is_required (value_none a.text.now a.marks.now a.t.usage (c.place_found.ensures a.text.now a.marks.now) c.in-Nothing.is))
+    sym (ap is_required (value_none a.text.now a.marks.now a.t.usage (c.place_found.ensures a.text.now a.marks.now) c.in-None.is))

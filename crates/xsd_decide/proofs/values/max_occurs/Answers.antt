@@ -9,15 +9,15 @@ use Rattle.tape.specs.Lookup.{seen_at}
 use Rattle.xsd_decide.proofs.Laws.Values.{value-at, value_none}
 use Rattle.xsd_decide.proofs.values.max_occurs.Goals as goal
 
-pub returns-in-At : goal.returns-in-At
+pub returns-in-Some : goal.returns-in-Some
 unfolding text_at_mark seen_at
-returns-in-At c =
+returns-in-Some c =
     let a = c.args in
-    let value = value-at a.text.now a.marks.now a.t.max_occurs (c.place_found.ensures a.text.now a.marks.now) c.in-At.is in
+    let value = value-at a.text.now a.marks.now a.t.max_occurs (c.place_found.ensures a.text.now a.marks.now) c.in-Some.is in
     c.max_of.ensures ∙ ap (λ (v : Text). parse_max_occurs (some v)) c.pair_part.ensures ∙ sym (ap parse_max_occurs value)
 
-pub returns-in-Nothing : goal.returns-in-Nothing
+pub returns-in-None : goal.returns-in-None
 unfolding parse_max_occurs max_answer seen_at
-returns-in-Nothing c =
+returns-in-None c =
     let a = c.args in
-    sym (ap parse_max_occurs (value_none a.text.now a.marks.now a.t.max_occurs (c.place_found.ensures a.text.now a.marks.now) c.in-Nothing.is))
+    sym (ap parse_max_occurs (value_none a.text.now a.marks.now a.t.max_occurs (c.place_found.ensures a.text.now a.marks.now) c.in-None.is))

@@ -7,15 +7,15 @@ use Rattle.tape.specs.Lookup.{seen_at}
 use Rattle.xsd_decide.proofs.Laws.Values.{value-at, value_none}
 use Rattle.xsd_decide.proofs.values.min_occurs.Goals as goal
 
-pub returns-in-At : goal.returns-in-At
+pub returns-in-Some : goal.returns-in-Some
 unfolding parse_min_occurs text_at_mark seen_at
-returns-in-At c =
+returns-in-Some c =
     let a = c.args in
-    let value = value-at a.text.now a.marks.now a.t.min_occurs (c.place_found.ensures a.text.now a.marks.now) c.in-At.is in
+    let value = value-at a.text.now a.marks.now a.t.min_occurs (c.place_found.ensures a.text.now a.marks.now) c.in-Some.is in
     c.parse_u32.ensures ∙ ap (number 32) c.pair_part.ensures ∙ sym (ap parse_min_occurs value)
 
-pub returns-in-Nothing : goal.returns-in-Nothing
+pub returns-in-None : goal.returns-in-None
 unfolding parse_min_occurs seen_at
-returns-in-Nothing c =
+returns-in-None c =
     let a = c.args in
-    sym (ap parse_min_occurs (value_none a.text.now a.marks.now a.t.min_occurs (c.place_found.ensures a.text.now a.marks.now) c.in-Nothing.is))
+    sym (ap parse_min_occurs (value_none a.text.now a.marks.now a.t.min_occurs (c.place_found.ensures a.text.now a.marks.now) c.in-None.is))

@@ -7,26 +7,26 @@ use Rattle.xsd_decide.specs.Reads.{both, typed_values}
 use Rattle.xsd_decide.proofs.Laws.Values.{value-at, value_none}
 use Rattle.xsd_decide.proofs.values.name_and_type.Goals as goal
 
-pub returns-in_default : goal.returns-in_default
+pub returns-in_err-name : goal.returns-in_err-name
 unfolding both typed_values
-returns-in_default c =
+returns-in_err-name c =
     let t = c.args.t in
-    λ text marks. sym (ap (λ (v : Option Text). both v (value_at text marks t.typ)) (value_none text marks t.name (c.place_found.ensures text marks) c.in_default.is))
+    λ text marks. rw c.from_residual.ensures (sym (ap (λ (v : Option Text). both v (value_at text marks t.typ)) (value_none text marks t.name (c.place_found.ensures text marks) c.in_err-name.was)))
 
-pub returns-in_default-place_found : goal.returns-in_default-place_found
+pub returns-in_err-typ : goal.returns-in_err-typ
 unfolding both typed_values
-returns-in_default-place_found c =
+returns-in_err-typ c =
     let t = c.args.t in
     λ text marks.
-    let name = value-at text marks t.name (c.place_found.ensures text marks) c.in-At.is in
-    let type = value_none text marks t.typ (c.place_found-2.ensures text marks) c.in_default-place_found.is in
-    rw (name, type)
+    let name = value-at text marks t.name (c.place_found.ensures text marks) c.in_ok-name.was in
+    let type = value_none text marks t.typ (c.place_found-2.ensures text marks) c.in_err-typ.was in
+    rw (c.from_residual-in_err-typ.ensures, name, type)
 
 pub returns : goal.returns
 unfolding both typed_values
 returns c =
     let t = c.args.t in
     λ text marks.
-    let name = value-at text marks t.name (c.place_found.ensures text marks) c.in-At.is in
-    let type = value-at text marks t.typ (c.place_found-2.ensures text marks) c.in-At-place_found.is in
+    let name = value-at text marks t.name (c.place_found.ensures text marks) c.in_ok-name.was in
+    let type = value-at text marks t.typ (c.place_found-2.ensures text marks) c.in_ok-typ.was in
     rw (name, type)

@@ -12,7 +12,6 @@ use borrow.Author.Tests.{leb-true}
 use Rattle.text.proofs.Laws.Tests.{and-true-left, and-true-right}
 use Rattle.sheet.specs.Rows.{numbers}
 use Rattle.sheet.specs.Lengths.{sheet_lengths}
-use Rattle.buffer.proofs.Laws.Buffer.{zeros-whole}
 use Rattle.xsd_types.specs.Row0.{Row0, row0_ten}
 use Rattle.xsd_good.proofs.Laws.Clear.{lengths-rows, clear-refused, clear-done}
 use Rattle.xsd_good.proofs.clear.clear.Goals as goal
@@ -27,7 +26,7 @@ long-enough rows names choice e h = lengths-rows rows names (and-true-left _ _ (
 pub returns-then-not-sheet_lengths-choice : goal.returns-then-not-sheet_lengths-choice
 returns-then-not-sheet_lengths-choice c =
     let a = c.args in
-    clear-refused a.choice a.rows.now a.names.now (sym (ap (λ (b : Bool). b && leb a.choice 1) c.sheet_lengths.ensures) ∙ c.if-not-sheet_lengths-choice.true)
+    rw c.into.ensures (clear-refused a.choice a.rows.now a.names.now (sym (ap (λ (b : Bool). b && leb a.choice 1) c.sheet_lengths.ensures) ∙ c.if-not-sheet_lengths-choice.true))
 
 pub cleared_row0-requires : goal.cleared_row0-requires
 cleared_row0-requires c =
@@ -48,12 +47,12 @@ bounds-rows-10 c =
     omega (arith, c.put_row.auto.rows)
 
 pub shape_of-rows : goal.shape_of-rows
-shape_of-rows c = simp length-set (c.put_row.auto.rows ∙ c.zero_rows.auto.rows)
+shape_of-rows c = simp length-set (c.put_row.auto.rows ∙ c.fill.auto.self)
 
 pub returns : goal.returns
 returns c =
     let a = c.args in
     let row = c.row0_numbers.ensures ∙ ap (λ (z : Row0). numbers (row0_ten z ∷ [])) c.cleared_row0.ensures in
-    let rows = c.put_row.ensures ∙ ap₂ (λ (d s : List ℕ). paste d 0 s 10) (c.zero_rows.ensures ∙ zeros-whole a.rows.now) row in
+    let rows = c.put_row.ensures ∙ ap₂ (λ (d s : List ℕ). paste d 0 s 10) (c.fill.ensures.after (λ y h. h)) row in
     let ok = passes (length a.rows.now) (length a.names.now) a.choice c.sheet_lengths.ensures c.if-not-sheet_lengths-choice.false in
-    rw (rows, c.zero_names.ensures ∙ zeros-whole a.names.now) (clear-done a.choice a.rows.now a.names.now ok)
+    rw (rows, c.fill-2.ensures.after (λ y h. h)) (clear-done a.choice a.rows.now a.names.now ok)

@@ -28,12 +28,13 @@ long rows names e h = omega (arith, (bare-used rows names (sym e ∙ h)).0)
 pub returns-then-not-sheet_lengths : goal.returns-then-not-sheet_lengths
 returns-then-not-sheet_lengths c =
     let a = c.args in
-    convert-one a.rows.now a.names.now (sym c.sheet_lengths.ensures ∙ c.if-not-sheet_lengths.true)
+    rw c.into.ensures (convert-one a.rows.now a.names.now (sym c.sheet_lengths.ensures ∙ c.if-not-sheet_lengths.true))
 
 pub returns-then-not-is_bare_good : goal.returns-then-not-is_bare_good
 returns-then-not-is_bare_good c =
     let a = c.args in
-    convert-bad a.rows.now a.names.now (sym c.sheet_lengths.ensures ∙ c.if-not-sheet_lengths.false) (sym c.is_bare_good.ensures ∙ c.if-not-is_bare_good.true)
+    rw c.into-then-not-is_bare_good.ensures
+    (convert-bad a.rows.now a.names.now (sym c.sheet_lengths.ensures ∙ c.if-not-sheet_lengths.false) (sym c.is_bare_good.ensures ∙ c.if-not-is_bare_good.true))
 
 pub count_of-count-requires : goal.count_of-count-requires
 count_of-count-requires c = sym c.is_bare_good.ensures ∙ c.if-not-is_bare_good.false
@@ -44,8 +45,9 @@ count_in-stored-requires c = long c.args.rows.now c.args.names.now c.is_bare_goo
 pub returns-then-not-stored-count : goal.returns-then-not-stored-count
 returns-then-not-stored-count c =
     let a = c.args in
-    convert-wrong a.rows.now a.names.now (sym c.sheet_lengths.ensures ∙ c.if-not-sheet_lengths.false) (sym c.is_bare_good.ensures ∙ c.if-not-is_bare_good.false) c.count_in-stored.ensures
-    c.count_of-count.ensures.count c.if-not-stored-count.true
+    rw c.into-then-not-stored-count.ensures
+    (convert-wrong a.rows.now a.names.now (sym c.sheet_lengths.ensures ∙ c.if-not-sheet_lengths.false) (sym c.is_bare_good.ensures ∙ c.if-not-is_bare_good.false)
+    c.count_in-stored.ensures c.count_of-count.ensures.count c.if-not-stored-count.true)
 
 pub overflow_cast-rows : goal.overflow_cast-rows
 overflow_cast-rows c = omega (arith, few-rows (length c.args.rows.now) (length c.args.names.now) c.sheet_lengths.ensures c.if-not-sheet_lengths.false, c.count_of-count.ensures.few)

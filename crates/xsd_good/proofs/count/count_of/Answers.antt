@@ -22,24 +22,30 @@ ends : (rows names : List ℕ) {p : ℕ} → bare_good (bare (sheet rows names))
     → p ≡ finished_end rows (row0_from (ten rows)).context (rows_used_in (ten rows)) → words rows ≡ true → p ≡ 2 + length (items_rows (state_of (sheet rows names)).reader.schema.items)
 ends rows names good place w = place ∙ bare-end rows names good w
 
-pub finished_place-requires : goal.finished_place-requires
-finished_place-requires c =
+pub finished_place-end-requires : goal.finished_place-end-requires
+finished_place-end-requires c =
     let u = bare-used c.args.rows.now c.args.names.now c.requires in
     (omega (arith, u.0), u.1)
+
+pub invariant_of-part : goal.invariant_of-part
+invariant_of-part c =
+    let a = c.args in
+    let p = c.finished_place-end.ensures in
+    record { within = (bare-room a.rows.now a.names.now c.requires p.words (ends a.rows.now a.names.now c.requires p.place p.words)).1 }
 
 pub count_refused-requires : goal.count_refused-requires
 count_refused-requires c =
     let a = c.args in
-    let p = c.finished_place.ensures in
-    bare-room a.rows.now a.names.now c.requires p.words (ends a.rows.now a.names.now c.requires p.place p.words)
+    let p = c.finished_place-end.ensures in
+    (bare-room a.rows.now a.names.now c.requires p.words (ends a.rows.now a.names.now c.requires p.place p.words)).0
 
 pub returns : goal.returns
 returns c =
     let rows = c.args.rows.now in
     let names = c.args.names.now in
-    let p = c.finished_place.ensures in
+    let p = c.finished_place-end.ensures in
     let end = ends rows names c.requires p.place p.words in
     let room = bare-room rows names c.requires p.words end in record {
       count = c.count_refused.ensures ∙ bare-count rows names c.requires p.words end;
-      few = omega (arith, c.count_refused.ensures, count-few rows names 2 c.finished_place.result, room.1);
+      few = omega (arith, c.count_refused.ensures, count-few rows names 2 c.finished_place-end.result, room.1);
     }

@@ -5,4 +5,4 @@ use Rattle.xsd_good.proofs.Laws.Bare.{row1-bare}
 use Rattle.xsd_good.proofs.scan.bare_row1.Goals as goal
 
 pub returns : goal.returns
-returns c = row1-bare c.args.rows.now (as_ten c.ten_at-t.result) (omega arith) c.ten_at-t.ensures
+returns c = row1-bare c.args.rows.now (as_ten c.ten_at.result) (omega arith) c.ten_at.ensures

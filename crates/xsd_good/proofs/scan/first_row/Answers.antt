@@ -19,4 +19,4 @@ returns-else-form-row_covers c =
     let a = c.args in
     let e = first_passes_lem a.limit (as_ten a.t) (c.row_covers.ensures used_pairs c.used_pairs.ensures)
     c.end_of-end.ensures c.wide.ensures c.if-form-row_covers.false in
-    rw e c.failed.ensures
+    rw e

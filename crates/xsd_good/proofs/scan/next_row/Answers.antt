@@ -21,4 +21,4 @@ returns-else-form-row_covers c =
     let e = next-passes a.limit a.s (as_ten a.t) c.row_form.ensures c.may_follow.ensures
     (c.row_covers.ensures used_pairs c.used_pairs.ensures) c.end_of-end.ensures c.wide.ensures
     c.if-form-row_covers.false in
-    rw e c.failed.ensures
+    rw e

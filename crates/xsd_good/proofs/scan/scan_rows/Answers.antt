@@ -1,28 +1,31 @@
 -- `xsd_good::scan::scan_rows` meets its contract. The loop's invariant: the pass over what is left from here gives what the pass over all rows gives,
--- and the end of the pairs so far is at most 2 ^ 32. The measure is how many rows are left. Assumes nothing.
-use mathlib.Core.Path.{refl, ◌∙◌}
+-- and the end of the pairs so far is at most 2 ^ 32. Assumes nothing.
+use Prim.Native.Nat.{◌-◌, ◌*◌}
+use mathlib.Core.Path.{◌∙◌}
 use native.Mathlib.Omega.{arith}
 use lib.ListN.{drop}
 use Rattle.rows.specs.Ten.{as_ten}
-use Rattle.xsd_good.proofs.Laws.Scan.{next-end, scan_step, scan-stops}
+use Rattle.xsd_good.proofs.Laws.Scan.{next-end, scan_step, scan-none, scan-stops}
 use Rattle.xsd_good.proofs.scan.scan_rows.Goals as goal
 
-pub loop-left-init : goal.loop-left-init
-loop-left-init c = (omega arith, c.requires.1, refl)
+pub returns-in_err-s : goal.returns-in_err-s
+returns-in_err-s c =
+    let a = c.args in
+    let w = c.loop-place in
+    let failed = scan-none a.limit w.s a.n w.place a.rows.now (as_ten c.ten_at.result) (omega arith) c.ten_at.ensures c.in_err-s.ensures in
+    c.from_residual.ensures ∙ failed ∙ w.invariant.1
 
-pub next_row-s-requires : goal.next_row-s-requires
-next_row-s-requires c = c.loop-left.invariant.1
-
-pub loop-left-preserved : goal.loop-left-preserved
-loop-left-preserved c =
-    let args = c.args in
+pub loop-place-preserved : goal.loop-place-preserved
+loop-place-preserved c =
+    let a = c.args in
+    let w = c.loop-place in
     let t = as_ten c.ten_at.result in (
-      omega arith,
-      rw c.next_row-s.ensures (omega (arith, next-end args.limit c.loop-left.s t)),
-      rw c.next_row-s.ensures (scan_step args.limit c.loop-left.s c.loop-left.left c.loop-left.at args.rows.now t (omega arith) c.ten_at.ensures ∙ c.loop-left.invariant.2),
+      omega (arith, next-end a.limit w.s c.in_ok-s.s t c.in_ok-s.ensures),
+      rw c.in_ok-s.ensures (scan_step a.limit w.s a.n w.place a.rows.now t (omega arith) c.ten_at.ensures ∙ w.invariant.1),
     )
 
 pub returns : goal.returns
 returns c =
-    let args = c.args in
-    scan-stops args.limit c.loop-left.s c.loop-left.left (drop c.loop-left.at args.rows.now) c.loop-left-test.false ∙ c.loop-left.invariant.2
+    let a = c.args in
+    let w = c.loop-place in
+    scan-stops a.limit w.s (a.n - w.place) (drop (10 * w.place) a.rows.now) (omega arith) ∙ w.invariant.1

@@ -9,8 +9,8 @@ returns-then-m-ne0 c = rw (ne_eqb _ _ c.if-m-ne0.true)
 
 pub returns-then-m-le-SCHEMA : goal.returns-then-m-le-SCHEMA
 unfolding close_mode
-returns-then-m-le-SCHEMA c = rw (eq-eqb _ _ c.if-m-ne0.false, le-leb _ _ c.if-m-le-SCHEMA.true)
+returns-then-m-le-SCHEMA c = rw (eq-eqb _ _ c.if-m-ne0.false, le-leb _ _ c.if-m-le-SCHEMA.true, c.if-m-ne0.false)
 
 pub returns : goal.returns
 unfolding close_mode
-returns c = rw (eq-eqb _ _ c.if-m-ne0.false, lt-leb _ _ c.if-m-le-SCHEMA.false)
+returns c = rw (eq-eqb _ _ c.if-m-ne0.false, lt-leb _ _ c.if-m-le-SCHEMA.false, c.if-m-ne0.false)

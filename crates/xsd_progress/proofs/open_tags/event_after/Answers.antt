@@ -3,4 +3,4 @@ use Rattle.xsd_progress.proofs.Laws.Change.{event-after}
 use Rattle.xsd_progress.proofs.open_tags.event_after.Goals as goal
 
 pub returns : goal.returns
-returns c = event-after c.after-next.ensures c.seen_after-seen.ensures c.mode_of-mode.ensures
+returns c = event-after c.change.ensures c.seen_after-seen.ensures c.mode_of.ensures

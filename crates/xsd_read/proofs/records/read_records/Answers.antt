@@ -5,58 +5,58 @@ use native.Mathlib.Omega.{arith}
 use Rattle.xsd_read.proofs.Laws.Loop.{reads_first, reads_end, reads-form, followed, reads-refuse, reads-next, event-room}
 use Rattle.xsd_read.proofs.records.read_records.Goals as goal
 
-pub loop-refusal-init : goal.loop-refusal-init
-loop-refusal-init c =
+pub loop-t-init : goal.loop-t-init
+loop-t-init c =
     let a = c.args in
     reads_first a.rows.now a.names.now a.text.now a.marks.now a.from
 
 pub record_at-requires : goal.record_at-requires
 record_at-requires c = c.is_plain-plain.ensures
 
-pub shape_of-rows-in-End : goal.shape_of-rows-in-End
-shape_of-rows-in-End c = c.loop-refusal.invariant.rows_length
+pub shape_of-rows-in-Ok-None : goal.shape_of-rows-in-Ok-None
+shape_of-rows-in-Ok-None c = c.loop-t.invariant.rows_length
 
-pub shape_of-names-in-End : goal.shape_of-names-in-End
-shape_of-names-in-End c = c.loop-refusal.invariant.names_length
+pub shape_of-names-in-Ok-None : goal.shape_of-names-in-Ok-None
+shape_of-names-in-Ok-None c = c.loop-t.invariant.names_length
 
-pub returns-in-End : goal.returns-in-End
-returns-in-End c = reads_end c.loop-refusal.invariant c.record_at.ensures c.in-End.is
+pub returns-in-Ok-None : goal.returns-in-Ok-None
+returns-in-Ok-None c = reads_end c.loop-t.invariant c.record_at.ensures c.in-Ok-None.is c.in-Ok-None.field-0-is
 
-pub shape_of-rows-in-Bad : goal.shape_of-rows-in-Bad
-shape_of-rows-in-Bad c = c.loop-refusal.invariant.rows_length
+pub shape_of-rows-in-Err : goal.shape_of-rows-in-Err
+shape_of-rows-in-Err c = c.loop-t.invariant.rows_length
 
-pub shape_of-names-in-Bad : goal.shape_of-names-in-Bad
-shape_of-names-in-Bad c = c.loop-refusal.invariant.names_length
+pub shape_of-names-in-Err : goal.shape_of-names-in-Err
+shape_of-names-in-Err c = c.loop-t.invariant.names_length
 
-pub returns-in-Bad : goal.returns-in-Bad
-returns-in-Bad c = rw c.stopped_at.ensures
-    (reads-form _ c.loop-refusal.invariant c.record_at.ensures c.in-Bad.is)
+pub returns-in-Err : goal.returns-in-Err
+returns-in-Err c = rw c.stopped_at.ensures
+    (reads-form _ c.loop-t.invariant c.record_at.ensures c.in-Err.is)
 
 pub on_event-requires : goal.on_event-requires
 on_event-requires c =
-    let f = followed _ c.record_at.ensures c.in-Event.is in
-    record { event_room = event-room c.requires c.loop-refusal.invariant f; tag_inside = f.inside }
+    let f = followed _ c.record_at.ensures c.in-Ok-Some.is c.in-Ok-Some.field-0-is in
+    record { event_room = event-room c.requires c.loop-t.invariant f; tag_inside = f.inside }
 
-pub shape_of-rows-in-Refused : goal.shape_of-rows-in-Refused
-shape_of-rows-in-Refused c = c.on_event.ensures.rows_length
-    ∙ c.loop-refusal.invariant.rows_length
+pub shape_of-rows-in-Err-on_event : goal.shape_of-rows-in-Err-on_event
+shape_of-rows-in-Err-on_event c = c.on_event.ensures.rows_length
+    ∙ c.loop-t.invariant.rows_length
 
-pub shape_of-names-in-Refused : goal.shape_of-names-in-Refused
-shape_of-names-in-Refused c = c.on_event.ensures.names_length
-    ∙ c.loop-refusal.invariant.names_length
+pub shape_of-names-in-Err-on_event : goal.shape_of-names-in-Err-on_event
+shape_of-names-in-Err-on_event c = c.on_event.ensures.names_length
+    ∙ c.loop-t.invariant.names_length
 
-pub returns-in-Refused : goal.returns-in-Refused
-returns-in-Refused c = rw c.stopped_at-in-Refused.ensures
-    (reads-refuse _ c.loop-refusal.invariant
+pub returns-in-Err-on_event : goal.returns-in-Err-on_event
+returns-in-Err-on_event c = rw c.stopped_at-in-Err-on_event.ensures
+    (reads-refuse _ c.loop-t.invariant
     (followed _ c.record_at.ensures
-    c.in-Event.is)
-    c.on_event.ensures c.in-Refused.is)
+    c.in-Ok-Some.is c.in-Ok-Some.field-0-is)
+    c.on_event.ensures c.in-Err-on_event.is)
 
 pub overflow_add-place : goal.overflow_add-place
 overflow_add-place c =
-    let w = c.loop-refusal.invariant in
+    let w = c.loop-t.invariant in
     let f = followed _ c.record_at.ensures
-    c.in-Event.is in
+    c.in-Ok-Some.is c.in-Ok-Some.field-0-is in
     omega (
       arith,
       w.counted,
@@ -65,14 +65,14 @@ overflow_add-place c =
       c.well_formed,
     )
 
-pub loop-refusal-smaller : goal.loop-refusal-smaller
-loop-refusal-smaller c =
+pub loop-t-smaller : goal.loop-t-smaller
+loop-t-smaller c =
     let f = followed _ c.record_at.ensures
-    c.in-Event.is in
+    c.in-Ok-Some.is c.in-Ok-Some.field-0-is in
     omega (arith, f.later, f.within)
 
-pub loop-refusal-preserved : goal.loop-refusal-preserved
-loop-refusal-preserved c = reads-next _ c.loop-refusal.invariant
+pub loop-t-preserved : goal.loop-t-preserved
+loop-t-preserved c = reads-next _ c.loop-t.invariant
     (followed _ c.record_at.ensures
-    c.in-Event.is)
-    c.on_event.ensures c.in-Done.is
+    c.in-Ok-Some.is c.in-Ok-Some.field-0-is)
+    c.on_event.ensures c.in-Ok.is

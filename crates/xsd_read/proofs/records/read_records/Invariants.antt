@@ -5,8 +5,8 @@ use lib.ListN.{length}
 use Rattle.xsd_read.proofs.Laws.Loop.{Reads}
 use Rattle.xsd_read.proofs.records.read_records.Given as goal
 
-abbrev pub invariant-loop-refusal : goal.invariant-loop-refusal
-invariant-loop-refusal l = Reads l.initial.rows l.initial.names l.text l.marks l.initial.progress l.rows l.names l.progress l.place l.at
+abbrev pub invariant-loop-t : goal.invariant-loop-t
+invariant-loop-t l = Reads l.initial.rows l.initial.names l.text l.marks l.initial.progress l.rows l.names l.progress l.place l.at
 
-abbrev pub decreases-loop-refusal : goal.decreases-loop-refusal
-decreases-loop-refusal l = length l.marks - l.at
+abbrev pub decreases-loop-t : goal.decreases-loop-t
+decreases-loop-t l = length l.marks - l.at

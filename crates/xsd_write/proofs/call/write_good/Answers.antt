@@ -27,27 +27,32 @@ pub row0_at-z-requires : goal.row0_at-z-requires
 row0_at-z-requires c =
     let rows = c.args.rows.now in
     let names = c.args.names.now in
-    omega (arith, (bare-used rows names (good-bare (sheet rows names) c.requires.0)).0)
+    omega (arith, (bare-used rows names (good-bare (sheet rows names) c.requires)).0)
 
 pub finished_end-end-requires : goal.finished_end-end-requires
 finished_end-end-requires c =
     let rows = c.args.rows.now in
     let names = c.args.names.now in
-    rw (ap (λ (z : Row0). z.rows_used) c.row0_at-z.ensures) (bare-used rows names (good-bare (sheet rows names) c.requires.0)).1
+    rw (ap (λ (z : Row0). z.rows_used) c.row0_at-z.ensures) (bare-used rows names (good-bare (sheet rows names) c.requires)).1
 
 pub write_finished-requires : goal.write_finished-requires
 write_finished-requires c =
+    omega (arith, ends c.args.rows.now c.args.names.now c.requires c.finished_end-end.ensures.words (as_row0 c.row0_at-z.result) c.row0_at-z.ensures c.finished_end-end.ensures.place)
+
+pub invariant_of-part : goal.invariant_of-part
+invariant_of-part c =
     let rows = c.args.rows.now in
     let names = c.args.names.now in
-    let end = ends rows names c.requires.0 c.finished_end-end.ensures.words (as_row0 c.row0_at-z.result) c.row0_at-z.ensures c.finished_end-end.ensures.place in
-    let room = bare-room rows names (good-bare (sheet rows names) c.requires.0) c.finished_end-end.ensures.words end in
-    (c.requires.1, room.0, room.1)
+    let w = c.finished_end-end.ensures.words in
+    record {
+      within = (bare-room rows names (good-bare (sheet rows names) c.requires) w (ends rows names c.requires w (as_row0 c.row0_at-z.result) c.row0_at-z.ensures c.finished_end-end.ensures.place)).1;
+    }
 
 pub returns : goal.returns
 returns c =
     let rows = c.args.rows.now in
     let names = c.args.names.now in
     let w = c.finished_end-end.ensures.words in
-    let end = ends rows names c.requires.0 c.finished_end-end.ensures.words (as_row0 c.row0_at-z.result) c.row0_at-z.ensures c.finished_end-end.ensures.place in
-    c.write_finished.ensures ∙ good-written rows names c.requires.0 w end _ _
-    (good-root rows names c.requires.0 w (as_row0 c.row0_at-z.result) c.row0_at-z.ensures)
+    let end = ends rows names c.requires c.finished_end-end.ensures.words (as_row0 c.row0_at-z.result) c.row0_at-z.ensures c.finished_end-end.ensures.place in
+    c.write_finished.ensures ∙ good-written rows names c.requires w end _ _
+    (good-root rows names c.requires w (as_row0 c.row0_at-z.result) c.row0_at-z.ensures)

@@ -5,7 +5,7 @@ use Rattle.xsd_write.proofs.call.write_held.Goals as goal
 
 pub returns-then-text-used : goal.returns-then-text-used
 returns-then-text-used c =
-    written-short c.put_schema-used.ensures (omega (arith, c.put_schema-used.ensures.kept, c.if-text-used.true)) c.zero_text.ensures
+    rw c.into.ensures (written-short c.put_schema-used.ensures (omega (arith, c.put_schema-used.ensures.kept, c.if-text-used.true)) c.zero_text.ensures)
 
 pub returns : goal.returns
 returns c =

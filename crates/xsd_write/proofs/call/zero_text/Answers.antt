@@ -4,7 +4,6 @@ use Prim.Native.Nat.{ℕ, ◌-◌}
 use mathlib.Core.Path.{◌≡◌, sym, ap, ◌∙◌}
 use lib.ListN.{length, replicate}
 use Rattle.sheet.specs.Rows.{filled}
-use Rattle.buffer.proofs.Laws.Buffer.{zeros-whole}
 use Rattle.xsd_write.proofs.call.zero_text.Goals as goal
 
 pub returns : goal.returns
@@ -12,4 +11,4 @@ unfolding filled
 returns c =
     let t = c.args.text.now in
     let whole : length t - 0 ≡ length t = omega arith in
-    c.zero_names.ensures ∙ zeros-whole t ∙ ap (λ (n : ℕ). replicate n 0) (sym whole)
+    c.fill.ensures.after (λ y h. h) ∙ ap (λ (n : ℕ). replicate n 0) (sym whole)

@@ -4,10 +4,10 @@ use Rattle.xml.specs.Written.{written_attributes}
 use Rattle.xsd_written.specs.Schema.{attr}
 use Rattle.xsd_written.specs.ByRows.{attribute_text, empty_text, named_text}
 use Rattle.xsd_write.specs.Texts.{quoted, named}
-use Rattle.xsd_write.proofs.Laws.Puts.{puts_then}
+use Rattle.xsd_write.proofs.Laws.Puts.{writes_then}
 use Rattle.xsd_write.proofs.child.put_attribute.Goals as goal
 
 pub returns : goal.returns
 unfolding empty_text named_text named attribute_text written_attributes attr bytes quoted
-returns c = puts_then (puts_then c.put_named-a.ensures
-    c.put_use-b.ensures) c.put.ensures
+returns c = writes_then (writes_then c.put_named.ensures
+    c.put_use.ensures) c.put.ensures

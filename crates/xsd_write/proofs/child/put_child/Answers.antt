@@ -2,7 +2,7 @@
 use mathlib.Core.Path.{sym, ◌∙◌}
 use borrow.Author.Tests.{eq-eqb, ne_eqb}
 use Rattle.sheet.specs.Rows.{unpack_row}
-use Rattle.xsd_write.specs.Texts.{row_of}
+use Rattle.xsd_write.specs.Texts.{as_row}
 use Rattle.xsd_write.proofs.Laws.Rows.{child-facet, child-occurs, child-variant, child-attribute}
 use Rattle.xsd_write.proofs.child.put_child.Goals as goal
 
@@ -10,25 +10,25 @@ pub returns-then-in_range : goal.returns-then-in_range
 unfolding unpack_row
 returns-then-in_range c =
     let a = c.args in
-    rw (child-facet (row_of a.names.now a.t) (sym c.in_range.ensures ∙ c.if-in_range.true)) c.put_facet.ensures
+    rw (child-facet (as_row a.row) (sym c.in_range.ensures ∙ c.if-in_range.true)) c.put_facet.ensures
 
 pub returns-then-in_range-2 : goal.returns-then-in_range-2
 unfolding unpack_row
 returns-then-in_range-2 c =
     let a = c.args in
-    rw (child-occurs (row_of a.names.now a.t) (sym c.in_range.ensures ∙ c.if-in_range.false) (sym c.in_range-2.ensures ∙ c.if-in_range-2.true))
+    rw (child-occurs (as_row a.row) (sym c.in_range.ensures ∙ c.if-in_range.false) (sym c.in_range-else-in_range.ensures ∙ c.if-in_range-2.true))
     c.put_occurring.ensures
 
-pub returns-then-t-eq-CHOICE_VARIANT : goal.returns-then-t-eq-CHOICE_VARIANT
+pub returns-then-tag-eq-CHOICE_VARIANT : goal.returns-then-tag-eq-CHOICE_VARIANT
 unfolding unpack_row
-returns-then-t-eq-CHOICE_VARIANT c =
+returns-then-tag-eq-CHOICE_VARIANT c =
     let a = c.args in
-    rw (child-variant (row_of a.names.now a.t) (sym c.in_range.ensures ∙ c.if-in_range.false) (sym c.in_range-2.ensures ∙ c.if-in_range-2.false)
-    (eq-eqb a.t.tag 19 c.if-t-eq-CHOICE_VARIANT.true)) c.put_element.ensures
+    rw (child-variant (as_row a.row) (sym c.in_range.ensures ∙ c.if-in_range.false) (sym c.in_range-else-in_range.ensures ∙ c.if-in_range-2.false)
+    (eq-eqb a.row.numbers.tag 19 c.if-tag-eq-CHOICE_VARIANT.true)) c.put_element.ensures
 
-pub returns : goal.returns
+pub returns-else-tag-eq-CHOICE_VARIANT : goal.returns-else-tag-eq-CHOICE_VARIANT
 unfolding unpack_row
-returns c =
+returns-else-tag-eq-CHOICE_VARIANT c =
     let a = c.args in
-    rw (child-attribute (row_of a.names.now a.t) (sym c.in_range.ensures ∙ c.if-in_range.false) (sym c.in_range-2.ensures ∙ c.if-in_range-2.false)
-    (ne_eqb a.t.tag 19 c.if-t-eq-CHOICE_VARIANT.false)) c.put_attribute.ensures
+    rw (child-attribute (as_row a.row) (sym c.in_range.ensures ∙ c.if-in_range.false) (sym c.in_range-else-in_range.ensures ∙ c.if-in_range-2.false)
+    (ne_eqb a.row.numbers.tag 19 c.if-tag-eq-CHOICE_VARIANT.false)) c.put_attribute.ensures

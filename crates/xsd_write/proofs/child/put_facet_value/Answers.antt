@@ -5,7 +5,7 @@ use Rattle.text.specs.Text.{bytes}
 use Rattle.xml.specs.Written.{written_attributes}
 use Rattle.xsd_written.specs.Schema.{attr}
 use Rattle.xsd_written.specs.ByRows.{attribute_text}
-use Rattle.xsd_write.specs.Texts.{row_of, quoted}
+use Rattle.xsd_write.specs.Texts.{as_row, quoted}
 use Rattle.xsd_write.proofs.Laws.Rows.{value-length, value-digits, value-text}
 use Rattle.xsd_write.proofs.child.put_facet_value.Goals as goal
 
@@ -13,21 +13,21 @@ pub returns-then-in_range : goal.returns-then-in_range
 unfolding unpack_row attribute_text written_attributes attr bytes quoted
 returns-then-in_range c =
     let a = c.args in
-    rw (value-length (row_of a.names.now a.t) (sym c.in_range.ensures ∙ c.if-in_range.true), ← c.length_of.ensures) c.put_number.ensures
+    rw (value-length (as_row a.row) (sym c.in_range.ensures ∙ c.if-in_range.true), ← c.length_of.ensures) c.put_number.ensures
 
 pub returns-then-in_range-2 : goal.returns-then-in_range-2
 unfolding unpack_row attribute_text written_attributes attr bytes quoted
 returns-then-in_range-2 c =
     let a = c.args in
-    rw (value-digits (row_of a.names.now a.t) (sym c.in_range.ensures ∙ c.if-in_range.false) (sym c.in_range-2.ensures ∙ c.if-in_range-2.true))
+    rw (value-digits (as_row a.row) (sym c.in_range.ensures ∙ c.if-in_range.false) (sym c.in_range-else-in_range.ensures ∙ c.if-in_range-2.true))
     c.put_number-then-in_range-2.ensures
 
-pub returns : goal.returns
+pub returns-else-in_range-2 : goal.returns-else-in_range-2
 unfolding unpack_row attribute_text written_attributes attr bytes quoted
-returns c =
+returns-else-in_range-2 c =
     let a = c.args in
     rw (
-      value-text (row_of a.names.now a.t) (sym c.in_range.ensures ∙ c.if-in_range.false)
-          (sym c.in_range-2.ensures ∙ c.if-in_range-2.false),
+      value-text (as_row a.row) (sym c.in_range.ensures ∙ c.if-in_range.false)
+          (sym c.in_range-else-in_range.ensures ∙ c.if-in_range-2.false),
       ← c.first_text.ensures,
     ) c.put_value.ensures

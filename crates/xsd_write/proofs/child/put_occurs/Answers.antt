@@ -5,9 +5,9 @@ use Rattle.xml.specs.Written.{written_attributes}
 use Rattle.xsd_written.specs.Schema.{attr}
 use Rattle.xsd_written.specs.ByRows.{attribute_text, occurs_text}
 use Rattle.xsd_write.specs.Texts.{quoted}
-use Rattle.xsd_write.proofs.Laws.Puts.{puts_then}
+use Rattle.xsd_write.proofs.Laws.Puts.{writes_then}
 use Rattle.xsd_write.proofs.child.put_occurs.Goals as goal
 
 pub returns : goal.returns
 unfolding occurs_text unpack_row attribute_text written_attributes attr bytes quoted
-returns c = puts_then c.put_number-a.ensures c.put_max.ensures
+returns c = writes_then c.put_number.ensures c.put_max.ensures

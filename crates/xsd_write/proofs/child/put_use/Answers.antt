@@ -5,16 +5,16 @@ use Rattle.sheet.specs.Rows.{unpack_row}
 use Rattle.xml.specs.Written.{written_attributes, quote_of}
 use Rattle.xsd_written.specs.Schema.{attr}
 use Rattle.xsd_written.specs.ByRows.{attribute_text, use_text}
-use Rattle.xsd_write.proofs.Laws.Puts.{puts_none}
+use Rattle.xsd_write.proofs.Laws.Puts.{writes_none}
 use Rattle.xsd_write.proofs.child.put_use.Goals as goal
 
-pub returns-then-t-eq1 : goal.returns-then-t-eq1
+pub returns-then-row-eq1 : goal.returns-then-row-eq1
 unfolding use_text unpack_row attribute_text written_attributes attr bytes quote_of contains
-returns-then-t-eq1 c = rw (eq-eqb c.args.t.a 1 c.if-t-eq1.true)
+returns-then-row-eq1 c = rw (eq-eqb c.args.row.numbers.a 1 c.if-row-eq1.true)
     c.put.ensures
 
-pub returns : goal.returns
+pub returns-else-row-eq1 : goal.returns-else-row-eq1
 unfolding use_text unpack_row
-returns c =
+returns-else-row-eq1 c =
     let a = c.args in
-    rw (ne_eqb a.t.a 1 c.if-t-eq1.false) (puts_none a.at a.out.now)
+    rw (ne_eqb a.row.numbers.a 1 c.if-row-eq1.false) (writes_none a.writer.now)

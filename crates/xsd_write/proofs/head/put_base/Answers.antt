@@ -4,12 +4,12 @@ use Rattle.xml.specs.Written.{written_attributes}
 use Rattle.xsd_written.specs.Schema.{attr}
 use Rattle.xsd_written.specs.ByRows.{attribute_text}
 use Rattle.xsd_write.specs.Texts.{quoted}
-use Rattle.xsd_write.proofs.Laws.Puts.{puts_then}
+use Rattle.xsd_write.proofs.Laws.Puts.{writes_then}
 use Rattle.xsd_write.proofs.head.put_base.Goals as goal
 
 pub returns : goal.returns
 unfolding attribute_text written_attributes attr bytes quoted
 returns c =
     rw (← c.second_text.ensures)
-    (puts_then c.put-a.ensures
-    (puts_then c.put_value-b.ensures c.put.ensures))
+    (writes_then c.put.ensures
+    (writes_then c.put_value.ensures c.put-2.ensures))

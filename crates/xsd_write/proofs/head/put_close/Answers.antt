@@ -2,7 +2,7 @@
 use borrow.Author.Tests.{ne_eqb}
 use Rattle.text.specs.Text.{bytes}
 use Rattle.xsd_written.specs.ByRows.{close_text}
-use Rattle.xsd_write.proofs.Laws.Puts.{puts_none}
+use Rattle.xsd_write.proofs.Laws.Puts.{writes_none}
 use Rattle.xsd_write.proofs.head.put_close.Goals as goal
 
 pub returns-in-3 : goal.returns-in-3
@@ -37,4 +37,4 @@ returns-in_default c =
       ne_eqb (tag) 15 rest.0.0.1,
       ne_eqb (tag) 13 rest.0.1,
       ne_eqb (tag) 14 rest.1,
-    ) (puts_none a.at a.out.now)
+    ) (writes_none a.writer.now)

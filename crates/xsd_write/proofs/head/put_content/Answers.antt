@@ -2,7 +2,7 @@
 use borrow.Author.Tests.{ne_eqb}
 use Rattle.sheet.specs.Rows.{unpack_row}
 use Rattle.text.specs.Text.{bytes}
-use Rattle.xsd_write.specs.Texts.{row_of, content_text}
+use Rattle.xsd_write.specs.Texts.{as_row, content_text}
 use Rattle.xsd_write.proofs.Laws.Rows.{content-extension}
 use Rattle.xsd_write.proofs.head.put_content.Goals as goal
 
@@ -18,11 +18,11 @@ pub returns-in-14 : goal.returns-in-14
 unfolding unpack_row bytes
 returns-in-14 c =
     let a = c.args in
-    rw (content-extension (row_of a.names.now a.t) c.in-14.is) c.put_base.ensures
+    rw (content-extension (as_row a.row) c.in-14.is) c.put_base.ensures
 
 pub returns-in_default : goal.returns-in_default
 unfolding content_text unpack_row bytes
 returns-in_default c =
     let rest = c.in_default.in_default-own.rest in
-    let tag = c.args.t.tag in
+    let tag = c.args.row.numbers.tag in
     rw (ne_eqb (tag) 12 rest.0.0.1, ne_eqb (tag) 13 rest.0.1, ne_eqb (tag) 14 rest.1) c.put_any.ensures

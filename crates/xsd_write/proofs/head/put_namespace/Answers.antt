@@ -6,17 +6,17 @@ use Rattle.xml.specs.Written.{written_attributes}
 use Rattle.xsd_written.specs.Schema.{attr}
 use Rattle.xsd_written.specs.ByRows.{attribute_text, any_text}
 use Rattle.xsd_write.specs.Texts.{quoted}
-use Rattle.xsd_write.proofs.Laws.Puts.{puts_none}
+use Rattle.xsd_write.proofs.Laws.Puts.{writes_none}
 use Rattle.xsd_write.proofs.head.put_namespace.Goals as goal
 
-pub returns-then-t-eq1 : goal.returns-then-t-eq1
+pub returns-then-row-eq1 : goal.returns-then-row-eq1
 unfolding any_text unpack_row attribute_text written_attributes attr bytes quoted
-returns-then-t-eq1 c =
+returns-then-row-eq1 c =
     let a = c.args in
-    rw (eq-eqb a.t.a 1 c.if-t-eq1.true, ← c.second_text.ensures) c.put_value.ensures
+    rw (eq-eqb a.row.numbers.a 1 c.if-row-eq1.true, ← c.second_text.ensures) c.put_value.ensures
 
-pub returns : goal.returns
+pub returns-else-row-eq1 : goal.returns-else-row-eq1
 unfolding any_text unpack_row
-returns c =
+returns-else-row-eq1 c =
     let a = c.args in
-    rw (ne_eqb a.t.a 1 c.if-t-eq1.false) (puts_none a.at a.out.now)
+    rw (ne_eqb a.row.numbers.a 1 c.if-row-eq1.false) (writes_none a.writer.now)

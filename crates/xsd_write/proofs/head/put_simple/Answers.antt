@@ -4,10 +4,10 @@ use Rattle.xml.specs.Written.{written_attributes}
 use Rattle.xsd_written.specs.Schema.{attr}
 use Rattle.xsd_written.specs.ByRows.{attribute_text}
 use Rattle.xsd_write.specs.Texts.{quoted}
-use Rattle.xsd_write.proofs.Laws.Puts.{puts_then}
+use Rattle.xsd_write.proofs.Laws.Puts.{writes_then}
 use Rattle.xsd_write.proofs.head.put_simple.Goals as goal
 
 pub returns : goal.returns
 unfolding attribute_text written_attributes attr bytes quoted
 returns c =
-    rw (← c.first_text.ensures) (puts_then c.put_value-a.ensures c.put_base.ensures)
+    rw (← c.first_text.ensures) (writes_then c.put_value.ensures c.put_base.ensures)

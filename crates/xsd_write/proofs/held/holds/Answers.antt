@@ -1,5 +1,4 @@
 -- `xsd_write::held::holds` meets its contract: between the quotes that the value lacks. Assumes nothing.
-use borrow.Author.Rules.{rules}
 use mathlib.Core.Path.{refl, sym, ◌∙◌}
 use Rattle.xml.specs.Values.{is_quote}
 use Rattle.xml.specs.Written.{quote_of}
@@ -8,7 +7,7 @@ use Rattle.xsd_write.proofs.held.holds.Goals as goal
 
 pub is_value-requires : goal.is_value-requires
 unfolding is_quote
-is_value-requires c = record { quote_value = refl; classes_value = search rules }
+is_value-requires c = refl
 
 pub returns-then-has_byte : goal.returns-then-has_byte
 unfolding holds quote_of
@@ -16,7 +15,7 @@ returns-then-has_byte c = rw (sym c.has_byte.ensures ∙ c.if-has_byte.true) c.i
 
 pub is_value-requires-2 : goal.is_value-requires-2
 unfolding is_quote
-is_value-requires-2 c = record { quote_value = refl; classes_value = search rules }
+is_value-requires-2 c = refl
 
 pub returns : goal.returns
 unfolding holds quote_of

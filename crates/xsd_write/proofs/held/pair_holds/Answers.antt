@@ -10,7 +10,7 @@ pub returns-then-start-size : goal.returns-then-start-size
 returns-then-start-size c =
     let a = c.args in
     let inside : a.at + a.len ≤ a.clear = omega (arith, c.if-start-size.true, c.wide-size.ensures, c.wide-start.ensures) in
-    sym (plain-holds a.names.now a.clear a.at a.len inside c.requires.names_value)
+    sym (plain-holds a.names.now a.clear a.at a.len inside c.requires)
 
 pub returns : goal.returns
 unfolding text_at

@@ -1,0 +1,82 @@
+-- What the library's words say of texts in the words of specs/Text.antt: `==` of slices is `same`, `contains` of a slice is `contains`, `all` is `every`, and
+-- the bits of all bytes together decide `is_text`. Assumes nothing.
+use Rattle.std.proofs.Common.{◌≡◌, ◌≢◌, ℕ, zero, suc, ◌+◌, ◌<◌, ◌≤◌, Bool, true, false, ◌&&◌, ◌||◌, List, [], ◌∷◌, length, get_or, take, drop, nat_eq, nat_lt, bit_or, refl, sym, ap, ◌∙◌, arith, add-one, length-drop, take-append-drop}
+use Rattle.std.specs.List.{list_all, list_any, fold}
+use Rattle.std.specs.Cmp.Lexicographic.{pointwise}
+use Rattle.std.proofs.lemmas.Bool.{ne_eqb}
+use Rattle.std.proofs.lemmas.List.{get_or-drop}
+use Rattle.std.proofs.lemmas.List.Recursion.{and_from_places, or_from_places}
+use lib.Seq.{take-suc}
+use mathlib.Core.Bool.{and_assoc, and-true}
+use Rattle.text.specs.Text.{Text, every, is_text, is_text_byte, contains, same, colon, local_name}
+use Rattle.text.specs.Trim.{is_white_space, trim_start, trim_end}
+use Rattle.text.proofs.Laws.Bits.{or-small}
+use Rattle.text.proofs.Laws.Every.{every-head, every-tail}
+use Rattle.text.proofs.Laws.Local.{after_last-at, after_last-none}
+use Rattle.text.proofs.Laws.Trim.{trim_end-append, trim_end-last}
+
+-- what `==` of two texts answers
+pub same_is : (s t : Text) → pointwise nat_eq s t ≡ same s t
+unfolding same
+same_is [] [] = refl
+same_is [] (c ∷ t) = refl
+same_is (b ∷ s) [] = refl
+same_is (b ∷ s) (c ∷ t) = ap (λ (r : Bool). nat_eq b c && r) (same_is s t)
+
+-- what `contains` of a text answers
+pub contains_is : (c : ℕ) (s : Text) → list_any (λ b. nat_eq b c) s ≡ contains c s
+unfolding contains
+contains_is c [] = refl
+contains_is c (b ∷ s) = ap (λ (r : Bool). nat_eq b c || r) (contains_is c s)
+
+-- what `all` of a list answers
+pub every_is : {A : Type 0} (p : A → Bool) (xs : List A) → list_all p xs ≡ every p xs
+unfolding every
+every_is p [] = refl
+every_is p (x ∷ xs) = ap (λ (r : Bool). p x && r) (every_is p xs)
+
+-- the bits of all bytes, put to those of a first number
+pub text_fold : (a : ℕ) (s : Text) → nat_lt (fold bit_or a s) 128 ≡ nat_lt a 128 && is_text s
+unfolding is_text every is_text_byte
+text_fold a [] = sym (and-true _)
+text_fold a (b ∷ s) = text_fold (bit_or a b) s ∙ ap (λ (r : Bool). r && is_text s) (or-small a b) ∙ and_assoc (nat_lt a 128) (nat_lt b 128) (is_text s)
+
+-- a byte that stands at no place from i on
+pub contains-none : (c : ℕ) (s : Text) (i : ℕ) → ((k : ℕ) → i ≤ k → k < length s → get_or s k 0 ≢ c) → contains c (drop i s) ≡ false
+unfolding contains
+contains-none c s i h =
+    or_from_places (contains c) (λ b. nat_eq b c) refl (λ _ _. refl) (drop i s) 0
+    (λ k inside. ap (λ b. nat_eq b c) (get_or-drop i s k 0) ∙ ne_eqb (get_or s (i + k) 0) c (h (i + k) (omega arith) (omega (arith, length-drop i s))))
+
+-- the local name by the place of the last colon
+pub local_name-last : (name : Text) (i : ℕ) → i < length name → get_or name i 0 ≡ colon → ((k : ℕ) → i + 1 ≤ k → k < length name → get_or name k 0 ≢ colon) → local_name name ≡ drop (i + 1) name
+unfolding local_name
+local_name-last name i inside here behind = rw add-one (after_last-at colon name name i inside here (rw add-one at (contains-none colon name (i + 1) behind)))
+
+pub local_name-whole : (name : Text) → ((k : ℕ) → k < length name → get_or name k 0 ≢ colon) → local_name name ≡ name
+unfolding local_name
+local_name-whole name none = after_last-none colon name name (contains-none colon name 0 (λ k _ inside. none k inside))
+
+-- what is left at the start by the place of the first byte that is no white space, and at the end by that of the last
+pub trim_start-first : (s : Text) (i : ℕ) → i < length s → is_white_space (get_or s i 0) ≡ false → ((k : ℕ) → k < i → is_white_space (get_or s k 0) ≡ true) → trim_start s ≡ drop i s
+unfolding trim_start
+trim_start-first [] i inside here before = absurd (omega arith)
+trim_start-first (b ∷ s) zero inside here before = rw here
+trim_start-first (b ∷ s) (suc i) inside here before =
+    rw (before 0 (omega arith)) (trim_start-first s i (omega arith) here (λ k below. before (suc k) (omega arith)))
+
+pub trim_start-white : (s : Text) → every is_white_space s ≡ true → trim_start s ≡ []
+unfolding trim_start
+trim_start-white [] e = refl
+trim_start-white (b ∷ s) e = rw (every-head is_white_space b s e) (trim_start-white s (every-tail is_white_space b s e))
+
+pub white-from : (s : Text) (i : ℕ) → ((k : ℕ) → i ≤ k → k < length s → is_white_space (get_or s k 0) ≡ true) → every is_white_space (drop i s) ≡ true
+unfolding every
+white-from s i h =
+    and_from_places (every is_white_space) is_white_space refl (λ _ _. refl) (drop i s) 0
+    (λ k inside. ap is_white_space (get_or-drop i s k 0) ∙ h (i + k) (omega arith) (omega (arith, length-drop i s)))
+
+pub trim_end-at : (s : Text) (i : ℕ) → i < length s → is_white_space (get_or s i 0) ≡ false → ((k : ℕ) → i + 1 ≤ k → k < length s → is_white_space (get_or s k 0) ≡ true) → trim_end s ≡ take (i + 1) s
+trim_end-at s i inside here behind =
+    ap trim_end (sym (take-append-drop (i + 1) s)) ∙ trim_end-append (take (i + 1) s) (drop (i + 1) s) (white-from s (i + 1) behind)
+    ∙ rw (add-one, take-suc s i 0 inside) (trim_end-last (take i s) (get_or s i 0) here)
