@@ -6,7 +6,7 @@
    A buffer is a pointer and a length in elements. Every pointer is valid, also for a length of 0 (any pointer that is not null
    and is aligned for its type), and the buffers of a call and what it stores do not overlap. Any bytes and numbers are taken.
    Nothing is allocated and nothing is kept between calls: what goes from call to call is the sheet. Of the C library the archive
-   uses memset alone. It is for x86-64 Linux. */
+   uses memset and memmove alone. It is for x86-64 Linux. */
 #ifndef LUBIKSAN_H
 #define LUBIKSAN_H
 
@@ -40,7 +40,7 @@ extern "C" {
 /* Bytes of stack that a call takes below the frame that calls it, as measured on x86-64 Linux and rounded up to 1,024. */
 #define LUBIKSAN_TAPE_STACK 45056
 #define LUBIKSAN_CLEAR_STACK 1024
-#define LUBIKSAN_READ_STACK 1024
+#define LUBIKSAN_READ_STACK 2048
 #define LUBIKSAN_LOWER_STACK 66560
 #define LUBIKSAN_REDUCE_STACK 70656
 #define LUBIKSAN_WRITE_STACK 1024
