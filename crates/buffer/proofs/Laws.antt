@@ -3,3 +3,4 @@ pub mod Copy
 pub mod Buffer
 pub mod Zeros
 pub mod Middle
+pub mod Around

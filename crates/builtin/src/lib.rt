@@ -169,11 +169,7 @@ pub fn map_builtin(name: &[u8]) -> Option<Builtin>
 {
     let word = local_name(name);
     let (builtin_name, builtin) = entry_at(place_of(word)?);
-    if word == builtin_name {
-        Some(builtin)
-    } else {
-        None
-    }
+    (word == builtin_name).then_some(builtin)
 }
 
 // The number of a type reference: 0 named, 1 String, 2 Bool, 3 Decimal, 4 Date, 5 DateTime.

@@ -2,7 +2,8 @@
 // from front to back.
 #![tactic(auto)]
 
-ghost use Rattle.std.specs.Prelude.{◌≡◌, ◌+◌, ◌*◌, ◌<◌, length};
+ghost use Rattle.std.specs.Prelude.{◌≡◌, ◌+◌, ◌*◌, ◌<◌, length, true, false, MatchResult};
+ghost use Rattle.sheet.specs.Returned.{refusal_number, bad_length};
 ghost use Rattle.sheet.specs.Results.{returned_number};
 ghost use Rattle.columns.specs.Columns.{column_at, columns_of, row_at, rows_of};
 ghost use Rattle.columns.specs.Call.{same_lengths, ColumnsIs, RowsIs};
@@ -15,7 +16,8 @@ use sheet::refusal::Refusal;
 // How many columns there are: a row has a number for each.
 const COLUMNS: usize = limits::ROW;
 
-// Column c, from the place c * height on. Above the first number 0 is taken, so that it stays.
+// Column c, from the place c * height on. Above the first number 0 is taken, so that it stays. `Sized` is a clause: a struct of source, height and a lent target with it as
+// a ghost field is no plainer, since each contract would also say that the target is the same.
 fn put_column(rows: &[u32], height: usize, c: usize, out: &mut [u32])
     requires { Sized rows.now out.old height × (c < 10) × Filled (column_at rows.now) (c * height) out.old }
     ensures { Filled (column_at rows.now) ((c + 1) * height) out.new × (length out.new ≡ length out.old) }
@@ -77,14 +79,24 @@ fn same_lengths(source: usize, target: usize) -> bool
     rows_length(source) & (source == target)
 }
 
-// Turns rows into columns. Where it refuses nothing is changed.
+// How many rows source and target have, where both have as many.
+fn height_of(source: &[u32], target: &[u32]) -> Result<usize, Refusal>
+    ensures { let same = same_lengths (length source.now) (length target.now) in MatchResult result (λ h. (same ≡ true) × Sized source.now target.now h) (λ e. (same ≡ false) × (refusal_number e ≡ bad_length)) }
+{
+    if same_lengths(source.len(), target.len()) {
+        Ok(source.len() / limits::ROW)
+    } else {
+        Err(Refusal::BadLength)
+    }
+}
+
+// Turns rows into columns. Where it refuses nothing is changed. It differs from `to_rows` in what it writes alone: one function over a trait with both ways would
+// be longer.
 pub fn to_columns(rows: &[u32], columns: &mut [u32]) -> Result<(), Refusal>
     ensures { ColumnsIs rows.now columns.old (returned_number result) 0 columns.new }
 {
-    if !same_lengths(rows.len(), columns.len()) {
-        return Err(Refusal::BadLength);
-    }
-    put_columns(rows, rows.len() / limits::ROW, columns);
+    let height = height_of(rows, columns)?;
+    put_columns(rows, height, columns);
     Ok(())
 }
 
@@ -92,9 +104,7 @@ pub fn to_columns(rows: &[u32], columns: &mut [u32]) -> Result<(), Refusal>
 pub fn to_rows(columns: &[u32], rows: &mut [u32]) -> Result<(), Refusal>
     ensures { RowsIs columns.now rows.old (returned_number result) 0 rows.new }
 {
-    if !same_lengths(columns.len(), rows.len()) {
-        return Err(Refusal::BadLength);
-    }
-    put_rows(columns, columns.len() / limits::ROW, rows);
+    let height = height_of(columns, rows)?;
+    put_rows(columns, height, rows);
     Ok(())
 }

@@ -1,5 +1,4 @@
 -- The definitions of the crate `graph_form`, those below before those above. The form itself is `graph_form` of the crate `ir_types`. The head of each
 -- file says what it holds.
-pub mod Kinds
-pub mod Scan
+pub mod Tests
 pub mod Call

@@ -1,9 +1,9 @@
-// The test of a graph sheet's form (paper 01, "Graph sheet"). `row`: the tests of one row; `row0`: those of row 0; `scan`: one pass over the rows.
+// The test of a graph sheet's form (paper 01, "Graph sheet"). `row`: the tests of one row; `row0`: that of row 0; `count`: how many roots and types there are.
 #![tactic(auto)]
 
+pub mod count;
 pub mod row;
 pub mod row0;
-pub mod scan;
 
 ghost use Rattle.std.specs.Prelude.{◌≡◌};
 ghost use Rattle.sheet.specs.Results.{returned_number};
@@ -11,9 +11,12 @@ ghost use Rattle.sheet.specs.Calls.{sheet, answered};
 ghost use Rattle.ir_types.specs.Form.{graph_form};
 ghost use Rattle.graph_form.specs.Call.{FormIs};
 
+use crate::count::{count_roots, count_types};
+use crate::row::GraphRow;
 use rows::behind;
-use rows::lengths::sheet_lengths;
+use rows::lengths::{parts_fit, sheet_lengths};
 use rows::part::SheetPart;
+use rows::scan::scan_sheet;
 use rows::ten::ten_of;
 use sheet::limits;
 use sheet::refusal::Refusal;
@@ -26,7 +29,7 @@ pub fn is_form(rows: &[u32], names: &[u8]) -> bool
         return false;
     }
     let z = ten_of(rows);
-    if !row0::used_parts(z, rows.len(), names.len()) {
+    if !parts_fit(z.at0, z.len0, rows.len(), names.len()) {
         return false;
     }
     let part = SheetPart {
@@ -37,18 +40,19 @@ pub fn is_form(rows: &[u32], names: &[u8]) -> bool
     let used = z.len0 as usize;
     let roots = z.at1 as usize;
     let types = z.len1 as usize;
-    let Some(s) = scan::scan_sheet(&part, z.len0) else {
+    let Some(s) = scan_sheet::<GraphRow>(&part, part.ten(1), z.len0) else {
         return false;
     };
     row0::row0_form(z)
         & (s.end == used)
-        & (roots == s.roots)
-        & (types == s.types)
+        & (roots == count_roots(&part))
+        & (types == count_types(&part))
         & behind::zeros_behind(rows, names, part.end, used)
         & behind::names_test(names, used)
 }
 
 // Whether the lengths are those of a sheet and it is in the form.
+#[tactic(auto, unfolding(crate::specs::Call::form_answer, sheet::specs::Lengths::lengths_of, sheet::specs::Lengths::good_lengths))]
 pub fn judge(rows: &[u32], names: &[u8]) -> Result<(), Refusal>
     ensures { FormIs (sheet rows.now names.now) (answered (returned_number result) 0) }
 {

@@ -1,23 +1,19 @@
-// A row of the graph with its texts added to a graph sheet, each text in its spelling. `row0`: row 0 of a graph sheet.
+// A row of the graph with its texts, each text in its spelling. `writer`: the graph sheet that rows are added to. `row0`: row 0 of a graph sheet.
+// The two texts of the schema's row stand apart: nothing is known of them together, and a struct would only be made for a row and taken apart for each text.
+// `at ≤ length names`: the names are cut there, and only here.
 #![tactic(auto)]
 
 pub mod row0;
+pub mod writer;
 
-ghost use Rattle.std.specs.Prelude.{if◌then◌else◌, ◌≡◌, true, [], ◌∷◌, ◌+◌, ◌*◌, ◌/◌, ◌%◌, ◌^◌, ◌≤◌, length};
+ghost use Rattle.std.specs.Prelude.{if◌then◌else◌, ◌≡◌, ◌+◌, ◌≤◌, length};
 ghost use Rattle.names.specs.Answers.{Put};
 ghost use Rattle.sheet.specs.Limits.{names_limit};
-ghost use Rattle.sheet.specs.Rows.{row};
-ghost use Rattle.rows.specs.Packing.{row_of};
-ghost use Rattle.ir_append.specs.Grows.{Room, Grows};
-ghost use Rattle.ir_append.specs.Spelled.{spelled_text, recipe_row, orderly};
+ghost use Rattle.ir_append.specs.Spelled.{spelled_text};
 ghost use Rattle.ir_append.specs.Stored.{Stores, Spreads, row_numbers};
 
 use names::snake::xml_to_snake_case;
 use names::{code_to_pascal_case, normalize_type_name, put_same};
-use number::{CharacterCount, DigitCount};
-use rows::numbers::{RowNumbers, Used};
-use rows::row::put_row;
-use sheet::limits;
 
 // How a text of a graph's row is spelled from the first or second text of the schema's row.
 #[derive(Clone, Copy)]
@@ -111,84 +107,4 @@ fn spelled_row(recipe: Recipe, at: usize, n: usize, m: usize, k: usize) -> [u32;
         recipe.b,
         recipe.c,
     ]
-}
-
-// What is used of the sheet with the row added, or `None` where there is no room: then what the buffers hold is the caller's to clear.
-pub fn append_spelled(
-    rows: &mut [u32],
-    names: &mut [u8],
-    used: Used,
-    recipe: Recipe,
-    first: &[u8],
-    second: &[u8],
-) -> Option<Used>
-    requires { Room rows.old names.old used × (orderly recipe ≡ true) }
-    ensures { Grows rows.old names.old used (recipe_row recipe first.now second.now ∷ []) rows.new names.new result }
-{
-    if rows.len() < limits::ROW * used.rows + limits::ROW {
-        return None;
-    }
-    let (n, m, k) = put_texts(names, used.names, recipe, first, second)?;
-    let row = spelled_row(recipe, used.names, n, m, k);
-    put_row(rows, used.rows, row);
-    Some(Used {
-        rows: used.rows + 1,
-        names: used.names + n + m + k,
-    })
-}
-
-fn append_numbers(rows: &mut [u32], names: &mut [u8], used: Used, n: RowNumbers) -> Option<Used>
-    requires { Room rows.old names.old used }
-    ensures { Grows rows.old names.old used (row_of n [] ∷ []) rows.new names.new result }
-{
-    let recipe = Recipe {
-        tag: n.tag,
-        a: n.a,
-        b: n.b,
-        c: n.c,
-        first: None,
-        second: None,
-        third: None,
-    };
-    append_spelled(rows, names, used, recipe, b"", b"")
-}
-
-// The row of a facet that counts characters: the count's low 32 bits, then its high ones.
-pub fn grow_characters(
-    rows: &mut [u32],
-    names: &mut [u8],
-    used: Used,
-    tag: u32,
-    n: CharacterCount,
-) -> Option<Used>
-    requires { Room rows.old names.old used }
-    ensures { Grows rows.old names.old used (row tag [] (n.0 % 2 ^ 32) (n.0 / 2 ^ 32) 0 ∷ []) rows.new names.new result }
-{
-    let numbers = RowNumbers {
-        tag,
-        a: (n.0 % 4294967296) as u32,
-        b: (n.0 / 4294967296) as u32,
-        c: 0,
-    };
-    append_numbers(rows, names, used, numbers)
-}
-
-// The row of a facet that counts digits.
-pub fn grow_digits(
-    rows: &mut [u32],
-    names: &mut [u8],
-    used: Used,
-    tag: u32,
-    n: DigitCount,
-) -> Option<Used>
-    requires { Room rows.old names.old used }
-    ensures { Grows rows.old names.old used (row tag [] n.0 0 0 ∷ []) rows.new names.new result }
-{
-    let numbers = RowNumbers {
-        tag,
-        a: n.0,
-        b: 0,
-        c: 0,
-    };
-    append_numbers(rows, names, used, numbers)
 }

@@ -1,89 +1,64 @@
-// The lowering call: the graph of a schema sheet written into a graph sheet.
+// The lowering call: the graph of a schema sheet written into a graph sheet. The graph's two buffers and the scratch stand apart, as the C call lends them; what
+// each step knows of them and of the part (`Cleared`, the scratch's room, `Finished`) stands in its contract, since it changes from step to step.
 #![tactic(auto)]
 
-ghost use Rattle.std.specs.Prelude.{true, ◌&&◌, ◌≡◌, [], ◌<◌, MatchOption};
-ghost use Rattle.sheet.specs.Lengths.{sheet_lengths};
+ghost use Rattle.std.specs.Prelude.{ℕ, true, ◌≡◌, ◌≤◌, ◌<◌, List, [], length, MatchOption};
 ghost use Rattle.sheet.specs.Calls.{sheet};
 ghost use Rattle.rows.specs.Answers.{answer_of};
 ghost use Rattle.xsd_types.specs.State.{State};
 ghost use Rattle.xsd_types.specs.Count.{good, state_of};
-ghost use Rattle.xsd_types.specs.Places.{rows_from};
 ghost use Rattle.xsd_types.specs.Refused.{refused_place};
 ghost use Rattle.ir_types.specs.Types.{TypeGraph};
 ghost use Rattle.ir_lower.specs.Repeated.{first_repeated};
 ghost use Rattle.ir_lower.specs.Call.{LowerIs, zeros, written, repeated_or_written, lower_finished, lower_state};
-ghost use Rattle.ir_rows.specs.Types.{finished_places, heads_at, entry_places};
-ghost use Rattle.ir_index.specs.Index.{AllIn};
-ghost use Rattle.ir_call.specs.Steps.{Sized, lowered, Finished, Counted, Cleared, Lowers, GraphOf, GraphWritten};
+ghost use Rattle.ir_rows.specs.Types.{entry_places};
+ghost use Rattle.ir_rows.specs.Parts.{part_rows, part_places, part_heads};
+ghost use Rattle.ir_append.specs.Whole.{Cleared};
+ghost use Rattle.ir_call.specs.Steps.{Sized, lowered, Finished, Lowers, GraphOf, GraphWritten};
 
-use ir_append::row0::row0_of;
+use ir_append::writer::{GraphWriter, zero_graph};
 use ir_checks::{count_roots, count_types};
 use ir_index::index_types;
 use ir_write::put_graph;
 use rows::answers::{Answer, Refused};
-use rows::numbers::Used;
+use rows::lengths::both_sheet_lengths;
 use rows::part::SheetPart;
-use rows::{lengths, row};
 use sheet::refusal::Refusal;
 use xsd_good::count::count_in;
 use xsd_good::{row0, scan};
 use xsd_refused::first_refused;
 
-fn lower_lengths(rows: usize, names: usize, graph_rows: usize, graph_names: usize) -> bool
-    ensures { result ≡ (sheet_lengths rows names && sheet_lengths graph_rows graph_names) }
-{
-    lengths::sheet_lengths(rows, names) & lengths::sheet_lengths(graph_rows, graph_names)
-}
-
-fn zero_graph(graph_rows: &mut [u32], graph_names: &mut [u8])
-    ensures { (graph_rows.new ≡ zeros graph_rows.old) × (graph_names.new ≡ zeros graph_names.old) }
-{
-    graph_rows.fill(0);
-    graph_names.fill(0);
-}
-
-fn zero_scratch(scratch: &mut [u32])
-    ensures { scratch.new ≡ zeros scratch.old }
-{
-    scratch.fill(0);
-}
-
-// Row 0 is written last, since it says how much is used. Where there is no room, the sheet is left to be cleared.
+// The rows behind row 0, then row 0, which says how much is used: how many rows are, or `None` where there is no room. Then the sheet is left to be cleared.
+// Beside `ir_reduce::place::write_graph`: one function over both would take what puts the rows and both counts as closures, for the four lines that are the same.
 fn write_graph(
     part: &SheetPart<'_>,
     graph_rows: &mut [u32],
     graph_names: &mut [u8],
     entries: &[u32],
-) -> Option<Used>
-    requires { Finished part.now.rows.now part.now.names.now part.now.end entries.now × Cleared graph_rows.old graph_names.old × (entry_places entries.now ≡ finished_places part.now.rows.now part.now.names.now part.now.end) }
-    ensures { (g : TypeGraph) → GraphOf part.now.rows.now part.now.names.now part.now.end g → GraphWritten g graph_rows.old graph_names.old result graph_rows.new graph_names.new }
+) -> Option<usize>
+    requires { Finished part.now × Cleared graph_rows.old graph_names.old × (entry_places entries.now ≡ part_places part.now) }
+    ensures { (g : TypeGraph) → GraphOf part.now g → GraphWritten g graph_rows.old graph_names.old result graph_rows.new graph_names.new }
 {
-    let first = Used { rows: 1, names: 0 };
-    let used = put_graph(graph_rows, graph_names, first, part, entries)?;
-    let row0 = row0_of(used, count_roots(part), entries.len());
-    row::put_row0(graph_rows, row0);
-    Some(used)
+    let mut writer = GraphWriter::start(graph_rows, graph_names);
+    put_graph(&mut writer, part, entries)?;
+    Some(writer.put_row0(count_roots(part), entries.len()))
 }
 
-// From 15 on: the scratch holds an entry for each type.
+// From 15 on: there is an entry for each type. The scratch is left to be cleared, as in the steps that lead here.
 fn lower_distinct(
     part: &SheetPart<'_>,
-    types: usize,
+    entries: &[u32],
     graph_rows: &mut [u32],
     graph_names: &mut [u8],
-    scratch: &mut [u32],
 ) -> Answer
-    requires { Finished part.now.rows.now part.now.names.now part.now.end scratch.old × Cleared graph_rows.old graph_names.old × AllIn part.now.rows.now part.now.names.now part.now.end scratch.old types }
-    ensures { (g : TypeGraph) → GraphOf part.now.rows.now part.now.names.now part.now.end g → lowered (answer_of result) graph_rows.new graph_names.new scratch.new ≡ written g (sheet graph_rows.old graph_names.old) scratch.old }
+    requires { Finished part.now × Cleared graph_rows.old graph_names.old × (entry_places entries.now ≡ part_places part.now) }
+    ensures { (g : TypeGraph) (scratch : List ℕ) → GraphOf part.now g → lowered (answer_of result) graph_rows.new graph_names.new (zeros scratch) ≡ written g (sheet graph_rows.old graph_names.old) scratch }
 {
-    let entries = &scratch[..types];
-    let grown = write_graph(part, graph_rows, graph_names, entries);
-    zero_scratch(scratch);
-    let Some(used) = grown else {
+    let Some(used) = write_graph(part, graph_rows, graph_names, entries) else {
         zero_graph(graph_rows, graph_names);
         return Err(Refusal::NoRoomInGraph.into());
     };
-    Ok(used.rows)
+    Ok(used)
 }
 
 // From 20 on: nothing is written before every name is seen to be new.
@@ -93,26 +68,23 @@ fn lower_known(
     graph_names: &mut [u8],
     scratch: &mut [u32],
 ) -> Answer
-    requires { Finished part.now.rows.now part.now.names.now part.now.end scratch.old × Cleared graph_rows.old graph_names.old }
-    ensures { (g : TypeGraph) → GraphOf part.now.rows.now part.now.names.now part.now.end g → lowered (answer_of result) graph_rows.new graph_names.new scratch.new ≡ repeated_or_written (first_repeated [] (heads_at part.now.rows.now part.now.names.now part.now.end)) g (sheet graph_rows.old graph_names.old) scratch.old }
+    requires { Finished part.now × Cleared graph_rows.old graph_names.old × (length (part_places part.now) ≤ length scratch.old) }
+    ensures { (g : TypeGraph) → GraphOf part.now g → lowered (answer_of result) graph_rows.new graph_names.new (zeros scratch.old) ≡ repeated_or_written (first_repeated [] (part_heads part.now)) g (sheet graph_rows.old graph_names.old) scratch.old }
 {
     let indexed = index_types(part, scratch);
     match indexed {
-        Ok(types) => lower_distinct(part, types, graph_rows, graph_names, scratch),
-        Err(first) => {
-            zero_scratch(scratch);
-            Err(Refused {
-                refusal: Refusal::RepeatedName,
-                place: first.place,
-            })
-        }
+        Ok(types) => lower_distinct(part, &scratch[..types], graph_rows, graph_names),
+        Err(first) => Err(Refused {
+            refusal: Refusal::RepeatedName,
+            place: first.place,
+        }),
     }
 }
 
 // 13's place, where a simple type is refused: the sheet's count says whether there is one to look for (order 7).
 fn unknown_place(part: &SheetPart<'_>) -> Option<usize>
-    requires { Counted part.now.rows.now part.now.names.now part.now.end }
-    ensures { let place = refused_place 2 (rows_from part.now.rows.now part.now.names.now 2 part.now.end) in MatchOption result (place ≡ 0) (λ p. (0 < p) × (place ≡ p)) }
+    requires { Finished part.now }
+    ensures { let place = refused_place 2 (part_rows part.now 2) in MatchOption result (place ≡ 0) (λ p. (0 < p) × (place ≡ p)) }
 {
     if count_in(part.rows) == 0 {
         return None;
@@ -120,19 +92,17 @@ fn unknown_place(part: &SheetPart<'_>) -> Option<usize>
     first_refused(part)
 }
 
-// From 12 on graph sheet and scratch are left zero, so they are cleared before the tests.
-fn lower_finished(
+// From 12 on, into a graph sheet of zeros.
+fn lower_cleared(
     part: &SheetPart<'_>,
     root_seen: bool,
     graph_rows: &mut [u32],
     graph_names: &mut [u8],
     scratch: &mut [u32],
 ) -> Answer
-    requires { Finished part.now.rows.now part.now.names.now part.now.end scratch.old × Sized graph_rows.old graph_names.old × Counted part.now.rows.now part.now.names.now part.now.end }
-    ensures { (s : State) → Lowers part.now.rows.now part.now.names.now part.now.end root_seen s → lowered (answer_of result) graph_rows.new graph_names.new scratch.new ≡ lower_finished s (sheet graph_rows.old graph_names.old) scratch.old }
+    requires { Finished part.now × Cleared graph_rows.old graph_names.old × (length (part_places part.now) ≤ length scratch.old) }
+    ensures { (s : State) → Lowers part.now root_seen s → lowered (answer_of result) graph_rows.new graph_names.new (zeros scratch.old) ≡ lower_finished s (sheet graph_rows.old graph_names.old) scratch.old }
 {
-    zero_graph(graph_rows, graph_names);
-    zero_scratch(scratch);
     if !root_seen {
         return Err(Refusal::NoRoot.into());
     }
@@ -143,6 +113,23 @@ fn lower_finished(
         });
     }
     lower_known(part, graph_rows, graph_names, scratch)
+}
+
+// From 12 on graph sheet and scratch are left zero where there is no graph, and the scratch in any case.
+fn lower_finished(
+    part: &SheetPart<'_>,
+    root_seen: bool,
+    graph_rows: &mut [u32],
+    graph_names: &mut [u8],
+    scratch: &mut [u32],
+) -> Answer
+    requires { Finished part.now × Sized graph_rows.old graph_names.old × (length (part_places part.now) ≤ length scratch.old) }
+    ensures { (s : State) → Lowers part.now root_seen s → lowered (answer_of result) graph_rows.new graph_names.new scratch.new ≡ lower_finished s (sheet graph_rows.old graph_names.old) scratch.old }
+{
+    zero_graph(graph_rows, graph_names);
+    let answer = lower_cleared(part, root_seen, graph_rows, graph_names, scratch);
+    scratch.fill(0);
+    answer
 }
 
 // 14 changes nothing, so it is judged before anything is cleared.
@@ -175,7 +162,7 @@ pub fn lower(
 ) -> Answer
     ensures { LowerIs (sheet rows.now names.now) (sheet graph_rows.old graph_names.old) scratch.old (lowered (answer_of result) graph_rows.new graph_names.new scratch.new) }
 {
-    if !lower_lengths(rows.len(), names.len(), graph_rows.len(), graph_names.len()) {
+    if !both_sheet_lengths(rows.len(), names.len(), graph_rows.len(), graph_names.len()) {
         return Err(Refusal::BadLength.into());
     }
     if !xsd_good::is_good(rows, names) {

@@ -3,16 +3,18 @@
 --     IndexIs       that, or the row of the first head whose name came before
 use Rattle.std.specs.Prelude.{ℕ, ◌≤◌, ◌≡◌, List, [], length, Result, Ok, Err}
 use Rattle.std.proofs.Math.Option.{some, none}
+use Rattle.rows.specs.declared.part.SheetPart.{SheetPart}
 use Rattle.ir_lower.specs.Repeated.{first_repeated}
-use Rattle.ir_rows.specs.Types.{finished_places, heads_at, places_in}
+use Rattle.ir_rows.specs.Types.{places_in}
+use Rattle.ir_rows.specs.Parts.{part_places, part_heads}
 use Rattle.ir_index.specs.declared.Repeated.{Repeated}
 
-pub record AllIn (rows names : List ℕ) (end : ℕ) (scratch : List ℕ) (n : ℕ) : Type 0 where
-  pub once : first_repeated [] (heads_at rows names end) ≡ none
-  pub count : n ≡ length (finished_places rows names end)
-  pub places : places_in n scratch ≡ finished_places rows names end
+pub record AllIn (part : SheetPart) (scratch : List ℕ) (n : ℕ) : Type 0 where
+  pub once : first_repeated [] (part_heads part) ≡ none
+  pub count : n ≡ length (part_places part)
+  pub places : places_in n scratch ≡ part_places part
   pub inside : n ≤ length scratch
 
-abbrev pub IndexIs : List ℕ → List ℕ → ℕ → List ℕ → Result ℕ Repeated → Type 0
-IndexIs rows names end scratch (Ok n) = AllIn rows names end scratch n
-IndexIs rows names end scratch (Err first) = first_repeated [] (heads_at rows names end) ≡ some first.place
+abbrev pub IndexIs : SheetPart → List ℕ → Result ℕ Repeated → Type 0
+IndexIs part scratch (Ok n) = AllIn part scratch n
+IndexIs part scratch (Err first) = first_repeated [] (part_heads part) ≡ some first.place

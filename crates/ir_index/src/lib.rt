@@ -1,5 +1,6 @@
 // The finished types in lowering's order, one number for each, up to the first whose name came before (order 4: "Lowering refuses when
-// two finished types normalise to the same name").
+// two finished types normalise to the same name"). An entry is one number: the scratch that the C call lends has one for each type.
+// The head asked about stays as part, place and fingerprint: beside a struct of them `Known` would still be said of the index and of the struct's part.
 #![tactic(auto)]
 
 ghost use Rattle.std.specs.Prelude.{◌≡◌, ◌&&◌, ◌+◌, ◌%◌, ◌≤◌, ◌<◌, ltb, eqb, length, get_or, set};
@@ -7,11 +8,10 @@ ghost use Rattle.text.specs.Text.{same};
 ghost use Rattle.names.specs.Names.{normalize_type_name};
 ghost use Rattle.sheet.specs.Limits.{rows_limit};
 ghost use Rattle.ir_types.specs.Distinct.{among};
-ghost use Rattle.ir_rows.specs.Places.{name_at};
-ghost use Rattle.ir_rows.specs.Types.{finished_places};
+ghost use Rattle.ir_rows.specs.Parts.{part_name, part_places};
 ghost use Rattle.ir_index.specs.Index.{IndexIs};
 ghost use Rattle.ir_index.specs.Prints.{mixed, fingerprint};
-ghost use Rattle.ir_index.specs.Entries.{is_kind, kind_places, names_in, has_print, HeadAt, EntryOf, Entries, Known, Entered, KindEntered};
+ghost use Rattle.ir_index.specs.Entries.{is_kind, kind_places, names_held, has_print, HeadAt, EntryOf, Known, Entered, KindEntered};
 
 use name_index::name_at;
 use names::cased;
@@ -67,10 +67,10 @@ fn is_kind(kind: Kind, tag: u32) -> bool
 
 // The fingerprints are compared first: names that differ mostly differ there.
 fn entry_same(part: &SheetPart<'_>, entry: u32, place: usize, print: u32) -> bool
-    requires entry_of { EntryOf part.now.rows.now part.now.names.now entry }
-    requires head_at { HeadAt part.now.rows.now place }
-    requires print_value { print ≡ fingerprint (name_at part.now.rows.now part.now.names.now place) }
-    ensures { result ≡ same (name_at part.now.rows.now part.now.names.now (entry % 65536)) (name_at part.now.rows.now part.now.names.now place) }
+    requires entry_of { EntryOf part.now entry }
+    requires head_at { HeadAt part.now place }
+    requires print_value { print ≡ fingerprint (part_name part.now place) }
+    ensures { result ≡ same (part_name part.now (entry % 65536)) (part_name part.now place) }
 {
     if entry / 65536 != print {
         return false;
@@ -78,20 +78,6 @@ fn entry_same(part: &SheetPart<'_>, entry: u32, place: usize, print: u32) -> boo
     let held = name_at(part.rows, part.names, wide(entry % 65536));
     let asked = name_at(part.rows, part.names, place);
     same_normalized(held, asked)
-}
-
-fn has_name(part: &SheetPart<'_>, place: usize, print: u32, scratch: &[u32], n: usize) -> bool
-    requires entries { Entries part.now.rows.now part.now.names.now scratch.now n }
-    requires head_at { HeadAt part.now.rows.now place }
-    requires print_value { print ≡ fingerprint (name_at part.now.rows.now part.now.names.now place) }
-    ensures { result ≡ among (name_at part.now.rows.now part.now.names.now place) (names_in part.now.rows.now part.now.names.now n scratch.now) }
-{
-    for &entry in &scratch[..n] {
-        if entry_same(part, entry, place, print) {
-            return true;
-        }
-    }
-    false
 }
 
 // A fold, with no early exit: the compiler makes wide compares of it.
@@ -120,72 +106,74 @@ fn set_flag(flags: &mut [u8], f: usize)
     }
 }
 
-// A flag that is not set says that there is no entry with its fingerprint.
-fn name_came(
-    part: &SheetPart<'_>,
-    place: usize,
-    print: u32,
-    scratch: &[u32],
-    n: usize,
-    flags: &[u8],
-) -> bool
-    requires known { Known part.now.rows.now part.now.names.now scratch.now n flags.now }
-    requires head_at { HeadAt part.now.rows.now place }
-    requires print_value { print ≡ fingerprint (name_at part.now.rows.now part.now.names.now place) }
-    ensures { result ≡ among (name_at part.now.rows.now part.now.names.now place) (names_in part.now.rows.now part.now.names.now n scratch.now) }
-{
-    if unseen(flags, wide(print)) {
-        return false;
-    }
-    if !has_print(&scratch[..n], print) {
-        return false;
-    }
-    has_name(part, place, print, scratch, n)
+// The first `count` numbers are entries, and a flag that is not set says that there is none with its fingerprint.
+#[derive(Drop)]
+struct Index<'a> {
+    entries: &'a mut [u32],
+    count: usize,
+    flags: &'a mut [u8],
 }
 
-// Whether the name is new; only then is there one entry more.
-fn enter(
-    part: &SheetPart<'_>,
-    place: usize,
-    scratch: &mut [u32],
-    n: usize,
-    flags: &mut [u8],
-) -> bool
-    requires known { Known part.now.rows.now part.now.names.now scratch.old n flags.old }
-    requires head_at { HeadAt part.now.rows.now place }
-    requires rows_len_bound { (length part.now.rows.now ≤ rows_limit) × (n < length scratch.old) }
-    ensures { Entered part.now.rows.now part.now.names.now scratch.old n place scratch.new flags.new result }
-{
-    let print = print_of(name_at(part.rows, part.names, place));
-    if name_came(part, place, print, scratch, n, flags) {
-        return false;
+impl Index<'_> {
+    fn has_name(&self, part: &SheetPart<'_>, place: usize, print: u32) -> bool
+        requires known { Known part.now self.now }
+        requires head_at { HeadAt part.now place }
+        requires print_value { print ≡ fingerprint (part_name part.now place) }
+        ensures { result ≡ among (part_name part.now place) (names_held part.now self.now) }
+    {
+        // A loop and no `any`: what `entry_same` requires would be asked for at the call, of all entries at once (tried: the proof did not close).
+        for &entry in &self.entries[..self.count] {
+            if entry_same(part, entry, place, print) {
+                return true;
+            }
+        }
+        false
     }
-    scratch[n] = place as u32 + 65536 * print;
-    set_flag(flags, wide(print));
-    true
-}
 
-fn enter_kind(
-    part: &SheetPart<'_>,
-    kind: Kind,
-    scratch: &mut [u32],
-    n: usize,
-    flags: &mut [u8],
-) -> Result<usize, Repeated>
-    requires known { Known part.now.rows.now part.now.names.now scratch.old n flags.old }
-    requires end_in_bounds { (length part.now.rows.now ≤ rows_limit) × (n + length (kind_places part.now.rows.now part.now.names.now part.now.end kind 2) ≤ length scratch.old) }
-    ensures { KindEntered part.now.rows.now part.now.names.now part.now.end kind scratch.old n scratch.new flags.new result }
-{
-    let mut count = n;
-    for place in 2..part.end {
-        if is_kind(kind, part.tag(place)) {
-            if !enter(part, place, scratch, count, flags) {
+    fn name_came(&self, part: &SheetPart<'_>, place: usize, print: u32) -> bool
+        requires known { Known part.now self.now }
+        requires head_at { HeadAt part.now place }
+        requires print_value { print ≡ fingerprint (part_name part.now place) }
+        ensures { result ≡ among (part_name part.now place) (names_held part.now self.now) }
+    {
+        if unseen(self.flags, wide(print)) {
+            return false;
+        }
+        if !has_print(&self.entries[..self.count], print) {
+            return false;
+        }
+        self.has_name(part, place, print)
+    }
+
+    // Whether the name is new; only then is there one entry more.
+    fn enter(&mut self, part: &SheetPart<'_>, place: usize) -> bool
+        requires known { Known part.now self.old }
+        requires head_at { HeadAt part.now place }
+        requires room { (length part.now.rows.now ≤ rows_limit) × (self.old.count < length self.old.entries.now) }
+        ensures { Entered part.now self.old place self.new result }
+    {
+        let print = print_of(name_at(part.rows, part.names, place));
+        if self.name_came(part, place, print) {
+            return false;
+        }
+        self.entries[self.count] = place as u32 + 65536 * print;
+        self.count += 1;
+        set_flag(self.flags, wide(print));
+        true
+    }
+
+    fn enter_kind(&mut self, part: &SheetPart<'_>, kind: Kind) -> Result<(), Repeated>
+        requires known { Known part.now self.old }
+        requires room { (length part.now.rows.now ≤ rows_limit) × (self.old.count + length (kind_places part.now kind 2) ≤ length self.old.entries.now) }
+        ensures { KindEntered part.now kind self.old self.new result }
+    {
+        for place in 2..part.end {
+            if is_kind(kind, part.tag(place)) && !self.enter(part, place) {
                 return Err(Repeated { place });
             }
-            count += 1;
         }
+        Ok(())
     }
-    Ok(count)
 }
 
 // "Only finished types are lowered, simple ones before complex." The answer is the same whatever the flags hold and however many there are; those that
@@ -195,11 +183,17 @@ fn index_over(
     scratch: &mut [u32],
     flags: &mut [u8],
 ) -> Result<usize, Repeated>
-    requires { (length part.now.rows.now ≤ rows_limit) × (length (finished_places part.now.rows.now part.now.names.now part.now.end) ≤ length scratch.old) }
-    ensures { IndexIs part.now.rows.now part.now.names.now part.now.end scratch.new result }
+    requires { (length part.now.rows.now ≤ rows_limit) × (length (part_places part.now) ≤ length scratch.old) }
+    ensures { IndexIs part.now scratch.new result }
 {
-    let simple = enter_kind(part, Kind::Simple, scratch, 0, flags)?;
-    enter_kind(part, Kind::Complex, scratch, simple, flags)
+    let mut index = Index {
+        entries: scratch,
+        count: 0,
+        flags,
+    };
+    index.enter_kind(part, Kind::Simple)?;
+    index.enter_kind(part, Kind::Complex)?;
+    Ok(index.count)
 }
 
 // Below place 64 stand at most 62 types: to look for a fingerprint among so few takes less time than to clear 65,536 flags.
@@ -207,13 +201,13 @@ const FEW: usize = 64;
 
 // How many types there are, or the row of the first whose name came before.
 pub fn index_types(part: &SheetPart<'_>, scratch: &mut [u32]) -> Result<usize, Repeated>
-    requires { (2 ≤ part.now.end) × (length part.now.rows.now ≤ rows_limit) × (length (finished_places part.now.rows.now part.now.names.now part.now.end) ≤ length scratch.old) }
-    ensures { IndexIs part.now.rows.now part.now.names.now part.now.end scratch.new result }
+    requires { (2 ≤ part.now.end) × (length part.now.rows.now ≤ rows_limit) × (length (part_places part.now) ≤ length scratch.old) }
+    ensures { IndexIs part.now scratch.new result }
 {
     if part.end <= FEW {
-        let mut few = [0u8; 1];
-        return index_over(part, scratch, &mut few);
+        return index_over(part, scratch, &mut []);
     }
+    // A flag for each fingerprint that there is, on the stack: the library has no heap.
     let mut flags = [0u8; 65536];
     index_over(part, scratch, &mut flags)
 }

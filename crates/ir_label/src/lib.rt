@@ -1,5 +1,5 @@
 // The label call (paper 01): a row's type reference, as a part of the names or of the word list, and the call's number. `words`: the words
-// of the word list.
+// of the word list. Rows, names and words stand apart: they are what the exported calls are lent, and each of those makes one call here.
 #![tactic(auto)]
 
 pub mod words;
@@ -7,17 +7,34 @@ pub mod words;
 ghost use Rattle.std.specs.Prelude.{◌≡◌, ◌≤◌};
 ghost use Rattle.rows.specs.Ten.{as_ten};
 ghost use Rattle.ir_types.specs.Label.{has_reference, named_label, word_label, row_label, label as labelled, LabelIs, LabelNumberIs};
-ghost use Rattle.ir_label.specs.Spot.{IsSpot};
+ghost use Rattle.sheet.specs.Rows.{bit};
+ghost use Rattle.ir_label.specs.Spot.{in_words, IsSpot};
 
 use ir_types::tags;
 use rows::ten::{Ten, ten_at};
 use sheet::limits;
 use sheet::refusal::{Refusal, returned_number};
 
-// Where a label stands: in the word list or in the names, len bytes from at on.
+// The two buffers that a label may be a part of, with the numbers that the exported call stores.
+#[derive(Clone, Copy)]
+pub enum Buffer {
+    Names = 0,
+    Words = 1,
+}
+
+impl From<Buffer> for u32 {
+    ghost from_gives = { λ buffer number. number ≡ bit (in_words buffer) };
+
+    #[tactic(auto, unfolding(sheet::specs::Rows::bit))]
+    fn from(buffer: Buffer) -> u32 {
+        buffer as u32
+    }
+}
+
+// Where a label stands: len bytes from at on.
 #[derive(Clone, Copy)]
 pub struct Spot {
-    pub in_words: bool,
+    pub buffer: Buffer,
     pub at: usize,
     pub len: usize,
 }
@@ -31,7 +48,7 @@ fn name_spot(names: &[u8], at: u32, len: u32) -> Result<Spot, Refusal>
         return Err(Refusal::BadLabel);
     }
     Ok(Spot {
-        in_words: false,
+        buffer: Buffer::Names,
         at,
         len,
     })
@@ -49,7 +66,7 @@ fn word_spot(words: &[u8], a: u32) -> Result<Spot, Refusal>
     let at = words::word_start(words, n - 1);
     let end = words::line_end(words, at);
     Ok(Spot {
-        in_words: true,
+        buffer: Buffer::Words,
         at,
         len: end - at,
     })
@@ -103,10 +120,9 @@ pub fn label<'a>(rows: &[u32], names: &'a [u8], words: &'a [u8], k: usize) -> &'
         return &names[..0];
     };
     let end = s.at + s.len;
-    if s.in_words {
-        &words[s.at..end]
-    } else {
-        &names[s.at..end]
+    match s.buffer {
+        Buffer::Words => &words[s.at..end],
+        Buffer::Names => &names[s.at..end],
     }
 }
 

@@ -15,3 +15,5 @@ pub mod Marked
 pub mod Call
 pub mod Begin
 pub mod Names
+pub mod Queue
+pub mod Named

@@ -3,7 +3,7 @@
 --     heads_from     the places of the heads among m rows from place p on; head_places: those of a sheet of so many rows
 --     head_names     their names
 --     AllIndexed, IndexedIs    what the index holds when every head is entered, or that two have one name
---     EnteredHead   what entering a row does that is a head, or is none
+--     NewHead       what entering a row leaves that is a head of a new name, or is none; OldHead: it is a head whose name came before
 --     asked_pair     where in a row the pair of the name stands that it leads to: None where it leads nowhere
 --     TargetsPut    the targets of the rows before a place are stored, 0 for nowhere
 --     target_of      the place of the head that the row at place p leads to: None for nowhere
@@ -52,10 +52,6 @@ pub record NewHead (rows names before : List ℕ) (n p : ℕ) (after : List ℕ)
 pub record OldHead (rows names before : List ℕ) (n p : ℕ) : Type 0 where
   pub head : head_at rows p ≡ true
   pub old : among (name_of rows names false p) (head_names rows names (places_in buckets n before)) ≡ true
-
-abbrev pub EnteredHead : List ℕ → List ℕ → List ℕ → ℕ → ℕ → List ℕ → Option ℕ → Type 0
-EnteredHead rows names before n p after (Some n') = NewHead rows names before n p after n'
-EnteredHead rows names before n p after None = OldHead rows names before n p
 
 -- the second pair of a root and of a value with attributes, the third of a field, a variant and an attribute; "A reference is a: 0 named (the pair ..)"
 unfoldable pub asked_pair : ℕ → ℕ → Option ℕ

@@ -7,3 +7,5 @@ pub mod Places
 pub mod Copy
 pub mod Index
 pub mod Steps
+pub mod Parts
+pub mod Queue

@@ -1,33 +1,10 @@
 // What is reached from row 1, by a queue of the places that are marked. `to[row]` is the place of the head that a row leads to, 0 for nowhere.
-ghost use Rattle.std.specs.Prelude.{◌≡◌, ◌&&◌, ◌+◌, ◌*◌, ◌≤◌, ◌<◌, eqb, ltb, length, get_or};
-ghost use Rattle.ir_reduce.specs.Marks.{head_at, head_flags, Reached, Marked, Targeted, Room, Marking, GroupDone, AllDone};
+ghost use Rattle.std.specs.Prelude.{◌≡◌, ◌&&◌, ◌≤◌, ◌<◌, ltb, length, get_or};
+ghost use Rattle.ir_reduce.specs.Marks.{head_at};
+ghost use Rattle.ir_reduce.specs.Queue.{MarksPlace, MarksTarget, HasRoom, MarksGroup, MarksAll};
 
 use graph_form::row::is_type;
 use rows::part::SheetPart;
-
-// Marks a place and puts it into the queue, where it is not marked.
-pub fn mark(marks: &mut [u8], queue: &mut [u32], n: usize, place: usize) -> usize
-    requires { (place < length marks.old) × (length marks.old ≤ 4096) × (get_or marks.old place 0 ≡ 0 → n < length queue.old) }
-    ensures { Marked marks.old queue.old n place marks.new queue.new result }
-{
-    if marks[place] != 0 {
-        return n;
-    }
-    marks[place] = 1;
-    queue[n] = place as u32;
-    n + 1
-}
-
-// Marks what a row leads to. 0 is nowhere, as the array of targets holds it (`put_targets` says why).
-fn mark_target(marks: &mut [u8], queue: &mut [u32], n: usize, q: usize) -> usize
-    requires { (q < length marks.old) × (length marks.old ≤ 4096) × (get_or marks.old q 0 ≡ 0 → n < length queue.old) }
-    ensures { Targeted (eqb q 0) marks.old queue.old n q marks.new queue.new result }
-{
-    if q == 0 {
-        return n;
-    }
-    mark(marks, queue, n, q)
-}
 
 // Whether a row ends the group of the head at p.
 fn is_behind(part: &SheetPart, p: usize, row: usize) -> bool
@@ -37,45 +14,62 @@ fn is_behind(part: &SheetPart, p: usize, row: usize) -> bool
     p < row && is_type(part.tag(row))
 }
 
-// Marks what the rows of a head's group lead to.
-fn mark_group(
-    part: &SheetPart,
-    to: &[u32],
-    p: usize,
-    marks: &mut [u8],
-    queue: &mut [u32],
-    n: usize,
-) -> usize
-    requires { Room (head_flags part.now.rows.now part.now.end) to.now marks.old queue.old n × (part.now.end ≤ 4096) }
-    ensures { Room (head_flags part.now.rows.now part.now.end) to.now marks.new queue.new result × (length marks.new ≡ length marks.old) × (length queue.new ≡ length queue.old) × (Marking (head_flags part.now.rows.now part.now.end) to.now marks.old queue.old n → Reached (head_flags part.now.rows.now part.now.end) to.now p → GroupDone (head_flags part.now.rows.now part.now.end) to.now p marks.old queue.old n marks.new queue.new result) }
-{
-    let mut count = n;
-    for row in p..part.end {
-        if is_behind(part, p, row) {
-            return count;
-        }
-        count = mark_target(marks, queue, count, to[row] as usize);
-    }
-    count
+// The marks of the places, and the places that are marked, `count` of them, in the order in which they were.
+#[derive(Drop)]
+pub struct Queue<'a> {
+    pub marks: &'a mut [u8],
+    pub places: &'a mut [u32],
+    pub count: usize,
 }
 
-// Marks all that is reached from what is marked. A `while`: the queue grows as it is walked.
-pub fn mark_all(
-    part: &SheetPart,
-    to: &[u32],
-    marks: &mut [u8],
-    queue: &mut [u32],
-    n: usize,
-) -> usize
-    requires { Room (head_flags part.now.rows.now part.now.end) to.now marks.old queue.old n × (part.now.end ≤ 4096) }
-    ensures { Marking (head_flags part.now.rows.now part.now.end) to.now marks.old queue.old n → AllDone (head_flags part.now.rows.now part.now.end) to.now marks.old queue.old n marks.new queue.new result result }
-{
-    let mut count = n;
-    let mut k = 0;
-    while k < count {
-        let p = queue[k] as usize;
-        count = mark_group(part, to, p, marks, queue, count);
-        k += 1;
+impl Queue<'_> {
+    // Marks a place and puts it into the queue, where it is not marked.
+    pub fn mark(&mut self, place: usize)
+        requires { (place < length self.old.marks.now) × (length self.old.marks.now ≤ 4096) × (get_or self.old.marks.now place 0 ≡ 0 → self.old.count < length self.old.places.now) }
+        ensures { MarksPlace self.old place self.new }
+    {
+        if self.marks[place] != 0 {
+            return;
+        }
+        self.marks[place] = 1;
+        self.places[self.count] = place as u32;
+        self.count += 1;
     }
-    count
+
+    // Marks what a row leads to. 0 is nowhere, as the array of targets holds it (`put_targets` says why).
+    fn mark_target(&mut self, q: usize)
+        requires { (q < length self.old.marks.now) × (length self.old.marks.now ≤ 4096) × (get_or self.old.marks.now q 0 ≡ 0 → self.old.count < length self.old.places.now) }
+        ensures { MarksTarget self.old q self.new }
+    {
+        if q == 0 {
+            return;
+        }
+        self.mark(q);
+    }
+
+    // Marks what the rows of a head's group lead to.
+    fn mark_group(&mut self, part: &SheetPart, to: &[u32], p: usize)
+        requires { HasRoom part.now to.now self.old × (part.now.end ≤ 4096) }
+        ensures { MarksGroup part.now to.now p self.old self.new }
+    {
+        for row in p..part.end {
+            if is_behind(part, p, row) {
+                return;
+            }
+            self.mark_target(to[row] as usize);
+        }
+    }
+
+    // Marks all that is reached from what is marked. A `while`: the queue grows as it is walked.
+    pub fn mark_all(&mut self, part: &SheetPart, to: &[u32])
+        requires { HasRoom part.now to.now self.old × (part.now.end ≤ 4096) }
+        ensures { MarksAll part.now to.now self.old self.new }
+    {
+        let mut k = 0;
+        while k < self.count {
+            let p = self.places[k] as usize;
+            self.mark_group(part, to, p);
+            k += 1;
+        }
+    }
 }

@@ -5,13 +5,15 @@ ghost use Rattle.sheet.specs.Rows.{Row};
 ghost use Rattle.sheet.specs.Limits.{names_limit};
 ghost use Rattle.rows.specs.Ten.{as_ten};
 ghost use Rattle.ir_types.specs.Form.{count};
-ghost use Rattle.ir_append.specs.Grows.{Room, Grows};
+ghost use Rattle.ir_append.specs.Grows.{Grows};
 ghost use Rattle.ir_reduce.specs.Places.{row_at, keeps, kept_rows};
-ghost use Rattle.ir_reduce.specs.Copy.{Stands, bytes_of, moved_numbers};
+ghost use Rattle.ir_reduce.specs.Copy.{bytes_of, moved_numbers};
+ghost use Rattle.ir_reduce.specs.Parts.{part_row, TextsStand, part_kept};
 
 use buffer::copy_text;
 use graph_form::row::{is_type, used_pairs};
 use ir_append::offset;
+use ir_append::writer::GraphWriter;
 use rows::form::in_range;
 use rows::numbers::{Used, wide};
 use rows::part::SheetPart;
@@ -27,7 +29,8 @@ fn bytes_of(t: Ten) -> usize
     wide(t.len0) + wide(t.len1) + wide(t.len2)
 }
 
-// The row with its texts in the names from `at`.
+// The row with its texts in the names from `at`. Beside `ir_append`'s row of a recipe and `rows::row::row_of`: which pairs are used, each tells by its own means, and
+// for one builder it would have to be said anew, pair by pair.
 fn moved_row(t: Ten, used: usize, at: usize) -> [u32; 10]
     requires { at + bytes_of (as_ten t) ≤ names_limit }
     ensures { result ≡ moved_numbers (as_ten t) used at }
@@ -48,34 +51,30 @@ fn moved_row(t: Ten, used: usize, at: usize) -> [u32; 10]
     ]
 }
 
-// Adds the row at a place with its texts. Where there is no room, what the buffers hold is the caller's to clear.
-fn append_same(
-    graph_rows: &mut [u32],
-    graph_names: &mut [u8],
-    used: Used,
-    part: &SheetPart,
-    place: usize,
-) -> Option<Used>
-    requires { Room graph_rows.old graph_names.old used × Stands part.now.rows.now part.now.names.now place × (place < part.now.end) }
-    ensures { Grows graph_rows.old graph_names.old used (row_at part.now.rows.now part.now.names.now place ∷ []) graph_rows.new graph_names.new result }
+// Adds the row at a place with its texts, or answers `None` where there is no room. Not a method of the writer: what it copies is a part's row, and here the texts'
+// length is known before one is written, where `append_spelled` learns it by writing them.
+fn append_same(writer: &mut GraphWriter, part: &SheetPart, place: usize) -> Option<()>
+    requires { TextsStand part.now place × (place < part.now.end) }
+    ensures { Grows writer.old (part_row part.now place ∷ []) writer.new result }
 {
     let t = part.ten(place);
-    let n = used.rows;
-    let at = used.names;
+    let n = writer.used.rows;
+    let at = writer.used.names;
     let size = bytes_of(t);
-    if graph_rows.len() < limits::ROW * n + limits::ROW {
+    if writer.rows.len() < limits::ROW * n + limits::ROW {
         return None;
     }
-    if graph_names.len() - at < size {
+    if writer.names.len() - at < size {
         return None;
     }
-    copy_text(graph_names, at, part_of(part.names, wide(t.at0), size));
+    copy_text(writer.names, at, part_of(part.names, wide(t.at0), size));
     let row = moved_row(t, used_pairs(t.tag, t.a), at);
-    put_row(graph_rows, n, row);
-    Some(Used {
+    put_row(writer.rows, n, row);
+    writer.used = Used {
         rows: n + 1,
         names: at + size,
-    })
+    };
+    Some(())
 }
 
 // Whether a row is kept: a head by its mark, another row with the row before it.
@@ -85,27 +84,19 @@ fn keeps_row(before: bool, tag: u32, mark: u8) -> bool
     if is_type(tag) { mark != 0 } else { before }
 }
 
-// The rows that are kept, from row 1 on, added: what is used then, or `None` where there is no room.
-pub fn put_kept(
-    graph_rows: &mut [u32],
-    graph_names: &mut [u8],
-    from: Used,
-    part: &SheetPart,
-    marks: &[u8],
-) -> Option<Used>
-    requires room { Room graph_rows.old graph_names.old from }
-    requires rows { (part.now.end ≤ length marks.now) × (1 ≤ part.now.end) × ((p : ℕ) → 0 < p → p < part.now.end → Stands part.now.rows.now part.now.names.now p) }
-    ensures { Grows graph_rows.old graph_names.old from (kept_rows (row_at part.now.rows.now part.now.names.now) marks.now true 1 (part.now.end - 1)) graph_rows.new graph_names.new result }
+// The rows that are kept, from row 1 on, are added, or `None` is answered where there is no room.
+pub fn put_kept(writer: &mut GraphWriter, part: &SheetPart, marks: &[u8]) -> Option<()>
+    requires { (part.now.end ≤ length marks.now) × (1 ≤ part.now.end) × ((p : ℕ) → 0 < p → p < part.now.end → TextsStand part.now p) }
+    ensures { Grows writer.old (part_kept part.now marks.now) writer.new result }
 {
-    let mut used = from;
     let mut kept = true;
     for place in 1..part.end {
         kept = keeps_row(kept, part.tag(place), marks[place]);
         if kept {
-            used = append_same(graph_rows, graph_names, used, part, place)?;
+            append_same(writer, part, place)?;
         }
     }
-    Some(used)
+    Some(())
 }
 
 // How many of the rows that are kept have a tag from low to high.

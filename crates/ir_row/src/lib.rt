@@ -1,4 +1,5 @@
-// What lowering makes of one row of a schema sheet: decided, and written to a graph sheet.
+// What lowering makes of one row of a schema sheet: decided, and written to a graph sheet. Writer and part stand
+// apart, as in `ir_write`.
 #![tactic(auto)]
 
 ghost use Rattle.std.specs.Prelude.{ℕ, ◌/◌, ◌%◌, ◌^◌, ◌≤◌, ◌<◌, ◌≡◌, Bool, true};
@@ -6,19 +7,20 @@ ghost use Rattle.builtin.specs.Builtin.{map_builtin, reference as reference_numb
 ghost use Rattle.xsd_types.specs.Types.{MaxOccurs};
 ghost use Rattle.xsd_types.specs.Tags.{simple_type_tag, fraction_digits_tag, any_tag, bound_element_tag};
 ghost use Rattle.ir_lower.specs.Lower.{lower_cardinality};
-ghost use Rattle.xsd_types.specs.Places.{row_at};
 ghost use Rattle.ir_types.specs.Tags.{field_tag};
 ghost use Rattle.ir_types.specs.Rows.{cardinality_b, cardinality_c};
 ghost use Rattle.ir_append.specs.declared.Spelling.{Spelling};
 ghost use Rattle.ir_rows.specs.Lowered.{lowered_row};
-ghost use Rattle.ir_append.specs.Grows.{Room, Grows};
+ghost use Rattle.ir_rows.specs.Parts.{part_row};
+ghost use Rattle.ir_append.specs.Grows.{Grows};
 ghost use Rattle.ir_row.specs.Recipes.{has_recipe, refers, reference_spelling, namespace_spelling, texts_recipe, child_recipe, as_cardinality, Lowers, IsCount, ten_rows};
 
-use ir_append::{Recipe, Spelling, append_spelled, grow_characters, grow_digits};
+use ir_append::writer::GraphWriter;
+use ir_append::{Recipe, Spelling};
 use ir_types::tags as graph;
 use number::{CharacterCount, DigitCount};
 use rows::form::in_range;
-use rows::numbers::{Used, wide};
+use rows::numbers::{joined, wide};
 use rows::part::SheetPart;
 use rows::parts::part_of;
 use rows::ten::Ten;
@@ -35,6 +37,7 @@ enum Cardinality {
 }
 
 impl Cardinality {
+    // A match and no discriminant: a case holds its bound.
     // "b cardinality 0 required, 1 optional, 2 vec, 3 bounded with c the bound, above 1"
     #[tactic(auto, unfolding(ir_types::specs::Rows::cardinality_b))]
     fn number(self) -> u32
@@ -60,6 +63,8 @@ impl Cardinality {
     }
 }
 
+// `codes`, here and below: the row is of a code enum. A flag that is passed on, as in the definitions: only this test and `simple_recipe` look at it, so a function
+// for each of its values would say all other recipes twice.
 fn has_recipe(codes: bool, tag: u32) -> bool
     ensures { result ≡ has_recipe codes tag }
 {
@@ -248,20 +253,20 @@ fn child_recipe(tag: u32, a: u32, b: u32, reference: u32) -> Recipe
     }
 }
 
-// `reference` is that of the second text, where the row refers to a type; `event` is c, which a head keeps.
-pub fn recipe_of(tag: u32, a: u32, b: u32, event: u32, codes: bool, reference: u32) -> Recipe
-    ensures { Lowers codes tag a b event reference result }
+// `reference` is that of the second text, where the row refers to a type: the number that the graph's row stores in a. A head keeps its event, which is c.
+pub fn recipe_of(t: Ten, codes: bool, reference: u32) -> Recipe
+    ensures { Lowers codes t.tag t.a t.b t.c reference result }
 {
-    if tag <= schema::SIMPLE_TYPE {
-        return first_recipe(codes, tag, event, reference);
+    if t.tag <= schema::SIMPLE_TYPE {
+        return first_recipe(codes, t.tag, t.c, reference);
     }
-    if tag <= schema::FRACTION_DIGITS {
-        return facet_recipe(tag);
+    if t.tag <= schema::FRACTION_DIGITS {
+        return facet_recipe(t.tag);
     }
-    if tag <= schema::ANY {
-        complex_recipe(tag, a, event, reference)
+    if t.tag <= schema::ANY {
+        complex_recipe(t.tag, t.a, t.c, reference)
     } else {
-        child_recipe(tag, a, b, reference)
+        child_recipe(t.tag, t.a, t.b, reference)
     }
 }
 
@@ -279,57 +284,39 @@ fn row_reference(tag: u32, second: &[u8]) -> u32
 fn count_of(low: u32, high: u32) -> CharacterCount
     ensures { (result.0 % 2 ^ 32 ≡ low) × (result.0 / 2 ^ 32 ≡ high) }
 {
-    CharacterCount(low as u64 + high as u64 * 4294967296)
+    CharacterCount(joined(low, high))
 }
 
-// `out` and `texts` are the graph's rows and names.
-fn put_spelled(
-    out: &mut [u32],
-    texts: &mut [u8],
-    used: Used,
-    names: &[u8],
-    t: Ten,
-    codes: bool,
-) -> Option<Used>
-    requires room { Room out.old texts.old used }
-    requires tag { IsCount t.tag → ⊥ }
-    ensures { Grows out.old texts.old used (ten_rows codes names.now t) out.new texts.new result }
+// The row of a row of the schema that is no count, where it has one.
+fn put_spelled(writer: &mut GraphWriter<'_>, names: &[u8], t: Ten, codes: bool) -> Option<()>
+    requires { IsCount t.tag → ⊥ }
+    ensures { Grows writer.old (ten_rows codes names.now t) writer.new result }
 {
     if !has_recipe(codes, t.tag) {
-        return Some(used);
+        return Some(());
     }
     let first = part_of(names, wide(t.at0), wide(t.len0));
     let second = part_of(names, wide(t.at1), wide(t.len1));
-    let recipe = recipe_of(t.tag, t.a, t.b, t.c, codes, row_reference(t.tag, second));
-    append_spelled(out, texts, used, recipe, first, second)
+    let recipe = recipe_of(t, codes, row_reference(t.tag, second));
+    writer.append_spelled(recipe, first, second)
 }
 
-// `out` and `texts` are the graph's rows and names.
+// Adds what lowering makes of the row at a place, or answers `None` where there is no room.
 pub fn put_lowered(
-    out: &mut [u32],
-    texts: &mut [u8],
-    used: Used,
+    writer: &mut GraphWriter<'_>,
     part: &SheetPart<'_>,
     place: usize,
     codes: bool,
-) -> Option<Used>
-    requires { Room out.old texts.old used × (place < part.now.end) }
-    ensures { Grows out.old texts.old used (lowered_row codes (row_at part.now.rows.now part.now.names.now place)) out.new texts.new result }
+) -> Option<()>
+    requires { place < part.now.end }
+    ensures { Grows writer.old (lowered_row codes (part_row part.now place)) writer.new result }
 {
     let t = part.ten(place);
     match t.tag {
-        schema::MIN_LENGTH => {
-            grow_characters(out, texts, used, graph::MIN_LENGTH, count_of(t.a, t.b))
-        }
-        schema::MAX_LENGTH => {
-            grow_characters(out, texts, used, graph::MAX_LENGTH, count_of(t.a, t.b))
-        }
-        schema::TOTAL_DIGITS => {
-            grow_digits(out, texts, used, graph::TOTAL_DIGITS, DigitCount(t.a))
-        }
-        schema::FRACTION_DIGITS => {
-            grow_digits(out, texts, used, graph::FRACTION_DIGITS, DigitCount(t.a))
-        }
-        _ => put_spelled(out, texts, used, part.names, t, codes),
+        schema::MIN_LENGTH => writer.grow_characters(graph::MIN_LENGTH, count_of(t.a, t.b)),
+        schema::MAX_LENGTH => writer.grow_characters(graph::MAX_LENGTH, count_of(t.a, t.b)),
+        schema::TOTAL_DIGITS => writer.grow_digits(graph::TOTAL_DIGITS, DigitCount(t.a)),
+        schema::FRACTION_DIGITS => writer.grow_digits(graph::FRACTION_DIGITS, DigitCount(t.a)),
+        _ => put_spelled(writer, part.names, t, codes),
     }
 }

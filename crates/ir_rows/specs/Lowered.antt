@@ -5,8 +5,8 @@
 --     child_rows         the graph's rows for the children that a list of rows begins with
 --     type_rows_of        the graph's rows for the type that a list of rows begins with
 --     root_rows          the graph's rows for the elements
-use Rattle.std.specs.Prelude.{ℕ, ◌+◌, List, [], ◌∷◌, ◌++◌, Bool, true, false, not, ◌&&◌, eqb, if◌then◌else◌}
-use Rattle.text.specs.Text.{Text, between}
+use Rattle.std.specs.Prelude.{ℕ, List, [], ◌∷◌, ◌++◌, Bool, false, eqb, if◌then◌else◌}
+use Rattle.text.specs.Text.{Text}
 use Rattle.builtin.specs.Builtin.{map_builtin, reference}
 use Rattle.names.specs.Names.{normalize_type_name, xml_to_snake_case, code_to_pascal_case}
 use Rattle.sheet.specs.Rows.{Row, row}

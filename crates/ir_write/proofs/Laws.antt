@@ -1,3 +1,2 @@
--- Laws of the definitions in specs/: Onward of rows that are being added, Rest of the rows that are left.
-pub mod Onward
+-- Laws of what the writing loops add: Rest of the rows that are left.
 pub mod Rest

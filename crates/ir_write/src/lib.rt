@@ -1,15 +1,16 @@
 // The graph's rows written one behind the other from the rows of a schema sheet: the namespace, the elements, the types that are kept.
+// Writer and part go side by side through all of them: the one is changed and the other read, and nothing is known of both together.
 #![tactic(auto)]
 
 ghost use Rattle.std.specs.Prelude.{◌≡◌, true, [], ◌∷◌, ◌%◌, ◌≤◌, ◌<◌, ltb};
 ghost use Rattle.text.specs.Text.{every};
-ghost use Rattle.xsd_types.specs.Places.{row_at, rows_from};
-ghost use Rattle.ir_rows.specs.Lowered.{lowered_row, child_rows, type_rows_of, root_rows};
-ghost use Rattle.ir_rows.specs.Types.{types_rows, graph_row_list, entry_places};
-ghost use Rattle.ir_append.specs.Grows.{Room, Grows};
+ghost use Rattle.ir_rows.specs.Lowered.{child_rows, type_rows_of, root_rows};
+ghost use Rattle.ir_rows.specs.Types.{entry_places};
+ghost use Rattle.ir_rows.specs.Parts.{part_row, part_rows, part_types, part_graph};
+ghost use Rattle.ir_append.specs.Grows.{Grows};
 
+use ir_append::writer::GraphWriter;
 use ir_row::put_lowered;
-use rows::numbers::Used;
 use rows::part::SheetPart;
 use xsd_good::forms::row;
 use xsd_refused::is_code_enum;
@@ -30,109 +31,70 @@ struct Children {
 }
 
 fn put_children(
-    graph_rows: &mut [u32],
-    graph_names: &mut [u8],
-    from: Used,
+    writer: &mut GraphWriter<'_>,
     part: &SheetPart<'_>,
     children: Children,
-) -> Option<Used>
-    requires { Room graph_rows.old graph_names.old from }
-    ensures { Grows graph_rows.old graph_names.old from (child_rows children.code_enum (rows_from part.now.rows.now part.now.names.now children.first part.now.end)) graph_rows.new graph_names.new result }
+) -> Option<()>
+    ensures { Grows writer.old (child_rows children.code_enum (part_rows part.now children.first)) writer.new result }
 {
     let codes = children.code_enum;
-    let mut used = from;
     for place in children.first..part.end {
         if row::is_head(part.tag(place)) {
-            return Some(used);
+            return Some(());
         }
-        used = put_lowered(graph_rows, graph_names, used, part, place, codes)?;
+        put_lowered(writer, part, place, codes)?;
     }
-    Some(used)
+    Some(())
 }
 
-fn put_type(
-    graph_rows: &mut [u32],
-    graph_names: &mut [u8],
-    used: Used,
-    part: &SheetPart<'_>,
-    place: usize,
-) -> Option<Used>
-    requires { Room graph_rows.old graph_names.old used × (place < part.now.end) }
-    ensures { Grows graph_rows.old graph_names.old used (type_rows_of (rows_from part.now.rows.now part.now.names.now place part.now.end)) graph_rows.new graph_names.new result }
+fn put_type(writer: &mut GraphWriter<'_>, part: &SheetPart<'_>, place: usize) -> Option<()>
+    requires { place < part.now.end }
+    ensures { Grows writer.old (type_rows_of (part_rows part.now place)) writer.new result }
 {
     let code_enum = is_code_enum(part, place + 1);
-    let after = put_lowered(graph_rows, graph_names, used, part, place, code_enum)?;
+    put_lowered(writer, part, place, code_enum)?;
     let children = Children {
         first: place + 1,
         code_enum,
     };
-    put_children(graph_rows, graph_names, after, part, children)
+    put_children(writer, part, children)
 }
 
-fn put_root(
-    graph_rows: &mut [u32],
-    graph_names: &mut [u8],
-    used: Used,
-    part: &SheetPart<'_>,
-    place: usize,
-) -> Option<Used>
-    requires { Room graph_rows.old graph_names.old used × (place < part.now.end) }
-    ensures { Grows graph_rows.old graph_names.old used (root_rows (row_at part.now.rows.now part.now.names.now place ∷ [])) graph_rows.new graph_names.new result }
+fn put_root(writer: &mut GraphWriter<'_>, part: &SheetPart<'_>, place: usize) -> Option<()>
+    requires { place < part.now.end }
+    ensures { Grows writer.old (root_rows (part_row part.now place ∷ [])) writer.new result }
 {
     if part.tag(place) != tags::ELEMENT {
-        return Some(used);
+        return Some(());
     }
-    put_lowered(graph_rows, graph_names, used, part, place, false)
+    put_lowered(writer, part, place, false)
 }
 
-fn put_roots(
-    graph_rows: &mut [u32],
-    graph_names: &mut [u8],
-    from: Used,
-    part: &SheetPart<'_>,
-) -> Option<Used>
-    requires { Room graph_rows.old graph_names.old from }
-    ensures { Grows graph_rows.old graph_names.old from (root_rows (rows_from part.now.rows.now part.now.names.now 2 part.now.end)) graph_rows.new graph_names.new result }
+fn put_roots(writer: &mut GraphWriter<'_>, part: &SheetPart<'_>) -> Option<()>
+    ensures { Grows writer.old (root_rows (part_rows part.now 2)) writer.new result }
 {
-    let mut used = from;
     for place in 2..part.end {
-        used = put_root(graph_rows, graph_names, used, part, place)?;
+        put_root(writer, part, place)?;
     }
-    Some(used)
+    Some(())
 }
 
-fn put_types(
-    graph_rows: &mut [u32],
-    graph_names: &mut [u8],
-    from: Used,
-    part: &SheetPart<'_>,
-    entries: &[u32],
-) -> Option<Used>
-    requires room { Room graph_rows.old graph_names.old from }
-    requires places { every (λ p. ltb p part.now.end) (entry_places entries.now) ≡ true }
-    ensures { Grows graph_rows.old graph_names.old from (types_rows part.now.rows.now part.now.names.now part.now.end (entry_places entries.now)) graph_rows.new graph_names.new result }
+fn put_types(writer: &mut GraphWriter<'_>, part: &SheetPart<'_>, entries: &[u32]) -> Option<()>
+    requires { every (λ p. ltb p part.now.end) (entry_places entries.now) ≡ true }
+    ensures { Grows writer.old (part_types part.now (entry_places entries.now)) writer.new result }
 {
-    let mut used = from;
     for entry in entries {
-        let place = place_of(*entry);
-        used = put_type(graph_rows, graph_names, used, part, place)?;
+        put_type(writer, part, place_of(*entry))?;
     }
-    Some(used)
+    Some(())
 }
 
-// The namespace's row, the elements' and the types', from what is used of the graph sheet on: what is used then, or `None` where there is no room.
-pub fn put_graph(
-    graph_rows: &mut [u32],
-    graph_names: &mut [u8],
-    from: Used,
-    part: &SheetPart<'_>,
-    entries: &[u32],
-) -> Option<Used>
-    requires room { Room graph_rows.old graph_names.old from × (2 ≤ part.now.end) }
-    requires places { every (λ p. ltb p part.now.end) (entry_places entries.now) ≡ true }
-    ensures { Grows graph_rows.old graph_names.old from (graph_row_list part.now.rows.now part.now.names.now part.now.end (entry_places entries.now)) graph_rows.new graph_names.new result }
+// The namespace's row, the elements' and the types' are added, or `None` is answered where there is no room.
+pub fn put_graph(writer: &mut GraphWriter<'_>, part: &SheetPart<'_>, entries: &[u32]) -> Option<()>
+    requires { (2 ≤ part.now.end) × (every (λ p. ltb p part.now.end) (entry_places entries.now) ≡ true) }
+    ensures { Grows writer.old (part_graph part.now (entry_places entries.now)) writer.new result }
 {
-    let namespace = put_lowered(graph_rows, graph_names, from, part, 1, false)?;
-    let roots = put_roots(graph_rows, graph_names, namespace, part)?;
-    put_types(graph_rows, graph_names, roots, part, entries)
+    put_lowered(writer, part, 1, false)?;
+    put_roots(writer, part)?;
+    put_types(writer, part, entries)
 }

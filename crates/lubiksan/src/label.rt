@@ -2,8 +2,6 @@
 ghost use Rattle.ir_types.specs.Label.{label, LabelNumberIs};
 ghost use Rattle.lubiksan.specs.Exported.{LabelStored};
 
-use crate::leaves;
-
 // Gives the number of the label of a row of a graph sheet, 0 or 16. Stored: 0 for a part of the names and 1 for one of the word list, where the part
 // starts there, and its length.
 #[unsafe(no_mangle)]
@@ -20,7 +18,7 @@ pub extern "C" fn lubiksan_label(
 {
     match ir_label::find_label(graph_rows, graph_names, words, row) {
         Ok(s) => {
-            *in_words = leaves::bit_of(s.in_words);
+            *in_words = u32::from(s.buffer);
             *start = s.at;
             *length = s.len;
             0

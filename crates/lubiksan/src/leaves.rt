@@ -18,13 +18,6 @@ fn count_of(written: Option<usize>) -> usize
     written.unwrap_or(usize::MAX)
 }
 
-// 1 for true, 0 for false.
-pub fn bit_of(b: bool) -> u32
-    ensures { result ≡ bit b }
-{
-    if b { 1 } else { 0 }
-}
-
 // Where the local name begins in the name.
 #[unsafe(no_mangle)]
 pub extern "C" fn lubiksan_local_name(name: &[u8]) -> usize
@@ -96,5 +89,5 @@ pub extern "C" fn lubiksan_code_to_pascal_case(value: &[u8], out: &mut [u8]) -> 
 pub extern "C" fn lubiksan_same_normalized(a: &[u8], b: &[u8]) -> u32
     ensures { result ≡ bit (same (normalize_type_name a.now) (normalize_type_name b.now)) }
 {
-    bit_of(same::same_normalized(a, b))
+    u32::from(same::same_normalized(a, b))
 }

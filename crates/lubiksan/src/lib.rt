@@ -1,4 +1,5 @@
-// The calls exported to C and Rust, as a static library. A slice passes as a pointer and a length. include/lubiksan.h declares them.
+// The calls exported to C and Rust, as a static library. A slice passes as a pointer and a length. include/lubiksan.h declares them. Numbers stand for what is
+// true or false, for what is missing, for kinds and for refusals, and what is stored goes through references: C has no Option, no Result and no bool here.
 #![tactic(auto)]
 
 mod by_column;

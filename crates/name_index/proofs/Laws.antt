@@ -3,3 +3,4 @@ pub mod Hash
 pub mod Places
 pub mod Answers
 pub mod Buckets
+pub mod Named

@@ -5,19 +5,22 @@
 --     places_in      the places entered: of the entry behind the k buckets, n of them, the low 16 bits
 --     last_in        1 + the last of the first n entries that is in the bucket b; 0 where there is none
 --     Index         the table holds n entries behind k buckets: a bucket has its last entry, an entry the one before it in its bucket
---     asked_name     the name that is asked for, spelled; IndexOf, place_asked: an index of these heads, and the place in it of the name asked for
+--     IndexOf, place_asked    an index of these heads, and the place in it of the name asked for
 --     Starts        what a table must be before an index starts
+--     IndexIn       a writer's table is an index of these heads; Started: it has no entries
 --     Entering      what must be known to enter the head at place p
 --     Added         it is one entry more
 --     Entered       that, or the place of the last entry that has its name
-use Rattle.std.specs.Prelude.{ℕ, zero, suc, ◌+◌, ◌*◌, ◌/◌, ◌%◌, ◌≤◌, ◌<◌, ◌≡◌, List, [], ◌∷◌, ◌++◌, map, Bool, eqb, length, get_or, take, drop, if◌then◌else◌, Option, Some, None}
+--     Enters        that, of a writer
+use Rattle.std.specs.Prelude.{ℕ, zero, suc, ◌+◌, ◌*◌, ◌/◌, ◌%◌, ◌≤◌, ◌<◌, ◌≡◌, List, [], ◌∷◌, ◌++◌, map, Bool, eqb, length, get_or, take, drop, if◌then◌else◌, Option, Some, None, is_some}
 use Rattle.text.specs.Text.{Text, same}
-use Rattle.names.specs.Same.{spelled}
+use Rattle.names.specs.Same.{spelled, spelled_text}
 use Rattle.sheet.specs.Limits.{rows_limit}
 use Rattle.sheet.specs.Rows.{text_at}
 use Rattle.name_index.specs.declared.Heads.{Heads}
 use Rattle.name_index.specs.declared.Table.{Table}
-use Rattle.name_index.specs.declared.Asked.{Asked}
+use Rattle.name_index.specs.declared.TableWriter.{TableWriter}
+use Rattle.names.specs.declared.same.Spelled.{Spelled}
 use Rattle.name_index.specs.Hash.{bucket_of}
 
 unfoldable pub head_name : List ℕ → List ℕ → ℕ → Text
@@ -57,19 +60,25 @@ pub record Index (rows names : List ℕ) (normalised : Bool) (table : List ℕ) 
   pub nexts : (j : ℕ) → j < n → get_or table (k + j) 0 / 65536 ≡ last_in k (bucket_of k (name_in rows names normalised table k j)) (name_in rows names normalised table k) j
 
 -- what is said of heads, of a table and of a name asked for, as the functions take them
-abbrev pub asked_name : Asked → Text
-asked_name asked = spelled asked.normalised asked.name.now
-
 abbrev pub IndexOf : Heads → Table → Type 0
 IndexOf heads table = Index heads.rows.now heads.names.now heads.normalised table.numbers.now table.buckets table.entries
 
-abbrev pub place_asked : Heads → Table → Asked → Option ℕ
-place_asked heads table asked = place_of (name_of heads.rows.now heads.names.now heads.normalised) (asked_name asked) (places_in table.buckets table.entries table.numbers.now)
+abbrev pub place_asked : Heads → Table → Spelled → Option ℕ
+place_asked heads table asked = place_of (name_of heads.rows.now heads.names.now heads.normalised) (spelled_text asked) (places_in table.buckets table.entries table.numbers.now)
 
 pub record Starts (table : List ℕ) (k : ℕ) : Type 0 where
   pub some : 0 < k
   pub inside : k ≤ length table
   pub small : length table ≤ rows_limit
+
+abbrev pub IndexIn : List ℕ → List ℕ → Bool → TableWriter → Type 0
+IndexIn rows names normalised w = Index rows names normalised w.numbers.now w.buckets w.entries
+
+pub record Started (before : List ℕ) (k : ℕ) (w : TableWriter) : Type 0 where
+  pub buckets_are : w.buckets ≡ k
+  pub same_length : length w.numbers.now ≡ length before
+  pub index : (rows names : List ℕ) (normalised : Bool) → Index rows names normalised w.numbers.now k 0
+  pub none : w.entries ≡ 0
 
 pub record Entering (rows table : List ℕ) (k n p : ℕ) : Type 0 where
   pub above : 0 < p
@@ -84,3 +93,11 @@ pub record Added (rows names : List ℕ) (normalised : Bool) (before : List ℕ)
 pub record Entered (rows names : List ℕ) (normalised : Bool) (before : List ℕ) (k n p : ℕ) (after : List ℕ) (r : Option ℕ) : Type 0 where
   pub place : r ≡ place_of (name_of rows names normalised) (name_of rows names normalised p) (places_in k n before)
   pub added : r ≡ None → Added rows names normalised before k n p after
+
+-- the writer still holds the same numbers
+pub record Enters (heads : Heads) (w : TableWriter) (p : ℕ) (w' : TableWriter) (r : Option ℕ) : Type 0 where
+  pub same_numbers : w'.numbers.ghost_name ≡ w.numbers.ghost_name
+  pub same_buckets : w'.buckets ≡ w.buckets
+  pub same_length : length w'.numbers.now ≡ length w.numbers.now
+  pub count : w'.entries ≡ (if is_some r then w.entries else w.entries + 1)
+  pub entered : Entered heads.rows.now heads.names.now heads.normalised w.numbers.now w.buckets w.entries p w'.numbers.now r

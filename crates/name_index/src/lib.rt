@@ -2,13 +2,13 @@
 // so far; a name is looked for in its bucket alone, and compared byte by byte.
 #![tactic(auto)]
 
-ghost use Rattle.std.specs.Prelude.{◌≡◌, Bool, List, ℕ, ◌+◌, ◌*◌, ◌/◌, ◌%◌, ◌≤◌, ◌<◌, length, get_or};
-ghost use Rattle.names.specs.Same.{spelled};
+ghost use Rattle.std.specs.Prelude.{◌≡◌, ◌+◌, ◌*◌, ◌/◌, ◌%◌, ◌≤◌, ◌<◌, length, get_or};
+ghost use Rattle.names.specs.Same.{spelled_text};
 ghost use Rattle.sheet.specs.Limits.{rows_limit};
 ghost use Rattle.name_index.specs.Hash.{mixed, hash, bucket_of};
-ghost use Rattle.name_index.specs.Index.{head_name, asked_name, IndexOf, place_asked, Index, Starts, Entering, Entered};
+ghost use Rattle.name_index.specs.Index.{head_name, name_of, place_of, places_in, IndexOf, place_asked, Starts, Started, IndexIn, Entering, Enters};
 
-use names::same::{next_spelled, same_spelled, starts_up};
+use names::same::Spelled;
 use rows::numbers::wide;
 use rows::parts::pair_text;
 use sheet::limits;
@@ -30,11 +30,12 @@ pub struct Table<'a> {
     pub entries: usize,
 }
 
-// A name that is asked for, as it normalises or as it stands.
-#[derive(Clone, Copy)]
-pub struct Asked<'a> {
-    pub name: &'a [u8],
-    pub normalised: bool,
+// A table that heads are entered into.
+#[derive(Drop)]
+pub struct TableWriter<'a> {
+    pub numbers: &'a mut [u32],
+    pub buckets: usize,
+    pub entries: usize,
 }
 
 fn mix(h: u64, b: u8) -> u64
@@ -44,25 +45,21 @@ fn mix(h: u64, b: u8) -> u64
     ((h + b as u64) * 2654435761) % 4294967296
 }
 
-fn hash_of(name: &[u8], normalised: bool) -> u64
-    ensures { result ≡ hash (spelled normalised name.now) }
+fn hash_of(name: Spelled) -> u64
+    ensures { result ≡ hash (spelled_text name.entry) }
 {
-    let mut up = starts_up(name, normalised);
     let mut h = 0;
-    let mut at = 0;
-    while let Some((b, to)) = next_spelled(name, normalised, at, up) {
+    for b in name.bytes() {
         h = mix(h, b);
-        at = to;
-        up = false;
     }
     h
 }
 
-fn bucket_of(asked: Asked, buckets: usize) -> usize
+fn bucket_of(asked: Spelled, buckets: usize) -> usize
     requires { buckets ≤ rows_limit }
-    ensures { result ≡ bucket_of buckets (asked_name asked.entry) }
+    ensures { result ≡ bucket_of buckets (spelled_text asked.entry) }
 {
-    (hash_of(asked.name, asked.normalised) * buckets as u64 / 4294967296) as usize
+    (hash_of(asked) * buckets as u64 / 4294967296) as usize
 }
 
 // The name in the first pair of the row at a place.
@@ -73,27 +70,31 @@ pub fn name_at<'a>(rows: &[u32], names: &'a [u8], place: usize) -> &'a [u8]
     pair_text(rows, names, limits::ROW * place + 1)
 }
 
-// An index of no heads.
-pub fn start(table: &mut [u32], buckets: usize)
-    requires { Starts table.old buckets }
-    ensures { (rows names : List ℕ) (normalised : Bool) → Index rows names normalised table.new buckets 0 }
-{
-    table[..buckets].fill(0);
+impl<'a> Heads<'a> {
+    // The name of the head at a place, spelled as the heads are.
+    pub fn spelled_at(self, place: usize) -> Spelled<'a>
+        requires { 10 * place + 10 ≤ length self.rows.now }
+        ensures { spelled_text result ≡ name_of self.entry.rows.now self.entry.names.now self.entry.normalised place }
+    {
+        Spelled {
+            name: name_at(self.rows, self.names, place),
+            normalised: self.normalised,
+        }
+    }
 }
 
 // Along the entries of a bucket, the last one first. An entry is one number, a place and 65536 times the entry before it: there is no heap, and a table that
-// the caller lends has one number for each head.
-fn find_in(heads: Heads, table: Table, bucket: usize, asked: Asked) -> Option<usize>
+// the caller lends has one number for each head. No `for`: an entry says which one comes next, and only the index says that there is an end.
+fn find_in(heads: Heads, table: Table, bucket: usize, asked: Spelled) -> Option<usize>
     requires index { IndexOf heads table }
-    requires bucket_value { bucket ≡ bucket_of table.buckets (asked_name asked) }
+    requires bucket_value { bucket ≡ bucket_of table.buckets (spelled_text asked) }
     ensures { result ≡ place_asked heads.entry table.entry asked.entry }
 {
     let mut e = wide(table.numbers[bucket]);
     while e != 0 {
         let entry = table.numbers[table.buckets + (e - 1)];
         let place = wide(entry % 65536);
-        let held = name_at(heads.rows, heads.names, place);
-        if same_spelled(held, heads.normalised, asked.name, asked.normalised) {
+        if heads.spelled_at(place).is_same(asked) {
             return Some(place);
         }
         e = wide(entry / 65536);
@@ -102,41 +103,56 @@ fn find_in(heads: Heads, table: Table, bucket: usize, asked: Asked) -> Option<us
 }
 
 // The place of the last head entered whose name is the one asked for.
-pub fn find(heads: Heads, table: Table, asked: Asked) -> Option<usize>
+pub fn find(heads: Heads, table: Table, asked: Spelled) -> Option<usize>
     requires { IndexOf heads table }
     ensures { result ≡ place_asked heads.entry table.entry asked.entry }
 {
     find_in(heads, table, bucket_of(asked, table.buckets), asked)
 }
 
-// The head at a place is one entry more and the answer None, if no entry has its name; else the answer is the place of the last that has it. Table, its count and
-// its buckets stand apart: only this function writes a table, and a struct for it alone would be no plainer.
-pub fn enter(
-    heads: Heads,
-    table: &mut [u32],
-    buckets: usize,
-    entries: usize,
-    place: usize,
-) -> Option<usize>
-    requires index { Index heads.rows.now heads.names.now heads.normalised table.old buckets entries }
-    requires entering { Entering heads.rows.now table.old buckets entries place }
-    ensures { Entered heads.entry.rows.now heads.entry.names.now heads.entry.normalised table.old buckets entries place table.new result }
-{
-    let name = name_at(heads.rows, heads.names, place);
-    let asked = Asked {
-        name,
-        normalised: heads.normalised,
-    };
-    let bucket = bucket_of(asked, buckets);
-    let before = Table {
-        numbers: table,
-        buckets,
-        entries,
-    };
-    if let Some(held) = find_in(heads, before, bucket, asked) {
-        return Some(held);
+impl<'a> TableWriter<'a> {
+    // An index of no heads. The caller says how many buckets there are, since the table holds entries behind them.
+    pub fn start(numbers: &'a mut [u32], buckets: usize) -> TableWriter<'a>
+        requires { Starts numbers.old buckets }
+        ensures same_numbers { result.numbers.ghost_name ≡ numbers.entry.ghost_name }
+        ensures started { Started numbers.old buckets result }
+    {
+        numbers[..buckets].fill(0);
+        TableWriter {
+            numbers,
+            buckets,
+            entries: 0,
+        }
     }
-    table[buckets + entries] = place as u32 + 65536 * table[bucket];
-    table[bucket] = entries as u32 + 1;
-    None
+
+    // The place of the last entry in a bucket that has the name asked for.
+    fn held(&self, heads: Heads, bucket: usize, asked: Spelled) -> Option<usize>
+        requires index { IndexIn heads.rows.now heads.names.now heads.normalised self.now }
+        requires bucket_value { bucket ≡ bucket_of self.now.buckets (spelled_text asked) }
+        ensures { result ≡ place_of (name_of heads.entry.rows.now heads.entry.names.now heads.entry.normalised) (spelled_text asked.entry) (places_in self.now.buckets self.now.entries self.now.numbers.now) }
+    {
+        let table = Table {
+            numbers: self.numbers,
+            buckets: self.buckets,
+            entries: self.entries,
+        };
+        find_in(heads, table, bucket, asked)
+    }
+
+    // The head at a place is one entry more and the answer None, if no entry has its name; else the answer is the place of the last that has it.
+    pub fn enter(&mut self, heads: Heads, place: usize) -> Option<usize>
+        requires index { IndexIn heads.rows.now heads.names.now heads.normalised self.old }
+        requires entering { Entering heads.rows.now self.old.numbers.now self.old.buckets self.old.entries place }
+        ensures { Enters heads.entry self.old place self.new result }
+    {
+        let asked = heads.spelled_at(place);
+        let bucket = bucket_of(asked, self.buckets);
+        if let Some(held) = self.held(heads, bucket, asked) {
+            return Some(held);
+        }
+        self.numbers[self.buckets + self.entries] = place as u32 + 65536 * self.numbers[bucket];
+        self.numbers[bucket] = self.entries as u32 + 1;
+        self.entries += 1;
+        None
+    }
 }

@@ -5,4 +5,5 @@ pub mod Names
 pub mod Examples
 pub mod Words
 pub mod Spelled
-pub mod Next
+pub mod Compared
+pub mod Named

@@ -5,7 +5,7 @@
 pub mod same;
 pub mod snake;
 
-ghost use Rattle.std.specs.Prelude.{◌≡◌};
+ghost use Rattle.std.specs.Prelude.{◌≡◌, true};
 ghost use Rattle.names.specs.Names.{normalize_type_name, code_to_pascal_case};
 ghost use Rattle.names.specs.Answers.{Put};
 ghost use Rattle.names.specs.Scans.{cased_byte, segments};
@@ -13,7 +13,8 @@ ghost use Rattle.names.specs.Scans.{cased_byte, segments};
 use text::ascii::{to_lower, to_upper};
 use text::has_byte;
 
-// A byte of a segment: in the upper form where it is the first, else as it is or in the lower form.
+// A byte of a segment: in the upper form where it is the first, else as it is or in the lower form. The two flags are the definition's, and so is `lowers` of
+// `put_segments`: the form of a byte as an enum or a closure would only name the same two tests again.
 pub fn cased(b: u8, up: bool, lowers: bool) -> u8
     ensures { result ≡ cased_byte up lowers b }
 {
@@ -23,12 +24,11 @@ pub fn cased(b: u8, up: bool, lowers: bool) -> u8
     if lowers { to_lower(b) } else { b }
 }
 
-// The segments of s between separators, put together, each with its first letter in the upper form;
-// the very first one only where `first` says so.
-fn put_segments(s: &[u8], separator: u8, first: bool, lowers: bool, out: &mut [u8]) -> Option<usize>
-    ensures { Put (segments separator lowers first s.now) out.old result out.new }
+// The segments of s between separators, put together, each with its first letter in the upper form.
+fn put_segments(s: &[u8], separator: u8, lowers: bool, out: &mut [u8]) -> Option<usize>
+    ensures { Put (segments separator lowers true s.now) out.old result out.new }
 {
-    let mut up = first;
+    let mut up = true;
     let mut n = 0;
     for b in s {
         if *b == separator {
@@ -62,7 +62,7 @@ pub fn normalize_type_name(name: &[u8], out: &mut [u8]) -> Option<usize>
     ensures { Put (normalize_type_name name.now) out.old result out.new }
 {
     if has_byte(name, b'_') {
-        put_segments(name, b'_', true, false, out)
+        put_segments(name, b'_', false, out)
     } else {
         put_same(name, out)
     }
@@ -72,5 +72,5 @@ pub fn normalize_type_name(name: &[u8], out: &mut [u8]) -> Option<usize>
 pub fn code_to_pascal_case(value: &[u8], out: &mut [u8]) -> Option<usize>
     ensures { Put (code_to_pascal_case value.now) out.old result out.new }
 {
-    put_segments(value, b'-', true, true, out)
+    put_segments(value, b'-', true, out)
 }

@@ -2,64 +2,82 @@
 ghost use Rattle.std.specs.Prelude.{◌≡◌};
 ghost use Rattle.text.specs.Text.{same};
 ghost use Rattle.names.specs.Names.{normalize_type_name};
-ghost use Rattle.names.specs.Same.{spelled, starts_up, NextIs};
+ghost use Rattle.names.specs.Same.{bytes_left, spelled_text};
 
 use crate::cased;
 use text::has_byte;
 
-// Whether the first letter of a spelled name is in the upper form.
-pub fn starts_up(name: &[u8], normalised: bool) -> bool
-    ensures { result ≡ starts_up normalised name.now }
-{
-    normalised && has_byte(name, b'_')
+// A name, as it normalises or as it stands. The flag is the definition's: the heads of an index have it too.
+#[derive(Clone, Copy)]
+pub struct Spelled<'a> {
+    pub name: &'a [u8],
+    pub normalised: bool,
 }
 
-// The next byte of the spelled name, read from `from`, with the place where the name goes on; `None` at the name's end.
-pub fn next_spelled(name: &[u8], normalised: bool, from: usize, first: bool) -> Option<(u8, usize)>
-    ensures { NextIs normalised name.now from first result }
-{
-    let mut up = first;
-    for at in from..name.len() {
-        let b = name[at];
-        if !normalised {
-            return Some((b, at + 1));
+impl<'a> Spelled<'a> {
+    // Its bytes one by one. The first letter is in the upper form only where the name has an underscore.
+    pub fn bytes(self) -> SpelledBytes<'a>
+        ensures { bytes_left result ≡ spelled_text self.entry }
+    {
+        SpelledBytes {
+            rest: self.name,
+            normalised: self.normalised,
+            up: self.normalised && has_byte(self.name, b'_'),
         }
-        if b != b'_' {
-            return Some((cased(b, up, false), at + 1));
-        }
-        up = true;
     }
-    None
+
+    // Whether two names are the same as they are spelled.
+    pub fn is_same(self, other: Spelled) -> bool
+        ensures { result ≡ same (spelled_text self.entry) (spelled_text other.entry) }
+    {
+        self.bytes().eq(other.bytes())
+    }
 }
 
-pub fn same_spelled(a: &[u8], a_normalised: bool, b: &[u8], b_normalised: bool) -> bool
-    ensures { result ≡ same (spelled a_normalised a.now) (spelled b_normalised b.now) }
-{
-    let mut a_up = starts_up(a, a_normalised);
-    let mut b_up = starts_up(b, b_normalised);
-    let mut i = 0;
-    let mut j = 0;
-    loop {
-        let x = next_spelled(a, a_normalised, i, a_up);
-        let y = next_spelled(b, b_normalised, j, b_up);
-        let Some((p, a_next)) = x else {
-            return y.is_none();
-        };
-        let Some((q, b_next)) = y else {
-            return false;
-        };
-        if p != q {
-            return false;
+// What is left of a name; `up`: the next byte is the first of its segment.
+#[derive(Drop)]
+pub struct SpelledBytes<'a> {
+    pub rest: &'a [u8],
+    pub normalised: bool,
+    pub up: bool,
+}
+
+impl Iterator for SpelledBytes<'_> {
+    ghost use Rattle.std.specs.Iterator.{YieldsFirst, item_count};
+
+    type Item = u8;
+
+    ghost next_gives = { YieldsFirst bytes_left };
+
+    ghost remaining = { item_count bytes_left };
+
+    fn next(&mut self) -> Option<u8> {
+        while let Some((&b, rest)) = self.rest.split_first() {
+            self.rest = rest;
+            if !self.normalised {
+                return Some(b);
+            }
+            if b != b'_' {
+                let first = self.up;
+                self.up = false;
+                return Some(cased(b, first, false));
+            }
+            self.up = true;
         }
-        i = a_next;
-        j = b_next;
-        a_up = false;
-        b_up = false;
+        None
     }
 }
 
 pub fn same_normalized(a: &[u8], b: &[u8]) -> bool
     ensures { result ≡ same (normalize_type_name a.now) (normalize_type_name b.now) }
 {
-    same_spelled(a, true, b, true)
+    let a = Spelled {
+        name: a,
+        normalised: true,
+    };
+    let b = Spelled {
+        name: b,
+        normalised: true,
+    };
+    a.is_same(b)
 }

@@ -2,3 +2,4 @@
 pub mod Numbers
 pub mod Spellings
 pub mod Narrow
+pub mod Named

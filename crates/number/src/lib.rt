@@ -4,7 +4,8 @@
 
 pub mod counts;
 
-ghost use Rattle.std.specs.Prelude.{◌≡◌, ◌^◌};
+ghost use Rattle.std.specs.Prelude.{◌≡◌, ◌-◌, ◌^◌, true, false, MatchOption};
+ghost use Rattle.text.specs.Text.{is_digit};
 ghost use Rattle.number.specs.Number.{number, plain_number, numeral, is_minus_zeros, after_plus};
 ghost use Rattle.number.specs.Answers.{of_number};
 
@@ -29,6 +30,17 @@ fn after_plus(s: &[u8]) -> &[u8]
     }
 }
 
+// The value of a digit.
+fn digit_value(b: u8) -> Option<u64>
+    ensures { MatchOption result (is_digit b ≡ false) (λ d. (is_digit b ≡ true) × (d ≡ b - 48)) }
+{
+    if is_digit(b) {
+        Some(u64::from(b - b'0'))
+    } else {
+        None
+    }
+}
+
 // The value of one or more digits, where it fits.
 fn parse_digits(digits: &[u8]) -> Option<u64>
     ensures { of_number result ≡ numeral (2 ^ 64) digits.now }
@@ -38,11 +50,8 @@ fn parse_digits(digits: &[u8]) -> Option<u64>
     }
     let mut value: u64 = 0;
     for b in digits {
-        if !is_digit(*b) {
-            return None;
-        }
+        let digit = digit_value(*b)?;
         let tens = value.checked_mul(10)?;
-        let digit = u64::from(*b - b'0');
         value = tens.checked_add(digit)?;
     }
     Some(value)

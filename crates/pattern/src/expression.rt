@@ -1,5 +1,6 @@
 // Expression, branch, piece and atom: each calls the next, and an atom may hold an expression again, one byte further on. Braces are read as characters,
-// since what may follow a quantity may follow its last brace.
+// since what may follow a quantity may follow its last brace. Each takes the whole pattern and a place, and gives the place behind its part: the definitions
+// read the whole at places, and the rest as a slice would have to be tied to them by its length.
 ghost use Rattle.std.specs.Prelude.{◌≡◌, ◌+◌, ◌≤◌, ◌<◌, false, length, get_or};
 ghost use Rattle.pattern.specs.Scan.{start, atom};
 ghost use Rattle.pattern.specs.Answers.{Goes, Ends, Judged, is_close, is_tail, any_byte};
@@ -14,6 +15,7 @@ fn expression(s: &[u8], at: usize) -> Option<usize>
     requires { at ≤ length s.now }
     ensures { Ends s.now start at start at is_close result }
 {
+    // No `for`: a branch has any number of bytes.
     let mut i = at;
     loop {
         let e = branch(s, i)?;
@@ -91,6 +93,7 @@ fn plain_end(s: &[u8], at: usize) -> usize
     requires { at ≤ length s.now }
     ensures { Goes s.now atom at atom at result any_byte }
 {
+    // No `position`: the scan goes on byte by byte, as this loop does; by `position` its invariant says nothing, and more laws are needed.
     for i in at..s.len() {
         if !is_plain(s[i]) {
             return i;
@@ -103,6 +106,7 @@ fn plain_end(s: &[u8], at: usize) -> usize
 pub fn is_expression(s: &[u8]) -> bool
     ensures { Judged s.now result }
 {
+    // No `is_some_and`: the proof takes the two answers apart, as the `match` does.
     match expression(s, 0) {
         Some(e) => s.len() <= e,
         None => false,

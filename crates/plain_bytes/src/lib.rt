@@ -21,7 +21,7 @@ fn word_at(text: &[u8], at: usize) -> u64
     u64::from_le_bytes(*text[at..].first_chunk().unwrap())
 }
 
-// Bit 7 where a byte of x, below 128, is not c.
+// Bit 7 where a byte of x, below 128, is not c. The bound is a clause and no type: each sum takes the number alone, and `skip` alone tests it.
 fn others(x: u64, c: u8) -> u64
     requires { (x < 2 ^ 63) × (c < 128) }
     ensures { result ≡ others c ones x }
@@ -115,7 +115,7 @@ fn bytes_below(found: u64) -> usize
     (u64::trailing_zeros(found) / 8) as usize
 }
 
-// To a byte that is not of the run, or to a place from which there is no whole word.
+// To a byte that is not of the run, or to a place from which there is no whole word. No `for` over `as_chunks`: with one the tape took up to two hundredths more instructions.
 pub fn skip<R: Run>(text: &[u8], at: usize) -> usize
     ensures { Skips R.is_in text.now at result }
 {

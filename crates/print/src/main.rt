@@ -1,9 +1,17 @@
 // The printing program of paper 01, "Specimens": reads a tape from standard input, and prints what reading and lowering answer and the graph.
 #![tactic(auto)]
 
-fn main() {
-    // the header, the longest text and the longest marks; what stands behind them is ignored
-    let mut space = [0u8; 131080];
-    let n = io::read_full(0, &mut space);
-    printing::put_input(&space[..n]);
+use program::input;
+use std::io;
+use std::io::{BufWriter, Write};
+
+// The bytes of the header, the longest text and the longest marks; what stands behind them is ignored.
+const LONGEST: u64 = 131080;
+
+// The same calls in each program's main: only the limit and the function that is called differ.
+fn main(rt: HostRuntime) -> io::Result<()> {
+    let input = input::read_input(rt.alloc(), rt.reader(), LONGEST)?;
+    let mut out = BufWriter::new(rt.alloc(), io::writer(&rt))?;
+    printing::put_input(rt.alloc(), &mut out, &input)?;
+    out.flush()
 }

@@ -1,16 +1,29 @@
 // The printing program's work (paper 01, "Specimens"): a tape is cleared, read and lowered, and what came of it is printed.
 #![tactic(auto)]
 
-ghost use Rattle.std.specs.Prelude.{◌≡◌, ◌+◌, ◌<◌, ◌≤◌, length, MatchOption};
+ghost use Rattle.std.specs.Prelude.{◌≡◌, ◌+◌, ◌<◌, ◌≤◌, length, take, drop, MatchOption, OnOk, IfOk, replicate};
+ghost use Rattle.std.specs.Io.KnownBytes.{Appends};
 ghost use Rattle.sheet.specs.Calls.{sheet};
 ghost use Rattle.rows.specs.Answers.{answer_of};
 ghost use Rattle.printing.specs.Work.{WorkIs};
 ghost use Rattle.printing.specs.Input.{number_at, too_long, input_of};
+ghost use Rattle.printing.specs.Print.{answer_text, lowered_text, made_text, Worked, TapePrinted, numbers_of, InputPrinted};
 
-use program::{STDOUT_FILENO, print};
+use program::buffers::Buffers;
+use program::print;
 use rows::answers::{Answer, told};
 use rows::numbers::wide;
+use std::alloc::{AllocError, Global};
+use std::io;
+use std::io::Write;
 use xsd_good::clear;
+
+// The lengths of the program's buffers: the numbers of a sheet's rows, the bytes of its names, and the numbers of the scratch.
+const ROWS: usize = 16000;
+
+const NAMES: usize = 65536;
+
+const SCRATCH: usize = 4096;
 
 // The answers of reading and of lowering.
 #[derive(Clone, Copy)]
@@ -19,7 +32,8 @@ pub struct Made {
     pub lowered: Answer,
 }
 
-// Clears the schema sheet, reads the tape into it and lowers it to the graph sheet.
+// Clears the schema sheet, reads the tape into it and lowers it to the graph sheet. No struct of its seven parts of memory:
+// each is lent by itself, as to the calls of the library.
 pub fn work(
     rows: &mut [u32],
     names: &mut [u8],
@@ -37,51 +51,69 @@ pub fn work(
     Made { read, lowered }
 }
 
-// A line: a word, a number and a place.
-fn put_line(word: &[u8], number: u32, place: usize) {
-    io::write_all(STDOUT_FILENO, word);
-    io::print_decimal(STDOUT_FILENO, u64::from(number));
-    io::write_all(STDOUT_FILENO, b" ");
-    io::print_decimal(STDOUT_FILENO, place as u64);
-    io::write_all(STDOUT_FILENO, b"\n");
-}
-
-// The line of an answer.
-fn put_answer(word: &[u8], answer: Answer) {
+// The line of an answer: a word, a number and a place.
+fn put_answer<W: Write>(out: &mut W, word: &str, answer: Answer) -> io::Result<()>
+    ensures { OnOk result (Appends (W.contents out.old) (W.contents out.new) (answer_text word.now (answer_of answer))) }
+{
     let mut place = 0;
     let number = told(answer, &mut place);
-    put_line(word, number, place);
+    writeln!(out, "{word} {number} {place}")
 }
 
-// The two answers and the graph. A refusal prints its line and stops.
-fn put_made(made: Made, graph_rows: &[u32], graph_names: &[u8]) {
-    let Made { read, lowered } = made;
-    put_answer(b"read ", read);
-    if read.is_ok() {
-        put_answer(b"lower ", lowered);
-        if lowered.is_ok() {
-            print::put_sheet(graph_rows, graph_names);
-        }
+// The answer of lowering, and the graph where it is lowered.
+fn put_lowered<W: Write>(out: &mut W, lowered: Answer, graph: &Buffers) -> io::Result<()>
+    ensures { OnOk result (Appends (W.contents out.old) (W.contents out.new) (lowered_text lowered (sheet graph.now.rows.items graph.now.names.items))) }
+{
+    put_answer(out, "lower", lowered)?;
+    match lowered {
+        Ok(_) => print::put_sheet(out, &graph.rows, &graph.names),
+        Err(_) => Ok(()),
     }
 }
 
-// Works with the program's buffers and prints.
-pub fn put_tape(text: &[u8], marks: &[u32]) {
-    let mut rows = [0u32; 16000];
-    let mut names = [0u8; 65536];
-    let mut graph_rows = [0u32; 16000];
-    let mut graph_names = [0u8; 65536];
-    let mut scratch = [0u32; 4096];
+// The two answers and the graph. A refusal prints its line and stops.
+fn put_made<W: Write>(out: &mut W, made: Made, graph: &Buffers) -> io::Result<()>
+    ensures { OnOk result (Appends (W.contents out.old) (W.contents out.new) (made_text made.read made.lowered (sheet graph.now.rows.items graph.now.names.items))) }
+{
+    put_answer(out, "read", made.read)?;
+    match made.read {
+        Ok(_) => put_lowered(out, made.lowered, graph),
+        Err(_) => Ok(()),
+    }
+}
+
+// The scratch of lowering, empty.
+fn scratch(alloc: Global) -> Result<Vec<u32>, AllocError>
+    ensures { IfOk result (λ scratch. scratch.items ≡ replicate 4096 0) }
+{
+    vec![in alloc; 0; SCRATCH]
+}
+
+// The answers on a tape and its graph, by the work on buffers of the program's lengths.
+pub fn graph_of(alloc: Global, text: &[u8], marks: &[u32]) -> Result<(Made, Buffers), AllocError>
+    ensures { IfOk result (λ made. Worked text.now marks.now made.0.read made.0.lowered (sheet made.1.rows.items made.1.names.items)) }
+{
+    let mut schema = Buffers::filled(alloc, 0, ROWS, NAMES)?;
+    let mut graph = Buffers::filled(alloc, 0, ROWS, NAMES)?;
+    let mut scratch = scratch(alloc)?;
     let made = work(
-        &mut rows,
-        &mut names,
+        &mut schema.rows,
+        &mut schema.names,
         text,
         marks,
-        &mut graph_rows,
-        &mut graph_names,
+        &mut graph.rows,
+        &mut graph.names,
         &mut scratch,
     );
-    put_made(made, &graph_rows, &graph_names);
+    Ok((made, graph))
+}
+
+// Prints what comes of a tape.
+pub fn put_tape<W: Write>(alloc: Global, out: &mut W, text: &[u8], marks: &[u32]) -> io::Result<()>
+    ensures { OnOk result (TapePrinted text.now marks.now (W.contents out.old) (W.contents out.new)) }
+{
+    let (made, graph) = graph_of(alloc, text, marks)?;
+    put_made(out, made, &graph)
 }
 
 // The number of four bytes from a place on, the first of them the lowest, where all four are there.
@@ -91,22 +123,6 @@ fn number_at(input: &[u8], at: usize) -> Option<u32>
 {
     let bytes = input.get(at..)?.first_chunk()?;
     Some(u32::from_le_bytes(*bytes))
-}
-
-// The marks are those numbers of the input, each of four bytes, and what comes of text and marks is printed.
-fn put_marks(text: &[u8], numbers: &[u8], marks: &mut [u32]) {
-    for (mark, bytes) in marks.iter_mut().zip(numbers.chunks_exact(4)) {
-        *mark = u32::from_le_bytes([bytes[0], bytes[1], bytes[2], bytes[3]]);
-    }
-    put_tape(text, marks);
-}
-
-// The text and the marks behind the header.
-fn put_parts(text: &[u8], numbers: &[u8], count: usize) {
-    let mut marks = [0u32; 16384];
-    if let Some(part) = marks.get_mut(..count) {
-        put_marks(text, numbers, part);
-    }
 }
 
 // Whether a length that was read is too long.
@@ -150,23 +166,46 @@ fn input_of(input: &[u8]) -> Input
     }
 }
 
-// The text and the marks of so many bytes and numbers behind the header.
-fn put_behind(input: &[u8], text: usize, marks: usize)
-    requires { 8 + text ≤ length input.now }
+// The numbers of so many times four bytes, the first of each four the lowest. A count, since what is read may be longer than the marks.
+#[tactic(auto, unfolding(crate::specs::Print::numbers_of))]
+fn numbers_of(alloc: Global, bytes: &[u8], count: usize) -> Result<Vec<u32>, AllocError>
+    ensures { IfOk result (λ numbers. numbers.items ≡ numbers_of count bytes.now) }
 {
-    let end = 8 + text;
-    put_parts(&input[8..end], &input[end..], marks);
+    let (fours, _) = bytes.as_chunks();
+    fours
+        .iter()
+        .take(count)
+        .map(|four| u32::from_le_bytes(*four))
+        .collect(alloc)
+}
+
+// The text and the marks of so many bytes and numbers behind the header.
+fn put_behind<W: Write>(
+    alloc: Global,
+    out: &mut W,
+    input: &[u8],
+    text: usize,
+    marks: usize,
+) -> io::Result<()>
+    requires { 8 + text ≤ length input.now }
+    ensures { OnOk result (TapePrinted (take text (drop 8 input.now)) (numbers_of marks (drop text (drop 8 input.now))) (W.contents out.old) (W.contents out.new)) }
+{
+    let (_, behind) = input.split_at(8);
+    let (text, numbers) = behind.split_at(text);
+    let marks = numbers_of(alloc, numbers, marks)?;
+    put_tape(alloc, out, text, &marks)
 }
 
 // Prints what the program prints for its input.
-pub fn put_input(input: &[u8]) {
+pub fn put_input<W: Write>(alloc: Global, out: &mut W, input: &[u8]) -> io::Result<()>
+    ensures { OnOk result (InputPrinted input.now (W.contents out.old) (W.contents out.new)) }
+{
     match input_of(input) {
-        Input::TooLong => {
-            io::write_all(STDOUT_FILENO, b"read 1 0\n");
-        }
-        Input::Short => {
-            io::write_all(STDOUT_FILENO, b"short\n");
-        }
-        Input::Tape(text, marks) => put_behind(input, text, marks),
+        Input::TooLong => writeln!(out, "read 1 0"),
+        Input::Short => writeln!(out, "short"),
+        Input::Tape(text, marks) => put_behind(alloc, out, input, text, marks),
     }
 }
+
+#[cfg(test)]
+mod tests;

@@ -1,2 +1,3 @@
 -- The definitions of the crate `program`.
 pub mod Lines
+pub mod Print

@@ -1,24 +1,14 @@
 // The numbers of a list with spaces between them, for the programs that read their cases from a table.
-ghost use Rattle.std.specs.Prelude.{◌≤◌, length};
+ghost use Rattle.std.specs.Prelude.{◌≤◌, IfOk, vec_len};
 
-use crate::lines;
+use std::alloc::{AllocError, Global};
 
-// Reads the numbers up to the first that is none, as many as there is room for: how many there are.
-pub fn read_numbers(list: &[u8], numbers: &mut [u32]) -> usize
-    ensures { result ≤ length numbers.new }
+// The numbers up to the first that is none, and so many at most. By the crate `number`, whose numbers these are: std's `parse` refuses some of them.
+pub fn read_numbers(alloc: Global, list: &[u8], most: usize) -> Result<Vec<u32>, AllocError>
+    ensures { IfOk result (λ numbers. vec_len numbers ≤ most) }
 {
-    let mut rest = list;
-    for (n, number) in numbers.iter_mut().enumerate() {
-        let Some(v) = number::parse_u32(lines::before(rest, b' ')) else {
-            return n;
-        };
-        *number = v;
-        rest = lines::behind(rest, b' ');
-    }
-    numbers.len()
-}
-
-// The first n of the numbers, or all.
-pub fn first(numbers: &[u32], n: usize) -> &[u32] {
-    numbers.get(..n).unwrap_or(numbers)
+    list.split(|b| *b == b' ')
+        .map_while(number::parse_u32)
+        .take(most)
+        .collect(alloc)
 }

@@ -1,76 +1,62 @@
 // The answers of the text leaves on a text, in one line. These lines of stdout are the answers of the Rust (compare/VECTORS.md).
 use names::{same, snake};
-use program::STDOUT_FILENO;
+use std::alloc::Global;
+use std::io;
+use std::io::Write;
 
-// A label and a text.
-fn put(label: &[u8], t: &[u8]) {
-    io::write_all(STDOUT_FILENO, label);
-    io::write_all(STDOUT_FILENO, t);
+// The room for a name that is written.
+const ROOM: usize = 4096;
+
+// A label and a text; by `write_all`, since a text need not be UTF-8.
+fn put<W: Write>(out: &mut W, label: &str, text: &[u8]) -> io::Result<()> {
+    write!(out, "{label}")?;
+    out.write_all(text)
 }
 
-fn put_u32(line: &[u8]) {
-    io::write_all(STDOUT_FILENO, b" u32=");
-    match number::parse_u32(line) {
-        Some(v) => {
-            io::print_decimal(STDOUT_FILENO, v as u64);
-        }
-        None => {
-            io::write_all(STDOUT_FILENO, b"-");
-        }
+// As that of the other program but for what is printed where there is no number, which is all that it says.
+fn put_number<W: Write>(out: &mut W, label: &str, number: Option<u64>) -> io::Result<()> {
+    match number {
+        Some(number) => write!(out, "{label}{number}"),
+        None => write!(out, "{label}-"),
     }
 }
 
-fn put_u64(line: &[u8]) {
-    io::write_all(STDOUT_FILENO, b" u64=");
-    match number::parse_u64(line) {
-        Some(v) => {
-            io::print_decimal(STDOUT_FILENO, v);
-        }
-        None => {
-            io::write_all(STDOUT_FILENO, b"-");
-        }
+// The bytes of the space that a writer counted.
+fn put_written<W: Write>(
+    out: &mut W,
+    label: &str,
+    written: Option<usize>,
+    space: &[u8],
+) -> io::Result<()> {
+    match written.and_then(|size| space.get(..size)) {
+        Some(name) => put(out, label, name),
+        None => write!(out, "{label}no room"),
     }
 }
 
-// The bytes of out that a writer counted.
-fn put_written(label: &[u8], written: Option<usize>, out: &[u8]) {
-    match written {
-        Some(n) => {
-            if n <= out.len() {
-                put(label, &out[0..n]);
-            }
-        }
-        None => {
-            put(label, b"no room");
-        }
-    }
-}
-
-fn put_names(line: &[u8], out: &mut [u8]) {
-    let normal = names::normalize_type_name(line, out);
-    put_written(b" normal=", normal, out);
-    let snake = snake::xml_to_snake_case(line, out);
-    put_written(b" snake=", snake, out);
-    let pascal = names::code_to_pascal_case(line, out);
-    put_written(b" pascal=", pascal, out);
+fn put_names<W: Write>(alloc: Global, out: &mut W, line: &[u8]) -> io::Result<()> {
+    let mut space = vec![in alloc; 0; ROOM]?;
+    let normal = names::normalize_type_name(line, &mut space);
+    put_written(out, " normal=", normal, &space)?;
+    let snake = snake::xml_to_snake_case(line, &mut space);
+    put_written(out, " snake=", snake, &space)?;
+    let pascal = names::code_to_pascal_case(line, &mut space);
+    put_written(out, " pascal=", pascal, &space)
 }
 
 // All answers for a line, the line before it at hand.
-pub fn put_leaves(before: &[u8], line: &[u8]) {
-    let mut space = io::buffer();
-    put(b"local=", text::local_name(line));
-    put_u32(line);
-    put_u64(line);
-    io::write_all(STDOUT_FILENO, b" builtin=");
-    io::print_decimal(
-        STDOUT_FILENO,
-        builtin::reference_number(builtin::map_builtin(line)) as u64,
-    );
-    put_names(line, &mut space);
-    let same = same::same_normalized(before, line);
-    if same {
-        io::write_all(STDOUT_FILENO, b" same=1\n");
-    } else {
-        io::write_all(STDOUT_FILENO, b" same=0\n");
-    }
+pub fn put_leaves<W: Write>(
+    alloc: Global,
+    out: &mut W,
+    before: &[u8],
+    line: &[u8],
+) -> io::Result<()> {
+    put(out, "local=", text::local_name(line))?;
+    put_number(out, " u32=", number::parse_u32(line).map(u64::from))?;
+    put_number(out, " u64=", number::parse_u64(line))?;
+    let builtin = builtin::reference_number(builtin::map_builtin(line));
+    write!(out, " builtin={builtin}")?;
+    put_names(alloc, out, line)?;
+    let same = u8::from(same::same_normalized(before, line));
+    writeln!(out, " same={same}")
 }

@@ -24,62 +24,62 @@ mod printed;
 mod records;
 mod sheets;
 
-use program::{STDOUT_FILENO, lines, numbers};
+use program::buffers::Buffers;
+use program::{input, lines, numbers};
 use rows::numbers::wide;
 use sheet::limits::{NAMES, ROWS};
-use sheets::Task;
+use sheets::{Asked, Lent, Task};
+use std::alloc::{AllocError, Global};
+use std::io;
+use std::io::{BufWriter, Write};
 use tape::pairs::mark_at;
 
-// The lengths of the kept sheet's buffers.
-#[derive(Clone, Copy)]
-struct Lent {
-    rows: usize,
-    names: usize,
+// How much of the input is read, and how many numbers of a line about a limit.
+const LONGEST: u64 = 262144;
+
+const NUMBERS: usize = 1024;
+
+// The kept sheet, and how much of it is lent.
+#[derive(Drop)]
+struct Kept {
+    sheet: Buffers,
+    lent: Lent,
 }
 
-// Clearing sets the lengths.
-fn lent_after(task: Task, numbers: &[u32], lent: Lent) -> Lent {
-    match task {
-        Task::Clear => Lent {
-            rows: wide(mark_at(numbers, 0)),
-            names: wide(mark_at(numbers, 1)),
-        },
-        _ => lent,
+impl Kept {
+    // The buffers at the greatest lengths.
+    fn new(alloc: Global) -> Result<Kept, AllocError> {
+        let sheet = Buffers::filled(alloc, 0, ROWS, NAMES)?;
+        let lent = Lent { rows: 0, names: 0 };
+        Ok(Kept { sheet, lent })
+    }
+
+    // Does what is asked. Clearing sets the lengths.
+    fn put_done<W: Write>(&mut self, out: &mut W, asked: Asked<'_>) -> io::Result<()> {
+        if asked.task == Task::Clear {
+            self.lent = Lent {
+                rows: wide(mark_at(asked.numbers, 0)),
+                names: wide(mark_at(asked.numbers, 1)),
+            };
+        }
+        sheets::put_part(out, asked, &mut self.sheet, self.lent)
     }
 }
 
-// A line about the kept sheet: the label, and what is done; the end of the line is its text and its label.
-fn put_kept(
-    task: Task,
-    numbers: &[u32],
-    end: &[u8],
-    rows: &mut [u32],
-    names: &mut [u8],
-    before: Lent,
-) -> Lent {
-    io::write_all(STDOUT_FILENO, lines::behind(end, b';'));
-    io::write_all(STDOUT_FILENO, b":");
-    let t = lines::before(end, b';');
-    let lent = lent_after(task, numbers, before);
-    sheets::put_part(task, numbers, t, rows, names, lent.rows, lent.names);
-    lent
-}
-
 // A line about no sheet; the name of a part is printed as it stands.
-fn put_other(line: &[u8], numbers: &[u32], end: &[u8]) {
+fn put_other<W: Write>(out: &mut W, line: &[u8], numbers: &[u32], end: &[u8]) -> io::Result<()> {
     match line {
         [b'=', ..] => {
-            io::write_all(STDOUT_FILENO, line);
-            output::put_end();
+            out.write_all(line)?;
+            writeln!(out)
         }
-        _ => {
-            records::put_case(
-                lines::before(line, b';'),
-                numbers,
-                lines::before(end, b';'),
-                lines::behind(end, b';'),
-            );
-        }
+        _ => records::put_case(
+            out,
+            lines::before(line, b';'),
+            numbers,
+            lines::before(end, b';'),
+            lines::behind(end, b';'),
+        ),
     }
 }
 
@@ -103,68 +103,77 @@ fn lengths_task(line: &[u8]) -> Option<Task> {
     }
 }
 
-// A line about a limit.
-fn put_limit(line: &[u8], rows: &mut [u32], names: &mut [u8], before: Lent) -> Lent {
-    let mut space = [0u32; 1024];
-    let rest = lines::behind(line, b';');
-    let n = numbers::read_numbers(lines::before(rest, b';'), &mut space);
-    let list = numbers::first(&space, n);
-    let end = lines::behind(rest, b';');
-    if let Some(task) = kept_task(line) {
-        return put_kept(task, list, end, rows, names, before);
-    }
-    match lengths_task(line) {
-        Some(task) => lengths::put_lengths(task, list),
-        None => put_other(line, list, end),
-    }
-    before
+// A line about the kept sheet: the label, and what is done; the end of the line is its text and its label.
+fn put_kept<W: Write>(
+    out: &mut W,
+    task: Task,
+    numbers: &[u32],
+    end: &[u8],
+    kept: &mut Kept,
+) -> io::Result<()> {
+    out.write_all(lines::behind(end, b';'))?;
+    write!(out, ":")?;
+    let text = lines::before(end, b';');
+    kept.put_done(
+        out,
+        Asked {
+            task,
+            text,
+            numbers,
+        },
+    )
 }
 
-// A line; the line before it is at hand, since the leaves compare the two texts.
-fn put_line(
+// A line about a limit.
+fn put_limit<W: Write>(alloc: Global, out: &mut W, line: &[u8], kept: &mut Kept) -> io::Result<()> {
+    let rest = lines::behind(line, b';');
+    let numbers = numbers::read_numbers(alloc, lines::before(rest, b';'), NUMBERS)?;
+    let end = lines::behind(rest, b';');
+    if let Some(task) = kept_task(line) {
+        return put_kept(out, task, &numbers, end, kept);
+    }
+    match lengths_task(line) {
+        Some(task) => lengths::put_lengths(alloc, out, task, &numbers),
+        None => put_other(out, line, &numbers, end),
+    }
+}
+
+// A line; the line before it is at hand, since the leaves compare the two texts. Allocator, writer and line are arguments of their own: a struct with the `&mut` writer would
+// be made for each line and say no more.
+fn put_line<W: Write>(
+    alloc: Global,
+    out: &mut W,
     previous: &[u8],
     line: &[u8],
-    rows: &mut [u32],
-    names: &mut [u8],
-    before: Lent,
-) -> Lent {
+    kept: &mut Kept,
+) -> io::Result<()> {
     match line {
         [b'n', ..] => {
-            leaves::put_leaves(lines::behind(previous, b';'), lines::behind(line, b';'));
-            before
+            let before = lines::behind(previous, b';');
+            leaves::put_leaves(alloc, out, before, lines::behind(line, b';'))
         }
-        [b't' | b'i', ..] => {
-            printed::put_printed(line);
-            before
-        }
-        [b'g', ..] => {
-            labels::put_tape(line);
-            before
-        }
-        _ => put_limit(line, rows, names, before),
+        [b't' | b'i', ..] => printed::put_printed(alloc, out, line),
+        [b'g', ..] => labels::put_tape(alloc, out, line),
+        _ => put_limit(alloc, out, line, kept),
     }
 }
 
 // Before the first line, which is the name of a part, there is none; what stands for it is not looked at.
-fn put_lines(input: &[u8], rows: &mut [u32], names: &mut [u8]) {
+fn put_lines<W: Write>(alloc: Global, out: &mut W, input: &[u8]) -> io::Result<()> {
     let mut previous = input;
-    let mut lent = Lent { rows: 0, names: 0 };
+    let mut kept = Kept::new(alloc)?;
     for piece in input.split_inclusive(|b| *b == b'\n') {
         let line = lines::before(piece, b'\n');
-        lent = put_line(previous, line, rows, names, lent);
+        put_line(alloc, out, previous, line, &mut kept)?;
         previous = line;
     }
+    Ok(())
 }
 
-// The kept sheet's buffers, at the greatest lengths.
-fn put_all(input: &[u8]) {
-    let mut rows = [0u32; ROWS];
-    let mut names = [0u8; NAMES];
-    put_lines(input, &mut rows, &mut names);
-}
-
-fn main() {
-    let mut space = [0u8; 262144];
-    let n = io::read_full(0, &mut space);
-    put_all(&space[..n]);
+// The same calls in each program's main: only the limit and the function that is called differ.
+fn main(rt: HostRuntime) -> io::Result<()> {
+    let input = input::read_input(rt.alloc(), rt.reader(), LONGEST)?;
+    let mut out = BufWriter::new(rt.alloc(), io::writer(&rt))?;
+    put_lines(rt.alloc(), &mut out, &input)?;
+    out.flush()
 }

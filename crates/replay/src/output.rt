@@ -1,22 +1,11 @@
-// What more than one part prints.
-use program::STDOUT_FILENO;
+// An answer as it is printed.
 use rows::answers::{Answer, told};
+use std::io;
+use std::io::Write;
 
-pub fn put_number(n: u64) {
-    io::write_all(STDOUT_FILENO, b" ");
-    io::print_decimal(STDOUT_FILENO, n);
-}
-
-// A newline.
-pub fn put_end() {
-    io::write_all(STDOUT_FILENO, b"\n");
-}
-
-// The number of an answer and its place.
-pub fn put_answer(answer: Answer) {
+// The number of an answer and its place, each behind a space. printing has a line of its own, with a word before and a newline behind, which its contract says as one text.
+pub fn put_answer<W: Write>(out: &mut W, answer: Answer) -> io::Result<()> {
     let mut place = 0;
     let number = told(answer, &mut place);
-    put_number(u64::from(number));
-    put_number(place as u64);
-    put_end();
+    write!(out, " {number} {place}")
 }

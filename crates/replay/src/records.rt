@@ -1,105 +1,90 @@
 // A record of a tape: what it is read as. Where `value` stands for its place, the label is looked up in the attributes of the first tag.
 ghost use Rattle.tape.specs.Answers.{RecordAt, EventPlaced};
 
-use crate::output;
-use program::STDOUT_FILENO;
 use rows::numbers::wide;
 use sheet::refusal::Refusal;
+use std::io;
+use std::io::Write;
+use tape::TagRecord;
 use tape::attributes::SeenTag;
-use tape::view::{event_marks, in_view};
-use tape::{TagRecord, pairs};
+use tape::view::{View, event_marks, in_view};
+use tape::words::Key;
 use xsd_parser::kinds::Kind;
 
 // Of a close, where the next record starts; of a tag, its kind, its number of attributes and where its pairs start before that.
-fn put_event(t: TagRecord) {
-    if t.kind == Kind::Close {
-        io::write_all(STDOUT_FILENO, b"close");
-    } else {
-        io::write_all(STDOUT_FILENO, b"tag");
-        output::put_number(t.kind as u64);
-        output::put_number(t.count as u64);
-        output::put_number(t.pairs as u64);
+fn put_event<W: Write>(out: &mut W, t: TagRecord) -> io::Result<()> {
+    let TagRecord {
+        kind,
+        count,
+        pairs,
+        next,
+    } = t;
+    match kind {
+        Kind::Close => write!(out, "close {next}"),
+        _ => write!(out, "tag {} {count} {pairs} {next}", kind as u32),
     }
-    output::put_number(t.next as u64);
 }
 
-fn put_record(r: Result<Option<TagRecord>, Refusal>) {
+fn put_record<W: Write>(out: &mut W, r: Result<Option<TagRecord>, Refusal>) -> io::Result<()> {
     match r {
-        Ok(Some(t)) => {
-            put_event(t);
-        }
-        Ok(None) => {
-            io::write_all(STDOUT_FILENO, b"end");
-        }
-        Err(refusal) => {
-            io::write_all(STDOUT_FILENO, b"refused");
-            output::put_number(u64::from(u32::from(refusal)));
-        }
+        Ok(Some(t)) => put_event(out, t),
+        Ok(None) => write!(out, "end"),
+        Err(refusal) => write!(out, "refused {}", u32::from(refusal)),
     }
 }
 
 // Plain where the whole text is, so that the cases meet both ways of judging for 5.
-fn read_at(text: &[u8], marks: &[u32], at: usize) -> Result<Option<TagRecord>, Refusal>
-    ensures { RecordAt text.now marks.now at result }
+fn read_at(v: View<'_, '_>, at: usize) -> Result<Option<TagRecord>, Refusal>
+    ensures { RecordAt v.entry.text.now v.entry.marks.now at result }
 {
-    tape::record_at(text, marks, at, text::is_text(text))
+    tape::record_at(v, at, text::is_text(v.text))
 }
 
-// Where a value stands that is seen of a tag, by its key, 0 where there is none, as the fields of SeenTag have it: the cases ask for two keys.
-fn place_of(seen: SeenTag, word: &[u8]) -> usize {
+// The value that is seen of a tag by a word: the cases ask for two keys.
+fn value_under<'a>(seen: SeenTag<'a, '_>, word: &[u8]) -> Option<&'a [u8]> {
     match word {
-        b"name" => seen.name,
-        b"type" => seen.typ,
-        _ => 0,
-    }
-}
-
-fn put_found(text: &[u8], marks: &[u32], at: usize) {
-    if at == 0 {
-        io::write_all(STDOUT_FILENO, b"nothing");
-    } else {
-        io::write_all(STDOUT_FILENO, pairs::pair_part(text, marks, at));
+        b"name" => seen.value(Key::Name),
+        b"type" => seen.value(Key::Type),
+        _ => None,
     }
 }
 
 // The value that a word is looked up to in a record that was read. A close has no attributes.
-fn put_tag_value(text: &[u8], marks: &[u32], t: TagRecord, word: &[u8])
-    requires { EventPlaced text.now marks.now 0 t }
+fn tag_value<'a>(v: View<'a, '_>, t: TagRecord, word: &[u8]) -> Option<&'a [u8]>
+    requires { EventPlaced v.text.now v.marks.now 0 t }
 {
     match t.kind {
         Kind::Start | Kind::Empty => {
-            let own = event_marks(marks, t.pairs, t.count);
-            put_found(text, own, place_of(in_view(text, own, t.count), word));
+            let own = event_marks(v.marks, t.pairs, t.count);
+            value_under(in_view(v.text, own, t.count), word)
         }
-        Kind::Close => {
-            io::write_all(STDOUT_FILENO, b"nothing");
-        }
+        Kind::Close => None,
     }
 }
 
 // The same in the first record, where it is a tag that is not refused.
-fn put_value(text: &[u8], marks: &[u32], word: &[u8]) {
-    match read_at(text, marks, 0) {
-        Ok(Some(t)) => {
-            put_tag_value(text, marks, t, word);
-        }
-        _ => {
-            io::write_all(STDOUT_FILENO, b"nothing");
-        }
-    }
+fn put_value<W: Write>(out: &mut W, v: View<'_, '_>, word: &[u8]) -> io::Result<()> {
+    let found = match read_at(v, 0) {
+        Ok(Some(t)) => tag_value(v, t, word),
+        _ => None,
+    };
+    out.write_all(found.unwrap_or(b"nothing"))
 }
 
 // The label, and what is read of the marks and the text.
-pub fn put_case(place: &[u8], marks: &[u32], text: &[u8], label: &[u8]) {
-    io::write_all(STDOUT_FILENO, label);
-    io::write_all(STDOUT_FILENO, b": ");
+pub fn put_case<W: Write>(
+    out: &mut W,
+    place: &[u8],
+    marks: &[u32],
+    text: &[u8],
+    label: &[u8],
+) -> io::Result<()> {
+    out.write_all(label)?;
+    write!(out, ": ")?;
+    let v = View { text, marks };
     match number::parse_u32(place) {
-        Some(at) => {
-            put_record(read_at(text, marks, wide(at)));
-        }
-        None => {
-            put_value(text, marks, label);
-        }
+        Some(at) => put_record(out, read_at(v, wide(at)))?,
+        None => put_value(out, v, label)?,
     }
-    io::write_all(STDOUT_FILENO, b"\n");
+    writeln!(out)
 }

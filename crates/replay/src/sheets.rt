@@ -1,43 +1,12 @@
 // What a line says, done to a sheet.
 use crate::output;
-use program::{STDOUT_FILENO, print};
-use rows::answers::told;
+use program::buffers::Buffers;
+use program::print;
 use rows::numbers::wide;
+use std::io;
+use std::io::Write;
 use tape::pairs::mark_at;
 use xsd_good::clear;
-
-// Writes the second number at the place that the first says.
-fn write_number(rows: &mut [u32], numbers: &[u32]) {
-    let at = wide(mark_at(numbers, 0));
-    if let Some(number) = rows.get_mut(at) {
-        *number = mark_at(numbers, 1);
-    }
-}
-
-// The lengths of the sheet, and 1 behind the answer of clearing where the sheet is good afterwards, else 0.
-fn put_cleared(rows: &mut [u32], names: &mut [u8]) {
-    io::print_decimal(STDOUT_FILENO, rows.len() as u64);
-    output::put_number(names.len() as u64);
-    let mut place = 0;
-    let number = told(clear::clear(rows, names, 0), &mut place);
-    output::put_number(u64::from(number));
-    output::put_number(place as u64);
-    if xsd_good::is_good(rows, names) {
-        io::write_all(STDOUT_FILENO, b" 1\n");
-    } else {
-        io::write_all(STDOUT_FILENO, b" 0\n");
-    }
-}
-
-// The lengths of the sheet and of the tape, and the answer of reading behind a clearing.
-fn put_read(rows: &mut [u32], names: &mut [u8], t: &[u8], marks: &[u32]) {
-    io::print_decimal(STDOUT_FILENO, rows.len() as u64);
-    output::put_number(names.len() as u64);
-    output::put_number(t.len() as u64);
-    output::put_number(marks.len() as u64);
-    let _ = clear::clear(rows, names, 0);
-    output::put_answer(xsd_read::read(rows, names, t, marks));
-}
 
 // What a line asks of a sheet.
 #[derive(Clone, Copy, PartialEq, Eq)]
@@ -50,43 +19,89 @@ pub enum Task {
     ReadOfLengths,
 }
 
-// What a line asks, done to a sheet.
-fn put_done(task: Task, numbers: &[u32], t: &[u8], rows: &mut [u32], names: &mut [u8]) {
-    match task {
-        Task::Clear => {
-            output::put_answer(clear::clear(rows, names, mark_at(numbers, 2)));
-        }
-        Task::Read => {
-            output::put_answer(xsd_read::read(rows, names, t, numbers));
-        }
-        Task::Write => {
-            write_number(rows, numbers);
-            output::put_end();
-        }
-        Task::ClearOfLengths => {
-            put_cleared(rows, names);
-        }
-        Task::ReadOfLengths => {
-            put_read(rows, names, t, numbers);
-        }
-        Task::Print => {
-            output::put_end();
-            print::put_sheet(rows, names);
-        }
+// What a line asks, with its text and its numbers, which are the marks of the text where it is read.
+#[derive(Clone, Copy)]
+pub struct Asked<'a> {
+    pub task: Task,
+    pub text: &'a [u8],
+    pub numbers: &'a [u32],
+}
+
+// How many of a sheet's numbers and how many bytes of its names are lent.
+#[derive(Clone, Copy)]
+pub struct Lent {
+    pub rows: usize,
+    pub names: usize,
+}
+
+// Writes the second number at the place that the first says.
+fn write_number(rows: &mut [u32], numbers: &[u32]) {
+    let at = wide(mark_at(numbers, 0));
+    if let Some(number) = rows.get_mut(at) {
+        *number = mark_at(numbers, 1);
     }
 }
 
-// The same, done to the first r numbers and n bytes of the buffers.
-pub fn put_part(
-    task: Task,
-    numbers: &[u32],
-    t: &[u8],
+// The lengths of the sheet, and 1 behind the answer of clearing where the sheet is good afterwards, else 0.
+fn put_cleared<W: Write>(out: &mut W, rows: &mut [u32], names: &mut [u8]) -> io::Result<()> {
+    write!(out, "{} {}", rows.len(), names.len())?;
+    output::put_answer(out, clear::clear(rows, names, 0))?;
+    let good = u8::from(xsd_good::is_good(rows, names));
+    writeln!(out, " {good}")
+}
+
+// The lengths of the sheet and of the tape, and the answer of reading behind a clearing.
+fn put_read<W: Write>(
+    out: &mut W,
+    asked: Asked<'_>,
     rows: &mut [u32],
     names: &mut [u8],
-    r: usize,
-    n: usize,
-) {
-    if let (Some(rows), Some(names)) = (rows.get_mut(..r), names.get_mut(..n)) {
-        put_done(task, numbers, t, rows, names);
+) -> io::Result<()> {
+    let Asked { text, numbers, .. } = asked;
+    write!(out, "{} {}", rows.len(), names.len())?;
+    write!(out, " {} {}", text.len(), numbers.len())?;
+    let _ = clear::clear(rows, names, 0);
+    output::put_answer(out, xsd_read::read(rows, names, text, numbers))?;
+    writeln!(out)
+}
+
+// What a line asks, done to a sheet.
+fn put_done<W: Write>(
+    out: &mut W,
+    asked: Asked<'_>,
+    rows: &mut [u32],
+    names: &mut [u8],
+) -> io::Result<()> {
+    let Asked {
+        task,
+        text,
+        numbers,
+    } = asked;
+    match task {
+        Task::Clear => output::put_answer(out, clear::clear(rows, names, mark_at(numbers, 2)))?,
+        Task::Read => output::put_answer(out, xsd_read::read(rows, names, text, numbers))?,
+        Task::Write => write_number(rows, numbers),
+        Task::ClearOfLengths => return put_cleared(out, rows, names),
+        Task::ReadOfLengths => return put_read(out, asked, rows, names),
+        Task::Print => {
+            writeln!(out)?;
+            return print::put_sheet(out, rows, names);
+        }
     }
+    writeln!(out)
+}
+
+// The same, done to what is lent of the buffers, where they are that long.
+pub fn put_part<W: Write>(
+    out: &mut W,
+    asked: Asked<'_>,
+    sheet: &mut Buffers,
+    lent: Lent,
+) -> io::Result<()> {
+    let rows = sheet.rows.as_mut_slice().get_mut(..lent.rows);
+    let names = sheet.names.as_mut_slice().get_mut(..lent.names);
+    if let (Some(rows), Some(names)) = (rows, names) {
+        put_done(out, asked, rows, names)?;
+    }
+    Ok(())
 }

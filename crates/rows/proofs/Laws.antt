@@ -2,6 +2,7 @@
 pub mod Zeros
 pub mod Tens
 pub mod Ends
+pub mod Scan
 pub mod Words
 pub mod Room
 pub mod Texts
@@ -11,3 +12,4 @@ pub mod Write
 pub mod Middle
 pub mod Sheet
 pub mod More
+pub mod Writer

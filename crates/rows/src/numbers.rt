@@ -1,5 +1,5 @@
 // What is read of a sheet by numbers alone: a row's tag, its pairs, its other numbers, and whether what is used has room.
-ghost use Rattle.std.specs.Prelude.{◌≡◌, ◌+◌, ◌*◌, ◌≤◌, ◌<◌, length, get_or};
+ghost use Rattle.std.specs.Prelude.{◌≡◌, ◌+◌, ◌*◌, ◌/◌, ◌%◌, ◌^◌, ◌≤◌, ◌<◌, length, get_or};
 ghost use Rattle.sheet.specs.Lengths.{fits};
 ghost use Rattle.rows.specs.Numbers.{numbers_at};
 
@@ -35,7 +35,21 @@ pub fn wide(x: u32) -> usize
     x as usize
 }
 
-// The tag of the row at a place.
+// "a low, b high 32 bits": the count that two numbers of a row hold.
+pub fn joined(low: u32, high: u32) -> u64
+    ensures { result ≡ low + high * 2 ^ 32 }
+{
+    low as u64 + high as u64 * 4294967296
+}
+
+// The low and the high 32 bits of a count.
+pub fn halves(count: u64) -> (u32, u32)
+    ensures { (result.0 ≡ count % 2 ^ 32) × (result.1 ≡ count / 2 ^ 32) }
+{
+    ((count % 4294967296) as u32, (count / 4294967296) as u32)
+}
+
+// The tag of the row at a place. That the row is there is a clause, here and where `10 ≤ length` is: a type that says it of the rows would ask more of callers, who have a slice.
 pub fn row_tag(rows: &[u32], place: usize) -> u32
     requires { 10 * place + 10 ≤ length rows.now }
     ensures { result ≡ get_or rows.now (10 * place) 0 }

@@ -8,7 +8,7 @@ use crate::parts::pair_text;
 use crate::ten::{Ten, ten_at};
 use sheet::limits;
 
-// The rows before `end`.
+// The rows before `end`. No more than `within` is a ghost field: is_code_enum, is_refused and count_refused ask no more, and a narrower type would ask more of their callers.
 #[derive(Clone, Copy)]
 pub struct SheetPart<'a> {
     pub rows: &'a [u32],

@@ -18,6 +18,7 @@ pub struct Ten {
     pub c: u32,
 }
 
+#[tactic(auto, unfolding(sheet::specs::Rows::ten))]
 pub fn ten_of(row: &[u32]) -> Ten
     requires { 10 ≤ length row.now }
     ensures { as_ten result ≡ ten row.now }

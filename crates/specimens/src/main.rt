@@ -4,110 +4,94 @@
 
 use builtin::Builtin;
 use names::snake;
-use program::{STDOUT_FILENO, lines};
+use program::{input, lines};
+use std::alloc::Global;
+use std::io;
+use std::io::{BufWriter, Write};
 
-// The text in quotes.
-fn put_quoted(t: &[u8]) {
-    io::write_all(STDOUT_FILENO, b"`");
-    io::write_all(STDOUT_FILENO, t);
-    io::write_all(STDOUT_FILENO, b"`");
+// How much of the input is read, and the room for a name that is written.
+const LONGEST: u64 = 4096;
+
+const ROOM: usize = 4096;
+
+// The text in quotes; by `write_all`, since it need not be UTF-8.
+fn put_quoted<W: Write>(out: &mut W, text: &[u8]) -> io::Result<()> {
+    out.write_all(b"`")?;
+    out.write_all(text)?;
+    out.write_all(b"`")
 }
 
-// What a writer wrote into out.
-fn put_written(written: Option<usize>, out: &[u8]) {
-    match written {
-        Some(n) => {
-            if n <= out.len() {
-                put_quoted(&out[0..n]);
-            }
-        }
-        None => {
-            io::write_all(STDOUT_FILENO, b"no room");
-        }
+// The name that a conversion writes into the space, snake, pascal or normalised, where it has room.
+fn converted<'a>(asked: &[u8], name: &[u8], space: &'a mut [u8]) -> Option<&'a [u8]> {
+    let size = match asked {
+        [b's', ..] => snake::xml_to_snake_case(name, space),
+        [b'p', ..] => names::code_to_pascal_case(name, space),
+        _ => names::normalize_type_name(name, space),
+    };
+    space.get(..size?)
+}
+
+fn put_name<W: Write>(alloc: Global, out: &mut W, asked: &[u8], name: &[u8]) -> io::Result<()> {
+    let mut space = vec![in alloc; 0; ROOM]?;
+    match converted(asked, name, &mut space) {
+        Some(written) => put_quoted(out, written),
+        None => write!(out, "no room"),
     }
 }
 
-// A conversion: snake, pascal or normalised.
-fn convert(asked: &[u8], name: &[u8], out: &mut [u8]) -> Option<usize> {
-    match asked {
-        [b's', ..] => snake::xml_to_snake_case(name, out),
-        [b'p', ..] => names::code_to_pascal_case(name, out),
-        _ => names::normalize_type_name(name, out),
-    }
-}
-
-fn put_name(asked: &[u8], name: &[u8]) {
-    let mut space = io::buffer();
-    let w = convert(asked, name, &mut space);
-    put_written(w, &space);
-}
-
-fn type_word(answer: Option<Builtin>) -> &'static [u8] {
+// The names of the specimens, which are printed nowhere else: no `Display` of the library's enum.
+fn type_word(answer: Option<Builtin>) -> &'static str {
     match answer {
-        Some(Builtin::String) => b"String",
-        Some(Builtin::Bool) => b"Bool",
-        Some(Builtin::Decimal) => b"Decimal",
-        Some(Builtin::Date) => b"Date",
-        Some(Builtin::DateTime) => b"DateTime",
-        None => b"unknown",
+        Some(Builtin::String) => "String",
+        Some(Builtin::Bool) => "Bool",
+        Some(Builtin::Decimal) => "Decimal",
+        Some(Builtin::Date) => "Date",
+        Some(Builtin::DateTime) => "DateTime",
+        None => "unknown",
     }
 }
 
-fn put_type(name: &[u8]) {
-    io::write_all(STDOUT_FILENO, type_word(builtin::map_builtin(name)));
-}
-
-fn put_u32(s: &[u8]) {
-    match number::parse_u32(s) {
-        Some(v) => {
-            io::print_decimal(STDOUT_FILENO, v as u64);
-        }
-        None => {
-            io::write_all(STDOUT_FILENO, b"gives 10");
-        }
-    }
-}
-
-fn put_u64(s: &[u8]) {
-    match number::parse_u64(s) {
-        Some(v) => {
-            io::print_decimal(STDOUT_FILENO, v);
-        }
-        None => {
-            io::write_all(STDOUT_FILENO, b"gives 10");
-        }
+// As that of the other program but for what is printed where there is no number, which is all that it says.
+fn put_number<W: Write>(out: &mut W, number: Option<u64>) -> io::Result<()> {
+    match number {
+        Some(number) => write!(out, "{number}"),
+        None => write!(out, "gives 10"),
     }
 }
 
 // The answer: what is asked is `type`, `u32`, `u64` or a conversion.
-fn put_answer(asked: &[u8], t: &[u8]) {
+fn put_answer<W: Write>(alloc: Global, out: &mut W, asked: &[u8], text: &[u8]) -> io::Result<()> {
     match asked {
-        [b't', ..] => put_type(t),
-        [b'u', b'3', ..] => put_u32(t),
-        [b'u', ..] => put_u64(t),
-        _ => put_name(asked, t),
+        [b't', ..] => write!(out, "{}", type_word(builtin::map_builtin(text))),
+        [b'u', b'3', ..] => put_number(out, number::parse_u32(text).map(u64::from)),
+        [b'u', ..] => put_number(out, number::parse_u64(text)),
+        _ => put_name(alloc, out, asked, text),
     }
 }
 
-fn put_line(line: &[u8]) {
+// The allocator, what is written to and a line are arguments of their own: a struct with the `&mut` writer would be made for each line and say no more.
+fn put_line<W: Write>(alloc: Global, out: &mut W, line: &[u8]) -> io::Result<()> {
     let asked = lines::before(line, b' ');
-    let t = lines::behind(line, b' ');
-    io::write_all(STDOUT_FILENO, asked);
-    io::write_all(STDOUT_FILENO, b" ");
-    put_quoted(t);
-    io::write_all(STDOUT_FILENO, b": ");
-    put_answer(asked, t);
-    io::write_all(STDOUT_FILENO, b"\n");
+    let text = lines::behind(line, b' ');
+    out.write_all(asked)?;
+    write!(out, " ")?;
+    put_quoted(out, text)?;
+    write!(out, ": ")?;
+    put_answer(alloc, out, asked, text)?;
+    writeln!(out)
 }
 
-fn put_lines(input: &[u8]) {
+fn put_lines<W: Write>(alloc: Global, out: &mut W, input: &[u8]) -> io::Result<()> {
     for line in input.split_inclusive(|b| *b == b'\n') {
-        put_line(lines::before(line, b'\n'));
+        put_line(alloc, out, lines::before(line, b'\n'))?;
     }
+    Ok(())
 }
 
-fn main() {
-    let mut space = io::buffer();
-    let n = io::read_full(0, &mut space);
-    put_lines(&space[..n]);
+// The same calls in each program's main: only the limit and the function that is called differ.
+fn main(rt: HostRuntime) -> io::Result<()> {
+    let input = input::read_input(rt.alloc(), rt.reader(), LONGEST)?;
+    let mut out = BufWriter::new(rt.alloc(), io::writer(&rt))?;
+    put_lines(rt.alloc(), &mut out, &input)?;
+    out.flush()
 }

@@ -7,3 +7,4 @@ pub mod Cut
 pub mod Tests
 pub mod Form
 pub mod Records
+pub mod Tried

@@ -1,46 +1,62 @@
-// What is seen of a tag on the tape: its word, and where the values stand that are looked up, in one walk over its attributes.
+// What is seen of a tag on the tape: its word, and the values that are looked up, whose places are found in one walk over its attributes.
 ghost use Rattle.std.specs.Prelude.{◌≡◌};
 ghost use Rattle.text.specs.Text.{local_name};
+ghost use Rattle.xsd_parser.specs.Event.{or_empty};
 ghost use Rattle.xsd_parser.specs.Words.{word_of};
 ghost use Rattle.xsd_parser.specs.Seen.{seen};
 ghost use Rattle.xsd_parser.specs.Tape.{pair_text};
 ghost use Rattle.tape.specs.Keys.{key_number, key_of};
 ghost use Rattle.tape.specs.Pairs.{pair_at, PairInside, TagInside, tag_at};
-ghost use Rattle.tape.specs.Lookup.{kept_first, PlacesOf, seen_at};
+ghost use Rattle.tape.specs.Lookup.{value_of, value_under, kept_first, PlacesOf, seen_at};
 
-use crate::pairs;
+use crate::pairs::{inside_part, pair_part};
+use crate::view::View;
 use crate::words::{Key, key_of, word_of};
 use xsd_parser::words::Word;
 
-// The word of a tag, and where the pairs of the nine values stand in the marks, 0 where there is none: the first attribute of each key.
+// The word of a tag, and where the values of the nine keys stand in the marks of its view, 0 where there is none: of each key that of the first attribute. Callers
+// ask for the values. The places are numbers, since with a slice for each key, which is three words with its Option, reading took 15 in a hundred more instructions.
+// Any such value may be asked, so a place may be past the marks, and `value` tests it.
 #[derive(Clone, Copy)]
-pub struct SeenTag {
+pub struct SeenTag<'a, 'b> {
     pub word: Word,
-    pub name: usize,
-    pub typ: usize,
-    pub base: usize,
-    pub value: usize,
-    pub min_occurs: usize,
-    pub max_occurs: usize,
-    pub usage: usize,
-    pub namespace: usize,
-    pub target_namespace: usize,
+    pub view: View<'a, 'b>,
+    pub places: [usize; 9],
+}
+
+impl<'a> SeenTag<'a, '_> {
+    // The value of a key, if the tag has one.
+    pub fn value(&self, key: Key) -> Option<&'a [u8]>
+        ensures { value_of result ≡ value_under self.now key }
+    {
+        match self.places[key as usize] {
+            0 => None,
+            at => Some(pair_part(self.view, at)),
+        }
+    }
+
+    // The same where an absent value is the empty text.
+    pub fn value_or_empty(&self, key: Key) -> &'a [u8]
+        ensures { result.now ≡ or_empty (value_under self.now key) }
+    {
+        self.value(key).unwrap_or(&[])
+    }
 }
 
 // The key under the pair at a place of the marks.
-fn key_at(text: &[u8], marks: &[u32], at: usize) -> Option<Key>
-    requires { PairInside text.now marks.now at }
-    ensures { key_number result ≡ key_of (local_name (pair_text text.now (pair_at marks.now at))) }
+fn key_at(v: View<'_, '_>, at: usize) -> Option<Key>
+    requires { PairInside v.text.now v.marks.now at }
+    ensures { key_number result ≡ key_of (local_name (pair_text v.entry.text.now (pair_at v.entry.marks.now at))) }
 {
-    key_of(pairs::inside_part(text, marks, at))
+    key_of(inside_part(v, at))
 }
 
 // The word under the pair at a place of the marks.
-fn word_under(text: &[u8], marks: &[u32], at: usize) -> Word
-    requires { PairInside text.now marks.now at }
-    ensures { result ≡ word_of (local_name (pair_text text.now (pair_at marks.now at))) }
+fn word_under(v: View<'_, '_>, at: usize) -> Word
+    requires { PairInside v.text.now v.marks.now at }
+    ensures { result ≡ word_of (local_name (pair_text v.entry.text.now (pair_at v.entry.marks.now at))) }
 {
-    word_of(pairs::inside_part(text, marks, at))
+    word_of(inside_part(v, at))
 }
 
 // A value's place is kept where its key is one of the nine and has none yet.
@@ -57,45 +73,26 @@ fn keep_first(places: &mut [usize; 9], key: Option<Key>, at: usize)
 }
 
 // Where the values stand, by their keys. Each key is looked at once.
-fn find_places(text: &[u8], marks: &[u32], pairs: usize, count: usize) -> [usize; 9]
-    requires { TagInside text.now marks.now pairs count }
-    ensures { PlacesOf text.now marks.now (tag_at text.now marks.now pairs count).attributes result }
+fn find_places(v: View<'_, '_>, pairs: usize, count: usize) -> [usize; 9]
+    requires { TagInside v.text.now v.marks.now pairs count }
+    ensures { PlacesOf v.entry.text.now v.entry.marks.now (tag_at v.entry.text.now v.entry.marks.now pairs count).attributes result }
 {
-    let mut places = [0usize; 9];
+    let mut places = [0; 9];
     for i in 0..count {
         let at = pairs + 2 + 4 * i;
-        keep_first(&mut places, key_at(text, marks, at), at + 2);
+        keep_first(&mut places, key_at(v, at), at + 2);
     }
     places
 }
 
-// What is seen of the tag with so many attributes whose pairs start at a place.
-pub fn find_seen(text: &[u8], marks: &[u32], pairs: usize, count: usize) -> SeenTag
-    requires { TagInside text.now marks.now pairs count }
-    ensures { seen_at text.now marks.now result ≡ seen (tag_at text.now marks.now pairs count) }
+// What is seen of the tag with so many attributes whose pairs start at a place. The count stands beside the marks: by the contract they may be more than the event's.
+pub fn find_seen<'a, 'b>(v: View<'a, 'b>, pairs: usize, count: usize) -> SeenTag<'a, 'b>
+    requires { TagInside v.text.now v.marks.now pairs count }
+    ensures { seen_at result ≡ seen (tag_at v.entry.text.now v.entry.marks.now pairs count) }
 {
-    let word = word_under(text, marks, pairs);
-    let [
-        name,
-        typ,
-        base,
-        value,
-        min_occurs,
-        max_occurs,
-        usage,
-        namespace,
-        target_namespace,
-    ] = find_places(text, marks, pairs, count);
     SeenTag {
-        word,
-        name,
-        typ,
-        base,
-        value,
-        min_occurs,
-        max_occurs,
-        usage,
-        namespace,
-        target_namespace,
+        word: word_under(v, pairs),
+        view: v,
+        places: find_places(v, pairs, count),
     }
 }

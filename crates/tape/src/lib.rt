@@ -1,6 +1,6 @@
 // The tape (paper 01, "Tape"): a record at a place of the marks, judged for 3 (`form`), 4 and 5 (`tests`). `pairs`: the parts of the text
 // under its pairs; `words`: the word of a tag and the number of a key; `attributes`: what is seen of a tag that was judged; `view`: the event view.
-#![tactic(auto)]
+#![tactic(auto, using(crate::proofs::Laws::Tried::laws), unfolding(crate::proofs::Laws::Tried::opened))]
 
 pub mod attributes;
 pub mod form;
@@ -17,6 +17,7 @@ ghost use Rattle.xsd_parser.specs.declared.kinds.Kind.{Kind};
 ghost use Rattle.xsd_parser.specs.Tape.{pair_count};
 ghost use Rattle.tape.specs.Answers.{RecordAt, TagAnswer};
 
+use crate::view::View;
 use rows::numbers::wide;
 use sheet::refusal::Refusal;
 use xsd_parser::kinds::Kind;
@@ -33,23 +34,22 @@ pub struct TagRecord {
 
 // A record of a good form that is a tag: judged for 4 over all its pairs, then for 5.
 fn tag_at(
-    text: &[u8],
-    marks: &[u32],
+    v: View<'_, '_>,
     at: usize,
     kind: Kind,
     count: usize,
     plain: bool,
 ) -> Result<TagRecord, Refusal>
-    requires fact { (kind_number kind ≡ close_kind → ⊥) × (count ≤ attributes_limit) × (at + 2 + 2 * pair_count count ≤ length marks.now) }
-    requires text_value { plain ≡ true → is_text text.now ≡ true }
-    ensures { TagAnswer text.now marks.now at (kind_number kind) count result }
+    requires fact { (kind_number kind ≡ close_kind → ⊥) × (count ≤ attributes_limit) × (at + 2 + 2 * pair_count count ≤ length v.marks.now) }
+    requires text_value { plain ≡ true → is_text v.text.now ≡ true }
+    ensures { TagAnswer v.entry.text.now v.entry.marks.now at (kind_number kind) count result }
 {
     let pairs = at + 2;
     let n = 1 + 2 * count;
-    if !tests::pairs_inside(text.len(), marks, pairs, n) {
+    if !tests::pairs_inside(v.text.len(), v.marks, pairs, n) {
         return Err(Refusal::BadPair);
     }
-    if !tests::pairs_ascii(text, marks, pairs, n, plain) {
+    if !tests::pairs_ascii(v, pairs, n, plain) {
         return Err(Refusal::NotAscii);
     }
     let next = pairs + 2 * n;
@@ -74,16 +74,13 @@ fn closed(next: usize) -> TagRecord
 }
 
 // The record at a place of the marks, none at their end, judged as a whole for 3, then 4, then 5. Where `plain` says that the whole text was judged before,
-// no byte is read for 5.
-pub fn record_at(
-    text: &[u8],
-    marks: &[u32],
-    at: usize,
-    plain: bool,
-) -> Result<Option<TagRecord>, Refusal>
-    requires { plain ≡ true → is_text text.now ≡ true }
-    ensures { RecordAt text.now marks.now at result }
+// no byte is read for 5; that is found at run time, once for all records, so it is an argument. A struct of text, `plain`
+// and what it says would be turned into a view again for each part that is read.
+pub fn record_at(v: View<'_, '_>, at: usize, plain: bool) -> Result<Option<TagRecord>, Refusal>
+    requires { plain ≡ true → is_text v.text.now ≡ true }
+    ensures { RecordAt v.entry.text.now v.entry.marks.now at result }
 {
+    let marks = v.marks;
     if marks.len() <= at {
         return Ok(None);
     }
@@ -91,14 +88,15 @@ pub fn record_at(
     if left < 2 {
         return Err(Refusal::BadRecord);
     }
-    let kind = Kind::try_from(marks[at])?;
     let count = wide(marks[at + 1]);
-    if !form::has_form(kind, count, left - 2) {
+    if !form::has_form(marks[at], count, left - 2) {
         return Err(Refusal::BadRecord);
     }
+    // Turned again: `has_form` says whether, and not which kind.
+    let kind = Kind::try_from(marks[at])?;
     match kind {
         Kind::Start | Kind::Empty => {
-            let tag = tag_at(text, marks, at, kind, count, plain)?;
+            let tag = tag_at(v, at, kind, count, plain)?;
             Ok(Some(tag))
         }
         Kind::Close => Ok(Some(closed(at + 2))),

@@ -3,10 +3,11 @@ ghost use Rattle.std.specs.Prelude.{◌≡◌, get_or};
 ghost use Rattle.xsd_parser.specs.Tape.{pair_text};
 ghost use Rattle.tape.specs.Pairs.{pair_at, PairInside};
 
+use crate::view::View;
 use rows::numbers::wide;
 use rows::parts::part_of;
 
-// The number at a place of the marks, 0 past the end.
+// The number at a place of the marks, 0 past the end: no Option, since the definitions have 0 there and every caller asks for the number.
 pub fn mark_at(marks: &[u32], at: usize) -> u32
     ensures { result ≡ get_or marks.now at 0 }
 {
@@ -14,24 +15,24 @@ pub fn mark_at(marks: &[u32], at: usize) -> u32
 }
 
 // The part of the text under the pair whose offset stands at a place of the marks.
-pub fn pair_part<'a>(text: &'a [u8], marks: &[u32], at: usize) -> &'a [u8]
-    ensures { result.now ≡ pair_text text.now (pair_at marks.now at) }
+pub fn pair_part<'a>(v: View<'a, '_>, at: usize) -> &'a [u8]
+    ensures { result.now ≡ pair_text v.entry.text.now (pair_at v.entry.marks.now at) }
 {
-    if marks.len() <= at {
-        return part_of(text, 0, 0);
+    if v.marks.len() <= at {
+        return part_of(v.text, 0, 0);
     }
-    let offset = wide(mark_at(marks, at));
-    let size = wide(mark_at(marks, at + 1));
-    part_of(text, offset, size)
+    let offset = wide(mark_at(v.marks, at));
+    let size = wide(mark_at(v.marks, at + 1));
+    part_of(v.text, offset, size)
 }
 
 // The same where the pair was judged: nothing is tested.
-pub fn inside_part<'a>(text: &'a [u8], marks: &[u32], at: usize) -> &'a [u8]
-    requires { PairInside text.now marks.now at }
-    ensures { result.now ≡ pair_text text.now (pair_at marks.now at) }
+pub fn inside_part<'a>(v: View<'a, '_>, at: usize) -> &'a [u8]
+    requires { PairInside v.text.now v.marks.now at }
+    ensures { result.now ≡ pair_text v.entry.text.now (pair_at v.entry.marks.now at) }
 {
-    let offset = wide(marks[at]);
-    let size = wide(marks[at + 1]);
+    let offset = wide(v.marks[at]);
+    let size = wide(v.marks[at + 1]);
     let end = offset + size;
-    &text[offset..end]
+    &v.text[offset..end]
 }

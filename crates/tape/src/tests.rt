@@ -4,6 +4,7 @@ ghost use Rattle.text.specs.Text.{is_text};
 ghost use Rattle.xsd_parser.specs.Tape.{pairs_of, all_inside, all_ascii};
 
 use crate::pairs;
+use crate::view::View;
 use rows::numbers::wide;
 
 // Where a pair ends in the text; the sum may pass 2^32.
@@ -34,26 +35,28 @@ pub fn pairs_inside(limit: usize, marks: &[u32], from: usize, n: usize) -> bool
 }
 
 // 5: whether all bytes under n pairs may stand in a text, each read.
-fn bytes_ascii(text: &[u8], marks: &[u32], from: usize, n: usize) -> bool
-    requires { from + 2 * n ≤ length marks.now }
-    ensures { result ≡ all_ascii text.now (pairs_of n (drop from marks.now)) }
+fn bytes_ascii(v: View<'_, '_>, from: usize, n: usize) -> bool
+    requires { from + 2 * n ≤ length v.marks.now }
+    ensures { result ≡ all_ascii v.entry.text.now (pairs_of n (drop from v.entry.marks.now)) }
 {
+    // No `all`: the definition goes through a list, as this loop does; by `all` its invariant says nothing, and more laws are needed.
     for i in 0..n {
-        if !text::is_text(pairs::pair_part(text, marks, from + 2 * i)) {
+        if !text::is_text(pairs::pair_part(v, from + 2 * i)) {
             return false;
         }
     }
     true
 }
 
-// The same; `plain` says that the whole text was judged before, so that none of its bytes is read again.
-pub fn pairs_ascii(text: &[u8], marks: &[u32], from: usize, n: usize, plain: bool) -> bool
-    requires n_in_bounds { from + 2 * n ≤ length marks.now }
-    requires text_value { plain ≡ true → is_text text.now ≡ true }
-    ensures { result ≡ all_ascii text.now (pairs_of n (drop from marks.now)) }
+// The same; `plain` says that the whole text was judged before, so that none of its bytes is read again. It is known at run time alone, so it is an argument;
+// a struct of text, `plain` and what it says would be turned into a view again for each part that is read.
+pub fn pairs_ascii(v: View<'_, '_>, from: usize, n: usize, plain: bool) -> bool
+    requires n_in_bounds { from + 2 * n ≤ length v.marks.now }
+    requires text_value { plain ≡ true → is_text v.text.now ≡ true }
+    ensures { result ≡ all_ascii v.entry.text.now (pairs_of n (drop from v.entry.marks.now)) }
 {
     if plain {
         return true;
     }
-    bytes_ascii(text, marks, from, n)
+    bytes_ascii(v, from, n)
 }

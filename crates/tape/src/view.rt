@@ -8,25 +8,26 @@ ghost use Rattle.tape.specs.Marks.{event_marks};
 
 use crate::attributes::{SeenTag, find_seen};
 
-// The text of a tape, and the marks of one event: its name's pair first.
+// A text and marks whose pairs are places in it: all marks of a tape, or those of one event, its name's pair first.
 #[derive(Clone, Copy)]
 pub struct View<'a, 'b> {
     pub text: &'a [u8],
     pub marks: &'b [u32],
 }
 
-// The word of the event's tag and the places of its values, all attributes looked up at once.
-pub fn lookup<'a, 'b>(v: View<'a, 'b>, count: usize) -> SeenTag
+// The word of the event's tag and its values, all attributes looked up at once. A count stands beside the marks: by the contract they may be more than the event's. This and
+// `in_view` are forms of paper 01 that are kept (docs/DECISIONS.md, 36).
+pub fn lookup<'a, 'b>(v: View<'a, 'b>, count: usize) -> SeenTag<'a, 'b>
     requires { TagInside v.text.now v.marks.now 0 count }
-    ensures { seen_at v.entry.text.now v.entry.marks.now result ≡ seen (tag_at v.entry.text.now v.entry.marks.now 0 count) }
+    ensures { seen_at result ≡ seen (tag_at v.entry.text.now v.entry.marks.now 0 count) }
 {
-    find_seen(v.text, v.marks, 0, count)
+    find_seen(v, 0, count)
 }
 
 // The same for a caller that has no view: the view is made here, once for an event.
-pub fn in_view<'a, 'b>(text: &'a [u8], marks: &'b [u32], count: usize) -> SeenTag
+pub fn in_view<'a, 'b>(text: &'a [u8], marks: &'b [u32], count: usize) -> SeenTag<'a, 'b>
     requires { TagInside text.now marks.now 0 count }
-    ensures { seen_at text.now marks.now result ≡ seen (tag_at text.now marks.now 0 count) }
+    ensures { seen_at result ≡ seen (tag_at text.now marks.now 0 count) }
 {
     lookup(View { text, marks }, count)
 }

@@ -26,11 +26,7 @@ pub enum Key {
 fn value_if<T: Copy>(name: &[u8], text: &[u8], value: T) -> Option<T>
     ensures { result ≡ found None ((text.now, Some value) ∷ []) name.now }
 {
-    if same_text(name, text) {
-        Some(value)
-    } else {
-        None
-    }
+    same_text(name, text).then_some(value)
 }
 
 // The word of a facet, where the name is its text.
@@ -40,7 +36,7 @@ fn facet_if(name: &[u8], text: &[u8], facet: FacetWord) -> Option<Word>
     value_if(name, text, Word::Facet(facet))
 }
 
-// The word that a name of 9 bytes is; one of 11; one of 12.
+// The word that a name of 9 bytes is; one of 11; one of 12. The three differ in their texts alone, which are all that they say.
 fn nine_word(name: &[u8]) -> Option<Word>
     requires { length name.now ≡ 9 }
     ensures { result ≡ known_word name.now }
@@ -95,25 +91,11 @@ fn known_word(name: &[u8]) -> Option<Word>
     }
 }
 
-// The rest behind the first colon, the whole where there is none.
-fn behind_colon(name: &[u8]) -> &[u8]
-    ensures { local_name result.now ≡ local_name name.now }
-{
-    match name.iter().position(|b| *b == b':') {
-        Some(colon) => &name[colon + 1..],
-        None => name,
-    }
-}
-
-// The word of a tag's name. What is a word has no colon, so that the last colon is looked for only where it is none.
+// The word of a tag's name.
 pub fn word_of(name: &[u8]) -> Word
     ensures { result ≡ word_of (local_name name.now) }
 {
-    let rest = behind_colon(name);
-    if let Some(word) = known_word(rest) {
-        return word;
-    }
-    known_word(local_name(rest)).unwrap_or(Word::Other)
+    known_word(local_name(name)).unwrap_or(Word::Other)
 }
 
 // The key that a name without a prefix is, if it is one.

@@ -1,5 +1,5 @@
 -- Laws of the definitions in specs/. No contract cites them.
 pub mod Classes
 pub mod Skips
-pub mod Matched
 pub mod Held
+pub mod Ended

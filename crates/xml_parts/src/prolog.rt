@@ -116,7 +116,7 @@ pub fn misc_part(classes: &Classes, text: &[u8], at: usize) -> Option<usize>
     }
 }
 
-// Comments, instructions and white space, as many as stand there.
+// Comments, instructions and white space, as many as stand there. No `for`: a part has any number of bytes.
 pub fn misc(classes: &Classes, text: &[u8], at: usize) -> Option<usize>
     ensures { moved text.now result ≡ misc at (drop at text.now) }
 {

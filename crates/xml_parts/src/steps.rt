@@ -1,14 +1,15 @@
 // Steps over a text: words, runs of a class, names, and the marked parts that give no event.
-ghost use Rattle.std.specs.Prelude.{◌≡◌, length, drop};
+ghost use Rattle.std.specs.Prelude.{◌≡◌, length, drop, is_some, IfSome};
+ghost use Rattle.xml.specs.Classes.{is_name};
 ghost use Rattle.text.specs.Text.{bytes, same};
 ghost use Rattle.xml.specs.Steps.{behind, starts_with, literal, many, one_then, spaces, name, name_of, until, comment, target, instruction_end, instruction, section};
 ghost use Rattle.xml.specs.Grammar.{is_xml};
-ghost use Rattle.xml_parts.specs.Answers.{class_of, moved, SameUpTo, matched};
+ghost use Rattle.xml_parts.specs.Answers.{class_of, moved, matched};
 
 use crate::classes::{Class, Classes, is_char};
 use plain_bytes::{CommentRun, skip};
 
-// Whether the word stands at a position.
+// Whether the word stands at a position. By hand: with the library's `starts_with` the tape took 2 to 15 hundredths more instructions.
 pub fn starts(text: &[u8], at: usize, word: &[u8]) -> bool
     ensures { result ≡ starts_with word.now (drop at text.now) }
 {
@@ -33,16 +34,18 @@ pub fn literal(text: &[u8], at: usize, word: &[u8]) -> Option<usize>
     }
 }
 
-// Behind the bytes of a class that stand at a position.
+// Behind the bytes of a class that stand at a position. The loop ends in one place: with a `return` from it the tape took a fifth more instructions.
 pub fn many(classes: &Classes, text: &[u8], at: usize, class: Class) -> usize
     ensures { behind result (drop result text.now) ≡ many (class_of class) at (drop at text.now) }
 {
+    let mut end = at;
     for i in at..text.len() {
         if !classes.in_class(class, text[i]) {
-            return i;
+            break;
         }
+        end = i + 1;
     }
-    at.max(text.len())
+    end
 }
 
 #[tactic(auto, unfolding(xml::specs::Steps::spaces))]
@@ -75,13 +78,37 @@ pub fn name(classes: &Classes, text: &[u8], at: usize) -> Option<usize>
     one_then(classes, text, at, Class::NameStart, Class::Name)
 }
 
-// Whether the names at two positions are the same.
+// Behind the name at `a`, where the name at `b` is the same.
+fn same_run(classes: &Classes, text: &[u8], a: usize, b: usize) -> Option<usize>
+    ensures alike { is_some result ≡ same (name_of (drop a text.now)) (name_of (drop b text.now)) }
+    ensures ends { IfSome result (λ e. many is_name a (drop a text.now) ≡ behind e (drop e text.now)) }
+{
+    let beside = text.len().saturating_sub(a.max(b));
+    for k in 0..beside {
+        let (x, y) = (text[a + k], text[b + k]);
+        if !classes.is_name(x) {
+            return (!classes.is_name(y)).then_some(a + k);
+        }
+        if x != y {
+            return None;
+        }
+    }
+    let (x, y) = (
+        text::byte_at(text, a + beside),
+        text::byte_at(text, b + beside),
+    );
+    (!classes.is_name(x) & !classes.is_name(y)).then_some(a + beside)
+}
+
+// Whether the names at two positions are the same. Most keys of a tag differ in their first byte.
 pub fn same_name(classes: &Classes, text: &[u8], a: usize, b: usize) -> bool
     ensures { result ≡ same (name_of (drop a text.now)) (name_of (drop b text.now)) }
 {
-    let (i, j) = same_end(classes, text, a, b);
-    let (x, y) = (text::byte_at(text, i), text::byte_at(text, j));
-    !classes.is_name(x) & !classes.is_name(y)
+    let (x, y) = (text::byte_at(text, a), text::byte_at(text, b));
+    if x != y {
+        return !classes.is_name(x) & !classes.is_name(y);
+    }
+    same_run(classes, text, a, b).is_some()
 }
 
 // Behind the first place of the word, with only characters before it.
@@ -160,33 +187,12 @@ pub fn section(text: &[u8], at: usize) -> Option<usize>
     until(text, inside, b"]]>")
 }
 
-// Where the names at two places end or differ.
-pub fn same_end(classes: &Classes, text: &[u8], a: usize, b: usize) -> (usize, usize)
-    ensures { SameUpTo text.now a b result.0 result.1 }
-{
-    let beside = text.len().saturating_sub(a.max(b));
-    for k in 0..beside {
-        let x = text[a + k];
-        if (x != text[b + k]) | !classes.is_name(x) {
-            return (a + k, b + k);
-        }
-    }
-    (a + beside, b + beside)
-}
-
 // Behind the name at a position, where it is the name at another one.
 pub fn matched_name(classes: &Classes, text: &[u8], at: usize, top: usize) -> Option<usize>
     ensures { moved text.now result ≡ matched text.now at top }
 {
-    let (end, other) = same_end(classes, text, at, top);
-    if classes.is_name(text::byte_at(text, end)) {
-        return None;
-    }
-    if classes.is_name(text::byte_at(text, other)) {
-        return None;
-    }
     if !classes.in_class(Class::NameStart, text::byte_at(text, at)) {
         return None;
     }
-    Some(end)
+    same_run(classes, text, at, top)
 }

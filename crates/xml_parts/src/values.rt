@@ -1,8 +1,8 @@
-// References, attribute values and character data.
+// References, attribute values and character data. The loops over runs are `while` loops: each turn goes on behind a run of any length.
 ghost use Rattle.std.specs.Prelude.{◌≡◌, true, ◌≤◌, ◌<◌, length, drop, unwrap_or};
 ghost use Rattle.xml.specs.Grammar.{digit_of};
 ghost use Rattle.xml.specs.Values.{is_number, is_entity, is_reference, is_plain, value_end, is_quote, value, char_data, is_in_text, is_in_value};
-ghost use Rattle.xml_parts.specs.Answers.{moved};
+ghost use Rattle.xml_parts.specs.Answers.{moved, stopped, held};
 ghost use Rattle.xml.specs.Steps.{behind, many};
 ghost use Rattle.xml.specs.Written.{is_value};
 
@@ -84,15 +84,17 @@ pub fn value_run(classes: &Classes, text: &[u8], at: usize) -> usize
     many(classes, text, skip::<ValueRun>(text, at), Class::InValue)
 }
 
-pub fn value_end(classes: &Classes, text: &[u8], at: usize, quote: u8) -> Option<usize>
+// The place of the quote that ends a value, or the end of a text without one.
+fn value_stop(classes: &Classes, text: &[u8], at: usize, quote: u8) -> Option<usize>
     requires { is_quote quote ≡ true }
-    ensures { moved text.now result ≡ value_end quote at (drop at text.now) }
+    ensures ends { stopped text.now result ≡ value_end quote at (drop at text.now) }
+    ensures whole { held text.now result ≡ is_value quote (drop at text.now) }
 {
     let mut i = value_run(classes, text, at);
     while i < text.len() {
         let b = text[i];
         if b == quote {
-            return Some(i + 1);
+            return Some(i);
         }
         if b == b'<' {
             return None;
@@ -102,7 +104,19 @@ pub fn value_end(classes: &Classes, text: &[u8], at: usize, quote: u8) -> Option
         }
         i = value_run(classes, text, i + 1);
     }
-    None
+    Some(i)
+}
+
+pub fn value_end(classes: &Classes, text: &[u8], at: usize, quote: u8) -> Option<usize>
+    requires { is_quote quote ≡ true }
+    ensures { moved text.now result ≡ value_end quote at (drop at text.now) }
+{
+    let stop = value_stop(classes, text, at, quote)?;
+    if stop < text.len() {
+        Some(stop + 1)
+    } else {
+        None
+    }
 }
 
 #[tactic(auto, unfolding(xml::specs::Values::is_quote))]
@@ -167,19 +181,5 @@ pub fn is_value(classes: &Classes, part: &[u8], quote: u8) -> bool
     requires { is_quote quote ≡ true }
     ensures { result ≡ is_value quote part.now }
 {
-    let mut i = value_run(classes, part, 0);
-    while i < part.len() {
-        let b = part[i];
-        if b == quote {
-            return false;
-        }
-        if b == b'<' {
-            return false;
-        }
-        if !is_plain(part, i) {
-            return false;
-        }
-        i = value_run(classes, part, i + 1);
-    }
-    true
+    value_stop(classes, part, 0, quote).is_some_and(|stop| part.len() <= stop)
 }

@@ -3,3 +3,4 @@ pub mod Tags
 pub mod Marks
 pub mod Root
 pub mod Call
+pub mod Named

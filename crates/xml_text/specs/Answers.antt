@@ -10,6 +10,7 @@ use Rattle.std.proofs.lemmas.List.Edits.{sets}
 use Rattle.text.specs.Text.{Text, is_text}
 use Rattle.xml.specs.Steps.{name_of}
 use Rattle.xsd_parser.specs.Tape.{Pair}
+use Rattle.xsd_parser.specs.Kinds.{kind_number}
 use Rattle.xml.specs.Tape.{AttributePairs, TapeEvent, attribute_marks, event_marks, tape_marks}
 use Rattle.xml.specs.Tags.{Part, wrong, last, more, attribute_from, Ended, unended, ended, Tagged, untagged, tagged}
 use Rattle.xml.specs.Root.{Piece, passed, starting, Level, stop, on, Rooted, unrooted, rooted}
@@ -25,7 +26,7 @@ use Rattle.sheet.specs.declared.refusal.Refusal.{Refusal}
 
 abbrev pub next_part : Text → Option Next → Part
 next_part text None = wrong
-next_part text (Some (Next.Last kind a)) = last kind a (drop a text)
+next_part text (Some (Next.Last kind a)) = last (kind_number kind) a (drop a text)
 next_part text (Some (Next.More v)) = more (attribute_from v.key v.key_end v.quote v.behind) (name_of (drop v.key text)) v.behind (drop v.behind text)
 
 abbrev pub next_piece : Text → Option Content → Piece
@@ -50,13 +51,13 @@ PieceIn n at (Some (Content.Starting a)) = at ≤ a
 abbrev pub EndsTag : Text → ℕ → List ℕ → ℕ → List ℕ → Option EndOfTag → Ended → Type 0
 EndsTag text at marks from after None d = d ≡ unended
 EndsTag text at marks from after (Some e) d =
-    (xs : List AttributePairs) × (d ≡ ended e.kind xs e.behind (drop e.behind text)) × (e.count ≡ length xs) × (after ≡ sets marks from (attribute_marks xs)) × (at + 3 * e.count < e.behind) × (e.behind ≤ length text)
+    (xs : List AttributePairs) × (d ≡ ended (kind_number e.kind) xs e.behind (drop e.behind text)) × (e.count ≡ length xs) × (after ≡ sets marks from (attribute_marks xs)) × (at + 3 * e.count < e.behind) × (e.behind ≤ length text)
 
 abbrev pub IsTag : Text → ℕ → List ℕ → ℕ → List ℕ → Option WholeTag → Tagged → Type 0
 IsTag text at marks used after None d = d ≡ untagged
 IsTag text at marks used after (Some t) d =
-    (pair : Pair) × (xs : List AttributePairs) × (d ≡ tagged t.kind pair xs (name_of (drop t.start text)) t.behind (drop t.behind text)) × (t.used ≡ used + length (event_marks (TapeEvent.tag t.kind pair xs)))
-    × (after ≡ sets marks used (event_marks (TapeEvent.tag t.kind pair xs))) × (at < t.start) × (t.start < t.behind) × (t.behind ≤ length text) × (at + 3 ≤ t.behind) × (t.used ≤ used + 2 * (t.behind - at))
+    (pair : Pair) × (xs : List AttributePairs) × (d ≡ tagged (kind_number t.kind) pair xs (name_of (drop t.start text)) t.behind (drop t.behind text)) × (t.used ≡ used + length (event_marks (TapeEvent.tag (kind_number t.kind) pair xs)))
+    × (after ≡ sets marks used (event_marks (TapeEvent.tag (kind_number t.kind) pair xs))) × (at < t.start) × (t.start < t.behind) × (t.behind ≤ length text) × (at + 3 ≤ t.behind) × (t.used ≤ used + 2 * (t.behind - at))
 
 abbrev pub GoesOn : Text → ℕ → List ℕ → List ℕ → ℕ → List ℕ → Option Onward → Level → Type 0
 GoesOn text at slots marks used after None d = d ≡ stop

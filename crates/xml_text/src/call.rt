@@ -1,7 +1,6 @@
 // The call.
 ghost use Rattle.std.specs.Prelude.{◌≡◌, ◌≤◌, length, take, drop, ok_or, true};
 ghost use Rattle.sheet.specs.Rows.{filled};
-ghost use Rattle.sheet.specs.Lengths.{tape_lengths};
 ghost use Rattle.sheet.specs.declared.refusal.Refusal.TheVariants.{Malformed};
 ghost use Rattle.xml.specs.Document.{document_from, document};
 ghost use Rattle.xml.specs.Call.{TapeIs};
@@ -10,17 +9,11 @@ ghost use Rattle.xml_text.specs.Answers.{FoundIs, StoredIs};
 
 use crate::root::root;
 use rows::answers::Answer;
-use sheet::limits;
+use rows::lengths::tape_lengths;
 use sheet::refusal::Refusal;
 use xml_parts::classes::Classes;
 use xml_parts::prolog::{misc, prolog};
 use xml_parts::steps::starts;
-
-fn tape_lengths(text: usize, marks: usize) -> bool
-    ensures { result ≡ tape_lengths text marks }
-{
-    (text <= limits::TEXT) & (marks <= limits::MARKS)
-}
 
 // Zeros from a place on.
 fn zero_marks(marks: &mut [u32], from: usize)

@@ -5,6 +5,7 @@ ghost use Rattle.std.specs.Prelude.{◌≡◌, ◌+◌, ◌-◌, ◌≤◌, ◌<
 pub fn put(marks: &mut [u32], at: usize, number: u32)
     ensures { marks.new ≡ set marks.old at number }
 {
+    // Tried with `get_mut`: the proof does not close, since of what is written by a slice's `get_mut` only the length is known.
     if at < marks.len() {
         marks[at] = number;
     }

@@ -14,9 +14,6 @@ use xml_parts::steps::{comment, instruction, literal, matched_name, section, spa
 use xml_parts::values::char_data;
 use xsd_parser::kinds::Kind;
 
-// The number that the tape holds for a start.
-const START: u32 = Kind::Start as u32;
-
 // What stands next inside the root, but for an end tag: a piece without an event, or another tag.
 #[derive(Clone, Copy)]
 pub enum Content {
@@ -68,20 +65,18 @@ fn open_tag(
         marks,
         here.used,
     )?;
-    let (used, at) = (whole.used, whole.behind);
-    if whole.kind == START {
-        slots[here.count] = whole.start as u16;
-        return Some(Onward {
-            count: here.count + 1,
-            used,
-            at,
-        });
+    let (count, used, at) = (here.count, whole.used, whole.behind);
+    match whole.kind {
+        Kind::Start => {
+            slots[count] = whole.start as u16;
+            Some(Onward {
+                count: count + 1,
+                used,
+                at,
+            })
+        }
+        Kind::Empty | Kind::Close => Some(Onward { count, used, at }),
     }
-    Some(Onward {
-        count: here.count,
-        used,
-        at,
-    })
 }
 
 // An end tag, whose name is held against that of the innermost open tag while it is read.
@@ -145,6 +140,7 @@ pub struct WholeRoot {
     pub behind: usize,
 }
 
+// A `while`: a turn opens or closes a tag, and the root ends where none is open.
 fn inside(
     classes: &Classes,
     text: &[u8],
@@ -178,16 +174,32 @@ fn root_over(
 {
     let whole = tag(classes, text, at, slots, marks, 0)?;
     let (used, behind) = (whole.used, whole.behind);
-    if whole.kind == START {
-        slots[0] = whole.start as u16;
-        let first = Onward {
-            count: 1,
-            used,
-            at: behind,
-        };
-        return inside(classes, text, slots, marks, first);
+    match whole.kind {
+        Kind::Start => {
+            slots[0] = whole.start as u16;
+            let first = Onward {
+                count: 1,
+                used,
+                at: behind,
+            };
+            inside(classes, text, slots, marks, first)
+        }
+        Kind::Empty | Kind::Close => Some(WholeRoot { used, behind }),
     }
-    Some(WholeRoot { used, behind })
+}
+
+// The root of a text of less than 3 * N bytes, with N places, which stand on the stack of this call alone.
+fn root_of<const N: usize>(
+    classes: &Classes,
+    text: &[u8],
+    marks: &mut [u32],
+    at: usize,
+) -> Option<WholeRoot>
+    requires { (length text.now ≤ 65536) × (length text.now < 3 * N) × (N ≤ 21846) }
+    ensures { IsRoot text.now marks.old 0 marks.new result (root at (drop at text.now)) }
+{
+    let mut slots = [0; N];
+    root_over(classes, text, &mut slots, marks, at)
 }
 
 // A short text takes few places, so that few have to be cleared.
@@ -195,18 +207,10 @@ pub fn root(classes: &Classes, text: &[u8], marks: &mut [u32], at: usize) -> Opt
     requires { length text.now ≤ 65536 }
     ensures { IsRoot text.now marks.old 0 marks.new result (root at (drop at text.now)) }
 {
-    if text.len() < 3072 {
-        let mut least: [u16; 1024] = [0; 1024];
-        return root_over(classes, text, &mut least, marks, at);
+    match text.len() {
+        ..3072 => root_of::<1024>(classes, text, marks, at),
+        ..6144 => root_of::<2048>(classes, text, marks, at),
+        ..24576 => root_of::<8192>(classes, text, marks, at),
+        _ => root_of::<21846>(classes, text, marks, at),
     }
-    if text.len() < 6144 {
-        let mut few: [u16; 2048] = [0; 2048];
-        return root_over(classes, text, &mut few, marks, at);
-    }
-    if text.len() < 24576 {
-        let mut more: [u16; 8192] = [0; 8192];
-        return root_over(classes, text, &mut more, marks, at);
-    }
-    let mut slots: [u16; 21846] = [0; 21846];
-    root_over(classes, text, &mut slots, marks, at)
 }

@@ -23,11 +23,10 @@ pub struct KeyValue {
     pub behind: usize,
 }
 
-// What stands next in a tag: its end with its kind and the position behind it, or an attribute. The kind stays the number that the tape holds for it, since it
-// is stored as it is.
+// What stands next in a tag: its end with its kind and the position behind it, or an attribute.
 #[derive(Clone, Copy)]
 pub enum Next {
-    Last { kind: u32, behind: usize },
+    Last { kind: Kind, behind: usize },
     More(KeyValue),
 }
 
@@ -51,13 +50,13 @@ pub fn part_of(classes: &Classes, text: &[u8], at: usize) -> Option<Next>
     let start = spaces(classes, text, at);
     if starts(text, start, b"/>") {
         return Some(Next::Last {
-            kind: Kind::Empty as u32,
+            kind: Kind::Empty,
             behind: start + 2,
         });
     }
     if starts(text, start, b">") {
         return Some(Next::Last {
-            kind: Kind::Start as u32,
+            kind: Kind::Start,
             behind: start + 1,
         });
     }
@@ -78,7 +77,7 @@ pub fn is_among(classes: &Classes, text: &[u8], key: usize, keys: &[u16]) -> boo
 // The end of a tag: its kind, how many attributes it has, and the position behind it.
 #[derive(Clone, Copy)]
 pub struct EndOfTag {
-    pub kind: u32,
+    pub kind: Kind,
     pub count: usize,
     pub behind: usize,
 }
@@ -91,7 +90,8 @@ fn put_attribute(marks: &mut [u32], at: usize, it: KeyValue)
     put_pair(marks, at + 2, it.quote + 1, it.behind - 1);
 }
 
-// The attributes of a tag, whose keys are kept while it is read, up to its end.
+// The attributes of a tag, whose keys are kept while it is read, up to its end. A `loop` with a count: an attribute has any number of bytes, and how many there are
+// shows at the end of the tag.
 pub fn attributes(
     classes: &Classes,
     text: &[u8],
@@ -131,7 +131,7 @@ pub fn attributes(
 // A whole tag: its kind, where its name starts, the marks used behind it, and the position behind it.
 #[derive(Clone, Copy)]
 pub struct WholeTag {
-    pub kind: u32,
+    pub kind: Kind,
     pub start: usize,
     pub used: usize,
     pub behind: usize,
@@ -151,7 +151,7 @@ pub fn tag(
     let start = literal(text, at, b"<")?;
     let end = name(classes, text, start)?;
     let last = attributes(classes, text, end, keys, marks, used + 4)?;
-    put(marks, used, last.kind);
+    put(marks, used, last.kind as u32);
     put(marks, used + 1, last.count as u32);
     put_pair(marks, used + 2, start, end);
     Some(WholeTag {

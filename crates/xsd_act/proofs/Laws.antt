@@ -3,6 +3,6 @@ pub mod Parts
 pub mod Ready
 pub mod After
 pub mod Needs
-pub mod Contents
 pub mod Room
 pub mod Done
+pub mod Named

@@ -1,38 +1,33 @@
--- What the code decides says in the terms of Actions: a decision, an enum whose texts are places in the marks, or a refusal.
---     text_at_mark    the text under the pair at a place of the marks
+-- What the code decides says in the terms of Actions: a decision, an enum whose texts are parts of the text of the tape, or a refusal.
+--     following     the text that an answer of the code holds, if it holds one, in a list
+--     new_row        the row that the code's record stands for
 --     decision      the action, or the refusal
-use Rattle.std.specs.Prelude.{ℕ, ◌%◌, ◌/◌, ◌^◌, List, [], Result, Ok, Err, option_map, option_to_list}
+use Rattle.std.specs.Prelude.{ℕ, ◌%◌, ◌/◌, ◌^◌, List, [], ◌∷◌, Option, Some, None, Result, Ok, Err}
+use Rattle.std.specs.Borrow.{Bor}
 use Rattle.text.specs.Text.{Text}
 use Rattle.sheet.specs.declared.refusal.Refusal.{Refusal}
 use Rattle.sheet.specs.Returned.{refusal_number}
 use Rattle.sheet.specs.Rows.{Row, row}
-use Rattle.xsd_parser.specs.Tape.{pair_text}
 use Rattle.xsd_parser.specs.Handlers.{Outcome, ok, refuse}
-use Rattle.tape.specs.Pairs.{pair_at}
-use Rattle.rows.specs.Texts.{used_texts}
 use Rattle.xsd_actions.specs.declared.NewRow.{NewRow}
-use Rattle.xsd_actions.specs.declared.NewContent.{NewContent}
 use Rattle.xsd_actions.specs.declared.Decision.{Decision}
 use Rattle.xsd_actions.specs.Actions.{Action}
 
-unfoldable pub text_at_mark : Text → List ℕ → ℕ → Text
-text_at_mark text marks at = pair_text text (pair_at marks at)
+unfoldable pub following : Option (Bor Text) → List Text
+following (Some v) = v.now ∷ []
+following None = []
 
-unfoldable pub new_row : Text → List ℕ → NewRow → Row
-new_row text marks n =
-    row n.tag (used_texts n.pairs (text_at_mark text marks n.first) (text_at_mark text marks n.second)) n.a n.b n.c
+unfoldable pub new_row : NewRow → Row
+new_row n = row n.tag (n.first.now ∷ following n.second) n.a n.b n.c
 
-unfoldable pub following : Text → List ℕ → NewContent → List Text
-following text marks n = option_to_list (option_map (text_at_mark text marks) n.second)
-
-unfoldable pub decision : Text → List ℕ → Result Decision Refusal → Outcome Action
-decision text marks (Err r) = refuse (refusal_number r)
-decision text marks (Ok Decision.Keep) = ok Action.keep
-decision text marks (Ok (Decision.Root at)) = ok (Action.root (text_at_mark text marks at))
-decision text marks (Ok (Decision.OpenSimple n)) = ok (Action.open_simple n.event (text_at_mark text marks n.name))
-decision text marks (Ok (Decision.OpenComplex n)) = ok (Action.open_complex n.event (text_at_mark text marks n.name))
-decision text marks (Ok (Decision.Add n)) = ok (Action.add (new_row text marks n))
-decision text marks (Ok (Decision.Characters f)) = ok (Action.add (row f.tag [] (f.count.0 % 2 ^ 32) (f.count.0 / 2 ^ 32) 0))
-decision text marks (Ok (Decision.Digits f)) = ok (Action.add (row f.tag [] f.count.0 0 0))
-decision text marks (Ok (Decision.Content n)) = ok (Action.content n.tag (following text marks n) n.a)
-decision text marks (Ok (Decision.Base at)) = ok (Action.base (text_at_mark text marks at))
+unfoldable pub decision : Result Decision Refusal → Outcome Action
+decision (Err r) = refuse (refusal_number r)
+decision (Ok Decision.Keep) = ok Action.keep
+decision (Ok (Decision.Root v)) = ok (Action.root v.now)
+decision (Ok (Decision.OpenSimple n)) = ok (Action.open_simple n.event n.name.now)
+decision (Ok (Decision.OpenComplex n)) = ok (Action.open_complex n.event n.name.now)
+decision (Ok (Decision.Add n)) = ok (Action.add (new_row n))
+decision (Ok (Decision.Characters f)) = ok (Action.add (row f.tag [] (f.count.0 % 2 ^ 32) (f.count.0 / 2 ^ 32) 0))
+decision (Ok (Decision.Digits f)) = ok (Action.add (row f.tag [] f.count.0 0 0))
+decision (Ok (Decision.Content n)) = ok (Action.content n.tag (following n.second) n.a)
+decision (Ok (Decision.Base v)) = ok (Action.base v.now)

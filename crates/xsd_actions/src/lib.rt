@@ -1,9 +1,10 @@
-// What an event does to a schema sheet: the reader's mode, and the decisions, whose texts are given by places in the marks.
+// What an event does to a schema sheet: the reader's mode, and the decisions, whose texts are parts of the text of the tape.
 #![tactic(auto)]
 
 use number::{CharacterCount, DigitCount};
 
-// What the handlers go by, beside the open head: the context, nesting, root seen and extension flag of row 0.
+// What the handlers go by, beside the open head: the context, nesting, root seen and extension flag of row 0. Context and nesting
+// may be any number: progress_of reads them from sheets that nobody has judged.
 #[derive(Clone, Copy)]
 pub struct Mode {
     pub context: u32,
@@ -12,23 +13,21 @@ pub struct Mode {
     pub extension: bool,
 }
 
-// A row to add: its tag, how many pairs it uses, where their pairs stand in the marks, and its numbers. An Option for the second would be no plainer: the writer
-// asks for both texts and the number of pairs.
+// A row to add: its tag, its texts, one or two, and its numbers. The numbers stand here and not in RowNumbers of `rows`: what is decided knows no buffers of a sheet.
 #[derive(Clone, Copy)]
-pub struct NewRow {
+pub struct NewRow<'a> {
     pub tag: u32,
-    pub pairs: usize,
-    pub first: usize,
-    pub second: usize,
+    pub first: &'a [u8],
+    pub second: Option<&'a [u8]>,
     pub a: u32,
     pub b: u32,
     pub c: u32,
 }
 
-// A type to open: where the pair of its name stands in the marks, and the number of the event that gives the name.
+// A type to open: its name, and the number of the event that gives the name.
 #[derive(Clone, Copy)]
-pub struct NewType {
-    pub name: usize,
+pub struct NewType<'a> {
+    pub name: &'a [u8],
     pub event: u32,
 }
 
@@ -39,24 +38,24 @@ pub struct Facet<Count> {
     pub count: Count,
 }
 
-// Another content for the open complex type: its tag, and where the pair of the text that follows the name stands in the marks, if one does.
+// Another content for the open complex type: its tag, and the text that follows the name, if one does.
 #[derive(Clone, Copy)]
-pub struct NewContent {
+pub struct NewContent<'a> {
     pub tag: u32,
-    pub second: Option<usize>,
+    pub second: Option<&'a [u8]>,
     pub a: u32,
 }
 
-// What is to be done for an event. Texts are given by the places of their pairs in the marks; past the end is the empty text.
+// What is to be done for an event.
 #[derive(Clone, Copy)]
-pub enum Decision {
+pub enum Decision<'a> {
     Keep,
-    Root(usize),
-    OpenSimple(NewType),
-    OpenComplex(NewType),
-    Add(NewRow),
+    Root(&'a [u8]),
+    OpenSimple(NewType<'a>),
+    OpenComplex(NewType<'a>),
+    Add(NewRow<'a>),
     Characters(Facet<CharacterCount>),
     Digits(Facet<DigitCount>),
-    Content(NewContent),
-    Base(usize),
+    Content(NewContent<'a>),
+    Base(&'a [u8]),
 }

@@ -7,3 +7,4 @@ pub mod Good
 pub mod Clear
 pub mod Bare
 pub mod Convert
+pub mod Named

@@ -1,8 +1,5 @@
--- Row 0 as the code has it, and the test of the used parts that it gives.
+-- Row 0 as the code has it.
 --     as_row0        the code's row 0 as the definitions' row 0
---     parts_fit      the used parts lie inside buffers of the given lengths
-use Rattle.std.specs.Prelude.{ℕ, Bool, ◌&&◌, leb}
-use Rattle.sheet.specs.Lengths.{fits}
 use Rattle.xsd_types.specs.Row0.{Row0}
 use Rattle.xsd_good.specs.declared.row0.Row0.{Row0 as Numbers}
 
@@ -20,7 +17,3 @@ as_row0 z =
       extension = z.extension;
       choice = z.choice;
     }
-
--- `used_parts` of the crate `sheet`, of row 0 and two lengths
-unfoldable pub parts_fit : Row0 → ℕ → ℕ → Bool
-parts_fit z rows names = leb 2 z.rows_used && fits z.rows_used z.names_used rows names

@@ -1,4 +1,4 @@
-// The test of a good schema sheet. `forms`: the tests of one row; `row0`: row 0 and its tests; `scan`: one pass over the rows; `count`: order 7's count;
+// The test of a good schema sheet. `forms`: the tests of one row; `row0`: row 0 and its tests; `scan`: what is read of all rows; `count`: order 7's count;
 // `clear`: clearing; `convert`: order 7's conversion.
 #![tactic(auto)]
 
@@ -14,8 +14,12 @@ ghost use Rattle.sheet.specs.Calls.{sheet};
 ghost use Rattle.xsd_types.specs.Good.{bare_good};
 ghost use Rattle.xsd_types.specs.Count.{bare, good};
 
+use crate::forms::row::SchemaRow;
 use crate::row0::tests;
 use rows::behind;
+use rows::lengths::parts_fit;
+use rows::part::SheetPart;
+use rows::scan::scan_sheet;
 use sheet::limits;
 
 // Whether the sheet is good but for its count: a of row 1 is not looked at.
@@ -26,24 +30,28 @@ pub fn is_bare_good(rows: &[u32], names: &[u8]) -> bool
         return false;
     }
     let z = row0::row0_at(rows);
-    if !tests::used_parts(z, rows.len(), names.len()) {
+    if !parts_fit(z.rows_used, z.names_used, rows.len(), names.len()) {
         return false;
     }
-    let n = z.rows_used as usize;
+    let part = SheetPart {
+        rows,
+        names,
+        end: z.rows_used as usize,
+    };
     let used = z.names_used as usize;
-    let Some(s) = scan::scan_sheet(rows, n, z.names_used) else {
+    let Some(s) = scan_sheet::<SchemaRow>(&part, scan::bare_row1(rows), z.names_used) else {
         return false;
     };
     tests::row0_form(z)
         & (s.end == used)
-        & behind::zeros_behind(rows, names, n, used)
+        & behind::zeros_behind(rows, names, part.end, used)
         & behind::names_test(names, used)
         & tests::limits(z)
         & tests::root_test(z)
         & tests::nesting_test(z)
         & tests::context_test(z.context, s.head)
         & tests::extension_test(z, s.head)
-        & scan::events_test(rows, n, z.events)
+        & scan::events_test(&part, z.events)
 }
 
 // Whether the sheet is good: its count is asked last, since counting needs the rest.

@@ -25,6 +25,7 @@ pub struct Row0 {
 }
 
 // Row 0 of a sheet's rows.
+#[tactic(auto, unfolding(xsd_types::specs::Row0::row0_from, sheet::specs::Rows::ten))]
 pub fn row0_at(rows: &[u32]) -> Row0
     requires { 10 ≤ length rows.now }
     ensures { as_row0 result ≡ row0_from (ten rows.now) }
@@ -45,6 +46,7 @@ pub fn row0_at(rows: &[u32]) -> Row0
 }
 
 // Row 0 as the ten numbers that a sheet holds.
+#[tactic(auto, unfolding(xsd_types::specs::Row0::row0_ten, sheet::specs::Rows::numbers))]
 pub fn row0_numbers(z: Row0) -> [u32; 10]
     ensures { result ≡ numbers (row0_ten (as_row0 z) ∷ []) }
 {

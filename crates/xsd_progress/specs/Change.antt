@@ -4,8 +4,7 @@
 --     SeenAfter     root seen after an event of a kind
 --     Changed       the record after an event that arrives: the open tags counted, the other three by `mode_after`
 --     EventAfter    the open tags counted, and the mode by `mode_after`
-use Rattle.std.specs.Prelude.{ℕ, ◌≡◌, Bool, List, Ok}
-use Rattle.text.specs.Text.{Text}
+use Rattle.std.specs.Prelude.{ℕ, ◌≡◌, Bool, Ok}
 use Rattle.xsd_parser.specs.Event.{Tag}
 use Rattle.xsd_parser.specs.Kinds.{kind_number}
 use Rattle.xsd_parser.specs.Handlers.{ok}
@@ -22,16 +21,16 @@ unfoldable pub mode_with : Bool → OpenTags → Mode
 mode_with seen o = record { context = o.context; nesting = o.nesting; root_seen = seen; extension = o.extension }
 
 pub record ModeAfter (by_standard : Bool) (kind : ℕ) (d : Decision) (m m' : Mode) : Type 0 where
-  pub is : (t : Tag) (text : Text) (marks : List ℕ) (a : Action) → decision text marks (Ok d) ≡ ok a → m' ≡ mode_after by_standard (event_as kind t) a m
+  pub is : (t : Tag) (a : Action) → decision (Ok d) ≡ ok a → m' ≡ mode_after by_standard (event_as kind t) a m
 
 pub record SeenAfter (kind : ℕ) (d : Decision) (seen seen' : Bool) : Type 0 where
-  pub is : (t : Tag) (text : Text) (marks : List ℕ) (a : Action) → decision text marks (Ok d) ≡ ok a → (by_standard : Bool) (m : Mode) → m.root_seen ≡ seen → seen' ≡ (mode_after by_standard (event_as kind t) a m).root_seen
+  pub is : (t : Tag) (a : Action) → decision (Ok d) ≡ ok a → (by_standard : Bool) (m : Mode) → m.root_seen ≡ seen → seen' ≡ (mode_after by_standard (event_as kind t) a m).root_seen
 
 pub record Changed (x : Arrival) (o o' : OpenTags) : Type 0 where
   pub opened : o'.open_tags ≡ x.open_tags
-  pub mode_is : (seen : Bool) (t : Tag) (text : Text) (marks : List ℕ) (a : Action) → decision text marks (Ok x.decision) ≡ ok a
+  pub mode_is : (seen : Bool) (t : Tag) (a : Action) → decision (Ok x.decision) ≡ ok a
       → mode_with (mode_after x.by_standard (event_as (kind_number x.kind) t) a (mode_with seen o)).root_seen o' ≡ mode_after x.by_standard (event_as (kind_number x.kind) t) a (mode_with seen o)
 
 pub record EventAfter (x : Arrival) (m : Mode) (r : Arrived) : Type 0 where
   pub opened : r.open_tags ≡ x.open_tags
-  pub mode_is : (t : Tag) (text : Text) (marks : List ℕ) (a : Action) → decision text marks (Ok x.decision) ≡ ok a → r.mode ≡ mode_after x.by_standard (event_as (kind_number x.kind) t) a m
+  pub mode_is : (t : Tag) (a : Action) → decision (Ok x.decision) ≡ ok a → r.mode ≡ mode_after x.by_standard (event_as (kind_number x.kind) t) a m

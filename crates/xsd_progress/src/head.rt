@@ -4,7 +4,7 @@ ghost use Rattle.xsd_progress.specs.Open.{TagOfHead};
 use sheet::limits;
 use xsd_types::contexts;
 
-// The answer where no type is open.
+// The answer where no type is open: no Option, since 0 is no row's tag, the definitions have 0 there, and a decision only compares the answer with tags.
 const NO_HEAD: u32 = 0;
 
 // The tag of the open type's head.

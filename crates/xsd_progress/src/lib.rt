@@ -9,21 +9,20 @@ pub mod open_tags;
 ghost use Rattle.std.specs.Prelude.{true, ◌≡◌, ◌*◌, ◌≤◌, length};
 ghost use Rattle.sheet.specs.Rows.{ten};
 ghost use Rattle.sheet.specs.Form.{rows_used_in, words};
-ghost use Rattle.xsd_progress.specs.Progress.{progress_in, row0_numbers};
+ghost use Rattle.xsd_progress.specs.Progress.{progress_in, used_in, row0_numbers};
 
 use rows::numbers::Used;
 use xsd_actions::Mode;
 use xsd_good::row0::Row0;
 use xsd_good::{row0, scan};
 
-// The numbers of row 0, and the row of the open type's head.
+// The numbers of row 0 but what is used, which goes with the sheet's buffers, and the row of the open type's head.
 #[derive(Clone, Copy)]
 pub struct Progress {
     pub mode: Mode,
     pub events: u32,
     pub open_tags: u32,
     pub by_standard: bool,
-    pub used: Used,
     pub head: usize,
 }
 
@@ -47,23 +46,31 @@ pub fn progress_of(rows: &[u32]) -> Progress
         events: z.events,
         open_tags: z.open_tags,
         by_standard: z.choice == 1,
-        used: Used {
-            rows: n,
-            names: z.names_used as usize,
-        },
         head,
     }
 }
 
+// How much of a sheet is used.
+pub fn used_of(rows: &[u32]) -> Used
+    requires { 10 ≤ length rows.now }
+    ensures { result ≡ used_in rows.now }
+{
+    let z = row0::row0_at(rows);
+    Used {
+        rows: z.rows_used as usize,
+        names: z.names_used as usize,
+    }
+}
+
 // Row 0 of where a reading stands, as numbers.
-pub fn row0_of(p: Progress) -> [u32; 10]
-    requires { (p.used.rows ≤ 65536) × (p.used.names ≤ 65536) }
-    ensures { result ≡ row0_numbers p }
+pub fn row0_of(p: Progress, used: Used) -> [u32; 10]
+    requires { (used.rows ≤ 65536) × (used.names ≤ 65536) }
+    ensures { result ≡ row0_numbers p used }
 {
     row0::row0_numbers(Row0 {
         first: 0,
-        rows_used: p.used.rows as u32,
-        names_used: p.used.names as u32,
+        rows_used: used.rows as u32,
+        names_used: used.names as u32,
         context: p.mode.context,
         nesting: p.mode.nesting,
         root_seen: u32::from(p.mode.root_seen),

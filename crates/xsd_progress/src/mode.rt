@@ -1,14 +1,13 @@
 // The mode of the reader and the open tags after an event.
-ghost use Rattle.std.specs.Prelude.{◌≡◌, List, ℕ, ◌≤◌, Ok};
-ghost use Rattle.text.specs.Text.{Text};
+ghost use Rattle.std.specs.Prelude.{◌≡◌, ◌≤◌, Ok};
 ghost use Rattle.sheet.specs.Limits.{open_tags_limit};
 ghost use Rattle.xsd_parser.specs.Event.{Tag, Event};
 ghost use Rattle.xsd_parser.specs.Kinds.{kind_number};
 ghost use Rattle.xsd_parser.specs.Handlers.{ok};
 ghost use Rattle.xsd_parser.specs.Step.{tags_after};
-ghost use Rattle.xsd_actions.specs.Actions.{Action, tag_mode, close_mode};
+ghost use Rattle.xsd_actions.specs.Actions.{Action, context_after, opens_type, raises, root_after, flag_after, tag_mode, close_mode};
 ghost use Rattle.xsd_actions.specs.Answers.{decision};
-ghost use Rattle.xsd_progress.specs.Modes.{context_of, opens_of, raises_of, nesting_of, root_of, flag_of};
+ghost use Rattle.xsd_progress.specs.Modes.{action_of, nesting_of};
 ghost use Rattle.xsd_progress.specs.Answers.{tags, event_as};
 
 use sheet::limits;
@@ -17,9 +16,10 @@ use xsd_actions::{Decision, Mode};
 use xsd_parser::kinds::Kind;
 use xsd_types::contexts;
 
-// Only a start enters the schema; a type that is opened is the context.
+// Only a start enters the schema; a type that is opened is the context. `start` is passed, as in the definition: one arm of four asks for it.
+#[tactic(auto, unfolding(xsd_actions::specs::Actions::context_after))]
 fn context_after(start: bool, d: Decision, context: u32) -> u32
-    ensures { result ≡ context_of start d context }
+    ensures { result ≡ context_after start (action_of d.entry) context }
 {
     match d {
         Decision::Root(_) if start => contexts::SCHEMA,
@@ -30,15 +30,16 @@ fn context_after(start: bool, d: Decision, context: u32) -> u32
 }
 
 // Whether the decision opens a type.
+#[tactic(auto, unfolding(xsd_actions::specs::Actions::opens_type))]
 fn opens_type(d: Decision) -> bool
-    ensures { result ≡ opens_of d }
+    ensures { result ≡ opens_type (action_of d.entry) }
 {
     matches!(d, Decision::OpenSimple(_) | Decision::OpenComplex(_))
 }
 
 // A start raises the nesting where a type was open before it, and by the standard in the schema too, unless it opens a type there.
 fn raises(by_standard: bool, d: Decision, context: u32) -> bool
-    ensures { result ≡ raises_of by_standard d context }
+    ensures { result ≡ raises by_standard (action_of d.entry) context }
 {
     (contexts::SIMPLE_TYPE <= context)
         | ((context == contexts::SCHEMA) & !opens_type(d) & by_standard)
@@ -49,38 +50,40 @@ fn nesting_after(raised: bool, nesting: u32) -> u32
     requires { nesting ≤ open_tags_limit }
     ensures { result ≡ nesting_of raised nesting }
 {
-    if raised { nesting + 1 } else { nesting }
+    nesting + u32::from(raised)
 }
 
 // Whether the root was seen, after a start or an empty tag.
+#[tactic(auto, unfolding(xsd_actions::specs::Actions::root_after))]
 pub fn root_after(d: Decision, seen: bool) -> bool
-    ensures { result ≡ root_of d seen }
+    ensures { result ≡ root_after (action_of d.entry) seen }
 {
     seen | matches!(d, Decision::Root(_))
 }
 
 // Another content starts without the flag; the base of simple content sets it.
-fn flag_after(d: Decision, complex: bool, flag: bool) -> bool
-    ensures { result ≡ flag_of d complex flag }
+#[tactic(auto, unfolding(xsd_actions::specs::Actions::flag_after))]
+fn flag_after(d: Decision, context: u32, flag: bool) -> bool
+    ensures { result ≡ flag_after (action_of d.entry) context flag }
 {
     match d {
         Decision::Content(_) => false,
-        Decision::Base(_) => complex,
+        Decision::Base(_) => context == contexts::COMPLEX_TYPE,
         _ => flag,
     }
 }
 
-// The mode after a start (start is true) or an empty tag.
+// The mode after a start (start is true) or an empty tag. One function, as in the definition: two would be equal but for the nesting and one arm of the context.
 pub fn tag_mode(by_standard: bool, start: bool, d: Decision, m: Mode) -> Mode
     requires { m.nesting ≤ open_tags_limit }
-    ensures { (text : Text) (marks : List ℕ) (a : Action) → decision text marks (Ok d) ≡ ok a → result ≡ tag_mode by_standard start a m }
+    ensures { (a : Action) → decision (Ok d.entry) ≡ ok a → result ≡ tag_mode by_standard start a m }
 {
     let raised = start & raises(by_standard, d, m.context);
     Mode {
         context: context_after(start, d, m.context),
         nesting: nesting_after(raised, m.nesting),
         root_seen: root_after(d, m.root_seen),
-        extension: flag_after(d, m.context == contexts::COMPLEX_TYPE, m.extension),
+        extension: flag_after(d, m.context, m.extension),
     }
 }
 
@@ -127,8 +130,15 @@ fn close_tags(open_tags: u32) -> Result<u32, Refusal>
     }
 }
 
+// The kind that an event of a number has: a number that is no kind's stands for an empty tag.
+pub fn kind_of(number: u32) -> Kind
+    ensures { (t : Tag) → event_as (kind_number result) t ≡ event_as number t }
+{
+    Kind::try_from(number).unwrap_or(Kind::Empty)
+}
+
 // How many tags are open after an event of a kind, or the refusal.
-pub fn tags_after(kind: Kind, open_tags: u32) -> Result<u32, Refusal>
+pub fn tags_of(kind: Kind, open_tags: u32) -> Result<u32, Refusal>
     ensures { (t : Tag) → tags result ≡ tags_after (event_as (kind_number kind) t) open_tags }
 {
     match kind {
@@ -136,4 +146,11 @@ pub fn tags_after(kind: Kind, open_tags: u32) -> Result<u32, Refusal>
         Kind::Empty => Ok(open_tags),
         Kind::Close => close_tags(open_tags),
     }
+}
+
+// The same by any number, as the definition has it.
+pub fn tags_after(kind: u32, open_tags: u32) -> Result<u32, Refusal>
+    ensures { (t : Tag) → tags result ≡ tags_after (event_as kind t) open_tags }
+{
+    tags_of(kind_of(kind), open_tags)
 }

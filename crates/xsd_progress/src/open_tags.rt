@@ -8,7 +8,8 @@ use crate::mode::{close_mode, root_after, tag_mode};
 use xsd_actions::{Decision, Mode};
 use xsd_parser::kinds::Kind;
 
-// The context, the nesting, the open tags and the extension flag of row 0. Root seen, the events done and the rows used stand beside it.
+// The context, the nesting, the open tags and the extension flag of row 0. Root seen, the events done and the rows used stand beside it. This record, Arrived and `change`, to
+// which it is lent, are forms of paper 01 that are kept (docs/DECISIONS.md, 36).
 #[derive(Clone, Copy)]
 pub struct OpenTags {
     pub context: u32,
@@ -19,9 +20,9 @@ pub struct OpenTags {
 
 // An event that is counted and decided: its kind, what was decided, the open tags after it, and the sheet's choice.
 #[derive(Clone, Copy)]
-pub struct Arrival {
+pub struct Arrival<'a> {
     pub kind: Kind,
-    pub decision: Decision,
+    pub decision: Decision<'a>,
     pub open_tags: u32,
     pub by_standard: bool,
 }
@@ -36,7 +37,7 @@ pub struct Arrived {
 // The mode after an event of a kind.
 fn mode_after(by_standard: bool, kind: Kind, d: Decision, m: Mode) -> Mode
     requires { m.nesting ≤ open_tags_limit }
-    ensures { ModeAfter by_standard (kind_number kind) d m result }
+    ensures { ModeAfter by_standard (kind_number kind) d.entry m result }
 {
     match kind {
         Kind::Start => tag_mode(by_standard, true, d, m),
@@ -60,7 +61,7 @@ pub fn mode_of(o: OpenTags, seen: bool) -> Mode
 // A record that is lent is changed as the event arrives.
 pub fn change(r: &mut OpenTags, a: Arrival)
     requires { r.old.nesting ≤ open_tags_limit }
-    ensures { Changed a r.old r.new }
+    ensures { Changed a.entry r.old r.new }
 {
     let m = mode_after(a.by_standard, a.kind, a.decision, mode_of(*r, false));
     *r = OpenTags {
@@ -73,7 +74,7 @@ pub fn change(r: &mut OpenTags, a: Arrival)
 
 // Whether the root was seen, after an event of a kind.
 fn seen_after(kind: Kind, d: Decision, seen: bool) -> bool
-    ensures { SeenAfter (kind_number kind) d seen result }
+    ensures { SeenAfter (kind_number kind) d.entry seen result }
 {
     match kind {
         Kind::Start | Kind::Empty => root_after(d, seen),
@@ -84,7 +85,7 @@ fn seen_after(kind: Kind, d: Decision, seen: bool) -> bool
 // An event arrives: the record is lent and changed, and root seen stands beside it.
 pub fn event_after(a: Arrival, m: Mode, open_tags: u32) -> Arrived
     requires { m.nesting ≤ open_tags_limit }
-    ensures { EventAfter a m result }
+    ensures { EventAfter a.entry m result }
 {
     let mut r = OpenTags {
         context: m.context,

@@ -15,9 +15,10 @@ ghost use Rattle.xsd_read.specs.Good.{GoodSheet, GoodRead, CountedSheet, Counted
 use crate::records::read_records;
 use rows::answers::Answer;
 use rows::part::SheetPart;
+use rows::writer::SheetWriter;
 use rows::{lengths, row};
-use sheet::limits;
 use sheet::refusal::Refusal;
+use tape::view::View;
 use xsd_good::count;
 use xsd_refused::count_refused;
 
@@ -25,7 +26,7 @@ use xsd_refused::count_refused;
 fn read_lengths(rows: usize, names: usize, text: usize, marks: usize) -> bool
     ensures { result ≡ (sheet_lengths rows names && tape_lengths text marks) }
 {
-    lengths::sheet_lengths(rows, names) & ((text <= limits::TEXT) & (marks <= limits::MARKS))
+    lengths::sheet_lengths(rows, names) & lengths::tape_lengths(text, marks)
 }
 
 // Reads the piece into a good sheet that has 0 for its count, and sets its row 0 anew.
@@ -34,8 +35,10 @@ fn read_good(rows: &mut [u32], names: &mut [u8], text: &[u8], marks: &[u32]) -> 
     ensures { GoodRead rows.old names.old text.now marks.now (answer_of result) (sheet rows.new names.new) }
 {
     let from = xsd_progress::progress_of(rows);
-    let to = read_records(rows, names, text, marks, from);
-    let row0 = xsd_progress::row0_of(to.progress);
+    let used = xsd_progress::used_of(rows);
+    let mut sheet = SheetWriter { rows, names, used };
+    let to = read_records(&mut sheet, View { text, marks }, from);
+    let row0 = xsd_progress::row0_of(to.progress, sheet.used);
     row::put_row0(rows, row0);
     to.answer
 }

@@ -6,8 +6,10 @@ ghost use Rattle.xsd_read.specs.Records.{stopped_at, RecordsRead};
 
 use crate::event::on_event;
 use rows::answers::{Answer, Refused};
+use rows::writer::SheetWriter;
 use sheet::refusal::Refusal;
 use tape::record_at;
+use tape::view::View;
 use text::is_text;
 use xsd_progress::Progress;
 
@@ -39,22 +41,17 @@ fn stopped_at(refusal: Refusal, place: usize, progress: Progress) -> ReadTo
 }
 
 // Reads the records of a piece in order, up to the first that is refused.
-pub fn read_records(
-    rows: &mut [u32],
-    names: &mut [u8],
-    text: &[u8],
-    marks: &[u32],
-    from: Progress,
-) -> ReadTo
-    requires { Standing rows.old names.old text.now from }
-    ensures { RecordsRead rows.old names.old text.now marks.now from result rows.new names.new }
+pub fn read_records(sheet: &mut SheetWriter, v: View<'_, '_>, from: Progress) -> ReadTo
+    requires { Standing sheet.old from }
+    ensures { RecordsRead sheet.old v.entry.text.now v.entry.marks.now from result sheet.new }
 {
-    let plain = is_plain(text, marks.len());
+    let plain = is_plain(v.text, v.marks.len());
     let mut progress = from;
     let mut place = 0;
     let mut at = 0;
+    // No `for`: each record says where the next starts, and how many there are is known at the end.
     loop {
-        let t = match record_at(text, marks, at, plain) {
+        let t = match record_at(v, at, plain) {
             Ok(Some(t)) => t,
             Ok(None) => {
                 return ReadTo {
@@ -64,7 +61,7 @@ pub fn read_records(
             }
             Err(refusal) => return stopped_at(refusal, place, progress),
         };
-        progress = match on_event(rows, names, text, marks, t, progress) {
+        progress = match on_event(sheet, v, t, progress) {
             Ok(next) => next,
             Err(refusal) => return stopped_at(refusal, place, progress),
         };

@@ -45,7 +45,8 @@ pub fn reference_of(name: &[u8]) -> u32
     reference_number(map_builtin(name))
 }
 
-// 13: whether lowering refuses the simple type whose head stands at a place. A code enum's base is not looked at.
+// 13: whether lowering refuses the simple type whose head stands at a place. A code enum's base is not looked at, another's by the number of its reference, as the
+// definition has it.
 pub fn is_refused(part: &SheetPart<'_>, place: usize) -> bool
     requires { place < part.now.end }
     ensures { result ≡ refused_row (row_at part.now.rows.now part.now.names.now place) (rows_from part.now.rows.now part.now.names.now (place + 1) part.now.end) }
@@ -64,6 +65,7 @@ pub fn first_refused(part: &SheetPart<'_>) -> Option<usize>
     requires { 2 ≤ part.now.end }
     ensures { let place = refused_place 2 (rows_from part.now.rows.now part.now.names.now 2 part.now.end) in MatchOption result (place ≡ 0) (λ p. (0 < p) × (place ≡ p)) }
 {
+    // No `find`: the definition goes through the rows as a list, as this loop does; by `find` its invariant says nothing, and more laws are needed.
     for p in 2..part.end {
         if is_refused(part, p) {
             return Some(p);

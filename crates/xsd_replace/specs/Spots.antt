@@ -9,7 +9,9 @@ use Rattle.std.specs.Prelude.{ℕ, ◌+◌, ◌-◌, ◌≤◌, ◌≡◌, List,
 use Rattle.text.specs.Text.{Text}
 use Rattle.sheet.specs.Rows.{Row, row}
 use Rattle.rows.specs.declared.numbers.Used.{Used}
+use Rattle.rows.specs.declared.writer.SheetWriter.{SheetWriter}
 use Rattle.rows.specs.Packing.{Holds}
+use Rattle.rows.specs.Writer.{SameBuffers, Held}
 use Rattle.xsd_replace.specs.Offsets.{RightPairs}
 
 pub data Paired : List Row → Type 0 where
@@ -41,12 +43,11 @@ pub record TextAt (rows names : List ℕ) (used : Used) (place pair : ℕ) (x : 
   pub right : RightPairs (spot_row x x.old)
   pub paired : Paired x.us
 
-pub record TextRoom (rows names : List ℕ) (used : Used) (place pair new : ℕ) : Type 0 where
+pub record TextRoom (w : SheetWriter) (place pair new : ℕ) : Type 0 where
   pub spot : Spot
-  pub text : TextAt rows names used place pair spot
-  pub room : used.names - length spot.old + new ≤ length names
+  pub text : TextAt w.rows.now w.names.now w.used place pair spot
+  pub room : w.used.names - length spot.old + new ≤ length w.names.now
 
-pub record TextReplaced (rows names : List ℕ) (used : Used) (place pair : ℕ) (new : Text) (rows' names' : List ℕ) (used' : Used) : Type 0 where
-  pub rows_length : length rows' ≡ length rows
-  pub names_length : length names' ≡ length names
-  pub holds : (x : Spot) → TextAt rows names used place pair x → Holds rows' names' used' x.z (spot_rows x new)
+pub record TextReplaced (w : SheetWriter) (place pair : ℕ) (new : Text) (w' : SheetWriter) : Type 0 where
+  pub same : SameBuffers w w'
+  pub holds : (x : Spot) → TextAt w.rows.now w.names.now w.used place pair x → Held w' x.z (spot_rows x new)

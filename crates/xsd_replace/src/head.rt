@@ -2,13 +2,16 @@
 // was the packing, and of what it is the packing now.
 ghost use Rattle.std.specs.Prelude.{◌≡◌, List, ℕ, ◌+◌, ◌-◌, ◌*◌, ◌≤◌, length, replicate};
 ghost use Rattle.std.proofs.Math.Seq.{paste};
-ghost use Rattle.text.specs.Text.{Text};
+ghost use Rattle.text.specs.Text.{Text, join};
 ghost use Rattle.sheet.specs.Rows.{Row, names_of};
+ghost use Rattle.rows.specs.Texts.{used_texts, used_length, listed};
+ghost use Rattle.rows.specs.Writer.{SameBuffers};
 ghost use Rattle.xsd_replace.specs.Head.{HeadAt, HeadRoom, HeadReplaced};
 
 use rows::numbers::{RowNumbers, Used, pair_at};
 use rows::row::set_row;
 use rows::texts::put_texts;
+use rows::writer::SheetWriter;
 
 // The place behind the first text of a row: where the names of a replaced head's second text go.
 pub fn name_end(rows: &[u32], place: usize) -> usize
@@ -20,39 +23,41 @@ pub fn name_end(rows: &[u32], place: usize) -> usize
 }
 
 // Frees the rows from `place` on, and the names from `end` on.
-fn cut(rows: &mut [u32], names: &mut [u8], used: Used, place: usize, end: usize)
-    requires rows { (place ≤ used.rows) × (10 * used.rows ≤ length rows.old) }
-    requires names { (end ≤ used.names) × (used.names ≤ length names.old) }
-    ensures rows { rows.new ≡ paste rows.old (10 * place) (replicate (10 * (used.rows - place)) 0) (10 * (used.rows - place)) }
-    ensures names { names.new ≡ paste names.old end (replicate (used.names - end) 0) (used.names - end) }
+fn cut(sheet: &mut SheetWriter, place: usize, end: usize)
+    requires rows { (place ≤ sheet.old.used.rows) × (10 * sheet.old.used.rows ≤ length sheet.old.rows.now) }
+    requires names { (end ≤ sheet.old.used.names) × (sheet.old.used.names ≤ length sheet.old.names.now) }
+    ensures same { SameBuffers sheet.old sheet.new }
+    ensures rows { sheet.new.rows.now ≡ paste sheet.old.rows.now (10 * place) (replicate (10 * (sheet.old.used.rows - place)) 0) (10 * (sheet.old.used.rows - place)) }
+    ensures names { sheet.new.names.now ≡ paste sheet.old.names.now end (replicate (sheet.old.used.names - end) 0) (sheet.old.used.names - end) }
 {
-    rows[10 * place..10 * used.rows].fill(0);
-    names[end..used.names].fill(0);
+    sheet.rows[10 * place..10 * sheet.used.rows].fill(0);
+    sheet.names[end..sheet.used.names].fill(0);
 }
 
-// Gives the open type's row other numbers and a second text, keeps its name, and frees the rows
-// and names behind it.
-pub fn replace_head(
-    rows: &mut [u32],
-    names: &mut [u8],
-    used: Used,
-    place: usize,
-    n: RowNumbers,
-    second: &[u8],
-    pairs: usize,
-) -> Used
-    requires head { HeadRoom rows.old names.old used place pairs (length second.now) }
+// Gives the open type's row other numbers and so many pairs, keeps its name, and frees the rows and names behind it.
+fn set_head(sheet: &mut SheetWriter, place: usize, n: RowNumbers, second: &[u8], pairs: usize)
+    requires head { HeadRoom sheet.old place (used_length (pairs - 1) (length second.now) (length second.now)) }
     requires pairs { (1 ≤ pairs) × (pairs ≤ 2) }
-    requires names { length names.old ≤ 65536 }
-    ensures { HeadReplaced rows.old names.old used place n pairs second.now rows.new names.new result }
+    ensures { HeadReplaced sheet.old place n (used_texts (pairs - 1) second.now second.now) sheet.new }
 {
-    let name = pair_at(rows, 10 * place + 1);
+    let name = sheet.pair_at(10 * place + 1);
     let end = name.at + name.len;
-    cut(rows, names, used, place, end);
-    set_row(rows, place, n, pairs, name.at, name.len, second.len());
-    let names_end = put_texts(names, end, second, second, pairs - 1);
-    Used {
+    cut(sheet, place, end);
+    set_row(sheet.rows, place, n, pairs, name.at, name.len, second.len());
+    let names_end = put_texts(sheet.names, end, second, second, pairs - 1);
+    sheet.used = Used {
         rows: place + 1,
         names: names_end,
+    };
+}
+
+// Gives the open type's row other numbers and perhaps a second text, keeps its name, and frees the rows and names behind it.
+pub fn replace_head(sheet: &mut SheetWriter, place: usize, n: RowNumbers, second: Option<&[u8]>)
+    requires { HeadRoom sheet.old place (length (join (listed second))) }
+    ensures { HeadReplaced sheet.old place n (listed second.entry) sheet.new }
+{
+    match second {
+        Some(text) => set_head(sheet, place, n, text, 2),
+        None => set_head(sheet, place, n, b"", 1),
     }
 }

@@ -17,7 +17,7 @@ pub fn reoffset_row(rows: &mut [u32], place: usize, end: usize, at: usize) -> us
     let n = numbers_at(rows, place);
     let first = pair_at(rows, 10 * place + 1);
     let second = pair_at(rows, 10 * place + 3);
-    let pairs = used_pairs(n.tag, n.a) as usize;
+    let pairs = used_pairs(n.tag, n.a);
     set_row(rows, place, n, pairs, at, first.len, second.len);
     at + texts_length(pairs, first.len, second.len)
 }

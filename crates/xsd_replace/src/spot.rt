@@ -6,6 +6,7 @@ ghost use Rattle.xsd_replace.specs.Spots.{Spot, TextAt, TextRoom, TextReplaced};
 use crate::offsets::reoffset;
 use buffer::replace::replace_names;
 use rows::numbers::{Used, pair_at};
+use rows::writer::SheetWriter;
 
 // The bytes of a row's first or second text.
 pub fn text_length(rows: &[u32], place: usize, pair: usize) -> usize
@@ -17,26 +18,14 @@ pub fn text_length(rows: &[u32], place: usize, pair: usize) -> usize
 }
 
 // Replaces a text of a row. The names behind it move, and the offsets behind it are set anew.
-pub fn replace_text(
-    rows: &mut [u32],
-    names: &mut [u8],
-    used: Used,
-    place: usize,
-    pair: usize,
-    new: &[u8],
-) -> Used
-    requires text { TextRoom rows.old names.old used place pair (length new.now) }
-    requires names { length names.old ≤ 65536 }
-    ensures { TextReplaced rows.old names.old used place pair new.now rows.new names.new result }
+pub fn replace_text(sheet: &mut SheetWriter, place: usize, pair: usize, new: &[u8])
+    requires { TextRoom sheet.old place pair (length new.now) }
+    ensures { TextReplaced sheet.old place pair new.now sheet.new }
 {
-    let first = pair_at(rows, 10 * place + 1);
+    let first = sheet.pair_at(10 * place + 1);
     let i = 10 * place + 2 * pair + 1;
-    let old = pair_at(rows, i);
-    replace_names(names, used.names, old.at, old.len, new);
-    rows[i + 1] = new.len() as u32;
-    let end = reoffset(rows, place, used.rows, first.at);
-    Used {
-        rows: used.rows,
-        names: end,
-    }
+    let old = sheet.pair_at(i);
+    replace_names(sheet.names, sheet.used.names, old.at, old.len, new);
+    sheet.rows[i + 1] = new.len() as u32;
+    sheet.used.names = reoffset(sheet.rows, place, sheet.used.rows, first.at);
 }

@@ -1,4 +1,5 @@
-// Paper 01, "Schema sheet": the contexts of row 0.
+// Paper 01, "Schema sheet": the contexts of row 0. They are numbers and no enum: row 0 is in the memory of the caller, and the mode is read from it, with the number that
+// stands there, also where nobody has judged the sheet.
 
 // "0 none"
 pub const NONE: u32 = 0;

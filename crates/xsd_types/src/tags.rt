@@ -1,4 +1,5 @@
-// Paper 01, "Schema sheet": the tags of the rows, in the order of the numbers.
+// Paper 01, "Schema sheet": the tags of the rows, in the order of the numbers. Numbers and no enum: a row is ten numbers in the caller's memory, read also where nobody has
+// judged it, and the tests ask for ranges of tags.
 
 // "target namespace (always row 1)"
 pub const NAMESPACE: u32 = 1;

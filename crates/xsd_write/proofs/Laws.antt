@@ -4,3 +4,4 @@ pub mod Rows
 pub mod Spell
 pub mod Held
 pub mod Calls
+pub mod Named

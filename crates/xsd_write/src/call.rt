@@ -17,18 +17,12 @@ use rows::lengths;
 use rows::part::SheetPart;
 use sheet::limits;
 use sheet::refusal::Refusal;
-use xsd_good::{row0, scan};
+use xsd_good::{count, row0};
 
 fn write_lengths(rows: usize, names: usize, text: usize) -> bool
     ensures { result ≡ (sheet_lengths rows names && leb text text_limit) }
 {
     lengths::sheet_lengths(rows, names) & (text <= limits::TEXT)
-}
-
-fn zero_text(text: &mut [u8])
-    ensures { text.new ≡ filled (length text.old) [] }
-{
-    text.fill(0);
 }
 
 // From 23 on.
@@ -39,7 +33,7 @@ fn write_held(part: &SheetPart, text: &mut [u8]) -> Answer
 {
     let used = put_schema(text, part);
     if text.len() < used {
-        zero_text(text);
+        text.fill(0);
         return Err(Refusal::TextRoom.into());
     }
     Ok(used)
@@ -50,7 +44,7 @@ fn write_finished(part: &SheetPart, root_seen: bool, text: &mut [u8]) -> Answer
     requires { 2 ≤ part.now.end }
     ensures { wrote (answer_of result) text.new ≡ finished root_seen (unheld_from 1 (part_rows part.now 1)) (part_text part.now) (length text.old) }
 {
-    zero_text(text);
+    text.fill(0);
     if !root_seen {
         return Err(Refusal::NoRoot.into());
     }
@@ -68,8 +62,7 @@ fn write_good(rows: &[u32], names: &[u8], text: &mut [u8]) -> Answer
     ensures { wrote (answer_of result) text.new ≡ write_state (state_of (sheet rows.now names.now)) (length text.old) }
 {
     let z = row0::row0_at(rows);
-    let n = z.rows_used as usize;
-    let end = scan::finished_end(rows, z.context, n);
+    let end = count::finished_place(rows);
     let part = SheetPart { rows, names, end };
     write_finished(&part, z.root_seen == 1, text)
 }

@@ -5,101 +5,104 @@ ghost use Rattle.xsd_written.specs.ByRows.{attribute_text, empty_text, named_tex
 ghost use Rattle.xsd_write.specs.Texts.{as_row};
 ghost use Rattle.xsd_write.specs.Puts.{Writes};
 
-use crate::head::{put_element, put_named};
-use crate::part::{Row, length_of};
+use crate::part::Row;
 use crate::put::Writer;
 use rows::form::in_range;
+use rows::numbers::joined;
 use xsd_types::tags;
 
-fn put_word(writer: &mut Writer, tag: u32)
-    ensures { Writes (bytes "<xs:" ++ facet_word_text tag) writer.old writer.new }
-{
-    match tag {
-        tags::ENUMERATION => writer.put(b"<xs:enumeration"),
-        tags::PATTERN => writer.put(b"<xs:pattern"),
-        tags::MIN_LENGTH => writer.put(b"<xs:minLength"),
-        tags::MAX_LENGTH => writer.put(b"<xs:maxLength"),
-        tags::MIN_INCLUSIVE => writer.put(b"<xs:minInclusive"),
-        tags::MAX_INCLUSIVE => writer.put(b"<xs:maxInclusive"),
-        tags::TOTAL_DIGITS => writer.put(b"<xs:totalDigits"),
-        _ => writer.put(b"<xs:fractionDigits"),
+impl Writer<'_> {
+    fn put_word(&mut self, tag: u32)
+        ensures { Writes (bytes "<xs:" ++ facet_word_text tag) self.old self.new }
+    {
+        match tag {
+            tags::ENUMERATION => self.put(b"<xs:enumeration"),
+            tags::PATTERN => self.put(b"<xs:pattern"),
+            tags::MIN_LENGTH => self.put(b"<xs:minLength"),
+            tags::MAX_LENGTH => self.put(b"<xs:maxLength"),
+            tags::MIN_INCLUSIVE => self.put(b"<xs:minInclusive"),
+            tags::MAX_INCLUSIVE => self.put(b"<xs:maxInclusive"),
+            tags::TOTAL_DIGITS => self.put(b"<xs:totalDigits"),
+            _ => self.put(b"<xs:fractionDigits"),
+        }
     }
-}
 
-fn put_facet_value(writer: &mut Writer, row: Row)
-    ensures { Writes (attribute_text "value" (facet_value_text (as_row row.entry))) writer.old writer.new }
-{
-    if in_range(tags::MIN_LENGTH, tags::MAX_LENGTH, row.numbers.tag) {
-        writer.put_number(b" value=", length_of(row.numbers.a, row.numbers.b));
-    } else if in_range(tags::TOTAL_DIGITS, tags::FRACTION_DIGITS, row.numbers.tag) {
-        writer.put_number(b" value=", row.numbers.a as u64);
-    } else {
-        writer.put_value(b" value=", row.first_text());
+    fn put_facet_value(&mut self, row: Row)
+        ensures { Writes (attribute_text "value" (facet_value_text (as_row row.entry))) self.old self.new }
+    {
+        if in_range(tags::MIN_LENGTH, tags::MAX_LENGTH, row.numbers.tag) {
+            self.put_number(b" value=", joined(row.numbers.a, row.numbers.b));
+        } else if in_range(tags::TOTAL_DIGITS, tags::FRACTION_DIGITS, row.numbers.tag) {
+            self.put_number(b" value=", row.numbers.a as u64);
+        } else {
+            self.put_value(b" value=", row.first_text());
+        }
     }
-}
 
-fn put_facet(writer: &mut Writer, row: Row)
-    ensures { Writes (empty_text (facet_word_text row.entry.numbers.tag) (attribute_text "value" (facet_value_text (as_row row.entry)))) writer.old writer.new }
-{
-    put_word(writer, row.numbers.tag);
-    put_facet_value(writer, row);
-    writer.put(b"/>");
-}
-
-fn put_max(writer: &mut Writer, row: Row)
-    ensures { Writes (attribute_text "maxOccurs" (max_occurs_text (as_row row.entry))) writer.old writer.new }
-{
-    if row.numbers.tag == tags::BOUND_ELEMENT {
-        writer.put_number(b" maxOccurs=", row.numbers.b as u64);
-    } else {
-        writer.put(b" maxOccurs=\"unbounded\"");
+    fn put_facet(&mut self, row: Row)
+        ensures { Writes (empty_text (facet_word_text row.entry.numbers.tag) (attribute_text "value" (facet_value_text (as_row row.entry)))) self.old self.new }
+    {
+        self.put_word(row.numbers.tag);
+        self.put_facet_value(row);
+        self.put(b"/>");
     }
-}
 
-// minOccurs and maxOccurs also where they are the defaults.
-fn put_occurs(writer: &mut Writer, row: Row)
-    ensures { Writes (occurs_text (as_row row.entry)) writer.old writer.new }
-{
-    writer.put_number(b" minOccurs=", row.numbers.a as u64);
-    put_max(writer, row);
-}
-
-fn put_occurring(writer: &mut Writer, row: Row)
-    ensures { Writes (empty_text (bytes "element") (named_text (as_row row.entry) ++ occurs_text (as_row row.entry))) writer.old writer.new }
-{
-    put_named(writer, b"<xs:element name=", row);
-    put_occurs(writer, row);
-    writer.put(b"/>");
-}
-
-// "`use` only if required"
-fn put_use(writer: &mut Writer, row: Row)
-    ensures { Writes (use_text (as_row row.entry)) writer.old writer.new }
-{
-    if row.numbers.a == 1 {
-        writer.put(b" use=\"required\"");
+    fn put_max(&mut self, row: Row)
+        ensures { Writes (attribute_text "maxOccurs" (max_occurs_text (as_row row.entry))) self.old self.new }
+    {
+        if row.numbers.tag == tags::BOUND_ELEMENT {
+            self.put_number(b" maxOccurs=", row.numbers.b as u64);
+        } else {
+            self.put(b" maxOccurs=\"unbounded\"");
+        }
     }
-}
 
-fn put_attribute(writer: &mut Writer, row: Row)
-    ensures { Writes (empty_text (bytes "attribute") (named_text (as_row row.entry) ++ use_text (as_row row.entry))) writer.old writer.new }
-{
-    put_named(writer, b"<xs:attribute name=", row);
-    put_use(writer, row);
-    writer.put(b"/>");
-}
+    // minOccurs and maxOccurs also where they are the defaults.
+    fn put_occurs(&mut self, row: Row)
+        ensures { Writes (occurs_text (as_row row.entry)) self.old self.new }
+    {
+        self.put_number(b" minOccurs=", row.numbers.a as u64);
+        self.put_max(row);
+    }
 
-pub fn put_child(writer: &mut Writer, row: Row)
-    ensures { Writes (child_text (as_row row.entry)) writer.old writer.new }
-{
-    let tag = row.numbers.tag;
-    if in_range(tags::ENUMERATION, tags::FRACTION_DIGITS, tag) {
-        put_facet(writer, row);
-    } else if in_range(tags::BOUND_ELEMENT, tags::UNBOUNDED_ELEMENT, tag) {
-        put_occurring(writer, row);
-    } else if tag == tags::CHOICE_VARIANT {
-        put_element(writer, row);
-    } else {
-        put_attribute(writer, row);
+    // This one and `put_attribute` differ in what they put, and in nothing that could be left out.
+    fn put_occurring(&mut self, row: Row)
+        ensures { Writes (empty_text (bytes "element") (named_text (as_row row.entry) ++ occurs_text (as_row row.entry))) self.old self.new }
+    {
+        self.put_named(b"<xs:element name=", row);
+        self.put_occurs(row);
+        self.put(b"/>");
+    }
+
+    // "`use` only if required"
+    fn put_use(&mut self, row: Row)
+        ensures { Writes (use_text (as_row row.entry)) self.old self.new }
+    {
+        if row.numbers.a == 1 {
+            self.put(b" use=\"required\"");
+        }
+    }
+
+    fn put_attribute(&mut self, row: Row)
+        ensures { Writes (empty_text (bytes "attribute") (named_text (as_row row.entry) ++ use_text (as_row row.entry))) self.old self.new }
+    {
+        self.put_named(b"<xs:attribute name=", row);
+        self.put_use(row);
+        self.put(b"/>");
+    }
+
+    pub fn put_child(&mut self, row: Row)
+        ensures { Writes (child_text (as_row row.entry)) self.old self.new }
+    {
+        let tag = row.numbers.tag;
+        if in_range(tags::ENUMERATION, tags::FRACTION_DIGITS, tag) {
+            self.put_facet(row);
+        } else if in_range(tags::BOUND_ELEMENT, tags::UNBOUNDED_ELEMENT, tag) {
+            self.put_occurring(row);
+        } else if tag == tags::CHOICE_VARIANT {
+            self.put_element(row);
+        } else {
+            self.put_attribute(row);
+        }
     }
 }

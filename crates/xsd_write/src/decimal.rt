@@ -9,7 +9,8 @@ fn digit(n: u64) -> u8
     48 + n as u8
 }
 
-// The digits stand from `from` on, up to the end: an array of twenty and a start, since there is no heap.
+// The digits stand from `from` on, up to the end: an array of twenty and a start, since there is no heap. No `write!`: where the room ends it gives an
+// error, and `put` an offset past the end.
 #[derive(Clone, Copy)]
 pub struct Spelled {
     pub digits: [u8; 20],

@@ -1,5 +1,5 @@
-// The texts of a row, and the number of a length facet.
-ghost use Rattle.std.specs.Prelude.{◌≡◌, ◌+◌, ◌*◌, ◌^◌, ◌<◌};
+// The texts of a row.
+ghost use Rattle.std.specs.Prelude.{◌≡◌, ◌<◌};
 ghost use Rattle.xsd_types.specs.Back.{text0, text1};
 ghost use Rattle.xsd_types.specs.Places.{row_at};
 ghost use Rattle.xsd_write.specs.Texts.{as_row};
@@ -30,7 +30,7 @@ impl<'a> Row<'a> {
         }
     }
 
-    // Empty where the row uses no pair.
+    // Empty where the row uses no pair. Two functions and not one with a number: a row's pairs are fields, and a `match` that picks them would be as long.
     pub fn first_text(self) -> &'a [u8]
         ensures { result.now ≡ text0 (as_row self.entry) }
     {
@@ -51,11 +51,4 @@ impl<'a> Row<'a> {
         }
         part_of(self.names, wide(t.at1), wide(t.len1))
     }
-}
-
-// "a low, b high 32 bits"
-pub fn length_of(low: u32, high: u32) -> u64
-    ensures { result ≡ low + high * 2 ^ 32 }
-{
-    low as u64 + high as u64 * 4294967296
 }

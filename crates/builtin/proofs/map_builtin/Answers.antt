@@ -5,6 +5,7 @@ use Rattle.std.proofs.Common.{nat_eq, ℕ}
 use Rattle.std.proofs.Math.Option.{some}
 use Rattle.text.specs.Text.{Text, same, is}
 use Rattle.text.proofs.Laws.Std.{same_is}
+use Rattle.text.proofs.Laws.Tests.{bool_cases}
 use Rattle.builtin.specs.Builtin.{RustType, builtins, first_match, map_builtin}
 use Rattle.builtin.specs.Answers.{entry_at, named, of_builtin}
 use Rattle.builtin.proofs.Laws.Builtins.{place-bound, place-hit, place_other, place_none}
@@ -25,18 +26,15 @@ returns-in_err-place_of c =
 pub entry_at-builtin-requires : goal.entry_at-builtin-requires
 entry_at-builtin-requires c = place-bound c.local_name-word.result.now _ (sym c.place_of.ensures ∙ c.in_ok-place_of.was)
 
-pub returns-then-eq : goal.returns-then-eq
+pub returns : goal.returns
 unfolding map_builtin
-returns-then-eq c =
+returns c =
     let word = c.local_name-word in
     let entry = c.entry_at-builtin in
-    let hit = place-hit word.result.now _ (sym c.place_of.ensures ∙ c.in_ok-place_of.was) (compared _ _ _ _ entry.ensures (sym c.if-eq.ensures)) in
-    ap (λ (n : Text × RustType). some n.1) entry.ensures ∙ sym hit ∙ ap (λ (w : Text). first_match w builtins) word.ensures.bytes
-
-pub returns-else-eq : goal.returns-else-eq
-unfolding map_builtin
-returns-else-eq c =
-    let word = c.local_name-word in
-    let entry = c.entry_at-builtin in
-    let other = place_other word.result.now _ (sym c.place_of.ensures ∙ c.in_ok-place_of.was) (compared _ _ _ _ entry.ensures (sym c.if-eq.ensures)) in
-    sym other ∙ ap (λ (w : Text). first_match w builtins) word.ensures.bytes
+    let place = sym c.place_of.ensures ∙ c.in_ok-place_of.was in
+    bool_cases c.eq.result
+    (λ t. rw (c.then_some.ensures, t)
+    (ap (λ (n : Text × RustType). some n.1) entry.ensures ∙ sym (place-hit word.result.now _ place (compared _ _ _ _ entry.ensures (sym c.eq.ensures ∙ t)))
+    ∙ ap (λ (w : Text). first_match w builtins) word.ensures.bytes))
+    (λ f. rw (c.then_some.ensures, f)
+    (sym (place_other word.result.now _ place (compared _ _ _ _ entry.ensures (sym c.eq.ensures ∙ f))) ∙ ap (λ (w : Text). first_match w builtins) word.ensures.bytes))

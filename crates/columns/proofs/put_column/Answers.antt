@@ -21,9 +21,3 @@ loop-r-preserved c =
     let value = column-number rows h k r _ c.requires.0.source_long (omega arith) small inv.2 in
     let more = filled_more inv.1 (omega (arith, column_fits k h (omega arith), c.requires.0.target_long)) _ value in
     (length-set c.loop-r.out (k * h + r) _ ∙ inv.0, rw (← add_assoc (k * h) r 1) more, above-next rows k r)
-
-pub returns : goal.returns
-returns c =
-    let e : c.loop-r.r ≡ c.args.height = omega arith in
-    let full = rw e at c.loop-r.invariant.1 in
-    (rw (column-next c.args.c c.args.height) full, c.loop-r.invariant.0)

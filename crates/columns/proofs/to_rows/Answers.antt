@@ -1,19 +1,14 @@
 -- `columns::to_rows` meets its contract: 1 by the lengths, else what `put_rows` writes. Assumes nothing.
-use Rattle.std.proofs.Common.{sym, ◌∙◌}
+use Rattle.std.proofs.lemmas.Result.{err_from_is_err_and}
 use Rattle.columns.specs.Columns.{rows_of}
-use Rattle.columns.proofs.Laws.Calls.{lengths-sized, turned-not, turned-to}
+use Rattle.columns.proofs.Laws.Calls.{turned-not, turned-to}
 use Rattle.columns.proofs.to_rows.Goals as goal
 
-pub returns-then-not-same_lengths : goal.returns-then-not-same_lengths
-returns-then-not-same_lengths c =
-    let args = c.args in
-    turned-not rows_of args.columns.now args.rows.now (sym c.same_lengths.ensures ∙ c.if-not-same_lengths.true)
-
-pub put_rows-requires : goal.put_rows-requires
-put_rows-requires c = lengths-sized _ _ (sym c.same_lengths.ensures ∙ c.if-not-same_lengths.false)
+pub returns-in_err-height : goal.returns-in_err-height
+returns-in_err-height c =
+    let p = err_from_is_err_and c.from_residual.result c.from_residual.ensures.1 in
+    let h = c.in_err-height.ensures in
+    rw (p.1, p.2, h.1) (turned-not rows_of _ _ h.0)
 
 pub returns : goal.returns
-returns c =
-    let args = c.args in
-    let same = sym c.same_lengths.ensures ∙ c.if-not-same_lengths.false in
-    turned-to rows_of args.columns.now args.rows.now _ same c.put_rows.ensures
+returns c = turned-to rows_of _ _ _ c.in_ok-height.ensures.0 c.put_rows.ensures

@@ -1,83 +1,81 @@
 -- Laws of the test of the form: the used parts are looked at first, and where they lie inside the buffers the other parts of `graph_form` are those of
--- row 0, of the pass over the rows and of the two buffers. Assumes nothing.
-use Rattle.std.specs.Prelude.{Option, Some, None}
-use mathlib.Core.Path.{◌≡◌, sym, ap, ◌∙◌}
-use mathlib.Core.Bool.{Bool, true, false, ◌&&◌, and_assoc, and-false}
-use mathlib.Core.List.{List}
-use Prim.Native.Nat.{ℕ, ◌-◌, ◌*◌, ◌≤◌, ◌<◌}
+-- row 0, of the pass over the rows, of the counts and of the two buffers. Assumes nothing.
+use Rattle.std.specs.Prelude.{Some, None}
+use mathlib.Core.Path.{◌≡◌, refl, ap}
+use mathlib.Core.Bool.{Bool, true, false, ◌&&◌, and_assoc, and-true, and-false}
+use mathlib.Core.List.{List, [], ◌∷◌}
+use Prim.Native.Nat.{ℕ, ◌-◌, ◌*◌, ◌<◌}
 use native.Mathlib.Omega.{arith}
-use lib.Dec.{eqb, leb}
+use lib.Dec.{eqb}
 use lib.ListN.{length, take, drop}
-use borrow.Author.Tests.{leb-true}
 use Rattle.text.specs.Text.{is_text}
-use Rattle.text.proofs.Laws.Tests.{three, not-true-false}
+use Rattle.text.proofs.Laws.Tests.{not-true-false}
 use Rattle.sheet.specs.Rows.{Ten, ten, tens, all_zero}
-use Rattle.sheet.specs.Lengths.{fits}
 use Rattle.sheet.specs.Form.{row0_of, tens_of, used_parts, zeros_behind}
 use Rattle.sheet.specs.Calls.{sheet}
 use Rattle.ir_types.specs.Row0.{graph_row0_from}
-use Rattle.ir_types.specs.Form.{row0_form, rows_form, names_form, graph_form}
-use Rattle.graph_form.specs.declared.scan.Scan.{Scan}
-use Rattle.graph_form.specs.Scan.{parts_fit, scanned_sheet}
-use Rattle.graph_form.proofs.Laws.Scan.{ends, sheet-ends}
+use Rattle.ir_types.specs.Form.{is_type_tag, in_order, tags_of, count, row0_form, rows_form, names_form, graph_form}
+use Rattle.rows.specs.declared.scan.Scan.{Scan}
+use Rattle.rows.specs.Lengths.{parts_fit}
+use Rattle.rows.specs.Scan.{scanned_sheet}
+use Rattle.rows.proofs.Laws.Room.{parts-inside}
+use Rattle.rows.proofs.Laws.Tens.{tens-two}
+use Rattle.rows.proofs.Laws.Scan.{in_order as in_order_by, ends, sheet-ends, tags}
+use Rattle.graph_form.specs.Tests.{graph_tests, is_root}
 
-pub parts_in : (z : Ten) (r n : ℕ) → parts_fit z r n ≡ true → (2 ≤ z.at0) × (10 * z.at0 ≤ r) × (z.len0 ≤ n)
-unfolding parts_fit fits
-parts_in z r n e =
-    let h = three (leb 2 z.at0) (leb (10 * z.at0) r) (leb z.len0 n) (and_assoc (leb 2 z.at0) (leb (10 * z.at0) r) (leb z.len0 n) ∙ e) in
-    (leb-true 2 z.at0 h.0, leb-true (10 * z.at0) r h.1, leb-true z.len0 n h.2)
+-- the order by the record of tests is that of the definition
+orders : (head : ℕ) (tags : List ℕ) → in_order_by graph_tests head tags ≡ in_order head tags
+unfolding in_order_by in_order
+orders head [] = refl
+orders head (tag ∷ tags) = ap (λ (b : Bool). graph_tests.follows head tag && b) (orders (graph_tests.head_after head tag) tags)
 
-pub not-inside : (rows names : List ℕ) → parts_fit (ten rows) (length rows) (length names) ≡ false → graph_form (sheet rows names) ≡ false
-unfolding graph_form used_parts row0_of parts_fit
-not-inside rows names e = rw e
+-- the tests in the definition's order
+in-turn : (f a n r y b t : Bool) → f && (a && (n && true)) && r && y && b && t ≡ f && (a && r && y) && n && b && t
+in-turn f a true r y b t = rw (and-true a, and-true (f && (a && r && y))) (simp and_assoc)
+in-turn f a false r y b t = rw (and-false a, and-false f, and-false (f && (a && r && y)))
 
-pub too_short : (rows names : List ℕ) → length rows < 20 → graph_form (sheet rows names) ≡ false
-too_short rows names h =
-    not-inside rows names (not-true-false _ (λ e. omega (arith, parts_in (ten rows) (length rows) (length names) e)))
-
--- what is asked behind the pass over the rows
+-- all that is asked beside the pass and the counts: of row 0 and of what stands behind and in the used parts
 abbrev pub zeros : List ℕ → List ℕ → Ten → Bool
 zeros rows names z = all_zero (drop (10 * z.at0) rows) && all_zero (drop z.len0 names)
 
-abbrev pub behind : List ℕ → List ℕ → Ten → Bool
-behind rows names z = zeros rows names z && is_text (take z.len0 names)
+abbrev pub texts : List ℕ → Ten → Bool
+texts names z = is_text (take z.len0 names)
 
--- the counts are those that row 0 gives
-abbrev pub counts : Ten → ℕ → ℕ → Bool
-counts z r y = eqb z.at1 r && eqb z.len1 y
+-- the rows behind row 1
+abbrev pub rest : List ℕ → Ten → List Ten
+rest rows z = tens (z.at0 - 2) (drop 20 rows)
 
-pub form-inside : (rows names : List ℕ) → parts_fit (ten rows) (length rows) (length names) ≡ true
-    → graph_form (sheet rows names)
-    ≡ row0_form (graph_row0_from (ten rows))
-    && ((rows_form (graph_row0_from (ten rows)) (tens_of (sheet rows names)) && names_form (ten rows).len0 (tens_of (sheet rows names)))
-    && behind rows names (ten rows))
-unfolding graph_form used_parts row0_of parts_fit zeros_behind tens_of
-form-inside rows names e = rw e (simp and_assoc)
+module _ (rows names : List ℕ) where
+  pub outside : (z : Ten) → z ≡ ten rows → parts_fit z.at0 z.len0 (length rows) (length names) ≡ false → graph_form (sheet rows names) ≡ false
+  unfolding graph_form used_parts row0_of parts_fit
+  outside z e h = let f = rw e at h in rw f
 
-pub form-scanned : (rows names : List ℕ) → parts_fit (ten rows) (length rows) (length names) ≡ true
-    → row0_form (graph_row0_from (ten rows))
-    && (ends (ten rows).len0 (counts (ten rows)) (scanned_sheet (ten rows).len0 (tens ((ten rows).at0 - 1) (drop 10 rows)))
-    && behind rows names (ten rows))
-    ≡ graph_form (sheet rows names)
-unfolding tens_of row0_of
-form-scanned rows names h =
-    ap (λ (b : Bool). row0_form (graph_row0_from (ten rows)) && (b && behind rows names (ten rows)))
-    (sheet-ends (graph_row0_from (ten rows)) (tens_of (sheet rows names)))
-    ∙ sym (form-inside rows names h)
+  pub too-short : length rows < 20 → graph_form (sheet rows names) ≡ false
+  too-short h =
+      outside (ten rows) refl (not-true-false _ (λ e. omega (arith, parts-inside (ten rows).at0 (ten rows).len0 (length rows) (length names) e)))
 
--- the tests in the code's order, of the pass and of what the other calls give
-abbrev pub tests : Ten → Scan → Bool → Bool → Bool → Bool
-tests z s f b n = f && eqb s.end z.len0 && eqb z.at1 s.roots && eqb z.len1 s.types && b && n
+  -- the pass and the counts
+  in-parts : parts_fit (ten rows).at0 (ten rows).len0 (length rows) (length names) ≡ true
+      → row0_form (graph_row0_from (ten rows)) && ends (ten rows).len0 (λ (head : ℕ). true) (scanned_sheet graph_tests (ten rows).len0 (ten (drop 10 rows) ∷ rest rows (ten rows)))
+      && eqb (ten rows).at1 (count is_root (tags_of (rest rows (ten rows)))) && eqb (ten rows).len1 (count is_type_tag (tags_of (rest rows (ten rows))))
+      && zeros rows names (ten rows) && texts names (ten rows) ≡ graph_form (sheet rows names)
+  unfolding graph_form used_parts row0_of zeros_behind tens_of parts_fit rows_form names_form tags_of
+  in-parts h =
+      let z = ten rows in
+      let two = (parts-inside z.at0 z.len0 (length rows) (length names) h).0 in
+      rw (sheet-ends graph_tests z.len0 (λ (head : ℕ). true) (ten (drop 10 rows)) (rest rows z), orders 1 (tags (rest rows z)), h, tens-two z.at0 rows two) (search in-turn)
 
-module _ (rows names : List ℕ) (z : Ten) (e : z ≡ ten rows) (h : parts_fit z (length rows) (length names) ≡ true) where
-  form-is : {o : Option Scan} → o ≡ scanned_sheet z.len0 (tens (z.at0 - 1) (drop 10 rows))
-      → row0_form (graph_row0_from z) && (ends z.len0 (counts z) o && behind rows names z) ≡ graph_form (sheet rows names)
-  form-is d = rw (d, e) (form-scanned rows names (rw e at h))
+  -- of the results that the code's calls give
+  module _ (z : Ten) (e : z ≡ ten rows) (h : parts_fit z.at0 z.len0 (length rows) (length names) ≡ true) where
+    pub form-tests : (s : Scan) {f b n : Bool} {t : Ten} {roots types : ℕ} → f ≡ row0_form (graph_row0_from z) → b ≡ zeros rows names z → n ≡ texts names z
+        → t ≡ ten (drop 10 rows) → roots ≡ count is_root (tags_of (rest rows z)) → types ≡ count is_type_tag (tags_of (rest rows z))
+        → Some s ≡ scanned_sheet graph_tests z.len0 (t ∷ rest rows z) → f && eqb s.end z.len0 && eqb z.at1 roots && eqb z.len1 types && b && n ≡ graph_form (sheet rows names)
+    form-tests s f b n t roots types d =
+        let ended = rw (t, e) at d in
+        rw (f, b, n, roots, types, e) (rw (← ended, and-true) at (in-parts (rw e at h)))
 
-  pub form-tests : (s : Scan) {f b n : Bool} → f ≡ row0_form (graph_row0_from z) → b ≡ zeros rows names z → n ≡ is_text (take z.len0 names)
-      → Some s ≡ scanned_sheet z.len0 (tens (z.at0 - 1) (drop 10 rows)) → tests z s f b n ≡ graph_form (sheet rows names)
-  form-tests s f b n d = rw (f, b, n) (simp and_assoc (simp and_assoc at (form-is d)))
-
-  -- a row failed
-  pub form-fails : None ≡ scanned_sheet z.len0 (tens (z.at0 - 1) (drop 10 rows)) → false ≡ graph_form (sheet rows names)
-  form-fails d = sym (and-false (row0_form (graph_row0_from z))) ∙ form-is d
+    -- a row failed
+    pub form-fails : {t : Ten} → t ≡ ten (drop 10 rows) → None ≡ scanned_sheet graph_tests z.len0 (t ∷ rest rows z) → false ≡ graph_form (sheet rows names)
+    form-fails t d =
+        let failed = rw (t, e) at d in
+        rw (← failed, and-false) at (in-parts (rw e at h))

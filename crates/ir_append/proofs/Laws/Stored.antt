@@ -56,10 +56,6 @@ module _ (names : List ℕ) (at : ℕ) (inside : at ≤ length names) where
       let fit = no_room (leb (length t) (length (drop at names))) (length t) put.counted in
       omega (arith, leb-false (length t) (length (drop at names)) fit, length-drop at names)
 
-  -- no text
-  pub stores-none : Stored names at [] names 0
-  stores-none = record { count = refl; inside = omega arith; holds = paste-zero names at [] }
-
 -- a text stored keeps the names' length
 pub stored-length : {names names' : List ℕ} {at n : ℕ} {t : Text} → Stored names at t names' n → length names' ≡ length names
 stored-length {names} {names'} {at} {n} {t} s = ap length s.holds ∙ length-paste names at t n s.inside (omega (arith, s.count))

@@ -1,6 +1,6 @@
 -- What the steps of a lowering answer and leave is the definition's, number by number: each by the definition's tests, since zeros and room depend on
 -- lengths alone. Assumes nothing.
-use Prim.Native.Nat.{ℕ, suc, ◌+◌, ◌%◌, ◌≤◌, ◌<◌}
+use Prim.Native.Nat.{ℕ, suc, ◌+◌, ◌*◌, ◌%◌, ◌≤◌, ◌<◌}
 use mathlib.Core.Path.{◌≡◌, refl, sym, ap, ap₂, ◌∙◌}
 use mathlib.Core.Bool.{Bool, true, false, ◌&&◌}
 use mathlib.Core.Option.{Option, some, none}
@@ -22,7 +22,7 @@ use Rattle.sheet.specs.declared.refusal.Refusal.{Refusal}
 use Rattle.rows.specs.declared.answers.Refused.{Refused}
 use Rattle.rows.specs.Answers.{answer_of}
 use Rattle.sheet.specs.Limits.{row_numbers, least_rows, rows_limit, names_limit}
-use Rattle.rows.specs.declared.numbers.Used.{Used}
+use Rattle.rows.specs.declared.part.SheetPart.{SheetPart}
 use Rattle.xsd_types.specs.State.{State}
 use Rattle.xsd_types.specs.Count.{refused_rows, count_in, good, state_of}
 use Rattle.xsd_types.proofs.Laws.Count.{ten-count, good-bare, good-count}
@@ -44,9 +44,11 @@ use Rattle.ir_lower.proofs.Laws.Left.{length-zeros}
 use Rattle.xsd_types.specs.Places.{row_at, rows_from}
 use Rattle.xsd_types.specs.Refused.{refused_row, refused_place}
 use Rattle.ir_rows.specs.Lowered.{lowered_row}
-use Rattle.ir_rows.specs.Types.{finished_places, heads_at}
+use Rattle.ir_rows.specs.Types.{finished_places}
+use Rattle.ir_rows.specs.Parts.{part_rows, part_heads}
 use Rattle.ir_rows.proofs.Laws.Graph.{finished-types, unknown-place, unknown-refused, unknown-lowered, repeated-heads, root-count, type-count, graph-rows, namespace-lowered, Stands}
-use Rattle.ir_call.specs.Steps.{Sized, lowered, Counted, Cleared, Lowers, GraphOf, GraphStands}
+use Rattle.ir_append.specs.Whole.{Cleared}
+use Rattle.ir_call.specs.Steps.{Sized, lowered, Lowers, GraphOf, GraphStands}
 
 -- a refusal whose place is 0
 pub refusal_at_0 : {why : Refusal} {refused : Refused} → refused ≡ record { refusal = why; place = 0 } → answer_of (Err refused) ≡ answered (refusal_number why) 0
@@ -54,104 +56,110 @@ refusal_at_0 e = ap (λ (r : Refused). answer_of (Err r)) e
 
 -- ---- zeros
 
-pub zeros-as : (xs ys : List ℕ) → length xs ≡ length ys → zeros xs ≡ zeros ys
+zeros-as : (xs ys : List ℕ) → length xs ≡ length ys → zeros xs ≡ zeros ys
 unfolding zeros
 zeros-as xs ys e = ap (λ (n : ℕ). replicate n 0) e
 
-pub zeros-twice : (xs : List ℕ) → zeros xs ≡ zeros (zeros xs)
+zeros-twice : (xs : List ℕ) → zeros xs ≡ zeros (zeros xs)
 zeros-twice xs = zeros-as xs (zeros xs) (sym (length-zeros xs))
 
 pub cleared-zeros : {rows names : List ℕ} → Sized rows names → Cleared (zeros rows) (zeros names)
+unfolding zeros
 cleared-zeros {rows} {names} s =
     record {
       rows_zero = zeros-twice rows;
       names_zero = zeros-twice names;
-      sized = record {
-        some_rows = rw (length-zeros rows) s.some_rows;
-        few_rows = rw (length-zeros rows) s.few_rows;
-        few_names = rw (length-zeros names) s.few_names;
-      };
+      some_rows = rw (length-zeros rows) s.some_rows;
+      few_rows = rw (length-zeros rows) s.few_rows;
+      few_names = rw (length-zeros names) s.few_names;
     }
 
 -- ---- a graph, and 15
 
-pub known-full : (rows names scratch rows₁ names₁ scratch₁ : List ℕ) {rows₂ names₂ scratch₂ : List ℕ} {a : Answer} (g : TypeGraph)
-    → graph_fits (length rows) (length names) g ≡ false → a ≡ answered 15 0
-    → length rows₁ ≡ length rows → rows₂ ≡ zeros rows₁ → length names₁ ≡ length names → names₂ ≡ zeros names₁ → length scratch₁ ≡ length scratch → scratch₂ ≡ zeros scratch₁
-    → lowered a rows₂ names₂ scratch₂ ≡ written g (sheet rows names) scratch
-unfolding written cleared
-known-full rows names scratch rows₁ names₁ scratch₁ g short e lr r ln n ls s =
-    rw short (λ i. lowered (e i) ((r ∙ zeros-as rows₁ rows lr) i) ((n ∙ zeros-as names₁ names ln) i) ((s ∙ zeros-as scratch₁ scratch ls) i))
+module _ (rows names scratch : List ℕ) (g : TypeGraph) where
+  pub known-full : (rows₁ names₁ : List ℕ) {rows₂ names₂ : List ℕ} {a : Answer} → graph_fits (length rows) (length names) g ≡ false → a ≡ answered 15 0
+      → length rows₁ ≡ length rows → rows₂ ≡ zeros rows₁ → length names₁ ≡ length names → names₂ ≡ zeros names₁
+      → lowered a rows₂ names₂ (zeros scratch) ≡ written g (sheet rows names) scratch
+  unfolding written cleared
+  known-full rows₁ names₁ short e lr r ln n = rw short (λ i. lowered (e i) ((r ∙ zeros-as rows₁ rows lr) i) ((n ∙ zeros-as names₁ names ln) i) (zeros scratch))
 
-pub known-stands : (scratch scratch₁ : List ℕ) {rows names rows₁ names₁ scratch₂ : List ℕ} {used : Used} {a : Answer} (g : TypeGraph)
-    → GraphStands g rows names rows₁ names₁ used → a ≡ answered 0 used.rows
-    → length scratch₁ ≡ length scratch → scratch₂ ≡ zeros scratch₁ → lowered a rows₁ names₁ scratch₂ ≡ written g (sheet rows names) scratch
-unfolding written
-known-stands scratch scratch₁ g st e ls s =
-    rw st.fits (λ i. record { answer = (e ∙ ap (answered 0) st.place) i; graph = st.graph i; scratch = (s ∙ zeros-as scratch₁ scratch ls) i })
+  pub known-stands : {rows₁ names₁ : List ℕ} {place : ℕ} {a : Answer} → GraphStands g rows names rows₁ names₁ place → a ≡ answered 0 place
+      → lowered a rows₁ names₁ (zeros scratch) ≡ written g (sheet rows names) scratch
+  unfolding written
+  known-stands st e = rw st.fits (λ i. record { answer = (e ∙ ap (answered 0) st.place_is) i; graph = st.graph i; scratch = zeros scratch })
 
--- what is left from 20 on depends on the lengths alone
-written-zeros : (o : Option ℕ) (g : TypeGraph) (rows names scratch : List ℕ)
-    → repeated_or_written o g (sheet (zeros rows) (zeros names)) (zeros scratch) ≡ repeated_or_written o g (sheet rows names) scratch
-unfolding written cleared
-written-zeros (some row) g rows names scratch = rw (← zeros-twice rows, ← zeros-twice names, ← zeros-twice scratch)
-written-zeros none g rows names scratch = rw (length-zeros rows, length-zeros names, ← zeros-twice rows, ← zeros-twice names, ← zeros-twice scratch)
+  -- ---- 20: the graph is zeros already
 
--- ---- 20: the graph is zeros already
+  pub known-repeated : {a : Answer} {row : ℕ} (o : Option ℕ) → o ≡ some row → Cleared rows names → a ≡ answered 20 row
+      → lowered a rows names (zeros scratch) ≡ repeated_or_written o g (sheet rows names) scratch
+  unfolding cleared zeros
+  known-repeated o q c e =
+      (λ i. lowered (e i) (c.rows_zero i) (c.names_zero i) (zeros scratch)) ∙ ap (λ (r : Option ℕ). repeated_or_written r g (sheet rows names) scratch) (sym q)
 
-pub known-repeated : {rows names : List ℕ} (scratch scratch₁ : List ℕ) {scratch₂ : List ℕ} {a : Answer} {row : ℕ} (o : Option ℕ) (g : TypeGraph) → o ≡ some row
-    → Cleared rows names → a ≡ answered 20 row
-    → length scratch₁ ≡ length scratch → scratch₂ ≡ zeros scratch₁ → lowered a rows names scratch₂ ≡ repeated_or_written o g (sheet rows names) scratch
-unfolding cleared
-known-repeated {rows} {names} scratch scratch₁ o g q c e ls s =
-    (λ i. lowered (e i) (c.rows_zero i) (c.names_zero i) ((s ∙ zeros-as scratch₁ scratch ls) i)) ∙ ap (λ (r : Option ℕ). repeated_or_written r g (sheet rows names) scratch) (sym q)
+  -- no name came before: the graph, or 15
+  pub known-once : {x : Lowered} (o : Option ℕ) → o ≡ none → x ≡ written g (sheet rows names) scratch → x ≡ repeated_or_written o g (sheet rows names) scratch
+  known-once o e w = w ∙ ap (λ (r : Option ℕ). repeated_or_written r g (sheet rows names) scratch) (sym e)
 
--- no name came before: the graph, or 15, by the scratch's length
-pub known-once : (rows names scratch scratch₁ : List ℕ) {x : Lowered} (o : Option ℕ) (g : TypeGraph) → o ≡ none → length scratch₁ ≡ length scratch → x ≡ written g (sheet rows names) scratch₁
-    → x ≡ repeated_or_written o g (sheet rows names) scratch
-unfolding written cleared
-known-once rows names scratch scratch₁ o g e ls w = w ∙ rw (zeros-as scratch₁ scratch ls) (ap (λ (r : Option ℕ). repeated_or_written r g (sheet rows names) scratch) (sym e))
+-- ---- 12 and 13, where the graph is zeros already
 
--- ---- 12 and 13
-
-module _ {rows names : List ℕ} {end : ℕ} {root : Bool} {s : State} (l : Lowers rows names end root s) (gr gn scratch : List ℕ) where
-  pub finished-rootless : {gr₁ gn₁ scratch₁ : List ℕ} {a : Answer} → root ≡ false → a ≡ answered 12 0 → gr₁ ≡ zeros gr → gn₁ ≡ zeros gn → scratch₁ ≡ zeros scratch
-      → lowered a gr₁ gn₁ scratch₁ ≡ lower_finished s (sheet gr gn) scratch
-  unfolding lower_finished cleared
-  finished-rootless f e r n z =
+module _ {part : SheetPart} {root : Bool} {s : State} (l : Lowers part root s) {gr gn : List ℕ} (c : Cleared gr gn) (scratch : List ℕ) where
+  pub finished-rootless : {a : Answer} → root ≡ false → a ≡ answered 12 0 → lowered a gr gn (zeros scratch) ≡ lower_finished s (sheet gr gn) scratch
+  unfolding lower_finished cleared zeros
+  finished-rootless f e =
       let seen = sym l.root ∙ f in
-      rw seen (λ i. lowered (e i) (r i) (n i) (z i))
+      rw seen (λ i. lowered (e i) (c.rows_zero i) (c.names_zero i) (zeros scratch))
 
-  refused-place : {gr₁ gn₁ scratch₁ : List ℕ} {a : Answer} {unknown : ℕ} (o : Option TypeGraph) → lower s.reader.schema ≡ o → (unknown ≡ 0 → ⊥)
-      → unknown ≡ refused_place 2 (rows_from rows names 2 end)
-      → a ≡ answered 13 unknown → gr₁ ≡ zeros gr → gn₁ ≡ zeros gn → scratch₁ ≡ zeros scratch
-      → lowered a gr₁ gn₁ scratch₁ ≡ refused_or_written s.reader.schema o (sheet gr gn) scratch
-  unfolding cleared
-  refused-place none q some? u e r n z = λ i. lowered ((e ∙ ap (answered 13) (u ∙ l.place)) i) (r i) (n i) (z i)
-  refused-place (some g) q some? u e r n z = absurd (some? (u ∙ (l.lowers g q).0))
+  refused-place : {a : Answer} {unknown : ℕ} (o : Option TypeGraph) → lower s.reader.schema ≡ o → (unknown ≡ 0 → ⊥) → unknown ≡ refused_place 2 (part_rows part 2) → a ≡ answered 13 unknown
+      → lowered a gr gn (zeros scratch) ≡ refused_or_written s.reader.schema o (sheet gr gn) scratch
+  unfolding cleared zeros
+  refused-place none q some? u e = λ i. lowered ((e ∙ ap (answered 13) (u ∙ l.place)) i) (c.rows_zero i) (c.names_zero i) (zeros scratch)
+  refused-place (some g) q some? u e = absurd (some? (u ∙ (l.lowers g q).0))
 
-  pub finished-unknown : {gr₁ gn₁ scratch₁ : List ℕ} {a : Answer} {unknown : ℕ} → root ≡ true → (unknown ≡ 0 → ⊥) → unknown ≡ refused_place 2 (rows_from rows names 2 end)
-      → a ≡ answered 13 unknown → gr₁ ≡ zeros gr → gn₁ ≡ zeros gn → scratch₁ ≡ zeros scratch
-      → lowered a gr₁ gn₁ scratch₁ ≡ lower_finished s (sheet gr gn) scratch
+  pub finished-unknown : {a : Answer} {unknown : ℕ} → root ≡ true → (unknown ≡ 0 → ⊥) → unknown ≡ refused_place 2 (part_rows part 2) → a ≡ answered 13 unknown
+      → lowered a gr gn (zeros scratch) ≡ lower_finished s (sheet gr gn) scratch
   unfolding lower_finished
-  finished-unknown t some? u e r n z =
+  finished-unknown t some? u e =
       let seen = sym l.root ∙ t in
-      rw seen (refused-place (lower s.reader.schema) refl some? u e r n z)
+      rw seen (refused-place (lower s.reader.schema) refl some? u e)
 
-  known-graph : {x : Lowered} (o : Option TypeGraph) → lower s.reader.schema ≡ o → 0 ≡ refused_place 2 (rows_from rows names 2 end)
-      → ((g : TypeGraph) → GraphOf rows names end g → x ≡ repeated_or_written (first_repeated [] (heads_at rows names end)) g (sheet (zeros gr) (zeros gn)) (zeros scratch))
+  known-graph : {x : Lowered} (o : Option TypeGraph) → lower s.reader.schema ≡ o → 0 ≡ refused_place 2 (part_rows part 2)
+      → ((g : TypeGraph) → GraphOf part g → x ≡ repeated_or_written (first_repeated [] (part_heads part)) g (sheet gr gn) scratch)
       → x ≡ refused_or_written s.reader.schema o (sheet gr gn) scratch
   known-graph none q u w = absurd (omega (arith, l.refuses q))
-  known-graph (some g) q u w =
-      w g (l.lowers g q).1 ∙ rw l.repeated (written-zeros (repeated_row s.reader.schema) g gr gn scratch)
+  known-graph (some g) q u w = w g (l.lowers g q).1 ∙ ap (λ (r : Option ℕ). repeated_or_written r g (sheet gr gn) scratch) l.repeated
 
-  pub finished-known : {x : Lowered} → root ≡ true → 0 ≡ refused_place 2 (rows_from rows names 2 end)
-      → ((g : TypeGraph) → GraphOf rows names end g → x ≡ repeated_or_written (first_repeated [] (heads_at rows names end)) g (sheet (zeros gr) (zeros gn)) (zeros scratch))
+  pub finished-known : {x : Lowered} → root ≡ true → 0 ≡ refused_place 2 (part_rows part 2)
+      → ((g : TypeGraph) → GraphOf part g → x ≡ repeated_or_written (first_repeated [] (part_heads part)) g (sheet gr gn) scratch)
       → x ≡ lower_finished s (sheet gr gn) scratch
   unfolding lower_finished
   finished-known t u w =
       let seen = sym l.root ∙ t in
       rw seen (known-graph (lower s.reader.schema) refl u w)
+
+-- ---- what is left from 12 on depends on the lengths alone
+
+module _ (s : State) (gr gn scratch : List ℕ) where
+  cleared-again : (n place : ℕ) → cleared n place (sheet (zeros gr) (zeros gn)) scratch ≡ cleared n place (sheet gr gn) scratch
+  unfolding cleared
+  cleared-again n place = rw (← zeros-twice gr, ← zeros-twice gn)
+
+  repeated-again : (o : Option ℕ) (g : TypeGraph) → repeated_or_written o g (sheet (zeros gr) (zeros gn)) scratch ≡ repeated_or_written o g (sheet gr gn) scratch
+  unfolding written
+  repeated-again (some row) g = cleared-again 20 row
+  repeated-again none g = rw (length-zeros gr, length-zeros gn, cleared-again 15 0)
+
+  refused-again : (o : Option TypeGraph) → refused_or_written s.reader.schema o (sheet (zeros gr) (zeros gn)) scratch ≡ refused_or_written s.reader.schema o (sheet gr gn) scratch
+  refused-again none = cleared-again 13 _
+  refused-again (some g) = repeated-again (repeated_row s.reader.schema) g
+
+  finished-again : lower_finished s (sheet (zeros gr) (zeros gn)) scratch ≡ lower_finished s (sheet gr gn) scratch
+  unfolding lower_finished
+  finished-again = rw (refused-again (lower s.reader.schema), cleared-again 12 0)
+
+  -- the scratch is cleared behind the steps
+  pub finished-cleared : {a : Answer} {rows names : List ℕ} (scratch₁ : List ℕ) {scratch₂ : List ℕ} → lowered a rows names (zeros scratch) ≡ lower_finished s (sheet (zeros gr) (zeros gn)) scratch
+      → length scratch₁ ≡ length scratch → scratch₂ ≡ zeros scratch₁ → lowered a rows names scratch₂ ≡ lower_finished s (sheet gr gn) scratch
+  finished-cleared {a} {rows} {names} scratch₁ w l e = ap (lowered a rows names) (e ∙ zeros-as scratch₁ scratch l) ∙ w ∙ finished-again
 
 -- ---- the rows of a good sheet
 
@@ -203,25 +211,26 @@ module _ (rows names : List ℕ) (g : good (sheet rows names) ≡ true) (w : wor
           namespace = namespace-there rows names _ (rows-one s held.packs held.proper);
         }
 
-    pub good-counted : Counted rows names end
+    pub good-room : (2 ≤ end) × (10 * end ≤ length rows)
+    good-room = bare-room rows names (good-bare (sheet rows names) g) w e
+
+    pub good-counted : get_or rows 17 0 ≡ refused_rows (rows_from rows names 2 end)
     unfolding count_in
-    good-counted =
-        let room = bare-room rows names (good-bare (sheet rows names) g) w e in
-        record { at_least = room.0; inside = room.1; count = good-count (sheet rows names) g ∙ sym (bare-count rows names (good-bare (sheet rows names) g) w e) }
+    good-counted = good-count (sheet rows names) g ∙ sym (bare-count rows names (good-bare (sheet rows names) g) w e)
 
 -- ---- 14
 
-module _ {s : State} {rows names : List ℕ} {end : ℕ} (h : Stands s rows names end) where
-  pub lowers-held : {seen : Bool} → seen ≡ s.reader.root_seen → Lowers rows names end seen s
-  lowers-held root =
-      record {
-        root = root;
-        place = unknown-place h;
-        refuses = unknown-refused h;
-        repeated = repeated-heads h;
-        lowers = λ g q. (unknown-lowered h g q, record { rows_are = graph-rows h g q; roots = root-count h g q; types = type-count h g q });
-      }
+pub lowers-held : (part : SheetPart) {s : State} {seen : Bool} → Stands s part.rows.now part.names.now part.end → seen ≡ s.reader.root_seen → Lowers part seen s
+lowers-held part h root =
+    record {
+      root = root;
+      place = unknown-place h;
+      refuses = unknown-refused h;
+      repeated = repeated-heads h;
+      lowers = λ g q. (unknown-lowered h g q, record { rows_are = graph-rows h g q; roots = root-count h g q; types = type-count h g q });
+    }
 
+module _ {s : State} {rows names : List ℕ} {end : ℕ} (h : Stands s rows names end) where
   pub state-short : (gr gn scratch : List ℕ) {n : ℕ} {a : Answer} → n ≡ length (finished_places rows names end) → length scratch < n → a ≡ answered 14 0
       → lowered a gr gn scratch ≡ lower_state s (sheet gr gn) scratch
   unfolding lower_state unchanged

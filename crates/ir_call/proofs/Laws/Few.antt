@@ -10,9 +10,10 @@ use borrow.Author.Tests.{eqb-true}
 use Rattle.text.proofs.Laws.Tests.{if-cases}
 use Rattle.sheet.specs.Rows.{Row}
 use Rattle.xsd_types.specs.Back.{text0, text1}
-use Rattle.xsd_types.specs.Places.{rows_from}
+use Rattle.rows.specs.declared.part.SheetPart.{SheetPart}
 use Rattle.ir_rows.specs.Lowered.{lowered_as, lowered_row, root_rows}
-use Rattle.ir_rows.specs.Types.{is_simple, is_complex, places_of, type_places, finished_places, entry_places}
+use Rattle.ir_rows.specs.Types.{is_simple, is_complex, places_of, type_places, entry_places}
+use Rattle.ir_rows.specs.Parts.{part_rows, part_places}
 use Rattle.xsd_types.proofs.Laws.Places.{length-rows_from}
 
 places_of-few : (test : ℕ → Bool) (p : ℕ) (rs : List Row) → length (places_of test p rs) ≤ length rs
@@ -35,14 +36,14 @@ root_rows-few (r ∷ rs) =
     if-cases (λ (l : List Row). length l ≤ length (r ∷ rs)) (eqb r.tag 2)
     (λ k. omega (arith, root_rows-few rs, root-one r k, length-append (lowered_row false r) (root_rows rs))) (λ k. omega (arith, root_rows-few rs))
 
-pub roots_few : (rows names : List ℕ) (end : ℕ) → length (root_rows (rows_from rows names 2 end)) ≤ end
-roots_few rows names end = omega (arith, root_rows-few (rows_from rows names 2 end), length-rows_from rows names 2 end)
+pub roots_few : (part : SheetPart) → length (root_rows (part_rows part 2)) ≤ part.end
+roots_few part = omega (arith, root_rows-few (part_rows part 2), length-rows_from part.rows.now part.names.now 2 part.end)
 
-pub types-twice : (rows names : List ℕ) (end : ℕ) → length (finished_places rows names end) ≤ 2 * end
+pub types-twice : (part : SheetPart) → length (part_places part) ≤ 2 * part.end
 unfolding type_places
-types-twice rows names end =
-    let rs = rows_from rows names 2 end in
-    omega (arith, length-append (places_of is_simple 2 rs) (places_of is_complex 2 rs), places_of-few is_simple 2 rs, places_of-few is_complex 2 rs, length-rows_from rows names 2 end)
+types-twice part =
+    let rs = part_rows part 2 in
+    omega (arith, length-append (places_of is_simple 2 rs) (places_of is_complex 2 rs), places_of-few is_simple 2 rs, places_of-few is_complex 2 rs, length-rows_from part.rows.now part.names.now 2 part.end)
 
 -- as many entries as the places that they hold
 pub entries-count : (entries places : List ℕ) → entry_places entries ≡ places → length entries ≡ length places

@@ -1,24 +1,24 @@
 -- `ir_call::lower_good` meets its contract: the sheet's state is found by row 0, and its finished types are counted for 14. Assumes nothing.
-use Prim.Native.Nat.{ℕ, ◌+◌}
+use Prim.Native.Nat.{ℕ, ◌+◌, ◌*◌, ◌≤◌}
 use mathlib.Core.Bool.{true}
 use mathlib.Core.List.{List}
 use mathlib.Core.Path.{◌≡◌, ap, ◌∙◌}
 use native.Mathlib.Omega.{arith}
-use lib.ListN.{length}
+use lib.ListN.{length, get_or}
 use Rattle.sheet.specs.Calls.{sheet}
 use Rattle.sheet.specs.Form.{words}
 use Rattle.sheet.specs.Rows.{ten}
 use Rattle.xsd_types.specs.Row0.{Row0, row0_from}
 use Rattle.xsd_types.specs.Rows.{items_rows}
-use Rattle.xsd_types.specs.Count.{good, state_of}
+use Rattle.xsd_types.specs.Count.{refused_rows, good, state_of}
+use Rattle.xsd_types.specs.Places.{rows_from}
 use Rattle.xsd_types.proofs.Laws.Count.{good-bare}
 use Rattle.xsd_good.specs.declared.row0.Row0.{Row0 as Numbers}
 use Rattle.xsd_good.specs.End.{finished_end}
 use Rattle.xsd_good.specs.Row0.{as_row0}
 use Rattle.xsd_good.proofs.Laws.Bare.{bare-used}
 use Rattle.ir_rows.proofs.Laws.Graph.{Stands}
-use Rattle.ir_call.specs.Steps.{Counted}
-use Rattle.ir_call.proofs.Laws.Calls.{refusal_at_0, good-root, good-end, good-stands, good-counted, lowers-held, state-short, state-enough}
+use Rattle.ir_call.proofs.Laws.Calls.{refusal_at_0, good-root, good-end, good-stands, good-room, good-counted, lowers-held, state-short, state-enough}
 use Rattle.ir_call.proofs.lower_good.Goals as goal
 
 module _ (rows names : List ℕ) (g : good (sheet rows names) ≡ true) (w : words rows ≡ true) (z : Numbers) {end : ℕ}
@@ -28,17 +28,18 @@ module _ (rows names : List ℕ) (g : good (sheet rows names) ≡ true) (w : wor
   ends = e ∙ good-end rows names g w (as_row0 z) read
 
   -- the rows up to there are theirs, and the count is right for them
-  finished : Stands (state_of (sheet rows names)) rows names end
-  finished = good-stands rows names g w ends
+  stands : Stands (state_of (sheet rows names)) rows names end
+  stands = good-stands rows names g w ends
 
-  counts : Counted rows names end
+  room : (2 ≤ end) × (10 * end ≤ length rows)
+  room = good-room rows names g w ends
+
+  counts : get_or rows 17 0 ≡ refused_rows (rows_from rows names 2 end)
   counts = good-counted rows names g w ends
 
 pub row0_at-z-requires : goal.row0_at-z-requires
 row0_at-z-requires c =
-    let rows = c.args.rows.now in
-    let names = c.args.names.now in
-    omega (arith, (bare-used rows names (good-bare (sheet rows names) c.requires.0)).0)
+    omega (arith, (bare-used c.args.rows.now c.args.names.now (good-bare (sheet c.args.rows.now c.args.names.now) c.requires.0)).0)
 
 pub finished_end-end-requires : goal.finished_end-end-requires
 finished_end-end-requires c =
@@ -48,35 +49,36 @@ finished_end-end-requires c =
 
 pub invariant_of-part : goal.invariant_of-part
 invariant_of-part c =
-    let room = counts c.args.rows.now c.args.names.now c.requires.0 c.finished_end-end.ensures.words c.row0_at-z.result c.row0_at-z.ensures
-    c.finished_end-end.ensures.place in
-    record { within = room.inside }
+    let end = c.finished_end-end.ensures in
+    record { within = (room c.args.rows.now c.args.names.now c.requires.0 end.words c.row0_at-z.result c.row0_at-z.ensures end.place).1 }
 
 pub count_types-requires : goal.count_types-requires
 count_types-requires c =
-    let room = counts c.args.rows.now c.args.names.now c.requires.0 c.finished_end-end.ensures.words c.row0_at-z.result c.row0_at-z.ensures
-    c.finished_end-end.ensures.place in
-    room.at_least
+    let end = c.finished_end-end.ensures in
+    (room c.args.rows.now c.args.names.now c.requires.0 end.words c.row0_at-z.result c.row0_at-z.ensures end.place).0
 
 pub returns-then-scratch-count_types : goal.returns-then-scratch-count_types
 returns-then-scratch-count_types c =
     let a = c.args in
     let end = c.finished_end-end.ensures in
-    let stands = finished a.rows.now a.names.now c.requires.0 end.words c.row0_at-z.result c.row0_at-z.ensures end.place in
-    state-short stands a.graph_rows.now a.graph_names.now a.scratch.now (c.count_types.ensures a.names.now) c.if-scratch-count_types.true (refusal_at_0 c.into.ensures)
+    state-short (stands a.rows.now a.names.now c.requires.0 end.words c.row0_at-z.result c.row0_at-z.ensures end.place)
+    a.graph_rows.now a.graph_names.now a.scratch.now (c.count_types.ensures a.names.now) c.if-scratch-count_types.true (refusal_at_0 c.into.ensures)
 
 pub lower_finished-requires : goal.lower_finished-requires
 lower_finished-requires c =
     let a = c.args in
-    let room = counts a.rows.now a.names.now c.requires.0 c.finished_end-end.ensures.words c.row0_at-z.result c.row0_at-z.ensures
-    c.finished_end-end.ensures.place in
-    (record { at_least = room.at_least; inside = room.inside; few = c.requires.1.few_rows; enough = rw (← c.count_types.ensures a.names.now) c.if-scratch-count_types.false }, c.requires.2, room)
+    let end = c.finished_end-end.ensures in
+    let two = (room a.rows.now a.names.now c.requires.0 end.words c.row0_at-z.result c.row0_at-z.ensures end.place).0 in (
+      record { at_least = two; few = c.requires.1.few_rows; count = counts a.rows.now a.names.now c.requires.0 end.words c.row0_at-z.result c.row0_at-z.ensures end.place },
+      c.requires.2,
+      rw (← c.count_types.ensures a.names.now) c.if-scratch-count_types.false,
+    )
 
 pub returns : goal.returns
 returns c =
     let a = c.args in
     let end = c.finished_end-end.ensures in
-    let stands = finished a.rows.now a.names.now c.requires.0 end.words c.row0_at-z.result c.row0_at-z.ensures end.place in
+    let there = stands a.rows.now a.names.now c.requires.0 end.words c.row0_at-z.result c.row0_at-z.ensures end.place in
     let root = good-root a.rows.now a.names.now c.requires.0 end.words (as_row0 c.row0_at-z.result) c.row0_at-z.ensures in
-    state-enough stands a.graph_rows.now a.graph_names.now a.scratch.now (c.count_types.ensures a.names.now) c.if-scratch-count_types.false
-    (c.lower_finished.ensures _ (lowers-held stands root))
+    state-enough there a.graph_rows.now a.graph_names.now a.scratch.now (c.count_types.ensures a.names.now) c.if-scratch-count_types.false
+    (c.lower_finished.ensures _ (lowers-held _ there root))

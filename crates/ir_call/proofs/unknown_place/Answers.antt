@@ -5,14 +5,8 @@ use Rattle.ir_call.proofs.Laws.Calls.{none-refused}
 use Rattle.ir_call.proofs.unknown_place.Goals as goal
 
 pub count_in-requires : goal.count_in-requires
-count_in-requires c = let p = c.requires in omega (arith, p.at_least, p.inside)
+count_in-requires c = omega (arith, c.requires.at_least, c.args.part.now.within)
 
 pub returns-then-count_in-eq0 : goal.returns-then-count_in-eq0
 returns-then-count_in-eq0 c =
     none-refused 2 _ (sym c.requires.count ∙ sym c.count_in.ensures ∙ c.if-count_in-eq0.true)
-
-pub first_refused-requires : goal.first_refused-requires
-first_refused-requires c = c.requires.at_least
-
-pub returns : goal.returns
-returns c = c.first_refused.ensures

@@ -2,28 +2,29 @@
 use Prim.Native.Nat.{ℕ, ◌+◌, ◌*◌, ◌≤◌, ◌<◌}
 use mathlib.Core.Path.{◌≡◌, refl, ap, ◌∙◌}
 use mathlib.Core.Bool.{true, false}
-use mathlib.Core.List.{List, [], ◌∷◌, ◌++◌}
+use mathlib.Core.List.{[], ◌∷◌, ◌++◌}
 use lib.ListN.{get_or}
-use Rattle.xsd_types.specs.Places.{rows_from}
+use Rattle.rows.specs.declared.part.SheetPart.{SheetPart}
 use Rattle.ir_rows.specs.Types.{places_of, type_places}
+use Rattle.ir_rows.specs.Parts.{part_places}
 use Rattle.xsd_types.proofs.Laws.Places.{row_at-tag, rows_from-cons, rows_from-end}
 use Rattle.ir_index.specs.declared.Kind.{Kind}
 use Rattle.ir_index.specs.Entries.{is_kind, kind_places}
 
-module _ (rows names : List ℕ) (end : ℕ) (kind : Kind) (p : ℕ) where
-  pub kind-hit : p < end → is_kind kind (get_or rows (10 * p) 0) ≡ true → kind_places rows names end kind p ≡ p ∷ kind_places rows names end kind (p + 1)
+module _ (part : SheetPart) (kind : Kind) (p : ℕ) where
+  pub kind-hit : p < part.end → is_kind kind (get_or part.rows.now (10 * p) 0) ≡ true → kind_places part kind p ≡ p ∷ kind_places part kind (p + 1)
   unfolding kind_places places_of
-  kind-hit h e = rw (rows_from-cons rows names p end h) (rw (ap (is_kind kind) (row_at-tag rows names p) ∙ e))
+  kind-hit h e = rw (rows_from-cons part.rows.now part.names.now p part.end h) (rw (ap (is_kind kind) (row_at-tag part.rows.now part.names.now p) ∙ e))
 
-  pub kind-on : p < end → is_kind kind (get_or rows (10 * p) 0) ≡ false → kind_places rows names end kind p ≡ kind_places rows names end kind (p + 1)
+  pub kind-on : p < part.end → is_kind kind (get_or part.rows.now (10 * p) 0) ≡ false → kind_places part kind p ≡ kind_places part kind (p + 1)
   unfolding kind_places places_of
-  kind-on h e = rw (rows_from-cons rows names p end h) (rw (ap (is_kind kind) (row_at-tag rows names p) ∙ e))
+  kind-on h e = rw (rows_from-cons part.rows.now part.names.now p part.end h) (rw (ap (is_kind kind) (row_at-tag part.rows.now part.names.now p) ∙ e))
 
-  pub kind-end : end ≤ p → kind_places rows names end kind p ≡ []
+  pub kind-end : part.end ≤ p → kind_places part kind p ≡ []
   unfolding kind_places places_of
-  kind-end h = rw (rows_from-end rows names p end h)
+  kind-end h = rw (rows_from-end part.rows.now part.names.now p part.end h)
 
 -- simple types, then complex ones
-pub kinds-types : (rows names : List ℕ) (end : ℕ) → type_places 2 (rows_from rows names 2 end) ≡ kind_places rows names end Kind.Simple 2 ++ kind_places rows names end Kind.Complex 2
+pub kinds-types : (part : SheetPart) → part_places part ≡ kind_places part Kind.Simple 2 ++ kind_places part Kind.Complex 2
 unfolding type_places kind_places is_kind
-kinds-types rows names end = refl
+kinds-types part = refl

@@ -2,7 +2,7 @@
 use Prim.Native.Nat.{◌%◌}
 use mathlib.Core.Path.{◌≡◌, sym, ◌∙◌}
 use Rattle.names.specs.Names.{normalize_type_name}
-use Rattle.ir_rows.specs.Places.{name_at}
+use Rattle.ir_rows.specs.Parts.{part_name}
 use Rattle.text.specs.Text.{same}
 use Rattle.name_index.specs.Index.{head_name}
 use Rattle.ir_index.proofs.Laws.Heads.{name-at}
@@ -16,12 +16,11 @@ returns-then-entry-print c =
 
 pub returns : goal.returns
 returns c =
-    let rows = c.args.part.now.rows.now in
-    let names = c.args.part.now.names.now in
+    let part = c.args.part.now in
     let place : c.wide.result ≡ c.args.entry % 65536 = c.wide.ensures in
-    let held : c.name_at-held.result.now ≡ head_name rows names (c.args.entry % 65536) = c.name_at-held.ensures ∙ rw place in
-    let asked : c.name_at-asked.result.now ≡ head_name rows names c.args.place = c.name_at-asked.ensures in
+    let held : c.name_at-held.result.now ≡ head_name part.rows.now part.names.now (c.args.entry % 65536) = c.name_at-held.ensures ∙ rw place in
+    let asked : c.name_at-asked.result.now ≡ head_name part.rows.now part.names.now c.args.place = c.name_at-asked.ensures in
     let compared : same (normalize_type_name c.name_at-held.result.now) (normalize_type_name c.name_at-asked.result.now)
-    ≡ same (name_at rows names (c.args.entry % 65536)) (name_at rows names c.args.place) =
-    rw (name-at rows names (c.args.entry % 65536) c.requires.entry_of.head.is_head, name-at rows names c.args.place c.requires.head_at.is_head, held, asked) in
+    ≡ same (part_name part (c.args.entry % 65536)) (part_name part c.args.place) =
+    rw (name-at part (c.args.entry % 65536) c.requires.entry_of.head, name-at part c.args.place c.requires.head_at, held, asked) in
     c.same_normalized.ensures ∙ compared

@@ -11,7 +11,7 @@ use Rattle.text.proofs.Laws.Tests.{if-cases}
 use Rattle.sheet.specs.Rows.{text_at}
 use Rattle.ir_types.specs.Label.{label}
 use Rattle.ir_types.proofs.Laws.Words.{PartOf, label-word-part, label-name-part}
-use Rattle.ir_label.specs.Spot.{Stands}
+use Rattle.ir_label.specs.Spot.{in_words, Stands}
 use Rattle.ir_label.specs.declared.Spot.{Spot}
 
 module _ (rows names words : List ℕ) (k : ℕ) where
@@ -21,17 +21,17 @@ module _ (rows names words : List ℕ) (k : ℕ) where
       let l = label rows names words k in
       if-cases (λ s. PartOf s l.text l.at) l.in_words {x = words} {y = names} (label-word-part rows names words k) (label-name-part rows names words k)
 
-  module _ (s : Spot) (here : Stands (label rows names words k) s) (b : Bool) (t : s.in_words ≡ b) where
+  module _ (s : Spot) (here : Stands (label rows names words k) s) (b : Bool) (t : in_words s.buffer ≡ b) where
     pub spot-inside : s.at + s.len ≤ length (if b then words else names)
     spot-inside =
-        rw (← t, ← here.in_words, ← here.at, ← here.len) label_inside.inside
+        rw (← t, ← here.buffer, ← here.at, ← here.len) label_inside.inside
 
     pub spot-bytes : take (s.at + s.len - s.at) (drop s.at (if b then words else names)) ≡ (label rows names words k).text
     unfolding text_at
     spot-bytes =
         let n : s.at + s.len - s.at ≡ s.len = omega arith in
-        rw (n, ← t, ← here.in_words, ← here.at, ← here.len) label_inside.same
+        rw (n, ← t, ← here.buffer, ← here.at, ← here.len) label_inside.same
 
     pub spot-starts : (names_place words_place place : ℕ × ℕ) → StartsAt (if b then words_place else names_place) s.at place
         → StartsAt (if (label rows names words k).in_words then words_place else names_place) (label rows names words k).at place
-    spot-starts names_place words_place place h = rw (here.in_words, here.at, t) h
+    spot-starts names_place words_place place h = rw (here.buffer, here.at, t) h

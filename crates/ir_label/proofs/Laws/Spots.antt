@@ -17,11 +17,12 @@ use Rattle.ir_label.specs.Lines.{line_length}
 use Rattle.ir_label.proofs.Laws.Start.{word_line}
 use Rattle.ir_label.specs.Spot.{Stands, IsSpot}
 use Rattle.ir_label.specs.declared.Spot.{Spot}
+use Rattle.ir_label.specs.declared.Buffer.TheVariants.{Names, Words}
 
 -- a pair inside the names, and one that is not
-pub name-inside : (names : List ℕ) (at len : ℕ) → at + len ≤ length names → Stands (named_label names at len) (record { in_words = false; at = at; len = len })
+pub name-inside : (names : List ℕ) (at len : ℕ) → at + len ≤ length names → Stands (named_label names at len) (record { buffer = Names; at = at; len = len })
 unfolding named_label
-name-inside names at len h = rw (le-leb (at + len) (length names) h) (record { number = refl; in_words = refl; at = refl; len = length-text_at names at len h })
+name-inside names at len h = rw (le-leb (at + len) (length names) h) (record { number = refl; buffer = refl; at = refl; len = length-text_at names at len h })
 
 pub name-outside : (names : List ℕ) (at len : ℕ) → length names < at + len → named_label names at len ≡ no_label
 unfolding named_label
@@ -29,11 +30,11 @@ name-outside names at len h = rw (lt-leb (at + len) (length names) h)
 
 -- a word of a good list, and one of another
 pub word-here : (words : List ℕ) (a at end : ℕ) → good_words words ≡ true → a ≤ 5 → at ≡ word_at (a - 1) (words_of words) → end ≡ at + line_length (drop at words)
-    → Stands (word_label words a) (record { in_words = true; at = at; len = end - at })
+    → Stands (word_label words a) (record { buffer = Words; at = at; len = end - at })
 unfolding word_label
 word-here words a at end good h e f =
     let size = ap (λ (i : ℕ). line_length (drop i words)) e ∙ word_line (a - 1) words (omega (arith, h, six-words words good)) in
-    rw good (record { number = refl; in_words = refl; at = sym e; len = omega (arith, f, size) })
+    rw good (record { number = refl; buffer = refl; at = sym e; len = omega (arith, f, size) })
 
 pub word-bad : (words : List ℕ) (a : ℕ) → good_words words ≡ false → word_label words a ≡ no_label
 unfolding word_label

@@ -2,6 +2,7 @@
 use Rattle.std.proofs.Common.{refl, sym, ap, true, false, arith}
 use Rattle.text.proofs.Laws.Tests.{bool_cases}
 use Rattle.ir_types.specs.Label.{Labelled, no_label}
+use Rattle.ir_label.specs.Spot.{in_words}
 use Rattle.ir_label.proofs.Laws.Parts.{spot-inside, spot-bytes, spot-starts}
 use Rattle.ir_label.proofs.label.Goals as goal
 
@@ -16,36 +17,36 @@ overflow_add-end c =
     let a = c.args in
     let s = c.in-Ok.s in
     let here = c.in-Ok.ensures in
-    bool_cases s.in_words (λ t. omega (arith, spot-inside a.rows.now a.names.now a.words.now a.k s here true t))
+    bool_cases (in_words s.buffer) (λ t. omega (arith, spot-inside a.rows.now a.names.now a.words.now a.k s here true t))
     (λ t. omega (arith, spot-inside a.rows.now a.names.now a.words.now a.k s here false t))
 
-pub slice_bounds-result-end-then-s : goal.slice_bounds-result-end-then-s
-slice_bounds-result-end-then-s c =
+pub slice_bounds-result-end-in-Words : goal.slice_bounds-result-end-in-Words
+slice_bounds-result-end-in-Words c =
     let a = c.args in
-    omega (arith, spot-inside a.rows.now a.names.now a.words.now a.k c.in-Ok.s c.in-Ok.ensures true c.if-s.true)
+    omega (arith, spot-inside a.rows.now a.names.now a.words.now a.k c.in-Ok.s c.in-Ok.ensures true (ap in_words c.in-Words.is))
 
-pub slice_bounds-result-end-else-s : goal.slice_bounds-result-end-else-s
-slice_bounds-result-end-else-s c =
+pub slice_bounds-result-end-in-Names : goal.slice_bounds-result-end-in-Names
+slice_bounds-result-end-in-Names c =
     let a = c.args in
-    omega (arith, spot-inside a.rows.now a.names.now a.words.now a.k c.in-Ok.s c.in-Ok.ensures false c.if-s.false)
+    omega (arith, spot-inside a.rows.now a.names.now a.words.now a.k c.in-Ok.s c.in-Ok.ensures false (ap in_words c.in-Names.is))
 
-pub returns-then-s : goal.returns-then-s
-returns-then-s c =
+pub returns-in-Words : goal.returns-in-Words
+returns-in-Words c =
     let a = c.args in
     let s = c.in-Ok.s in
     let here = c.in-Ok.ensures in
-    let t = c.if-s.true in
+    let t = (ap in_words c.in-Words.is) in
     record {
       bytes = spot-bytes a.rows.now a.names.now a.words.now a.k s here true t;
       starts = spot-starts a.rows.now a.names.now a.words.now a.k s here true t a.names.ref_ptr a.words.ref_ptr _ (refl, omega arith);
     }
 
-pub returns-else-s : goal.returns-else-s
-returns-else-s c =
+pub returns-in-Names : goal.returns-in-Names
+returns-in-Names c =
     let a = c.args in
     let s = c.in-Ok.s in
     let here = c.in-Ok.ensures in
-    let t = c.if-s.false in
+    let t = (ap in_words c.in-Names.is) in
     record {
       bytes = spot-bytes a.rows.now a.names.now a.words.now a.k s here false t;
       starts = spot-starts a.rows.now a.names.now a.words.now a.k s here false t a.names.ref_ptr a.words.ref_ptr _ (refl, omega arith);

@@ -2,15 +2,14 @@
 use Rattle.std.specs.Prelude.{if◌then◌else◌, Option, Some, None, is_some}
 use Rattle.std.specs.Option.{option_and_then, unwrap_or}
 use Rattle.std.proofs.lemmas.Option.{none-some, same_Some}
-use mathlib.Core.Path.{◌≡◌, refl, sym, ap, subst, ◌∙◌}
+use mathlib.Core.Path.{◌≡◌, refl, sym, ap, ◌∙◌}
 use mathlib.Core.Logic.{◌⊎◌, inl, inr}
 use mathlib.Core.Bool.{Bool, true, false, not, ◌&&◌, ◌||◌, false≢true}
 use mathlib.Core.List.{List, [], ◌∷◌, ◌++◌, map, append_assoc, append-nil, map-append}
 use Prim.Native.Nat.{ℕ, zero, suc, ◌+◌, ◌-◌, ◌*◌, ◌≤◌, ◌<◌}
 use native.Mathlib.Omega.{arith}
 use lib.Dec.{eqb}
-use lib.ListN.{length, get_or, set}
-use lib.Seq.{get_or-set_same, get_or-set_other}
+use lib.ListN.{length, get_or}
 use borrow.Author.Tests.{eqb-true, eqb-false, not-true}
 use Rattle.text.specs.Text.{Text, same, between}
 use Rattle.text.proofs.Laws.Texts.{same_refl}
@@ -25,7 +24,7 @@ use Rattle.name_index.proofs.Laws.Places.{place-hit, place-among}
 use Rattle.name_index.proofs.Laws.Answers.{hit-inside}
 use Rattle.ir_reduce.specs.Reach.{In}
 use Rattle.ir_reduce.specs.Marks.{head_at}
-use Rattle.ir_reduce.specs.Index.{buckets, place_if, heads_from, head_places, head_names, AllIndexed, NewHead, OldHead, asked_pair, target_of, TargetsPut}
+use Rattle.ir_reduce.specs.Index.{buckets, place_if, heads_from, head_places, head_names, AllIndexed, NewHead, OldHead, asked_pair, target_of}
 use Rattle.ir_reduce.proofs.Laws.Places.{in-none, in-cons}
 
 -- ---- places and their heads
@@ -163,6 +162,11 @@ entering-end {rows} {names} {end} {table} {n} {p} w h =
     ∙ ap (λ (l : List ℕ). places_in buckets n table ++ l) (sym (heads-none rows p end h)) ∙ w.places in
     record { index = w.index; places = all; distinct = rw (← all) w.distinct }
 
+-- what a writer left in its numbers is theirs where it still holds them
+pub indexed-left : {rows names : List ℕ} {end : ℕ} {table after : List ℕ} {n : ℕ} {held : Type 0} → AllIndexed rows names end table n → held → (held → after ≡ table)
+    → AllIndexed rows names end after n
+indexed-left w h left = rw (left h) w
+
 pub entering-repeated : {rows names : List ℕ} {end : ℕ} {table : List ℕ} {n p : ℕ} → Entering rows names end table n p → p < end → OldHead rows names table n p
     → distinct_texts (head_names rows names (head_places rows end)) ≡ false
 entering-repeated {rows} {names} {end} {table} {n} {p} w h o =
@@ -210,20 +214,3 @@ target-inside {rows} {names} {table} {n} w p = by-pair (asked_pair (get_or rows 
         → 10 * unwrap_or (option_and_then (λ (k : ℕ). place_of (name_of rows names false) (spelled (eqb (get_or rows (10 * p) 0) root_tag) (text_at names (get_or rows (10 * p + k) 0) (get_or rows (10 * p + k + 1) 0))) (places_in buckets n table)) o) 0 ≤ length rows
     by-pair None = omega arith
     by-pair (Some k) = found _ _ refl
-
--- ---- the targets stored
-pub targets-step : {rows names to : List ℕ} {end k : ℕ} {v : ℕ} → TargetsPut rows names end k to → 0 < k → k < length to
-    → v ≡ unwrap_or (target_of rows names (head_places rows end) k) 0 → TargetsPut rows names end (k + 1) (set to k v)
-targets-step {rows} {names} {to} {end} {k} {v} w a h e =
-    record {
-      first = get_or-set_other to k 0 v 0 (λ x. omega arith) ∙ w.first;
-      put = λ p b c. by_place p b c (eqb p k) refl;
-      rest = λ p c. get_or-set_other to k p v 0 (λ x. omega arith) ∙ w.rest p (omega arith);
-    }
-  where
-    by_place : (p : ℕ) → 0 < p → p < k + 1 → (b : Bool) → eqb p k ≡ b → get_or (set to k v) p 0 ≡ unwrap_or (target_of rows names (head_places rows end) p) 0
-    by_place p b c true s = rw (eqb-true p k s) (get_or-set_same to k v 0 h ∙ e)
-    by_place p b c false s = get_or-set_other to k p v 0 (eqb-false p k s) ∙ w.put p b (omega (arith, eqb-false p k s))
-
-pub targets-end : {rows names to : List ℕ} {end k : ℕ} → TargetsPut rows names end k to → k ≡ end → TargetsPut rows names end end to
-targets-end {rows} {names} {to} {end} {k} w e = subst (λ (k : ℕ). TargetsPut rows names end k to) e w

@@ -7,10 +7,7 @@ use Rattle.ir_row.proofs.put_lowered.Goals as goal
 
 pub put_spelled-requires : goal.put_spelled-requires
 put_spelled-requires c =
-    record {
-      room = c.requires.0;
-      tag = not-count (λ e. omega arith) (λ e. omega arith) (λ e. omega arith) (λ e. omega arith);
-    }
+    not-count (λ e. omega arith) (λ e. omega arith) (λ e. omega arith) (λ e. omega arith)
 
 pub returns-in-6 : goal.returns-in-6
 returns-in-6 c =

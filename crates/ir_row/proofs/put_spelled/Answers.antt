@@ -12,9 +12,9 @@ unfolding ten_rows
 returns-then-not-has_recipe c =
     let args = c.args in
     let none = lowered_none args.codes args.t.tag args.t.a args.t.b args.t.c (text_at args.names.now args.t.at0 args.t.len0)
-    (text_at args.names.now args.t.at1 args.t.len1) c.requires.tag
+    (text_at args.names.now args.t.at1 args.t.len1) c.requires
     (sym c.has_recipe.ensures ∙ c.if-not-has_recipe.true) in
-    rw none (grows_none c.requires.room)
+    rw none grows_none
 
 pub returns : goal.returns
 unfolding ten_rows

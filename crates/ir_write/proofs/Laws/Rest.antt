@@ -8,10 +8,11 @@ use lib.Dec.{eqb}
 use lib.ListN.{get_or}
 use Rattle.sheet.specs.Rows.{Row}
 use Rattle.xsd_types.specs.Good.{is_head}
-use Rattle.xsd_types.specs.Places.{row_at, rows_from}
 use Rattle.xsd_types.specs.Refused.{is_code_enum}
+use Rattle.rows.specs.declared.part.SheetPart.{SheetPart}
 use Rattle.ir_rows.specs.Lowered.{lowered_row, child_rows, type_rows_of, root_rows}
 use Rattle.ir_rows.specs.Types.{types_rows, graph_row_list}
+use Rattle.ir_rows.specs.Parts.{part_row, part_rows, part_types, part_graph}
 use Rattle.text.proofs.Laws.Tests.{if-cases}
 use Rattle.xsd_types.proofs.Laws.Places.{row_at-tag, rows_from-cons, rows_from-end}
 
@@ -22,54 +23,62 @@ roots-one r rs =
     if-cases (λ (l : List Row). l ≡ (if eqb r.tag 2 then lowered_row false r ++ [] else []) ++ root_rows rs) (eqb r.tag 2)
     (λ t. rw (t, append-nil (lowered_row false r))) (λ t. rw t)
 
--- the row of an element, and no row for any other
-pub root-hit : (rows names : List ℕ) (p : ℕ) → get_or rows (10 * p) 0 ≡ 2 → root_rows (row_at rows names p ∷ []) ≡ lowered_row false (row_at rows names p)
-unfolding root_rows
-root-hit rows names p t =
-    let h : eqb (row_at rows names p).tag 2 ≡ true = rw (row_at-tag rows names p, t) in
-    rw h (append-nil (lowered_row false (row_at rows names p)))
+module _ (part : SheetPart) (p : ℕ) where
+  tag-at : (part_row part p).tag ≡ get_or part.rows.now (10 * p) 0
+  tag-at = row_at-tag part.rows.now part.names.now p
 
-pub root_none : (rows names : List ℕ) (p : ℕ) → eqb (get_or rows (10 * p) 0) 2 ≡ false → root_rows (row_at rows names p ∷ []) ≡ []
-unfolding root_rows
-root_none rows names p t =
-    let h : eqb (row_at rows names p).tag 2 ≡ false = rw (row_at-tag rows names p) t in
-    rw h
+  next : p < part.end → part_rows part p ≡ part_row part p ∷ part_rows part (p + 1)
+  next h = rows_from-cons part.rows.now part.names.now p part.end h
 
-module _ (rows names : List ℕ) (e : Bool) (p end : ℕ) where
-  pub children-end : end ≤ p → child_rows e (rows_from rows names p end) ≡ []
-  unfolding child_rows
-  children-end h = rw (rows_from-end rows names p end h)
+  none : part.end ≤ p → part_rows part p ≡ []
+  none h = rows_from-end part.rows.now part.names.now p part.end h
 
-  pub children-head : p < end → is_head (get_or rows (10 * p) 0) ≡ true → child_rows e (rows_from rows names p end) ≡ []
-  unfolding child_rows
-  children-head h t = rw (rows_from-cons rows names p end h, row_at-tag rows names p, t)
-
-  pub children-on : p < end → is_head (get_or rows (10 * p) 0) ≡ false → child_rows e (rows_from rows names p end) ≡ lowered_row e (row_at rows names p) ++ child_rows e (rows_from rows names (p + 1) end)
-  unfolding child_rows
-  children-on h t = rw (rows_from-cons rows names p end h, row_at-tag rows names p, t)
-
-  pub type-on : p < end → e ≡ is_code_enum (rows_from rows names (p + 1) end) → type_rows_of (rows_from rows names p end) ≡ lowered_row e (row_at rows names p) ++ child_rows e (rows_from rows names (p + 1) end)
-  unfolding type_rows_of
-  type-on h t = rw (rows_from-cons rows names p end h, t)
-
-  pub roots-end : end ≤ p → root_rows (rows_from rows names p end) ≡ []
+  -- the row of an element, and no row for any other
+  pub root-hit : get_or part.rows.now (10 * p) 0 ≡ 2 → root_rows (part_row part p ∷ []) ≡ lowered_row false (part_row part p)
   unfolding root_rows
-  roots-end h = rw (rows_from-end rows names p end h)
+  root-hit t =
+      let h : eqb (part_row part p).tag 2 ≡ true = rw (tag-at, t) in
+      rw h (append-nil (lowered_row false (part_row part p)))
 
-  pub roots-on : p < end → root_rows (rows_from rows names p end) ≡ root_rows (row_at rows names p ∷ []) ++ root_rows (rows_from rows names (p + 1) end)
-  roots-on h = rw (rows_from-cons rows names p end h) (roots-one (row_at rows names p) (rows_from rows names (p + 1) end))
+  pub root_none : eqb (get_or part.rows.now (10 * p) 0) 2 ≡ false → root_rows (part_row part p ∷ []) ≡ []
+  unfolding root_rows
+  root_none t = rw (tag-at, t)
 
--- the type at the first place, and those behind it
-module _ (rows names : List ℕ) where
-  pub types-on : (p end : ℕ) (ps : List ℕ) → types_rows rows names end (p ∷ ps) ≡ type_rows_of (rows_from rows names p end) ++ types_rows rows names end ps
+  pub roots-end : part.end ≤ p → root_rows (part_rows part p) ≡ []
+  unfolding root_rows
+  roots-end h = rw (none h)
+
+  pub roots-on : p < part.end → root_rows (part_rows part p) ≡ root_rows (part_row part p ∷ []) ++ root_rows (part_rows part (p + 1))
+  roots-on h = rw (next h) (roots-one (part_row part p) (part_rows part (p + 1)))
+
+  module _ (e : Bool) where
+    pub children-end : part.end ≤ p → child_rows e (part_rows part p) ≡ []
+    unfolding child_rows
+    children-end h = rw (none h)
+
+    pub children-head : p < part.end → is_head (get_or part.rows.now (10 * p) 0) ≡ true → child_rows e (part_rows part p) ≡ []
+    unfolding child_rows
+    children-head h t = rw (next h, tag-at, t)
+
+    pub children-on : p < part.end → is_head (get_or part.rows.now (10 * p) 0) ≡ false → child_rows e (part_rows part p) ≡ lowered_row e (part_row part p) ++ child_rows e (part_rows part (p + 1))
+    unfolding child_rows
+    children-on h t = rw (next h, tag-at, t)
+
+    pub type-on : p < part.end → e ≡ is_code_enum (part_rows part (p + 1)) → type_rows_of (part_rows part p) ≡ lowered_row e (part_row part p) ++ child_rows e (part_rows part (p + 1))
+    unfolding type_rows_of
+    type-on h t = rw (next h, t)
+
+module _ (part : SheetPart) where
+  -- the type at the first place, and those behind it
+  pub types-on : (p : ℕ) (ps : List ℕ) → part_types part (p ∷ ps) ≡ type_rows_of (part_rows part p) ++ part_types part ps
   unfolding types_rows
-  types-on p end ps = refl
+  types-on p ps = refl
 
-  pub types-end : (end : ℕ) → types_rows rows names end [] ≡ []
+  pub types-end : part_types part [] ≡ []
   unfolding types_rows
-  types-end end = refl
+  types-end = refl
 
   -- the namespace, the elements and the types
-  pub graph-on : (end : ℕ) (ps : List ℕ) → graph_row_list rows names end ps ≡ lowered_row false (row_at rows names 1) ++ (root_rows (rows_from rows names 2 end) ++ types_rows rows names end ps)
+  pub graph-on : (ps : List ℕ) → part_graph part ps ≡ lowered_row false (part_row part 1) ++ (root_rows (part_rows part 2) ++ part_types part ps)
   unfolding graph_row_list
-  graph-on end ps = refl
+  graph-on ps = refl

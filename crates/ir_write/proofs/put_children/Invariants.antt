@@ -1,13 +1,11 @@
 -- `ir_write::put_children` meets its contract. The invariant: the children from the first place on are added where those from the place at hand on are (`Onward`). Assumes nothing.
-use mathlib.Core.Path.{◌≡◌}
-use lib.ListN.{length}
-use Rattle.xsd_types.specs.Places.{rows_from}
+use Prim.Native.Nat.{ℕ}
 use Rattle.ir_rows.specs.Lowered.{child_rows}
-use Rattle.ir_write.specs.Onward.{Onward}
+use Rattle.ir_rows.specs.Parts.{part_rows}
+use Rattle.ir_append.proofs.Laws.Onward.{Onward}
 use Rattle.ir_write.proofs.put_children.Given as goal
 
 abbrev pub invariant-loop-place : goal.invariant-loop-place
 invariant-loop-place l =
-    Onward l.initial.graph_rows l.initial.graph_names l.initial.used (child_rows l.fn.children.code_enum (rows_from l.part.rows.now l.part.names.now l.fn.children.first l.part.end)) l.graph_rows l.graph_names l.used
-    (child_rows l.fn.children.code_enum (rows_from l.part.rows.now l.part.names.now l.place l.part.end)) × (length l.graph_rows ≡ length l.initial.graph_rows)
-    × (length l.graph_names ≡ length l.initial.graph_names)
+    let rows = λ (place : ℕ). child_rows l.fn.children.code_enum (part_rows l.part place) in
+    Onward l.initial.writer (rows l.fn.children.first) l.writer (rows l.place)

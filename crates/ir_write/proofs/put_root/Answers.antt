@@ -8,9 +8,9 @@ use Rattle.ir_write.proofs.put_root.Goals as goal
 pub returns-then-tag-ne-ELEMENT : goal.returns-then-tag-ne-ELEMENT
 returns-then-tag-ne-ELEMENT c =
     let a = c.args in
-    rw (root_none a.part.now.rows.now a.part.now.names.now a.place (ne_eqb _ _ (λ e. c.if-tag-ne-ELEMENT.true (c.tag.ensures ∙ e)))) (grows_none c.requires.0)
+    rw (root_none a.part.now a.place (ne_eqb _ _ (λ e. c.if-tag-ne-ELEMENT.true (c.tag.ensures ∙ e)))) grows_none
 
 pub returns : goal.returns
 returns c =
     let a = c.args in
-    rw (root-hit a.part.now.rows.now a.part.now.names.now a.place (sym c.tag.ensures ∙ c.if-tag-ne-ELEMENT.false)) c.put_lowered.ensures
+    rw (root-hit a.part.now a.place (sym c.tag.ensures ∙ c.if-tag-ne-ELEMENT.false)) c.put_lowered.ensures

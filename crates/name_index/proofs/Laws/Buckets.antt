@@ -16,9 +16,8 @@ use borrow.Author.Tests.{eqb-true, eqb-false}
 use Rattle.text.specs.Text.{Text, same}
 use Rattle.text.proofs.Laws.Tests.{if-cases, bool_cases}
 use Rattle.text.proofs.Laws.Texts.{same-differ}
-use Rattle.names.specs.Same.{spelled}
 use Rattle.name_index.specs.Hash.{bucket_of}
-use Rattle.name_index.specs.Index.{head_name, name_of, place_from, place_of, places_in, last_in, place_in, name_in, Index, Starts, Entering, Added}
+use Rattle.name_index.specs.Index.{name_of, place_from, place_of, places_in, last_in, place_in, name_in, Index, Starts, Entering, Added}
 use Rattle.name_index.proofs.Laws.Hash.{bucket-below}
 use Rattle.name_index.proofs.Laws.Places.{place-more, places-more, places-set}
 
@@ -87,15 +86,6 @@ place-first name place t (suc e) h = ap (λ (j : ℕ). if same (name j) t then S
 
 pub bucket-inside : {rows names : List ℕ} {normalised : Bool} {table : List ℕ} {k n b : ℕ} (t : Text) → Index rows names normalised table k n → b ≡ bucket_of k t → b < length table
 bucket-inside {k = k} t w e = rw e (omega (arith, bucket-below k t w.some, w.inside))
-
--- the name read at a place, and at the place of an entry
-pub own_name : (rows names : List ℕ) (normalised : Bool) {held : Text} (p : ℕ) → held ≡ head_name rows names p → spelled normalised held ≡ name_of rows names normalised p
-unfolding name_of
-own_name rows names normalised p h = rw h
-
-pub held-name : (rows names : List ℕ) (normalised : Bool) (table : List ℕ) (k j : ℕ) {held : Text} (p : ℕ)
-    → held ≡ head_name rows names p → p ≡ place_in table k j → spelled normalised held ≡ name_in rows names normalised table k j
-held-name rows names normalised table k j p h e = own_name rows names normalised p h ∙ rw e
 
 module _ {rows names : List ℕ} {normalised : Bool} {table : List ℕ} {k n : ℕ} (w : Index rows names normalised table k n) (t : Text) where
   to_last : (e e' : ℕ) → e ≤ n

@@ -1,28 +1,18 @@
--- `name_index::hash_of` meets its contract. The loop's invariant: the hash so far, with what is left of the name, spelled, answers for the whole, and is
--- below 2^32. The measure is how much of the name is left. Assumes nothing.
-use mathlib.Core.Path.{sym, ◌∙◌}
-use native.Mathlib.Omega.{arith}
-use Rattle.names.proofs.Laws.Spelled.{spelled-whole}
-use Rattle.name_index.specs.Hash.{hash}
-use Rattle.name_index.proofs.Laws.Hash.{mixed-below, hash-on, hash-end}
+-- `name_index::hash_of` meets its contract: each byte goes in by itself. Assumes nothing.
+use Rattle.std.proofs.Common.{sym, ap, ◌∙◌, arith}
+use Rattle.name_index.specs.Hash.{hash_from, hash}
+use Rattle.name_index.proofs.Laws.Hash.{mixed-below}
 use Rattle.name_index.proofs.hash_of.Goals as goal
 
 pub loop-b-init : goal.loop-b-init
 unfolding hash
-loop-b-init c =
-    let a = c.args in
-    (omega arith, rw (c.starts_up-up.ensures, spelled-whole a.normalised a.name.now))
-
-pub returns : goal.returns
-returns c =
-    let a = c.args in
-    sym (hash-end c.loop-b.h (rw c.in_default.is at c.next_spelled.ensures)) ∙ c.loop-b.invariant.1
-
-pub loop-b-smaller : goal.loop-b-smaller
-loop-b-smaller c =
-    omega (arith, c.in-Some.ensures)
+loop-b-init c = (tt, tt, omega arith, ap (hash_from 0) (rw c.into_iter-b-iterator.ensures.into_iter_gives c.bytes-b-items.ensures))
 
 pub loop-b-preserved : goal.loop-b-preserved
+unfolding hash_from
 loop-b-preserved c =
-    let on = hash-on c.loop-b.h (c.in-Some.ensures) in
-    rw c.mix-h.ensures (mixed-below _ _, sym on ∙ c.loop-b.invariant.1)
+    rw c.mix-h.ensures (tt, tt, mixed-below _ _, sym (ap (hash_from c.loop-b.h) c.in-Some.ensures.steps) ∙ c.loop-b.invariant.3)
+
+pub returns : goal.returns
+unfolding hash_from
+returns c = sym (ap (hash_from c.loop-b.h) c.in-None.ensures.steps.0) ∙ c.loop-b.invariant.3

@@ -7,12 +7,6 @@ use Rattle.names.proofs.Laws.Writing.{writing_start, writing-length, writing-as,
 use Rattle.names.proofs.Laws.Scans.{segments-passed, segments-kept, segments-end}
 use Rattle.names.proofs.put_segments.Goals as goal
 
-pub loop-b-init : goal.loop-b-init
-loop-b-init c = writing_start _ _
-
-pub shape_of-out-then-out-n : goal.shape_of-out-then-out-n
-shape_of-out-then-out-n c = writing-length c.loop-b.invariant
-
 pub returns-then-out-n : goal.returns-then-out-n
 returns-then-out-n c =
     let a = c.args in
@@ -20,9 +14,6 @@ returns-then-out-n c =
     writing-full
     (writing-as w (segments-kept a.separator a.lowers c.loop-b.up a.s.now c.loop-b.b-index (omega arith) c.if-b-separator.false))
     (omega (arith, writing-length w))
-
-pub bounds-out-n : goal.bounds-out-n
-bounds-out-n c = omega (arith, writing-length c.loop-b.invariant)
 
 pub loop-b-preserved : goal.loop-b-preserved
 loop-b-preserved c =
@@ -35,9 +26,6 @@ loop-b-preserved c =
     (λ v. rw (v.out-is, v.up-is, v.n-is, v.cased.ensures, add-one i)
     (writing_more (writing-as w (segments-kept a.separator a.lowers up a.s.now i (omega arith) v.if-b-separator.false)) (omega (arith, writing-length w))))
     c.if-b-separator.branch-raw
-
-pub shape_of-out : goal.shape_of-out
-shape_of-out c = writing-length c.loop-b.invariant
 
 pub returns : goal.returns
 returns c =

@@ -1,12 +1,13 @@
 -- Laws of specs/Number.antt, over the limit and never one for each width. No contract cites them. Assumes nothing.
 --     from limit v d    what the digits d behind the value v give below the limit
 use Rattle.std.specs.Prelude.{if◌then◌else◌}
-use mathlib.Core.Path.{◌≡◌, refl, ◌∙◌}
+use mathlib.Core.Path.{◌≡◌, refl, sym, ◌∙◌}
 use mathlib.Core.Bool.{Bool, true, false}
 use mathlib.Core.List.{[], ◌∷◌}
 use Prim.Native.Nat.{ℕ, suc, ◌+◌, ◌-◌, ◌*◌, ◌^◌, ◌≤◌, ◌<◌}
 use Prim.Native.Char.{code}
 use native.Mathlib.Omega.{arith}
+use native.Mathlib.Numerals.{add-one}
 use native.Mathlib.Nat.{le_trans, not-suc-le-zero}
 use lib.Dec.{ltb}
 use lib.Pow.{pow_pos}
@@ -71,26 +72,41 @@ pub from_past : (limit v : ℕ) (d : Text) → limit ≤ v → from limit v d �
 unfolding from
 from_past limit v d h = rw (below-past limit (value v d) (le_trans h (value_grows v d))) (either_way (every is_digit d) (refused 10))
 
--- the byte at place i: a digit is one step, one that reaches the limit refuses, as any other byte does, and behind the last stands the value
-pub from-digit : (limit v : ℕ) (d : Text) (i : ℕ) → i < length d → is_digit (get_or d i 0) ≡ true → from limit v (drop i d) ≡ from limit (v * 10 + (get_or d i 0 - 48)) (drop (suc i) d)
-unfolding from every value
-from-digit limit v d i h e = rw (drop-cons d i 0 h, e)
-
 pub from-over : (limit v : ℕ) (d : Text) (i : ℕ) → i < length d → is_digit (get_or d i 0) ≡ true → limit ≤ v * 10 + (get_or d i 0 - 48) → from limit v (drop i d) ≡ refused 10
-from-over limit v d i h e p = from-digit limit v d i h e ∙ from_past limit (v * 10 + (get_or d i 0 - 48)) (drop (suc i) d) p
-
-pub from-other : (limit v : ℕ) (d : Text) (i : ℕ) → i < length d → is_digit (get_or d i 0) ≡ false → from limit v (drop i d) ≡ refused 10
-unfolding from every
-from-other limit v d i h e = rw (drop-cons d i 0 h, e)
-
-pub from_end : (limit v : ℕ) (d : Text) (i : ℕ) → length d ≤ i → v < limit → from limit v (drop i d) ≡ parsed v
 unfolding from every value
-from_end limit v d i h k = rw (drop_of_length-le d h) (below-within limit v k)
+from-over limit v d i h e p = rw (drop-cons d i 0 h, e) (from_past limit (v * 10 + (get_or d i 0 - 48)) (drop (suc i) d) p)
 
-pub from_start : (limit : ℕ) (d : Text) → 0 < length d → from limit 0 d ≡ numeral limit d
+-- ---- the digits of d before place i are read: their value is below the limit, and with the digits behind them gives what d gives
+pub record ReadTo (limit : ℕ) (d : Text) (v i : ℕ) : Type 0 where
+  pub small : v < limit
+  pub gives : from limit v (drop i d) ≡ numeral limit d
+
+pub read-start : (limit : ℕ) (d : Text) → 0 < length d → 0 < limit → ReadTo limit d 0 0
 unfolding from numeral is_numeral
-from_start limit [] h = absurd (not-suc-le-zero h)
-from_start limit (b ∷ d) h = refl
+read-start limit [] h k = absurd (not-suc-le-zero h)
+read-start limit (b ∷ d) h k = record { small = k; gives = refl }
+
+module _ {limit : ℕ} {d : Text} {v i : ℕ} (w : ReadTo limit d v i) where
+  pub read-end : length d ≤ i → parsed v ≡ numeral limit d
+  unfolding from every value
+  read-end h = rw (drop_of_length-le d h, below-within limit v w.small) at w.gives
+
+  module _ (h : i < length d) where
+    -- any other byte refuses
+    pub read-other : is_digit (get_or d i 0) ≡ false → refused 10 ≡ numeral limit d
+    unfolding from every
+    read-other e = rw (drop-cons d i 0 h, e) at w.gives
+
+    on : is_digit (get_or d i 0) ≡ true → from limit (v * 10 + (get_or d i 0 - 48)) (drop (suc i) d) ≡ numeral limit d
+    unfolding from every value
+    on e = rw (drop-cons d i 0 h, e) at w.gives
+
+    -- a digit that reaches the limit refuses
+    pub read-over : {x : ℕ} → (is_digit (get_or d i 0) ≡ true) × (x ≡ get_or d i 0 - 48) → limit ≤ v * 10 + x → refused 10 ≡ numeral limit d
+    read-over e p = sym (from_past limit _ (drop (suc i) d) (rw e.1 at p)) ∙ on e.0
+
+    pub read-digit : {x n : ℕ} → (is_digit (get_or d i 0) ≡ true) × (x ≡ get_or d i 0 - 48) → n ≡ v * 10 + x → n < limit → ReadTo limit d n (i + 1)
+    read-digit e q l = record { small = l; gives = rw (q, e.1, add-one i) (on e.0) }
 
 pub numeral-none : (limit : ℕ) (d : Text) → length d ≡ 0 → numeral limit d ≡ refused 10
 unfolding numeral is_numeral

@@ -54,6 +54,12 @@ minus-all [] h e f = absurd (not-suc-le-zero h)
 minus-all (b ∷ []) h e f = absurd (omega arith)
 minus-all (b ∷ c ∷ s) h e f = rw (eq-eqb b (code "-") e, eq-eqb c (code "0") f) (every-all is_zero s)
 
+pub minus-start : (s : Text) → 2 ≤ length s → get_or s 0 0 ≡ code "-" → every is_zero (drop 1 s) ≡ is_minus_zeros s
+unfolding is_minus_zeros
+minus-start [] h e = absurd (not-suc-le-zero h)
+minus-start (b ∷ []) h e = absurd (omega arith)
+minus-start (b ∷ c ∷ s) h e = rw (eq-eqb b (code "-") e)
+
 -- no digit and no sign is white space
 other-solid : (b : ℕ) → 32 < b → is_solid b ≡ true
 unfolding is_solid is_white_space

@@ -182,10 +182,6 @@ or-scan : (d : ℕ) (r : Text) → scan (go d start) (code "|" ∷ r) ≡ scan (
 unfolding scan step fresh
 or-scan d r = refl
 
-other-mark : (r : Text) (b : ℕ) → is_mark b ≡ false → is_mark (first (b ∷ r)) ≡ false
-unfolding first
-other-mark r b h = h
-
 -- what a derivation says of the scan
 abbrev pub Scanned : Symbol → Text → Type 0
 Scanned reg_exp s = (d : ℕ) (r : Text) → is_mark (first r) ≡ false → scan (go d start) (s ++ r) ≡ scan (go d start) r

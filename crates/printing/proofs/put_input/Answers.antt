@@ -4,4 +4,4 @@ use Rattle.printing.proofs.Laws.Input.{tape-inside}
 use Rattle.printing.proofs.put_input.Goals as goal
 
 pub put_behind-requires : goal.put_behind-requires
-put_behind-requires c = tape-inside c.args.input.now _ _ (sym c.in-Tape.is ∙ c.input_of.ensures)
+put_behind-requires g c = tape-inside c.args.input.now _ _ (sym c.in-Tape.is ∙ c.input_of.ensures)

@@ -1,5 +1,5 @@
 -- Laws of the cut at a byte. Assumes nothing.
-use Prim.Native.Nat.{ℕ, zero, suc, ◌-◌, ◌≤◌, ◌<◌}
+use Prim.Native.Nat.{ℕ, zero, suc, ◌<◌}
 use mathlib.Core.Logic.{◌≢◌}
 use mathlib.Core.Path.{◌≡◌, refl, ap}
 use mathlib.Core.List.{[], ◌∷◌}
@@ -8,7 +8,6 @@ use lib.Dec.{eqb}
 use lib.ListN.{length, get_or, take, drop}
 use borrow.Author.Tests.{eq-eqb, ne_eqb}
 use Rattle.text.specs.Text.{Text}
-use Rattle.text.proofs.Laws.Tests.{if-cases}
 use Rattle.program.specs.Lines.{before_first, behind_first}
 
 -- the cut by the place of the byte
@@ -36,8 +35,3 @@ pub behind-none : (c : ℕ) (s : Text) → ((k : ℕ) → k < length s → get_o
 unfolding behind_first
 behind-none c [] none = refl
 behind-none c (b ∷ s) none = rw (ne_eqb b c (none 0 (omega arith))) (behind-none c s (λ k below. none (suc k) (omega arith)))
-
-pub behind-shorter : (c : ℕ) (s : Text) → length (behind_first c s) ≤ length s - 1
-unfolding behind_first
-behind-shorter c [] = omega arith
-behind-shorter c (b ∷ s) = if-cases (λ (t : Text). length t ≤ length (b ∷ s) - 1) (eqb b c) (λ e. omega arith) (λ e. omega (arith, behind-shorter c s))

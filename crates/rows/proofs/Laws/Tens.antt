@@ -1,13 +1,13 @@
 -- Laws of rows read from numbers, ten numbers to a row. Assumes nothing.
 use mathlib.Core.Path.{◌≡◌, refl, ◌∙◌}
 use mathlib.Core.List.{List, [], ◌∷◌}
-use Prim.Native.Nat.{ℕ, zero, suc, ◌+◌, ◌-◌, ◌≤◌, ◌<◌}
+use Prim.Native.Nat.{ℕ, zero, suc, ◌+◌, ◌-◌, ◌*◌, ◌≤◌, ◌<◌}
 use native.Mathlib.Nat.{not-suc-le-zero}
 use native.Mathlib.Numerals.{sub-one}
 use native.Mathlib.Omega.{arith}
 use lib.ListN.{drop}
 use lib.Seq.{drop-drop}
-use Rattle.sheet.specs.Rows.{ten, tens}
+use Rattle.sheet.specs.Rows.{Ten, ten, tens}
 
 pub tens-none : (n : ℕ) (s : List ℕ) → n ≤ 0 → tens n s ≡ []
 unfolding tens
@@ -23,3 +23,11 @@ pub tens-two : (n : ℕ) (s : List ℕ) → 2 ≤ n → tens (n - 1) (drop 10 s)
 tens-two n s h =
     let e : n - 1 - 1 ≡ n - 2 = omega arith in
     tens-more (n - 1) 10 s (omega arith) ∙ rw e
+
+-- the row at a place, and those behind it
+pub tens-turn : (place end : ℕ) (s : List ℕ) {t : Ten} → place < end → t ≡ ten (drop (10 * place) s)
+    → t ∷ tens (end - (place + 1)) (drop (10 * (place + 1)) s) ≡ tens (end - place) (drop (10 * place) s)
+tens-turn place end s h e =
+    let less : end - place - 1 ≡ end - (place + 1) = omega arith in
+    let on : 10 * place + 10 ≡ 10 * (place + 1) = omega arith in
+    rw (tens-more (end - place) (10 * place) s (omega arith), e, less, on)

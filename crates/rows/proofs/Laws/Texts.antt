@@ -3,7 +3,7 @@ use Prim.Native.Nat.{ℕ, zero, suc, ◌+◌, ◌-◌, ◌≤◌}
 use mathlib.Core.Path.{◌≡◌, refl, ap, ◌∙◌}
 use lib.Seq.{paste, paste-zero}
 use Rattle.buffer.proofs.Laws.Copy.{paste-paste}
-use mathlib.Core.List.{List, [], ◌++◌, append-nil}
+use mathlib.Core.List.{List, [], ◌∷◌, append-nil}
 use native.Mathlib.Nat.{le_refl, le-add_right, add-zero}
 use native.Mathlib.Omega.{arith}
 use lib.ListN.{length, length-append}
@@ -35,12 +35,11 @@ used-rest (suc zero) a b h k = rw add-zero
 used-rest (suc (suc zero)) a b h k = refl
 used-rest (suc (suc (suc n))) a b h k = omega arith
 
-pub join-rest : (n : ℕ) (t u : Text) → 1 ≤ n → n ≤ 2 → join (used_texts n t u) ≡ t ++ join (used_texts (n - 1) u u)
-unfolding join
-join-rest zero t u h k = absurd (let no : ⊥ = omega arith in no)
-join-rest (suc zero) t u h k = refl
-join-rest (suc (suc zero)) t u h k = refl
-join-rest (suc (suc (suc n))) t u h k = absurd (let no : ⊥ = omega arith in no)
+pub texts-rest : (n : ℕ) (t u : Text) → 1 ≤ n → n ≤ 2 → used_texts n t u ≡ t ∷ used_texts (n - 1) u u
+texts-rest zero t u h k = absurd (let no : ⊥ = omega arith in no)
+texts-rest (suc zero) t u h k = refl
+texts-rest (suc (suc zero)) t u h k = refl
+texts-rest (suc (suc (suc n))) t u h k = absurd (let no : ⊥ = omega arith in no)
 
 -- the used texts, stored one behind the other
 module _ (d t u : List ℕ) (at : ℕ) where

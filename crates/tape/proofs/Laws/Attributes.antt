@@ -3,7 +3,7 @@
 use Rattle.std.specs.Prelude.{if◌then◌else◌}
 use Prim.Native.String.{String}
 use mathlib.Core.Path.{◌≡◌, refl, sym, ap, ◌∙◌}
-use mathlib.Core.Bool.{true, false}
+use mathlib.Core.Bool.{true}
 use mathlib.Core.List.{List, [], ◌∷◌}
 use mathlib.Core.Option.{Option, some, none}
 use Prim.Native.Nat.{ℕ, zero, suc, ◌+◌, ◌-◌, ◌*◌, ◌≤◌, ◌<◌}
@@ -58,16 +58,11 @@ attrs-step text marks at n h p =
     let four : at + 2 + 2 ≡ at + 4 = omega arith in
     rw (two, pairs-step marks at (suc (2 * (n - 1))) (omega arith), pairs-step marks (at + 2) (2 * (n - 1)) (omega arith), four)
 
--- a lookup from an attribute on: its key decides, or the rest does
-module _ (text : Text) (marks : List ℕ) (at n : ℕ) (word : Text) (h : at + 4 ≤ length marks) (p : 0 < n) where
-  pub lookup-hit : same (local_name (pair_text text (pair_at marks at))) word ≡ true → lookup_text (attrs_of text (pairs_of (2 * n) (drop at marks))) word ≡ some (pair_text text (pair_at marks (at + 2)))
-  unfolding lookup_text
-  lookup-hit e = rw (attrs-step text marks at n h p, e)
-
-  pub lookup-on : same (local_name (pair_text text (pair_at marks at))) word ≡ false
-      → lookup_text (attrs_of text (pairs_of (2 * n) (drop at marks))) word ≡ lookup_text (attrs_of text (pairs_of (2 * (n - 1)) (drop (at + 4) marks))) word
-  unfolding lookup_text
-  lookup-on e = rw (attrs-step text marks at n h p, e)
+-- Named in docs/PORT.md: a lookup where the key of the first attribute is the one
+pub lookup-hit : (text : Text) (marks : List ℕ) (at n : ℕ) (word : Text) → at + 4 ≤ length marks → 0 < n → same (local_name (pair_text text (pair_at marks at))) word ≡ true
+    → lookup_text (attrs_of text (pairs_of (2 * n) (drop at marks))) word ≡ some (pair_text text (pair_at marks (at + 2)))
+unfolding lookup_text
+lookup-hit text marks at n word h p e = rw (attrs-step text marks at n h p, e)
 
 pub lookup-end : (text : Text) (l : List ℕ) (n : ℕ) (word : Text) → n ≤ 0 → lookup_text (attrs_of text (pairs_of (2 * n) l)) word ≡ none
 unfolding lookup_text attrs_of pairs_of

@@ -22,9 +22,9 @@ module _ (kind count left : ℕ) where
   unfolding form_test between
   form-above h = rw (le-leb 1 kind (omega arith), lt-leb kind 3 h)
 
-  pub form-many : 1 ≤ kind → kind ≤ 3 → 32 < count → form_test kind count left ≡ false
-  unfolding form_test between
-  form-many l u h = rw (le-leb 1 kind l, le-leb kind 3 u, lt-leb count 32 h)
+  pub form-many : 32 < count → form_test kind count left ≡ false
+  unfolding form_test
+  form-many h = rw (lt-leb count 32 h) (bool_cases (between 1 3 kind) (λ e. rw e) (λ e. rw e))
 
   pub form-close : kind ≡ 3 → count ≤ 32 → form_test kind count left ≡ eqb count 0
   unfolding form_test between

@@ -8,21 +8,22 @@ use Rattle.std.proofs.Common.{rules}
 use mathlib.Core.Path.{◌≡◌, refl, sym, ap, ◌∙◌}
 use mathlib.Core.Bool.{Bool, true, false, not, ◌&&◌}
 use mathlib.Core.List.{List, [], ◌∷◌, map}
-use Prim.Native.Nat.{ℕ, zero, suc, ◌+◌, ◌≤◌, ◌<◌}
+use Prim.Native.Nat.{ℕ, zero, suc, ◌+◌, ◌-◌, ◌≤◌, ◌<◌}
 use native.Mathlib.Nat.{not-suc-le-zero}
 use lib.Arith.{lt_of_le-ne}
 use native.Mathlib.Omega.{arith}
 use lib.Dec.{eqb}
-use lib.ListN.{length, get_or, drop}
+use lib.ListN.{length, get_or}
+use denote.Enum.Declared.{tag_of}
 use borrow.Author.Tests.{eq-eqb, ne_eqb, eqb-false, not-true}
 use Rattle.text.specs.Text.{Text, bytes, every, same}
-use Rattle.text.proofs.Laws.Texts.{same-eq, same-differ, after_last-hit, after_last-on}
+use Rattle.text.proofs.Laws.Texts.{same-eq, same-differ}
 use Rattle.text.proofs.Laws.Tests.{two, bool_cases}
-use Rattle.text.specs.Text.{contains, colon, local_name, after_last}
-use native.Mathlib.Numerals.{add-one}
+use Rattle.text.specs.Text.{contains, colon, local_name}
 use Rattle.text.proofs.Laws.Local.{after_last-none}
 use Rattle.xsd_parser.specs.declared.words.Word.{Word}
 use Rattle.xsd_parser.specs.Words.{found, known_words, word_of}
+use Rattle.tape.specs.contracts.words.Key.{the_type}
 use Rattle.tape.specs.declared.words.Key.{Key}
 use Rattle.tape.specs.Keys.{numbered, known_word, key_words, key_number, key_of}
 
@@ -71,6 +72,24 @@ found_number o i (w ∷ ws) s (suc k) h l d =
     (λ e. rw (e, same-eq s w e) (other_word w ws k (omega arith) (two (every (λ v. not (same w v)) ws) (differ ws) d).0 ∙ sym (ne_eqb i (i + suc k) (λ q. omega (arith, q)))))
     (λ e. rw e (let j : i + suc k ≡ suc i + k = omega arith in rw j (found_number o (suc i) ws s k (omega arith) (omega arith) (two (every (λ v. not (same w v)) ws) (differ ws) d).1)))
 
+-- Named in docs/PORT.md: what is found beside a text stands at the text's number
+pub found_at : {A : Type 0} (o : A) (n i : ℕ) (xs : List (Text × A)) (s : Text) → i + length xs ≤ n
+    → found o xs s ≡ get_or (map (λ (x : Text × A). x.1) xs) (found n (numbered i (map (λ (x : Text × A). x.0) xs)) s - i) o
+unfolding found numbered
+found_at o n i [] s h = refl
+found_at {A} o n i (x ∷ xs) s h =
+    bool_cases (same s x.0)
+    (λ e. rw e (let z : i - i ≡ 0 = omega arith in rw z))
+    (λ e. rw e (
+    let ws = map (λ (y : Text × A). y.0) xs in
+    let a = numbers-above n (suc i) ws s (omega (arith, texts-length xs)) in
+    let z : found n (numbered (suc i) ws) s - i ≡ suc (found n (numbered (suc i) ws) s - suc i) = omega (arith, a) in
+    rw z (found_at o n (suc i) xs s (omega arith))))
+  where
+    texts-length : (ys : List (Text × A)) → length (map (λ (y : Text × A). y.0) ys) ≡ length ys
+    texts-length [] = refl
+    texts-length (y ∷ ys) = ap suc (texts-length ys)
+
 -- what is found, with none for all others
 pub found-known : {A : Type 0} (o : A) (xs : List (Text × A)) (s : Text) → unwrap_or (found None (map (λ (x : Text × A). (x.0, Some x.1)) xs) s) o ≡ found o xs s
 unfolding found
@@ -80,17 +99,6 @@ found-known o (x ∷ xs) s = bool_cases (same s x.0) (λ e. rw e) (λ e. rw e (f
 pub word-known : (s : Text) → unwrap_or (known_word s) Word.Other ≡ word_of s
 unfolding known_word word_of
 word-known s = found-known Word.Other known_words s
-
--- behind the first colon stands the same local name
-up_to : (name : Text) (i : ℕ) → i < length name → ((k : ℕ) → k < i → get_or name k 0 ≡ colon → ⊥) → (j : ℕ) → j ≤ i → after_last colon name (drop j name) ≡ local_name name
-unfolding local_name
-up_to name i h before zero l = refl
-up_to name i h before (suc j) l = sym (after_last-on colon name name j (omega arith) (before j (omega arith))) ∙ up_to name i h before j (omega arith)
-
-pub local-behind : (name : Text) (i : ℕ) → i < length name → ((k : ℕ) → k < i → get_or name k 0 ≡ colon → ⊥) → get_or name i 0 ≡ colon
-    → local_name (drop (i + 1) name) ≡ local_name name
-unfolding local_name
-local-behind name i h before at = rw add-one (sym (after_last-hit colon name name i h at) ∙ up_to name i h before i (omega arith))
 
 -- a name whose number is a text's is that text, and has no colon where none of them has
 clean-word : (o i : ℕ) (ws : List Text) (s : Text) → every (λ w. not (contains colon w)) ws ≡ true → found o (numbered i ws) s < o → contains colon s ≡ false
@@ -105,23 +113,6 @@ clean-word o i (w ∷ ws) s e h =
 local-clean : (s : Text) → contains colon s ≡ false → local_name s ≡ s
 unfolding local_name
 local-clean s h = after_last-none colon s s h
-
-none-some : {A : Type 0} {v : A} → ◌≡◌ {A = Option A} None (Some v) → ⊥
-none-some h = search rules
-
-clean-known : {A : Type 0} (xs : List (Text × A)) (s : Text) (v : A) → every (λ (x : Text × A). not (contains colon x.0)) xs ≡ true
-    → found None (map (λ (x : Text × A). (x.0, Some x.1)) xs) s ≡ Some v → contains colon s ≡ false
-unfolding found every
-clean-known [] s v e h = absurd (none-some h)
-clean-known {A} (x ∷ xs) s v e h =
-    let p = two (not (contains colon x.0)) (every (λ (y : Text × A). not (contains colon y.0)) xs) e in
-    bool_cases (same s x.0)
-    (λ q. rw (same-eq s x.0 q) (not-true (contains colon x.0) p.0))
-    (λ q. clean-known xs s v p.1 (rw q at h))
-
-pub word-local : (s : Text) (w : Word) → known_word s ≡ Some w → local_name s ≡ s
-unfolding known_word known_words bytes every contains
-word-local s w h = local-clean s (clean-known known_words s w refl h)
 
 pub key-local : (s : Text) → key_of s < 9 → local_name s ≡ s
 unfolding key_of key_words bytes every contains
@@ -184,6 +175,19 @@ key-few Key.MaxOccurs = omega arith
 key-few Key.Use = omega arith
 key-few Key.Namespace = omega arith
 key-few Key.TargetNamespace = omega arith
+
+-- the place of a key is its number
+pub key-place : (k : Key) → tag_of the_type k ≡ key_number (Some k)
+unfolding key_number
+key-place Key.Name = refl
+key-place Key.Type = refl
+key-place Key.Base = refl
+key-place Key.Value = refl
+key-place Key.MinOccurs = refl
+key-place Key.MaxOccurs = refl
+key-place Key.Use = refl
+key-place Key.Namespace = refl
+key-place Key.TargetNamespace = refl
 
 -- a name that has the length of none
 pub found_none : {A : Type 0} (o : A) (xs : List (Text × A)) (s : Text) → every (λ (x : Text × A). not (eqb (length x.0) (length s))) xs ≡ true → found o xs s ≡ o

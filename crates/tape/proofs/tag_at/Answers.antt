@@ -19,8 +19,8 @@ pub returns-then-not-pairs_inside : goal.returns-then-not-pairs_inside
 unfolding recorded IsPlaced pair_count
 returns-then-not-pairs_inside c =
     let a = c.args in
-    let ps = pairs_of (pair_count a.count) (drop (a.at + 2) a.marks.now) in
-    record { judged = sym (tag-outside a.text.now (kind_number a.kind) ps _ (sym c.pairs_inside.ensures ∙ c.if-not-pairs_inside.true)); places = tt }
+    let ps = pairs_of (pair_count a.count) (drop (a.at + 2) a.v.marks.now) in
+    record { judged = sym (tag-outside a.v.text.now (kind_number a.kind) ps _ (sym c.pairs_inside.ensures ∙ c.if-not-pairs_inside.true)); places = tt }
 
 pub pairs_ascii-requires : goal.pairs_ascii-requires
 unfolding pair_count
@@ -30,20 +30,20 @@ pub returns-then-not-pairs_ascii : goal.returns-then-not-pairs_ascii
 unfolding recorded IsPlaced pair_count
 returns-then-not-pairs_ascii c =
     let a = c.args in
-    let ps = pairs_of (pair_count a.count) (drop (a.at + 2) a.marks.now) in
+    let ps = pairs_of (pair_count a.count) (drop (a.at + 2) a.v.marks.now) in
     let inside = sym c.pairs_inside.ensures ∙ c.if-not-pairs_inside.false in
-    record { judged = sym (tag-high a.text.now (kind_number a.kind) ps _ inside (sym c.pairs_ascii.ensures ∙ c.if-not-pairs_ascii.true)); places = tt }
+    record { judged = sym (tag-high a.v.text.now (kind_number a.kind) ps _ inside (sym c.pairs_ascii.ensures ∙ c.if-not-pairs_ascii.true)); places = tt }
 
 pub returns : goal.returns
 unfolding recorded IsPlaced pair_count tag_at
 returns c =
     let a = c.args in
     let form = c.requires.fact in
-    let ps = pairs_of (pair_count a.count) (drop (a.at + 2) a.marks.now) in
+    let ps = pairs_of (pair_count a.count) (drop (a.at + 2) a.v.marks.now) in
     let inside = sym c.pairs_inside.ensures ∙ c.if-not-pairs_inside.false in
     let ascii = sym c.pairs_ascii.ensures ∙ c.if-not-pairs_ascii.false in
     record {
-      judged = record-event a.text.now a.marks.now _ form.0 ∙ sym (tag-good a.text.now (kind_number a.kind) ps _ inside ascii);
+      judged = record-event a.v.text.now a.v.marks.now _ form.0 ∙ sym (tag-good a.v.text.now (kind_number a.kind) ps _ inside ascii);
       places = record {
         later = omega arith;
         within = form.2;
@@ -52,7 +52,7 @@ returns c =
           behind = refl;
           inside = record {
             marks_inside = form.2;
-            text_inside = inside-each a.text.now a.marks.now (a.at + 2) (pair_count a.count) form.2 inside;
+            text_inside = inside-each a.v.text.now a.v.marks.now (a.at + 2) (pair_count a.count) form.2 inside;
           };
         };
       };

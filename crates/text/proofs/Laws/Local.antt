@@ -96,9 +96,6 @@ before-end name r i h (inr (p, e)) =
 
 -- whether the local name is a word
 module _ (part word : Text) where
-  pub local-short : length part < length word → same (local_name part) word ≡ false
-  local-short h = same-differ (local_name part) word (λ e. omega (arith, local_name-length part, ap length e))
-
   ends_as : local_name part ≡ word → (word ≡ part) ⊎ Behind colon part word
   unfolding local_name
   ends_as e = rw e at (after_last-behind colon part part)

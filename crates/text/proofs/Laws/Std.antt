@@ -1,6 +1,7 @@
--- What the library's words say of texts in the words of specs/Text.antt: `==` of slices is `same`, `contains` of a slice is `contains`, `all` is `every`, and
--- the bits of all bytes together decide `is_text`. Assumes nothing.
+-- What the library's words say of texts in the words of specs/Text.antt: `==` of slices is `same`, `contains` of a slice is `contains`, `all` is `every`,
+-- `to_ascii_lowercase` is `lower`, and the bits of all bytes together decide `is_text`. Assumes nothing.
 use Rattle.std.proofs.Common.{◌≡◌, ◌≢◌, ℕ, zero, suc, ◌+◌, ◌<◌, ◌≤◌, Bool, true, false, ◌&&◌, ◌||◌, List, [], ◌∷◌, length, get_or, take, drop, nat_eq, nat_lt, bit_or, refl, sym, ap, ◌∙◌, arith, add-one, length-drop, take-append-drop}
+use Rattle.std.specs.Char.{to_ascii_lowercase}
 use Rattle.std.specs.List.{list_all, list_any, fold}
 use Rattle.std.specs.Cmp.Lexicographic.{pointwise}
 use Rattle.std.proofs.lemmas.Bool.{ne_eqb}
@@ -8,11 +9,13 @@ use Rattle.std.proofs.lemmas.List.{get_or-drop}
 use Rattle.std.proofs.lemmas.List.Recursion.{and_from_places, or_from_places}
 use lib.Seq.{take-suc}
 use mathlib.Core.Bool.{and_assoc, and-true}
-use Rattle.text.specs.Text.{Text, every, is_text, is_text_byte, contains, same, colon, local_name}
+use borrow.Author.Tests.{ltb-true, ltb-false, lt-leb, le-leb}
+use Rattle.text.specs.Text.{Text, between, lower, every, is_text, is_text_byte, contains, same, colon, local_name}
 use Rattle.text.specs.Trim.{is_white_space, trim_start, trim_end}
 use Rattle.text.proofs.Laws.Bits.{or-small}
 use Rattle.text.proofs.Laws.Every.{every-head, every-tail}
 use Rattle.text.proofs.Laws.Local.{after_last-at, after_last-none}
+use Rattle.text.proofs.Laws.Tests.{bool_cases}
 use Rattle.text.proofs.Laws.Trim.{trim_end-append, trim_end-last}
 
 -- what `==` of two texts answers
@@ -34,6 +37,17 @@ pub every_is : {A : Type 0} (p : A → Bool) (xs : List A) → list_all p xs ≡
 unfolding every
 every_is p [] = refl
 every_is p (x ∷ xs) = ap (λ (r : Bool). p x && r) (every_is p xs)
+
+-- what `to_ascii_lowercase` of a byte answers
+pub lower_is : (b : ℕ) → to_ascii_lowercase b ≡ lower b
+unfolding between lower
+lower_is b =
+    bool_cases (nat_lt b 65)
+    (λ t. rw (t, lt-leb 65 b (ltb-true b 65 t)))
+    (λ t.
+    bool_cases (nat_lt b 91)
+    (λ u. let h = ltb-true b 91 u in rw (t, u, le-leb 65 b (ltb-false b 65 t), le-leb b 90 (omega arith)))
+    (λ u. let h = ltb-false b 91 u in rw (t, u, le-leb 65 b (ltb-false b 65 t), lt-leb b 90 (omega arith))))
 
 -- the bits of all bytes, put to those of a first number
 pub text_fold : (a : ℕ) (s : Text) → nat_lt (fold bit_or a s) 128 ≡ nat_lt a 128 && is_text s

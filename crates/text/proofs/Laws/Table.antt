@@ -1,15 +1,14 @@
 -- A rule of a table, proved at all of its places by one test that antt computes; and a part of a list. Assumes nothing.
-use mathlib.Core.Path.{◌≡◌, sym, ap, ◌∙◌}
+use mathlib.Core.Path.{◌≡◌, ap, ◌∙◌}
 use mathlib.Core.Bool.{Bool, true, ◌&&◌}
 use mathlib.Core.Logic.{⊎_elim}
 use mathlib.Core.List.{List, [], ◌∷◌}
 use Prim.Native.Nat.{ℕ, zero, suc, ◌+◌, ◌-◌, ◌≤◌, ◌<◌}
 use native.Mathlib.Omega.{arith}
-use native.Mathlib.Nat.{sub-zero, suc-sub-suc, le_of_suc-le-suc, not-suc-le-zero, eq-or-lt_of_le, le_refl, le_of_eq}
+use native.Mathlib.Nat.{sub-zero, suc-sub-suc, le_of_suc-le-suc, not-suc-le-zero, eq-or-lt_of_le, le_of_eq}
 use lib.ListN.{length, take, drop, length-drop}
 use lib.Seq.{slice, take-nil, take_all}
 use Rattle.text.proofs.Laws.Tests.{and-true-left, and-true-right}
-use Rattle.text.proofs.Laws.Texts.{part-past}
 
 -- the test passes at each place below n
 abbrev pub passes : (ℕ → Bool) → ℕ → Bool
@@ -35,13 +34,6 @@ part_slice (suc f) (suc t) (x ∷ l) h = rw (suc-sub-suc t f) (part_slice f t l 
 pub part-from : (s : List ℕ) (i : ℕ) → take (length s - i) (drop i s) ≡ drop i s
 part-from s i = take_all _ (drop i s) (le_of_eq (length-drop i s))
 
--- as many elements behind a place as asked for and as there are: none past the end, all that is left, or as many as asked for
-module _ (l : List ℕ) (at size : ℕ) where
-  pub cut-past : length l ≤ at → take (length l - length l) (drop (length l) l) ≡ take size (drop at l)
-  cut-past h = part-past l (length l) (length l - length l) (le_refl (length l)) ∙ sym (part-past l at size h)
-
-  pub cut-rest : length l - at ≤ size → take (length l - at) (drop at l) ≡ take size (drop at l)
-  cut-rest h = part-from l at ∙ sym (take_all size (drop at l) (omega (arith, length-drop at l)))
-
-  pub cut_inside : take (at + size - at) (drop at l) ≡ take size (drop at l)
-  cut_inside = let e : at + size - at ≡ size = omega arith in rw e
+-- as many elements behind a place as asked for
+pub cut_inside : (l : List ℕ) (at size : ℕ) → take (at + size - at) (drop at l) ≡ take size (drop at l)
+cut_inside l at size = let e : at + size - at ≡ size = omega arith in rw e

@@ -1,7 +1,7 @@
 -- Laws of specs/Text.antt. No contract cites them. Assumes nothing.
 use Rattle.std.specs.Prelude.{if◌then◌else◌}
 use mathlib.Core.Path.{◌≡◌, refl, ap}
-use mathlib.Core.Bool.{Bool, true, false, ◌||◌, false≢true, or_assoc, or-false}
+use mathlib.Core.Bool.{Bool, true, false, false≢true}
 use mathlib.Core.List.{[], ◌∷◌}
 use Prim.Native.Nat.{ℕ, zero, suc, ◌+◌, ◌-◌, ◌≤◌, ◌<◌}
 use native.Mathlib.Omega.{arith}
@@ -10,7 +10,7 @@ use lib.ListN.{length, get_or, take, drop, drop_of_length-le}
 use lib.Seq.{drop-cons, drop-nil, take-nil}
 use borrow.Author.Tests.{leb-true, lt-leb, le-leb, eqb-true, eq-eqb, ne_eqb, ltb-true, lt-ltb}
 use Rattle.text.proofs.Laws.Tests.{and-true-left, and-true-right, not-true-false, if-cases}
-use Rattle.text.specs.Text.{Text, between, is_upper, is_lower, upper, lower, is_text_byte, contains, first, same, after_last}
+use Rattle.text.specs.Text.{Text, between, is_upper, is_lower, upper, lower, is_text_byte, first, same, after_last}
 
 pub between-low : (low high b : ℕ) → between low high b ≡ true → low ≤ b
 unfolding between
@@ -28,26 +28,9 @@ pub between-above : (low high b : ℕ) → low ≤ b → between low high b ≡ 
 unfolding between
 between-above low high b h = rw (le-leb low b h)
 
-pub upper-of-lower : (b : ℕ) → is_lower b ≡ true → upper b ≡ b - 32
-unfolding upper
-upper-of-lower b e = rw e
-
-pub upper-of-other : (b : ℕ) → is_lower b ≡ false → upper b ≡ b
-unfolding upper
-upper-of-other b e = rw e
-
-pub lower-of-upper : (b : ℕ) → is_upper b ≡ true → lower b ≡ b + 32
-unfolding lower
-lower-of-upper b e = rw e
-
 pub lower-of-other : (b : ℕ) → is_upper b ≡ false → lower b ≡ b
 unfolding lower
 lower-of-other b e = rw e
-
--- the byte c from place i on: the first one decides, or the rest does
-pub contains-on : (c : ℕ) (s : Text) (i : ℕ) (found : Bool) → i < length s → (found || eqb (get_or s i 0) c) || contains c (drop (suc i) s) ≡ found || contains c (drop i s)
-unfolding contains
-contains-on c s i found h = rw (drop-cons s i 0 h) (or_assoc found (eqb (get_or s i 0) c) (contains c (drop (suc i) s)))
 
 pub first-drop : (s : Text) (i : ℕ) → first (drop i s) ≡ get_or s i 0
 unfolding first
@@ -91,9 +74,9 @@ pub after_last-on : (c : ℕ) (kept s : Text) (i : ℕ) → i < length s → (ge
 unfolding after_last
 after_last-on c kept s i h e = rw (drop-cons s i 0 h) (ap (λ (b : Bool). after_last c (if b then drop (suc i) s else kept) (drop (suc i) s)) (ne_eqb (get_or s i 0) c e))
 
-pub contains-end : (c : ℕ) (s : Text) (i : ℕ) (found : Bool) → length s ≤ i → found || contains c (drop i s) ≡ found
-unfolding contains
-contains-end c s i found h = rw (drop_of_length-le s h) (or-false found)
+pub after_last-end : (c : ℕ) (kept s : Text) (i : ℕ) → length s ≤ i → after_last c kept (drop i s) ≡ kept
+unfolding after_last
+after_last-end c kept s i h = rw (drop_of_length-le s h)
 
 pub same_end : (s t : Text) (i : ℕ) → length s ≤ i → length t ≤ i → same (drop i s) (drop i t) ≡ true
 unfolding same

@@ -4,11 +4,28 @@ use mathlib.Core.Path.{◌≡◌, refl, sym, ap, ◌∙◌}
 use mathlib.Core.Logic.{◌↔◌}
 use mathlib.Core.Bool.{true, false, not, false≢true, and-true as and-with-true, and-false}
 use mathlib.Core.List.{[], ◌∷◌, ◌++◌}
-use Prim.Native.Nat.{ℕ}
+use Prim.Native.Nat.{ℕ, zero, suc, ◌-◌, ◌≤◌, ◌<◌}
+use native.Mathlib.Nat.{not-suc-le-zero}
+use native.Mathlib.Omega.{arith}
+use lib.ListN.{length, get_or, take, drop, drop_of_length-le}
+use lib.Seq.{drop-cons, take-suc}
 use Rattle.text.specs.Text.{Text, every}
 use Rattle.text.specs.Trim.{is_white_space, trim_start, trim_end, trimmed, is_solid, Around}
 use Rattle.text.proofs.Laws.Tests.{and-true, bool_cases}
 use Rattle.text.proofs.Laws.Every.{every_append, every-head, every-tail}
+
+-- the start from place i on: white space is passed, any other byte is where the rest begins, and behind the last stands nothing
+pub trim_start-on : (s : Text) (i : ℕ) → i < length s → is_white_space (get_or s i 0) ≡ true → trim_start (drop i s) ≡ trim_start (drop (suc i) s)
+unfolding trim_start
+trim_start-on s i h e = rw (drop-cons s i 0 h, e)
+
+pub trim_start-stop : (s : Text) (i : ℕ) → i < length s → is_white_space (get_or s i 0) ≡ false → trim_start (drop i s) ≡ drop i s
+unfolding trim_start
+trim_start-stop s i h e = rw (drop-cons s i 0 h, e)
+
+pub trim_start-end : (s : Text) (i : ℕ) → length s ≤ i → trim_start (drop i s) ≡ drop i s
+unfolding trim_start
+trim_start-end s i h = rw (drop_of_length-le s h)
 
 -- white space behind a text goes
 pub trim_end-white : (s : Text) → every is_white_space s ≡ true → trim_end s ≡ []
@@ -33,6 +50,24 @@ pub trim_end-last : (s : Text) (b : ℕ) → is_white_space b ≡ false → trim
 unfolding trim_end
 trim_end-last [] b e = rw (solid-last [] b e)
 trim_end-last (a ∷ s) b e = rw (solid-last (a ∷ s) b e, trim_end-last s b e)
+
+one_less : (i : ℕ) → suc i - 1 ≡ i
+one_less i = omega arith
+
+-- the end of what stands before a place: white space there is passed, any other byte is the last
+pub trim_end-on : (s : Text) (end : ℕ) → 0 < end → end ≤ length s → is_white_space (get_or s (end - 1) 0) ≡ true → trim_end (take end s) ≡ trim_end (take (end - 1) s)
+unfolding every
+trim_end-on s zero h k e = absurd (not-suc-le-zero h)
+trim_end-on s (suc i) h k e = rw (one_less i, take-suc s i 0 k) (trim_end-append (take i s) (get_or s i 0 ∷ []) (and-true (rw (one_less i) at e) refl))
+
+pub trim_end-stop : (s : Text) (end : ℕ) → 0 < end → end ≤ length s → is_white_space (get_or s (end - 1) 0) ≡ false → trim_end (take end s) ≡ take end s
+trim_end-stop s zero h k e = absurd (not-suc-le-zero h)
+trim_end-stop s (suc i) h k e = rw (take-suc s i 0 k) (trim_end-last (take i s) (get_or s i 0) (rw (one_less i) at e))
+
+pub trim_end-none : (s : Text) (end : ℕ) → end ≤ 0 → trim_end (take end s) ≡ take end s
+unfolding trim_end
+trim_end-none s zero h = refl
+trim_end-none s (suc i) h = absurd (not-suc-le-zero h)
 
 -- what is taken off at either end is white space
 pub start-off : (s : Text) → (before : Text) × (every is_white_space before ≡ true) × (s ≡ before ++ trim_start s)

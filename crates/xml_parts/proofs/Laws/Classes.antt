@@ -1,6 +1,7 @@
 -- The table of the classes (specs/Answers.antt) has the bit of a class where the byte is of the class: a test that antt computes at all 256 bytes. Assumes
 -- nothing.
 use Prim.Native.Nat.{ℕ, ◌<◌}
+use denote.Enum.Declared.{tag_of}
 use mathlib.Core.Path.{◌≡◌, refl, sym}
 use mathlib.Core.Bool.{Bool, true, false, not, ◌&&◌, false≢true}
 use lib.Dec.{eqb, ltb, leb}
@@ -15,7 +16,8 @@ use Rattle.xml.proofs.Laws.Grammar.Basics.{class-in}
 use Rattle.plain_bytes.specs.Scan.{is_text_run, is_value_run, is_comment_run}
 use Rattle.xml.specs.Classes.{is_char, is_letter, is_name_start, is_name, is_encoding}
 use Rattle.xml.specs.Values.{is_quote, is_in_text, is_in_value}
-use Rattle.xml_parts.specs.Answers.{class_of, class_table, bit_of, has_bit}
+use Rattle.xml_parts.specs.Answers.{class_of, class_table, has_bit}
+use Rattle.xml_parts.specs.contracts.classes.Class.{the_type}
 use Rattle.xml_parts.specs.declared.classes.Class.{Class}
 
 -- two tests say the same
@@ -27,15 +29,9 @@ agree-eq : (a b : Bool) → agree a b ≡ true → a ≡ b
 agree-eq true b e = sym e
 agree-eq false b e = sym (not-true b e)
 
-pub bit-small : (class : Class) → bit_of class < 8
-bit-small Class.Space = omega arith
-bit-small Class.NameStart = omega arith
-bit-small Class.Name = omega arith
-bit-small Class.Digit = omega arith
-bit-small Class.Letter = omega arith
-bit-small Class.Encoding = omega arith
-bit-small Class.InText = omega arith
-bit-small Class.InValue = omega arith
+-- the bit of a class is its discriminant
+abbrev bit_of : Class → ℕ
+bit_of class = tag_of the_type class
 
 all-bits : (class : Class) → passes (λ (k : ℕ). agree (has_bit (get_or class_table k 0) (bit_of class)) (class_of class k)) 256 ≡ true
 unfolding class_table has_bit is_white_space is_letter is_name_start is_name is_encoding is_char is_quote is_in_text is_in_value between

@@ -7,11 +7,13 @@ use native.Mathlib.Omega.{arith}
 use native.Mathlib.Numerals.{add-one}
 use lib.ListN.{length, get_or, set, take, drop, length-append}
 use lib.Seq.{sets}
-use borrow.Author.Tests.{eq-eqb, ne_eqb}
-use Rattle.text.specs.Text.{Text, same}
+use mathlib.Core.Logic.{◌⊎◌, ⊎_elim}
+use Rattle.text.specs.Text.{Text, bytes, same}
 use Rattle.text.proofs.Laws.Tests.{bool_cases}
 use Rattle.xsd_parser.specs.Tape.{Pair}
-use Rattle.xml.specs.Steps.{bad, behind, name, name_of}
+use Rattle.xsd_parser.specs.Kinds.{kind_number}
+use Rattle.xsd_parser.specs.declared.kinds.Kind.{Kind}
+use Rattle.xml.specs.Steps.{bad, behind, literal, spaces, name, name_of}
 use Rattle.xml.specs.Tape.{AttributePairs, TapeEvent, tape_marks, event_marks}
 use Rattle.xml.specs.Tags.{tagged}
 use Rattle.xml.specs.Root.{ending_by, Level, stop, on, opened, level_of_tag, level_of_close, level_of, Rooted, rooted, add_events, none_open, inside}
@@ -21,6 +23,7 @@ use Rattle.xml_text.specs.declared.root.WholeRoot.{WholeRoot}
 use Rattle.xml_text.specs.declared.onward.Onward.{Onward}
 use Rattle.std.specs.Prelude.{Option, Some, None}
 use Rattle.xml_text.proofs.Laws.Marks.{sets-append}
+use Rattle.xml.proofs.Laws.Moves.{inside-text, literal-passes, name-passes, spaces-moves}
 use Rattle.xml.proofs.Laws.Names.{bad-not}
 use Rattle.xml.proofs.Laws.Root.{closing, unmatched, tape-append}
 use Rattle.xml_text.proofs.Laws.Tags.{names-push, names-cong}
@@ -37,18 +40,22 @@ unfolding tape_marks event_marks
 put-close m used = let one : used + 1 ≡ suc used = omega arith in rw one
 
 -- a tag behind the open tags, where the slots below are as they were
-pub open-start : (text : Text) (slots after : List ℕ) (count start kind : ℕ) (pair : Pair) (xs : List AttributePairs) (a : ℕ) (r : Text) → kind ≡ 1 → take count after ≡ take count slots
+pub open-start : (text : Text) (slots after : List ℕ) (count start : ℕ) (kind : Kind) (pair : Pair) (xs : List AttributePairs) (a : ℕ) (r : Text) → kind ≡ Kind.Start → take count after ≡ take count slots
     → count < length after
-    → level_of_tag (names_up_to text slots count) (tagged kind pair xs (name_of (drop start text)) a r) ≡ on (names_up_to text (set after count start) (count + 1)) (TapeEvent.tag kind pair xs ∷ []) a r
+    → level_of_tag (names_up_to text slots count) (tagged (kind_number kind) pair xs (name_of (drop start text)) a r)
+    ≡ on (names_up_to text (set after count start) (count + 1)) (TapeEvent.tag (kind_number kind) pair xs ∷ []) a r
 unfolding opened
 open-start text slots after count start kind pair xs a r k e h =
     let names = names-push text after count start h ∙ ap (λ (l : List Text). name_of (drop start text) ∷ l) (names-cong text after slots count e) in
-    rw (add-one count, names, eq-eqb kind 1 k)
+    rw (add-one count, names, k)
 
-pub open-empty : (text : Text) (slots after : List ℕ) (count start kind : ℕ) (pair : Pair) (xs : List AttributePairs) (a : ℕ) (r : Text) → (kind ≡ 1 → ⊥) → take count after ≡ take count slots
-    → level_of_tag (names_up_to text slots count) (tagged kind pair xs (name_of (drop start text)) a r) ≡ on (names_up_to text after count) (TapeEvent.tag kind pair xs ∷ []) a r
+pub open-empty : (text : Text) (slots after : List ℕ) (count start : ℕ) (kind : Kind) (pair : Pair) (xs : List AttributePairs) (a : ℕ) (r : Text) → (kind ≡ Kind.Empty) ⊎ (kind ≡ Kind.Close)
+    → take count after ≡ take count slots
+    → level_of_tag (names_up_to text slots count) (tagged (kind_number kind) pair xs (name_of (drop start text)) a r) ≡ on (names_up_to text after count) (TapeEvent.tag (kind_number kind) pair xs ∷ []) a r
 unfolding opened
-open-empty text slots after count start kind pair xs a r k e = rw (names-cong text after slots count e, ne_eqb kind 1 k)
+open-empty text slots after count start kind pair xs a r k e =
+    let names = names-cong text after slots count e in
+    ⊎_elim (λ (h : kind ≡ Kind.Empty). rw (names, h)) (λ (h : kind ≡ Kind.Close). rw (names, h)) k
 
 pub goes-weaken : (text : Text) (at start : ℕ) (slots marks : List ℕ) (used : ℕ) (after : List ℕ) (r : Option Onward) (d : Level) → at ≤ start → GoesOn text start slots marks used after r d
     → GoesOn text at slots marks used after r d
@@ -71,6 +78,18 @@ matched_to text n top e q =
     bool_cases (same (name_of (drop n text)) (name_of (drop top text)))
     (λ h. (h, rw h at q))
     (λ h. absurd (bad-not (rw h at q)))
+
+-- an end tag stands inside the text
+pub close-inside : (text : Text) (at n top e f g : ℕ) → behind n (drop n text) ≡ literal (bytes "</") at (drop at text) → behind e (drop e text) ≡ matched text n top
+    → behind f (drop f text) ≡ spaces e (drop e text)
+    → behind g (drop g text) ≡ literal (bytes ">") f (drop f text) → (at + 2 < g) × (g ≤ length text)
+unfolding bytes
+close-inside text at n top e f g l m s r =
+    let li = inside-text (literal-passes (bytes "</") (omega arith)) text at n (sym l) in
+    let ni = inside-text name-passes text n e (matched_to text n top e (sym m)).1 in
+    let si = spaces-moves _ _ _ _ (sym s) in
+    let gi = inside-text (literal-passes (bytes ">") (omega arith)) text f g (sym r) in
+    (omega arith, gi.1)
 
 pub some-open : (text : Text) (slots : List ℕ) (k : ℕ) → 0 < k → none_open (names_up_to text slots k) ≡ false
 unfolding names_up_to

@@ -9,12 +9,13 @@ use lib.Seq.{sets, get_or-set_same, get_or-set_other, get_or-take, length-take-l
 use Rattle.std.specs.List.{list_any}
 use Rattle.std.proofs.lemmas.List.Folds.{list_any-append}
 use Rattle.text.specs.Text.{Text, same}
-use Rattle.xml.specs.Steps.{name_of}
+use Rattle.xml.specs.Steps.{behind, literal, name, name_of}
 use Rattle.xml.specs.Tape.{AttributePairs, attribute_marks}
 use Rattle.xml.specs.Grammar.{is_among}
 use Rattle.xml_text.specs.Answers.{names_up_to, PartIn}
 use Rattle.std.specs.Prelude.{Option, Some, None}
 use Rattle.xml_text.specs.declared.tags.Next.{Next}
+use Rattle.xml.proofs.Laws.Moves.{inside-text, literal-passes, name-passes}
 use Rattle.xml.proofs.Laws.Tags.{marks-length, marks-append}
 use Rattle.xml_text.proofs.Laws.Marks.{sets-append}
 
@@ -70,3 +71,11 @@ among-any n text keys zero h = refl
 among-any n text keys (suc k) h =
     let f = (λ (s : ℕ). same n (name_of (drop s text))) in
     ap (list_any f) (take-suc keys k 0 h) ∙ list_any-append f (take k keys) (get_or keys k 0 ∷ []) ∙ rw (among-any n text keys k (omega arith)) (swap _ _)
+
+-- where the name of a tag starts and ends
+pub name-inside-tag : (text : Text) (at start end : ℕ) → behind start (drop start text) ≡ literal (60 ∷ []) at (drop at text) → behind end (drop end text) ≡ name start (drop start text)
+    → (at < start) × (start < end) × (end ≤ length text)
+name-inside-tag text at start end l n =
+    let p = inside-text (literal-passes (60 ∷ []) (omega arith)) text at start (sym l) in
+    let q = inside-text name-passes text start end (sym n) in
+    (p.0, q.0, q.1)

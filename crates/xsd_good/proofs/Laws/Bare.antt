@@ -1,14 +1,14 @@
 -- A sheet with its count, and the same sheet with 0 there: the tests and places that the code takes from the one are those of the other. Assumes nothing.
 use Rattle.std.specs.Prelude.{if◌then◌else◌}
 use Prim.Native.Nat.{ℕ, zero, suc, ◌+◌, ◌-◌, ◌*◌, ◌<◌, ◌≤◌}
-use mathlib.Core.Path.{◌≡◌, refl, sym, ap, subst, ◌∙◌}
+use mathlib.Core.Path.{◌≡◌, refl, sym, ap, ◌∙◌}
 use mathlib.Core.Bool.{Bool, true, false, ◌&&◌}
-use mathlib.Core.List.{List}
+use mathlib.Core.List.{List, ◌∷◌}
 use native.Mathlib.Omega.{arith}
 use lib.Dec.{eqb, leb}
-use lib.ListN.{length, get_or, set, take, drop, length-set, length-drop}
+use lib.ListN.{length, get_or, set, drop, length-set, length-drop}
 use lib.Seq.{get_or-set_same, get_or-set_other, drop-set-add, drop-set-lt}
-use Rattle.text.specs.Text.{every, is_text}
+use Rattle.text.specs.Text.{every}
 use Rattle.sheet.specs.Rows.{Ten, ten, tens, all_zero}
 use Rattle.sheet.specs.Calls.{sheet}
 use Rattle.sheet.specs.Form.{words, rows_used_in}
@@ -19,13 +19,15 @@ use Rattle.xsd_types.specs.Places.{rows_from}
 use Rattle.xsd_types.specs.Count.{count_of, refused_rows, count_in, bare, with_count, state_of, good}
 use Rattle.xsd_types.proofs.Laws.Count.{ten-count, drop-count, bare-words}
 use Rattle.xsd_refused.proofs.Laws.Finished.{end-room, count-finished, rows_from-count}
-use Rattle.xsd_good.specs.declared.scan.Scan.{Scan}
-use Rattle.xsd_good.specs.Row0.{parts_fit}
+use Rattle.rows.specs.declared.scan.Scan.{Scan}
+use Rattle.rows.specs.Lengths.{parts_fit}
+use Rattle.rows.specs.Scan.{scanned_sheet}
+use Rattle.rows.proofs.Laws.Room.{parts-inside}
+use Rattle.xsd_good.specs.Forms.{schema_tests}
 use Rattle.xsd_good.specs.Heads.{head_row}
 use Rattle.xsd_good.specs.End.{finished_end, Held}
 use Rattle.std.specs.Prelude.{None, Some}
-use Rattle.xsd_good.specs.Scan.{scanned_sheet}
-use Rattle.xsd_good.proofs.Laws.Good.{parts_in, not-inside, too_short, good-tests, good-none}
+use Rattle.xsd_good.proofs.Laws.Good.{zeros, texts, rest, outside, too-short, good-tests, good-fails}
 use Rattle.xsd_good.proofs.Laws.Held.{good-rows, held-good, end-held}
 
 -- the rows with 0 for the count
@@ -66,37 +68,37 @@ events-bare events (suc n) rows =
     let rest : drop 10 (drop 10 (bare_rows rows)) ≡ drop 10 (drop 10 rows) = ap (drop 10) (drop-set-add 10 rows 7 0) ∙ drop-set-lt 10 (drop 10 rows) 7 0 (omega arith) in
     rw (row1-number rows 9 (λ e. omega arith), rest)
 
+row0-bare : (rows : List ℕ) {z : Row0} → z ≡ row0_from (ten rows) → z ≡ row0_from (ten (bare_rows rows))
+row0-bare rows e = e ∙ ap row0_from (sym (ten-count rows 0))
+
 module _ (rows names : List ℕ) where
-  fit-bare : (z : Row0) (b : Bool) → parts_fit z (length rows) (length names) ≡ b → parts_fit z (length (bare_rows rows)) (length names) ≡ b
-  fit-bare z b e = subst (λ (n : ℕ). parts_fit z n (length names) ≡ b) (sym (length-set rows 17 0)) e
-
-  row0-bare : {z : Row0} → z ≡ row0_from (ten rows) → z ≡ row0_from (ten (bare_rows rows))
-  row0-bare e = e ∙ ap row0_from (sym (ten-count rows 0))
-
   pub bare-short : length rows < 20 → bare_good (bare (sheet rows names)) ≡ false
   unfolding bare with_count
-  bare-short h = too_short (bare_rows rows) names (omega (arith, length-set rows 17 0))
+  bare-short h = too-short (bare_rows rows) names (omega (arith, length-set rows 17 0))
 
-  pub bare-outside : (z : Row0) → z ≡ row0_from (ten rows) → parts_fit z (length rows) (length names) ≡ false → bare_good (bare (sheet rows names)) ≡ false
-  unfolding bare with_count
-  bare-outside z e f = not-inside (bare_rows rows) names (subst (λ (y : Row0). parts_fit y (length (bare_rows rows)) (length names) ≡ false) (row0-bare e) (fit-bare z false f))
+  module _ (z : Row0) (e : z ≡ row0_from (ten rows)) where
+    fit-bare : {b : Bool} → parts_fit z.rows_used z.names_used (length rows) (length names) ≡ b → parts_fit z.rows_used z.names_used (length (bare_rows rows)) (length names) ≡ b
+    fit-bare h = rw length-set h
 
-  -- of the results that the code's calls give
-  pub bare-tests : (z : Row0) (s : Scan) {f b n l r g k x v : Bool} {w : ℕ} → f ≡ row0_form z → w ≡ z.names_used
-      → b ≡ (all_zero (drop (10 * z.rows_used) rows) && all_zero (drop z.names_used names)) → n ≡ is_text (take z.names_used names) → l ≡ limits z → r ≡ root_test z
-      → g ≡ nesting_test z → k ≡ context_test z.context s.head → x ≡ extension_test z s.head → v ≡ events_test z.events (tens (z.rows_used - 1) (drop 10 rows))
-      → z ≡ row0_from (ten rows) → parts_fit z (length rows) (length names) ≡ true → Some s ≡ scanned_sheet z.names_used (tens (z.rows_used - 1) (drop 10 (bare_rows rows)))
-      → f && eqb s.end w && b && n && l && r && g && k && x && v ≡ bare_good (bare (sheet rows names))
-  unfolding bare with_count
-  bare-tests z s f w b n l r g k x v e h d =
-      let behind = drop-count rows 0 (10 * z.rows_used) (omega (arith, parts_in z (length rows) (length names) h)) in
-      good-tests (bare_rows rows) names z s f w (b ∙ ap (λ (y : List ℕ). all_zero y && all_zero (drop z.names_used names)) (sym behind)) n l r g k x
-      (v ∙ sym (events-bare z.events (z.rows_used - 1) rows)) (row0-bare e) (fit-bare z true h) d
+    pub bare-outside : parts_fit z.rows_used z.names_used (length rows) (length names) ≡ false → bare_good (bare (sheet rows names)) ≡ false
+    unfolding bare with_count
+    bare-outside h = outside (bare_rows rows) names z (row0-bare rows e) (fit-bare h)
 
-  pub bare-none : (z : Row0) → z ≡ row0_from (ten rows) → parts_fit z (length rows) (length names) ≡ true
-      → None ≡ scanned_sheet z.names_used (tens (z.rows_used - 1) (drop 10 (bare_rows rows))) → false ≡ bare_good (bare (sheet rows names))
-  unfolding bare with_count
-  bare-none z e h d = good-none (bare_rows rows) names z (row0-bare e) (fit-bare z true h) d
+    module _ (h : parts_fit z.rows_used z.names_used (length rows) (length names) ≡ true) where
+      -- of the results that the code's calls give
+      pub bare-tests : (s : Scan) {f b n l r g k x v : Bool} {t : Ten} → f ≡ row0_form z → b ≡ zeros rows names z → n ≡ texts names z → l ≡ limits z → r ≡ root_test z
+          → g ≡ nesting_test z → k ≡ context_test z.context s.head → x ≡ extension_test z s.head → v ≡ events_test z.events (tens (z.rows_used - 1) (drop 10 rows))
+          → t ≡ ten (drop 10 (bare_rows rows)) → Some s ≡ scanned_sheet schema_tests z.names_used (t ∷ rest rows z)
+          → f && eqb s.end z.names_used && b && n && l && r && g && k && x && v ≡ bare_good (bare (sheet rows names))
+      unfolding bare with_count
+      bare-tests s f b n l r g k x v t d =
+          let behind = drop-count rows 0 (10 * z.rows_used) (omega (arith, parts-inside z.rows_used z.names_used (length rows) (length names) h)) in
+          good-tests (bare_rows rows) names z (row0-bare rows e) (fit-bare h) s f (b ∙ ap (λ (y : List ℕ). all_zero y && all_zero (drop z.names_used names)) (sym behind)) n l r g k x
+          (v ∙ sym (events-bare z.events (z.rows_used - 1) rows)) t (rw (← (drop-count rows 0 20 (omega arith))) at d)
+
+      pub bare-fails : {t : Ten} → t ≡ ten (drop 10 (bare_rows rows)) → None ≡ scanned_sheet schema_tests z.names_used (t ∷ rest rows z) → false ≡ bare_good (bare (sheet rows names))
+      unfolding bare with_count
+      bare-fails t d = good-fails (bare_rows rows) names z (row0-bare rows e) (fit-bare h) t (rw (← (drop-count rows 0 20 (omega arith))) at d)
 
 -- ---- the places
 
@@ -123,7 +125,7 @@ module _ (rows names : List ℕ) (g : bare_good (bare (sheet rows names)) ≡ tr
     pub bare-end : finished_end rows (row0_from (ten rows)).context (rows_used_in (ten rows)) ≡ 2 + length (items_rows (state_of (sheet rows names)).reader.schema.items)
     bare-end =
         let z = row0_from (ten rows) in
-        sym (finished_end-bare rows z.context z.rows_used) ∙ end-held bare-held z (row0-bare rows names refl)
+        sym (finished_end-bare rows z.context z.rows_used) ∙ end-held bare-held z (row0-bare rows refl)
 
     module _ {end : ℕ} (e : end ≡ 2 + length (items_rows (state_of (sheet rows names)).reader.schema.items)) where
       pub bare-room : (2 ≤ end) × (10 * end ≤ length rows)

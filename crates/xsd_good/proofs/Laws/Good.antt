@@ -1,89 +1,95 @@
 -- Laws of the test of a good sheet: the used parts are looked at first, and where they lie inside the buffers
 -- the other parts of `good` are those of row 0, of the pass over the rows and of the two buffers. Assumes nothing.
-use mathlib.Core.Path.{◌≡◌, sym, ap, ◌∙◌}
+use mathlib.Core.Path.{◌≡◌, refl, sym, ap, ◌∙◌}
 use mathlib.Core.Bool.{Bool, true, false, ◌&&◌, and_assoc, and-false}
-use mathlib.Core.List.{List}
-use Prim.Native.Nat.{ℕ, ◌-◌, ◌*◌, ◌≤◌, ◌<◌}
+use mathlib.Core.List.{List, ◌∷◌}
+use Prim.Native.Nat.{ℕ, ◌-◌, ◌*◌, ◌<◌}
 use native.Mathlib.Omega.{arith}
-use lib.Dec.{eqb, leb}
+use lib.Dec.{eqb}
 use lib.ListN.{length, take, drop}
-use borrow.Author.Tests.{leb-true}
-use Rattle.text.specs.Text.{is_text}
-use Rattle.text.proofs.Laws.Tests.{and-true-left, and-true-right, not-true-false}
-use Rattle.sheet.specs.Rows.{ten, tens, all_zero}
-use Rattle.sheet.specs.Lengths.{fits}
+use Rattle.std.specs.Prelude.{None, Some}
+use Rattle.text.specs.Text.{is_text, between}
+use Rattle.text.proofs.Laws.Tests.{not-true-false}
+use Rattle.sheet.specs.Rows.{Ten, ten, tens, all_zero}
+use Rattle.sheet.specs.Calls.{sheet}
+use Rattle.sheet.specs.Form.{row0_of, tens_of, used_parts, zeros_behind}
 use Rattle.xsd_types.specs.Row0.{Row0, row0_from}
 use Rattle.xsd_types.specs.Good.{row0_form, rows_form, names_form, names_test, limits, root_test, nesting_test, context_test, extension_test, head_of, events_test, bare_good}
-use Rattle.xsd_good.specs.declared.scan.Scan.{Scan}
-use Rattle.sheet.specs.Calls.{sheet}
-use Rattle.xsd_good.specs.Row0.{parts_fit}
-use Rattle.std.specs.Prelude.{None, Some}
-use Rattle.xsd_good.specs.Scan.{scanned_sheet}
-use Rattle.xsd_good.proofs.Laws.Scan.{ends, sheet-ends}
-use Rattle.sheet.specs.Form.{row0_of, tens_of, used_parts, zeros_behind}
+use Rattle.rows.specs.declared.scan.Scan.{Scan}
+use Rattle.rows.specs.Lengths.{parts_fit}
+use Rattle.rows.specs.Scan.{scanned_sheet}
+use Rattle.rows.proofs.Laws.Room.{parts-inside}
+use Rattle.rows.proofs.Laws.Tens.{tens-two}
+use Rattle.rows.proofs.Laws.Scan.{ends}
+use Rattle.xsd_good.specs.Forms.{schema_tests}
+use Rattle.xsd_good.proofs.Laws.Scan.{sheet-scanned}
 
-pub parts_in : (z : Row0) (r n : ℕ) → parts_fit z r n ≡ true → (2 ≤ z.rows_used) × (10 * z.rows_used ≤ r) × (z.names_used ≤ n)
-unfolding parts_fit fits
-parts_in z r n e =
-    let d = and-true-right (leb 2 z.rows_used) (leb (10 * z.rows_used) r && leb z.names_used n) e in (
-      leb-true 2 z.rows_used (and-true-left (leb 2 z.rows_used) _ e),
-      leb-true (10 * z.rows_used) r (and-true-left (leb (10 * z.rows_used) r) (leb z.names_used n) d),
-      leb-true z.names_used n (and-true-right (leb (10 * z.rows_used) r) (leb z.names_used n) d),
-    )
+-- what is asked of the two buffers behind and in the used parts
+abbrev pub zeros : List ℕ → List ℕ → Row0 → Bool
+zeros rows names z = all_zero (drop (10 * z.rows_used) rows) && all_zero (drop z.names_used names)
 
-pub not-inside : (rows names : List ℕ) → parts_fit (row0_from (ten rows)) (length rows) (length names) ≡ false → bare_good (sheet rows names) ≡ false
-unfolding bare_good used_parts row0_of parts_fit
-not-inside rows names e = rw e
-
-pub too_short : (rows names : List ℕ) → length rows < 20 → bare_good (sheet rows names) ≡ false
-too_short rows names h =
-    not-inside rows names (not-true-false _ (λ e. omega (arith, parts_in (row0_from (ten rows)) (length rows) (length names) e)))
+abbrev pub texts : List ℕ → Row0 → Bool
+texts names z = is_text (take z.names_used names)
 
 -- all that is asked behind the pass over the rows, of the last head that the pass found
 abbrev pub behind : List ℕ → List ℕ → Row0 → ℕ → Bool
 behind rows names z head =
-    (all_zero (drop (10 * z.rows_used) rows) && all_zero (drop z.names_used names))
-    && (is_text (take z.names_used names)
+    zeros rows names z
+    && (texts names z
     && (limits z && (root_test z &&
     (nesting_test z && (context_test z.context head && (extension_test z head && events_test z.events (tens (z.rows_used - 1) (drop 10 rows))))))))
 
-pub good-inside : (rows names : List ℕ) → parts_fit (row0_from (ten rows)) (length rows) (length names) ≡ true
-    → bare_good (sheet rows names) ≡ row0_form (row0_from (ten rows))
-    && (rows_form (tens_of (sheet rows names))
-    && (names_form (row0_from (ten rows)).names_used (tens_of (sheet rows names)) && behind rows names (row0_from (ten rows)) (head_of (tens_of (sheet rows names)))))
-unfolding bare_good used_parts row0_of parts_fit zeros_behind names_test tens_of
-good-inside rows names e = rw e (simp and_assoc)
+-- the rows behind row 1
+abbrev pub rest : List ℕ → Row0 → List Ten
+rest rows z = tens (z.rows_used - 2) (drop 20 rows)
 
-pub good-scanned : (rows names : List ℕ) → parts_fit (row0_from (ten rows)) (length rows) (length names) ≡ true
-    → row0_form (row0_from (ten rows))
-    && ends (row0_from (ten rows)).names_used (behind rows names (row0_from (ten rows)))
-    (scanned_sheet (row0_from (ten rows)).names_used (tens ((row0_from (ten rows)).rows_used - 1) (drop 10 rows))) ≡ bare_good (sheet rows names)
-unfolding tens_of row0_of
-good-scanned rows names h =
-    ap (λ (b : Bool). row0_form (row0_from (ten rows)) && b) (sheet-ends (row0_from (ten rows)).names_used (behind rows names (row0_from (ten rows))) (tens_of (sheet rows names)))
-    ∙ sym (good-inside rows names h)
+-- where no head came, the namespace's tag stands for it
+no-head : (rows names : List ℕ) (z : Row0) → behind rows names z 1 ≡ behind rows names z 0
+unfolding context_test extension_test between
+no-head rows names z = refl
 
--- the tests in the code's order
-pub good-is : (rows names : List ℕ) (z : Row0) (s : Scan) → z ≡ row0_from (ten rows) → parts_fit z (length rows) (length names) ≡ true
-    → Some s ≡ scanned_sheet z.names_used (tens (z.rows_used - 1) (drop 10 rows))
-    → row0_form z && eqb s.end z.names_used && (all_zero (drop (10 * z.rows_used) rows) && all_zero (drop z.names_used names))
-    && is_text (take z.names_used names) && limits z && root_test z && nesting_test z && context_test z.context s.head && extension_test z s.head
-    && events_test z.events (tens (z.rows_used - 1) (drop 10 rows)) ≡ bare_good (sheet rows names)
-good-is rows names z s e h d =
-    let passed = rw e at d in
-    rw e (simp and_assoc (simp and_assoc at (rw (← passed) at (good-scanned rows names (rw e at h)))))
+module _ (rows names : List ℕ) where
+  pub outside : (z : Row0) → z ≡ row0_from (ten rows) → parts_fit z.rows_used z.names_used (length rows) (length names) ≡ false → bare_good (sheet rows names) ≡ false
+  unfolding bare_good used_parts row0_of parts_fit
+  outside z e h = let f = rw e at h in rw f
 
--- where a row fails
-pub good-none : (rows names : List ℕ) (z : Row0) → z ≡ row0_from (ten rows) → parts_fit z (length rows) (length names) ≡ true
-    → None ≡ scanned_sheet z.names_used (tens (z.rows_used - 1) (drop 10 rows)) → false ≡ bare_good (sheet rows names)
-good-none rows names z e h d =
-    let failed = rw e at d in
-    sym (and-false (row0_form (row0_from (ten rows)))) ∙ (rw (← failed) at (good-scanned rows names (rw e at h)))
+  pub too-short : length rows < 20 → bare_good (sheet rows names) ≡ false
+  too-short h =
+      let z = row0_from (ten rows) in
+      outside z refl (not-true-false _ (λ e. omega (arith, parts-inside z.rows_used z.names_used (length rows) (length names) e)))
 
--- of the results that the code's calls give
-pub good-tests : (rows names : List ℕ) (z : Row0) (s : Scan) {f b n l r g k x v : Bool} {w : ℕ} → f ≡ row0_form z → w ≡ z.names_used
-    → b ≡ (all_zero (drop (10 * z.rows_used) rows) && all_zero (drop z.names_used names)) → n ≡ is_text (take z.names_used names) → l ≡ limits z → r ≡ root_test z
-    → g ≡ nesting_test z → k ≡ context_test z.context s.head → x ≡ extension_test z s.head → v ≡ events_test z.events (tens (z.rows_used - 1) (drop 10 rows))
-    → z ≡ row0_from (ten rows) → parts_fit z (length rows) (length names) ≡ true → Some s ≡ scanned_sheet z.names_used (tens (z.rows_used - 1) (drop 10 rows))
-    → f && eqb s.end w && b && n && l && r && g && k && x && v ≡ bare_good (sheet rows names)
-good-tests rows names z s f w b n l r g k x v e h d = rw (f, w, b, n, l, r, g, k, x, v) (good-is rows names z s e h d)
+  good-inside : parts_fit (ten rows).at0 (ten rows).len0 (length rows) (length names) ≡ true
+      → row0_form (row0_from (ten rows)) && (rows_form (tens_of (sheet rows names))
+      && (names_form (ten rows).len0 (tens_of (sheet rows names)) && behind rows names (row0_from (ten rows)) (head_of (tens_of (sheet rows names))))) ≡ bare_good (sheet rows names)
+  unfolding bare_good used_parts row0_of parts_fit zeros_behind names_test tens_of
+  good-inside h = rw h (simp and_assoc)
+
+  good-scanned : parts_fit (ten rows).at0 (ten rows).len0 (length rows) (length names) ≡ true
+      → row0_form (row0_from (ten rows)) && ends (ten rows).len0 (behind rows names (row0_from (ten rows))) (scanned_sheet schema_tests (ten rows).len0 (tens_of (sheet rows names)))
+      ≡ bare_good (sheet rows names)
+  good-scanned h =
+      let z = row0_from (ten rows) in
+      ap (λ (b : Bool). row0_form z && b) (sheet-scanned z.names_used (behind rows names z) (no-head rows names z) (tens_of (sheet rows names))) ∙ good-inside h
+
+  -- row 1 and the rows behind it
+  all-rows : (z : Row0) (t : Ten) → z ≡ row0_from (ten rows) → parts_fit z.rows_used z.names_used (length rows) (length names) ≡ true → t ≡ ten (drop 10 rows) → t ∷ rest rows z ≡ tens_of (sheet rows names)
+  unfolding tens_of row0_of
+  all-rows z t e h f =
+      let two = (parts-inside z.rows_used z.names_used (length rows) (length names) h).0 in
+      rw f (sym (tens-two z.rows_used rows two) ∙ ap (λ (y : Row0). tens (y.rows_used - 1) (drop 10 rows)) e)
+
+  -- of the results that the code's calls give, in the code's order
+  module _ (z : Row0) (e : z ≡ row0_from (ten rows)) (h : parts_fit z.rows_used z.names_used (length rows) (length names) ≡ true) where
+    pub good-tests : (s : Scan) {f b n l r g k x v : Bool} {t : Ten} → f ≡ row0_form z → b ≡ zeros rows names z → n ≡ texts names z → l ≡ limits z → r ≡ root_test z
+        → g ≡ nesting_test z → k ≡ context_test z.context s.head → x ≡ extension_test z s.head → v ≡ events_test z.events (tens (z.rows_used - 1) (drop 10 rows))
+        → t ≡ ten (drop 10 rows) → Some s ≡ scanned_sheet schema_tests z.names_used (t ∷ rest rows z)
+        → f && eqb s.end z.names_used && b && n && l && r && g && k && x && v ≡ bare_good (sheet rows names)
+    good-tests s f b n l r g k x v t d =
+        let ended = rw (all-rows z _ e h t, e) at d in
+        rw (f, b, n, l, r, g, k, x, v, e) (simp and_assoc (simp and_assoc at (rw (← ended) at (good-scanned (rw e at h)))))
+
+    -- where a row fails
+    pub good-fails : {t : Ten} → t ≡ ten (drop 10 rows) → None ≡ scanned_sheet schema_tests z.names_used (t ∷ rest rows z) → false ≡ bare_good (sheet rows names)
+    good-fails t d =
+        let failed = rw (all-rows z _ e h t, e) at d in
+        rw (← failed, and-false) at (good-scanned (rw e at h))

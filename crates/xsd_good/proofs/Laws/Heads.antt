@@ -17,7 +17,7 @@ use Rattle.sheet.specs.Rows.{ten, tens}
 use Rattle.xsd_types.specs.Good.{is_head, head_after, last_head, head_of}
 use Rattle.sheet.specs.Calls.{sheet}
 use Rattle.xsd_good.specs.Heads.{head_row}
-use Rattle.xsd_good.proofs.Laws.Scan.{tags}
+use Rattle.rows.proofs.Laws.Scan.{tags}
 use Rattle.sheet.specs.Form.{rows_used_in, row0_of, tens_of}
 
 pub head-none : (rows : List ℕ) (i : ℕ) → i ≤ 0 → 0 ≡ head_row rows i

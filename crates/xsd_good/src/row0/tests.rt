@@ -1,7 +1,7 @@
 // The tests of row 0: "A sheet is good if".
 ghost use Rattle.std.specs.Prelude.{◌≡◌};
 ghost use Rattle.xsd_types.specs.Good.{row0_form, limits, root_test, nesting_test, context_test, extension_test};
-ghost use Rattle.xsd_good.specs.Row0.{as_row0, parts_fit};
+ghost use Rattle.xsd_good.specs.Row0.{as_row0};
 
 use crate::row0::Row0;
 use rows::form::{in_range, is_flag};
@@ -9,15 +9,7 @@ use rows::numbers::wide;
 use sheet::limits;
 use xsd_types::{contexts, tags};
 
-// Rows used counts row 0 and row 1.
-pub fn used_parts(z: Row0, rows: usize, names: usize) -> bool
-    ensures { result ≡ parts_fit (as_row0 z) rows names }
-{
-    let n = z.rows_used as usize;
-    let used = z.names_used as usize;
-    (2 <= n) & ((limits::ROW * n <= rows) & (used <= names))
-}
-
+#[tactic(auto, unfolding(xsd_types::specs::Good::row0_form, sheet::specs::Form::is_flag))]
 pub fn row0_form(z: Row0) -> bool
     ensures { result ≡ row0_form (as_row0 z) }
 {
@@ -28,42 +20,43 @@ pub fn row0_form(z: Row0) -> bool
         & is_flag(z.choice)
 }
 
+#[tactic(auto, unfolding(xsd_types::specs::Good::limits))]
 pub fn limits(z: Row0) -> bool
     ensures { result ≡ limits (as_row0 z) }
 {
     (z.events <= limits::EVENTS) & (z.open_tags <= limits::OPEN_TAGS)
 }
 
+#[tactic(auto, unfolding(xsd_types::specs::Good::root_test))]
 pub fn root_test(z: Row0) -> bool
     ensures { result ≡ root_test (as_row0 z) }
 {
     (z.root_seen == 1) | ((z.context == contexts::NONE) & (z.rows_used == 2) & (z.names_used == 0))
 }
 
+#[tactic(auto, unfolding(xsd_types::specs::Good::nesting_test, xsd_types::specs::Good::nesting_zero, xsd_types::specs::Good::open_tags_test))]
 pub fn nesting_test(z: Row0) -> bool
     ensures { result ≡ nesting_test (as_row0 z) }
 {
-    if contexts::SIMPLE_TYPE <= z.context {
-        wide(z.nesting) + 2 <= wide(z.open_tags)
-    } else if z.context == contexts::SCHEMA {
-        ((z.choice == 1) | (z.nesting == 0)) & (z.nesting < z.open_tags)
-    } else {
-        z.nesting == 0
+    match z.context {
+        contexts::NONE => z.nesting == 0,
+        contexts::SCHEMA => ((z.choice == 1) | (z.nesting == 0)) & (z.nesting < z.open_tags),
+        _ => wide(z.nesting) + 2 <= wide(z.open_tags),
     }
 }
 
+#[tactic(auto, unfolding(xsd_types::specs::Good::context_test))]
 pub fn context_test(context: u32, head: u32) -> bool
     ensures { result ≡ context_test context head }
 {
-    if context == contexts::SIMPLE_TYPE {
-        head == tags::SIMPLE_TYPE
-    } else if context == contexts::COMPLEX_TYPE {
-        in_range(tags::SEQUENCE, tags::NO_CONTENT, head)
-    } else {
-        head != tags::NO_CONTENT
+    match context {
+        contexts::SIMPLE_TYPE => head == tags::SIMPLE_TYPE,
+        contexts::COMPLEX_TYPE => in_range(tags::SEQUENCE, tags::NO_CONTENT, head),
+        _ => head != tags::NO_CONTENT,
     }
 }
 
+#[tactic(auto, unfolding(xsd_types::specs::Good::extension_test))]
 pub fn extension_test(z: Row0, head: u32) -> bool
     ensures { result ≡ extension_test (as_row0 z) head }
 {

@@ -1,23 +1,21 @@
 -- The record after an event, by the kind of the event. Laws of specs/Change.antt. No contract cites them. Assumes nothing.
 use Rattle.std.specs.Prelude.{Ok}
 use Prim.Native.Nat.{ℕ}
-use mathlib.Core.Path.{◌≡◌, refl, sym, ap, ◌∙◌}
+use mathlib.Core.Path.{◌≡◌, refl, sym, ap, ap₂, ◌∙◌}
 use mathlib.Core.Bool.{Bool, true, false}
-use mathlib.Core.List.{List}
 use borrow.Author.Tests.{eqb-true, eqb-false}
 use lib.Dec.{eqb, leb}
-use Rattle.text.specs.Text.{Text}
 use Rattle.xsd_parser.specs.Event.{Tag, Event}
 use Rattle.xsd_parser.specs.Kinds.{kind_number}
 use Rattle.xsd_parser.specs.Handlers.{ok}
 use Rattle.xsd_actions.specs.declared.Decision.{Decision}
 use Rattle.xsd_actions.specs.declared.Mode.{Mode}
-use Rattle.xsd_actions.specs.Actions.{Action, tag_mode, close_mode, mode_after}
+use Rattle.xsd_actions.specs.Actions.{Action, root_after, tag_mode, close_mode, mode_after}
 use Rattle.xsd_actions.specs.Answers.{decision}
 use Rattle.xsd_progress.specs.Answers.{event_as}
-use Rattle.xsd_progress.specs.Modes.{root_of, decided_mode}
+use Rattle.xsd_progress.specs.Modes.{action_of}
 use Rattle.xsd_progress.proofs.Laws.Kinds.{as-start, as-close, as-empty}
-use Rattle.xsd_progress.proofs.Laws.Modes.{decided-mode}
+use Rattle.xsd_progress.proofs.Laws.Modes.{action-said}
 use Rattle.xsd_progress.specs.declared.open_tags.OpenTags.{OpenTags}
 use Rattle.xsd_progress.specs.declared.open_tags.Arrival.{Arrival}
 use Rattle.xsd_progress.specs.Change.{mode_with, ModeAfter, Changed, SeenAfter, EventAfter}
@@ -34,11 +32,11 @@ after_tag s kind t a m true e k = rw (as-start kind t (eqb-true kind 1 e))
 after_tag s kind t a m false e k = rw (as-empty kind t (eqb-false kind 1 e) k)
 
 pub mode-close : {by_standard : Bool} {kind : ℕ} {d : Decision} {m m' : Mode} → kind ≡ 3 → m' ≡ close_mode m → ModeAfter by_standard kind d m m'
-mode-close {by_standard} {kind} {d} {m} {m'} k f = record { is = λ t text marks a q. f ∙ sym (after-close by_standard kind t a m k) }
+mode-close {by_standard} {kind} {d} {m} {m'} k f = record { is = λ t a q. f ∙ sym (after-close by_standard kind t a m k) }
 
 pub mode-tag : {by_standard : Bool} {kind : ℕ} {d : Decision} {m m' : Mode} → (kind ≡ 3 → ⊥)
-    → ((text : Text) (marks : List ℕ) (a : Action) → decision text marks (Ok d) ≡ ok a → m' ≡ tag_mode by_standard (eqb kind 1) a m) → ModeAfter by_standard kind d m m'
-mode-tag {by_standard} {kind} {d} {m} {m'} k f = record { is = λ t text marks a q. f text marks a q ∙ sym (after_tag by_standard kind t a m (eqb kind 1) refl k) }
+    → ((a : Action) → decision (Ok d) ≡ ok a → m' ≡ tag_mode by_standard (eqb kind 1) a m) → ModeAfter by_standard kind d m m'
+mode-tag {by_standard} {kind} {d} {m} {m'} k f = record { is = λ t a q. f a q ∙ sym (after_tag by_standard kind t a m (eqb kind 1) refl k) }
 
 -- root seen stands beside the other three: it changes none of them
 abbrev beside : Mode → Mode → Mode
@@ -64,7 +62,7 @@ unfolding mode_with
 changed {x} {o} {m} g =
     record {
       opened = refl;
-      mode_is = λ seen t text marks a q. let e = event_as (kind_number x.kind) t in ap (beside (mode_after x.by_standard e a (mode_with seen o))) (g.is t text marks a q)
+      mode_is = λ seen t a q. let e = event_as (kind_number x.kind) t in ap (beside (mode_after x.by_standard e a (mode_with seen o))) (g.is t a q)
           ∙ mode-beside x.by_standard e a o seen;
     }
 
@@ -77,14 +75,14 @@ close-seen m b false e f = rw f
 
 pub seen-close : {kind : ℕ} {d : Decision} {seen : Bool} → kind ≡ 3 → SeenAfter kind d seen seen
 seen-close {kind} {d} {seen} k =
-    record { is = λ t text marks a q b m s. sym s ∙ close-seen m (leb m.context 1) (eqb m.nesting 0) refl refl ∙ sym (ap (λ (x : Mode). x.root_seen) (after-close b kind t a m k)) }
+    record { is = λ t a q b m s. sym s ∙ close-seen m (leb m.context 1) (eqb m.nesting 0) refl refl ∙ sym (ap (λ (x : Mode). x.root_seen) (after-close b kind t a m k)) }
 
-pub seen-tag : {kind : ℕ} {d : Decision} {seen seen' : Bool} → (kind ≡ 3 → ⊥) → seen' ≡ root_of d seen → SeenAfter kind d seen seen'
-unfolding decided_mode
+pub seen-tag : {kind : ℕ} {d : Decision} {seen seen' : Bool} → (kind ≡ 3 → ⊥) → seen' ≡ root_after (action_of d) seen → SeenAfter kind d seen seen'
+unfolding tag_mode
 seen-tag {kind} {d} {seen} {seen'} k f =
     record {
-      is = λ t text marks a q b m s. f ∙ ap (root_of d) (sym s)
-          ∙ ap (λ (x : Mode). x.root_seen) (decided-mode b (eqb kind 1) m text marks d a q ∙ sym (after_tag b kind t a m (eqb kind 1) refl k));
+      is = λ t a q b m s. f ∙ ap₂ root_after (action-said d a q) (sym s)
+          ∙ ap (λ (x : Mode). x.root_seen) (sym (after_tag b kind t a m (eqb kind 1) refl k));
     }
 
 -- the record and root seen together
@@ -96,5 +94,5 @@ unfolding mode_with
 event-after {x} {m} {n} {next} {seen} {m'} c s f =
     record {
       opened = c.opened;
-      mode_is = λ t text marks a q. f ∙ ap (λ (b : Bool). mode_with b next) (s.is t text marks a q x.by_standard m refl) ∙ c.mode_is m.root_seen t text marks a q;
+      mode_is = λ t a q. f ∙ ap (λ (b : Bool). mode_with b next) (s.is t a q x.by_standard m refl) ∙ c.mode_is m.root_seen t a q;
     }

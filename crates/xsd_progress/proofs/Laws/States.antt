@@ -1,20 +1,20 @@
 -- The numbers that a reading carries and the state that they stand for: row 0 of both is one, and what is used lies inside the buffers. Assumes nothing.
-use Prim.Native.Nat.{ℕ, ◌*◌, ◌≤◌}
+use Prim.Native.Nat.{◌*◌, ◌≤◌}
 use mathlib.Core.Path.{◌≡◌, ap, ◌∙◌}
-use mathlib.Core.List.{List}
 use lib.ListN.{length}
 use Rattle.sheet.specs.Rows.{bit}
 use Rattle.xsd_types.specs.State.{State}
 use Rattle.xsd_types.specs.Rows.{extension_flag, row0, rows_used, names_used}
 use Rattle.xsd_types.proofs.Laws.Rows.{bit-again}
 use Rattle.xsd_types.proofs.Laws.Made.{flag-context}
+use Rattle.rows.specs.declared.writer.SheetWriter.{SheetWriter}
 use Rattle.rows.proofs.Laws.Middle.{rows_fit, names-fit}
 use Rattle.xsd_actions.specs.declared.Mode.{Mode}
 use Rattle.xsd_actions.specs.Actions.{mode_of}
 use Rattle.xsd_progress.specs.declared.Progress.{Progress}
 use Rattle.xsd_progress.specs.Progress.{progress_row0, At}
 
-pub row0-at : {s : State} {rows names : List ℕ} {p : Progress} → At s rows names p → progress_row0 p ≡ row0 s
+pub row0-at : {s : State} {w : SheetWriter} {p : Progress} → At s w p → progress_row0 p w.used ≡ row0 s
 unfolding progress_row0 row0 rows_used names_used mode_of
 row0-at {s} at =
     let flag = ap (λ (m : Mode). bit m.extension) at.mode ∙ bit-again (extension_flag s.reader.context) (flag-context s.reader.context) in
@@ -32,7 +32,7 @@ row0-at {s} at =
     }
 
 -- what is used lies inside the buffers
-pub at_small : {s : State} {rows names : List ℕ} {p : Progress} → At s rows names p → (10 * p.used.rows ≤ length rows) × (p.used.names ≤ length names)
+pub at_small : {s : State} {w : SheetWriter} {p : Progress} → At s w p → (10 * w.used.rows ≤ length w.rows.now) × (w.used.names ≤ length w.names.now)
 at_small at =
     let h = at.holds in
     (rw h.rows_used (rows_fit h.packs), rw h.names_used (names-fit h.packs))

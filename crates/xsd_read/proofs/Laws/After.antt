@@ -1,5 +1,5 @@
 -- The sheet after an action is that of the state after the event. Assumes nothing.
-use Prim.Native.Nat.{ℕ, ◌+◌, ◌<◌}
+use Prim.Native.Nat.{ℕ, ◌+◌, ◌≤◌, ◌<◌}
 use mathlib.Core.Path.{◌≡◌, refl, sym, ap, ap₂, subst, ◌∙◌}
 use mathlib.Core.Bool.{Bool, true, false}
 use mathlib.Core.List.{List, [], ◌∷◌, ◌++◌, append-nil}
@@ -20,7 +20,9 @@ use Rattle.xsd_parser.specs.Event.{Event}
 use Rattle.xsd_parser.specs.Handlers.{ok, refuse}
 use Rattle.xsd_parser.specs.Step.{counted, room_for}
 use Rattle.rows.specs.declared.numbers.Used.{Used}
-use Rattle.rows.specs.Packing.{Holds}
+use Rattle.rows.specs.declared.writer.SheetWriter.{SheetWriter}
+use Rattle.rows.specs.Writer.{Held}
+use Rattle.rows.proofs.Laws.Writer.{same_itself}
 use Rattle.xsd_actions.specs.declared.Decision.{Decision}
 use Rattle.xsd_actions.specs.declared.Mode.{Mode}
 use Rattle.xsd_actions.specs.Actions.{Action, Acted, mode_of, mode_after, behind}
@@ -31,7 +33,7 @@ use Rattle.xsd_progress.specs.Change.{EventAfter}
 use Rattle.xsd_act.specs.Ready.{rows_after_all}
 use Rattle.xsd_act.specs.Needs.{Needed}
 use Rattle.xsd_act.specs.Acts.{Done}
-use Rattle.xsd_act.proofs.Laws.Needs.{needed-keep}
+use Rattle.xsd_act.proofs.Laws.Needs.{needed-keep, needed-fits}
 use Rattle.xsd_act.proofs.Laws.Done.{done-keep}
 use Rattle.xsd_act.proofs.Laws.Room.{counted-fits}
 use Rattle.xsd_progress.specs.declared.Progress.{Progress}
@@ -57,8 +59,8 @@ none_open (Context.in_simple_type t) h = absurd (omega arith)
 none_open (Context.in_complex_type t) h = absurd (omega arith)
 
 -- there the rows used end where a type that is opened will stand
-pub end-of-items : {s : State} {rows names : List ℕ} {p : Progress} → At s rows names p → context_number s.reader.context < 2
-    → p.used.rows ≡ 2 + length (items_rows s.reader.schema.items)
+pub end-of-items : {s : State} {w : SheetWriter} {p : Progress} → At s w p → context_number s.reader.context < 2
+    → w.used.rows ≡ 2 + length (items_rows s.reader.schema.items)
 unfolding rows_of
 end-of-items {s} at h =
     let items = items_rows s.reader.schema.items in
@@ -66,10 +68,10 @@ end-of-items {s} at h =
     omega (arith, at.holds.rows_used, alone)
 
 -- a type that is open after an event stands where it stood, or behind the rows used before
-pub head-after : {s : State} {rows names : List ℕ} {p : Progress} (items : List Item) → At s rows names p → items ≡ s.reader.schema.items
-    → head_after p ≡ 2 + length (items_rows items)
+pub head-after : {s : State} {w : SheetWriter} {p : Progress} (items : List Item) → At s w p → items ≡ s.reader.schema.items
+    → head_after p w.used.rows ≡ 2 + length (items_rows items)
 unfolding head_after mode_of
-head-after {s} {rows} {names} {p} items at e =
+head-after {p = p} items at e =
     let context = ap (λ (m : Mode). m.context) at.mode in
     let place = ap (λ (is : List Item). 2 + length (items_rows is)) (sym e) in
     if-cases (λ (n : ℕ). n ≡ 2 + length (items_rows items)) (ltb p.mode.context 2)
@@ -77,40 +79,38 @@ head-after {s} {rows} {names} {p} items at e =
     (λ h. at.head (rw context at (ltb-false p.mode.context 2 h)) ∙ place)
 
 -- the mode after the event is that of the reader after it
-pub mode-due : {rows names : List ℕ} {text : Text} {marks : List ℕ} {p : Progress} {x : Arrival} {s : State} {e : Event} {r : Reader} {after : Arrived}
-    → Due rows names text marks p x s e r → EventAfter x p.mode after → after.mode ≡ mode_of r
-mode-due {rows} {names} {text} {marks} {p} {x} {s} {e} due w =
-    w.mode_is due.tag text marks due.action due.decided
+pub mode-due : {w : SheetWriter} {p : Progress} {x : Arrival} {s : State} {e : Event} {r : Reader} {after : Arrived} → Due w p x s e r → EventAfter x p.mode after → after.mode ≡ mode_of r
+mode-due {p = p} {x} {s} {e} due y =
+    y.mode_is due.tag due.action due.decided
     ∙ ap₂ (λ (b : Bool) (ev : Event). mode_after b ev due.action p.mode) due.choice (sym due.event_is)
     ∙ ap (mode_after s.by_standard e due.action) due.at.mode ∙ sym due.acted.mode
 
 -- the sheet after the action holds the state after the event
-pub at_after : {rows names rows' names' : List ℕ} {text : Text} {marks : List ℕ} {p : Progress} {x : Arrival} {s : State} {e : Event} {r : Reader} {used : Used} {after : Arrived}
-    → Due rows names text marks p x s e r → Done rows names p.used p.head (decision text marks (Ok x.decision)) rows' names' used → EventAfter x p.mode after
-    → At (counted s x.open_tags r) rows' names' (stands_at p after used)
+pub at_after : {w w' : SheetWriter} {p : Progress} {x : Arrival} {s : State} {e : Event} {r : Reader} {after : Arrived}
+    → Due w p x s e r → Done w p.head (decision (Ok x.decision)) w' → EventAfter x p.mode after → At (counted s x.open_tags r) w' (stands_at p after (head_after p w.used.rows))
 unfolding counted
-at_after {rows} {names} {rows'} {names'} {text} {marks} {p} {x} {s} {e} {r} {used} {after} due y w =
+at_after {w' = w'} {x = x} {s} {r = r} due done y =
     let at = due.at in
     record {
-      mode = mode-due due w;
+      mode = mode-due due y;
       events = omega (arith, at.events);
-      tags = w.opened;
+      tags = y.opened;
       choice = at.choice;
       z = at.z;
-      holds = subst (Holds rows' names' used at.z) (sym (rows-after s x.open_tags due.acted)) (y.holds at.z _ _ _ due.action (ready_at at) due.decided due.acted.fitting);
+      holds = subst (Held w' at.z) (sym (rows-after s x.open_tags due.acted)) (done.holds at.z _ _ _ due.action (ready_at at) due.decided due.acted.fitting);
       head = λ h. head-after r.schema.items at (due.acted.items h);
       proper = due.proper_after;
     }
 
 -- whether the state after the event has room is whether what is needed has
-pub fits_after : {rows names : List ℕ} {text : Text} {marks : List ℕ} {p : Progress} {x : Arrival} {s : State} {e : Event} {r : Reader} {need : Used} (n m : ℕ)
-    → Due rows names text marks p x s e r → Needed rows p.used p.head (decision text marks (Ok x.decision)) need
+pub fits_after : {w : SheetWriter} {p : Progress} {x : Arrival} {s : State} {e : Event} {r : Reader} {need : Used} (n m : ℕ)
+    → Due w p x s e r → Needed w.rows.now w.used p.head (decision (Ok x.decision)) need → m ≤ 65536
     → state_fits n m (counted s x.open_tags r) ≡ fits need.rows need.names n m
 unfolding state_fits rows_used names_used
-fits_after {rows} {names} {text} {marks} {p} {x} {s} {e} {r} {need} n m due y =
+fits_after {w} {x = x} {s} n m due y few =
     let at = due.at in
-    let c = y.counted names at.z _ _ _ due.action (ready_at at) due.decided due.acted.fitting in
-    ap (λ (rs : List Row). fits (1 + length rs) (length (names_of rs)) n m) (rows-after s x.open_tags due.acted) ∙ sym (counted-fits n m c)
+    let c = y.needed.counted w.names.now at.z _ _ _ due.action (ready_at at) due.decided due.acted.fitting in
+    ap (λ (rs : List Row). fits (1 + length rs) (length (names_of rs)) n m) (rows-after s x.open_tags due.acted) ∙ sym (needed-fits n m few y ∙ counted-fits n m c)
 
 pub room-refused : (lent : Lengths) (s : State) → state_fits lent.rows lent.names s ≡ false → room_for lent s ≡ refuse 11
 unfolding room_for
@@ -121,38 +121,35 @@ unfolding room_for
 room-given lent s e = rw e
 
 -- what has no room is refused with 11
-pub stepped-refused : {rows names : List ℕ} {text : Text} {marks : List ℕ} {p : Progress} {x : Arrival} {need : Used}
-    → Needed rows p.used p.head (decision text marks (Ok x.decision)) need → fits need.rows need.names (length rows) (length names) ≡ false
-    → Stepped rows names text marks p x (Err Refusal.NoRoom) rows names
+pub stepped-refused : {w : SheetWriter} {p : Progress} {x : Arrival} {need : Used}
+    → Needed w.rows.now w.used p.head (decision (Ok x.decision)) need → fits need.rows need.names (length w.rows.now) (length w.names.now) ≡ false
+    → Stepped w p x (Err Refusal.NoRoom) w
 unfolding Ended
-stepped-refused {rows} {names} {text} {marks} {p} {x} y e =
+stepped-refused {w} {p} {x} y e =
     record {
-      rows_length = refl;
-      names_length = refl;
-      ended = λ s ev r due. record { refused = room-refused (lent_to rows names) (counted s x.open_tags r) (fits_after (length rows) (length names) due y ∙ e); rows_kept = refl; names_kept = refl };
+      same = same_itself w;
+      ended = λ s ev r due. record { refused = room-refused (lent_to w.rows.now w.names.now) (counted s x.open_tags r) (fits_after (length w.rows.now) (length w.names.now) due y w.few ∙ e); kept = refl };
     }
 
 -- what has room is done
-pub stepped-done : {rows names rows' names' : List ℕ} {text : Text} {marks : List ℕ} {p p' : Progress} {x : Arrival} {need used : Used}
-    → Needed rows p.used p.head (decision text marks (Ok x.decision)) need → fits need.rows need.names (length rows) (length names) ≡ true
-    → Done rows names p.used p.head (decision text marks (Ok x.decision)) rows' names' used → StandsAfter p x used p'
-    → Stepped rows names text marks p x (Ok p') rows' names'
+pub stepped-done : {w w' : SheetWriter} {p p' : Progress} {x : Arrival} {need : Used}
+    → Needed w.rows.now w.used p.head (decision (Ok x.decision)) need → fits need.rows need.names (length w.rows.now) (length w.names.now) ≡ true
+    → Done w p.head (decision (Ok x.decision)) w' → StandsAfter p x (head_after p w.used.rows) p' → Stepped w p x (Ok p') w'
 unfolding Ended
-stepped-done {rows} {names} {rows'} {names'} {x = x} y e done w =
+stepped-done {w} {w'} {x = x} y e done after =
     record {
-      rows_length = done.rows_length;
-      names_length = done.names_length;
+      same = done.same;
       ended = λ s ev r due. record {
         s' = counted s x.open_tags r;
-        accepted = room-given (lent_to rows names) (counted s x.open_tags r) (fits_after (length rows) (length names) due y ∙ e);
-        stands = subst (At (counted s x.open_tags r) rows' names') (sym w.stands) (at_after due done w.arrived);
+        accepted = room-given (lent_to w.rows.now w.names.now) (counted s x.open_tags r) (fits_after (length w.rows.now) (length w.names.now) due y w.few ∙ e);
+        stands = subst (At (counted s x.open_tags r) w') (sym after.stands) (at_after due done after.arrived);
       };
     }
 
 -- a sheet that is kept needs what it uses, which has room
-pub stepped_kept : {rows names : List ℕ} {text : Text} {marks : List ℕ} {p p' : Progress} {x : Arrival} → DueRoom rows names text marks p x → x.decision ≡ Decision.Keep
-    → StandsAfter p x p.used p' → Stepped rows names text marks p x (Ok p') rows names
+pub stepped_kept : {w : SheetWriter} {p p' : Progress} {x : Arrival} → DueRoom w p x → x.decision ≡ Decision.Keep
+    → StandsAfter p x (head_after p w.used.rows) p' → Stepped w p x (Ok p') w
 unfolding decision
-stepped_kept {text = text} {marks = marks} {x = x} q e w =
-    let kept : decision text marks (Ok x.decision) ≡ ok Action.keep = ap (λ (d : Decision). decision text marks (Ok d)) e in
-    stepped-done (rw kept (needed-keep (due-small q).rows_used refl)) (used-fits q.due.at) (rw kept done-keep) w
+stepped_kept {x = x} q e after =
+    let kept : decision (Ok x.decision) ≡ ok Action.keep = ap (λ (d : Decision). decision (Ok d)) e in
+    stepped-done (rw kept (needed-keep (due-small q) refl)) (used-fits q.due.at) (rw kept done-keep) after

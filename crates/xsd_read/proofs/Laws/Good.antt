@@ -1,6 +1,6 @@
 -- Where the reading of a good sheet stands first, and the sheet at its end. Assumes nothing.
 use Prim.Native.Nat.{ℕ, ◌≤◌}
-use mathlib.Core.Path.{◌≡◌, sym, ap₂, subst, ◌∙◌}
+use mathlib.Core.Path.{◌≡◌, sym, ap, ap₂, subst, ◌∙◌}
 use mathlib.Core.Bool.{true}
 use mathlib.Core.List.{List}
 use native.Mathlib.Omega.{arith}
@@ -14,45 +14,50 @@ use Rattle.xsd_types.specs.Row0.{Row0, row0_ten}
 use Rattle.xsd_types.specs.Rows.{rows_of}
 use Rattle.xsd_types.specs.Sheet.{bare_sheet_of}
 use Rattle.xsd_types.specs.Back.{bare_state_of}
+use Rattle.rows.specs.declared.writer.SheetWriter.{SheetWriter}
 use Rattle.rows.specs.Packing.{Row0Put}
 use Rattle.rows.specs.Answers.{answer_of}
 use Rattle.rows.proofs.Laws.Sheet.{packs-sheet}
 use Rattle.xsd_parser.specs.Read.{read_state}
 use Rattle.xsd_progress.specs.declared.Progress.{Progress}
-use Rattle.xsd_progress.specs.Progress.{progress_in, progress_row0, row0_numbers, At, lent_to, Standing}
+use Rattle.xsd_progress.specs.Progress.{progress_in, used_in, progress_row0, row0_numbers, At, lent_to, Standing}
 use Rattle.xsd_progress.proofs.Laws.States.{row0-at, at_small}
 use Rattle.xsd_progress.proofs.Laws.Row0.{at-row0}
 use Rattle.xsd_read.specs.declared.records.ReadTo.{ReadTo}
 use Rattle.xsd_read.specs.Records.{RecordsRead}
 use Rattle.xsd_read.specs.Good.{GoodSheet, GoodRead}
 
-pub at_first : {rows names : List ℕ} {text : Text} {p : Progress} → GoodSheet rows names text → words rows ≡ true → p ≡ progress_in rows → At (bare_state_of (sheet rows names)) rows names p
-at_first {rows} {names} g w e = subst (At (bare_state_of (sheet rows names)) rows names) (sym e) (at-row0 rows names g.is_good w)
-
-pub standing-first : {rows names : List ℕ} {text : Text} {p : Progress} → GoodSheet rows names text → words rows ≡ true → p ≡ progress_in rows → Standing rows names text p
-standing-first {rows} {names} g w e =
-    record { s = bare_state_of (sheet rows names); at = at_first g w e; lent = g.lent }
-
 -- with row 0 set anew, the sheet is that of the state reached
-pub sheet-reached : {s : State} {rows names rows' : List ℕ} {p : Progress} → At s rows names p → Row0Put rows (row0_numbers p) rows'
-    → sheet rows' names ≡ bare_sheet_of s (length rows) (length names)
+sheet-reached : {s : State} {w : SheetWriter} {rows : List ℕ} {p : Progress} → At s w p → Row0Put w.rows.now (row0_numbers p w.used) rows
+    → sheet rows w.names.now ≡ bare_sheet_of s (length w.rows.now) (length w.names.now)
 unfolding row0_numbers bare_sheet_of
-sheet-reached {s} {rows} {names} {rows'} {p} at put =
-    packs-sheet (row0_ten (progress_row0 p)) (put.packs names at.z (rows_of s) at.holds.packs)
-    ∙ ap₂ (λ (z : Row0) (n : ℕ). sheet_of_rows (row0_ten z) (rows_of s) n (length names)) (row0-at at) put.rows_length
+sheet-reached {s} {w} {p = p} at put =
+    packs-sheet (row0_ten (progress_row0 p w.used)) (put.packs w.names.now at.z (rows_of s) at.holds.packs)
+    ∙ ap₂ (λ (z : Row0) (n : ℕ). sheet_of_rows (row0_ten z) (rows_of s) n (length w.names.now)) (row0-at at) put.rows_length
 
-pub good-read : {rows names rows' names' rows'' z : List ℕ} {text : Text} {marks : List ℕ} {p : Progress} {r : ReadTo} → GoodSheet rows names text → words rows ≡ true → p ≡ progress_in rows
-    → RecordsRead rows names text marks p r rows' names' → z ≡ row0_numbers r.progress → Row0Put rows' z rows''
-    → GoodRead rows names text marks (answer_of r.answer) (sheet rows'' names')
-good-read {rows} {names} {rows'} {names'} {rows''} {z} {text} {marks} g w e read f put =
-    let reached = read.reached (bare_state_of (sheet rows names)) (at_first g w e) in
-    let s = (read_state (lent_to rows names) (bare_state_of (sheet rows names)) text marks).state in
-    let after = sheet-reached reached.at (subst (λ (l : List ℕ). Row0Put rows' l rows'') f put) ∙ ap₂ (bare_sheet_of s) read.rows_length read.names_length in
-    record { answers = reached.answer; leaves = after }
+module _ {w : SheetWriter} {text : Text} {p : Progress} (g : GoodSheet w.rows.now w.names.now text) (words_there : words w.rows.now ≡ true) (used : w.used ≡ used_in w.rows.now) (e : p ≡ progress_in w.rows.now) where
+  pub at_first : At (bare_state_of (sheet w.rows.now w.names.now)) w p
+  at_first = subst (At (bare_state_of (sheet w.rows.now w.names.now)) w) (sym e) (at-row0 w g.is_good words_there used)
 
--- the numbers of row 0 that a reading ends with have room in it
-pub reached-small : {rows names rows' names' : List ℕ} {text : Text} {marks : List ℕ} {p : Progress} {r : ReadTo} → GoodSheet rows names text → words rows ≡ true → p ≡ progress_in rows
-    → RecordsRead rows names text marks p r rows' names' → (r.progress.used.rows ≤ 65536) × (r.progress.used.names ≤ 65536)
-reached-small {rows} {names} g w e read =
-    let small = at_small (read.reached (bare_state_of (sheet rows names)) (at_first g w e)).at in
-    (omega (arith, small.0, read.rows_length, g.lent.few_rows), omega (arith, small.1, read.names_length, g.lent.few_names))
+  pub standing-first : Standing w p
+  standing-first = record { s = bare_state_of (sheet w.rows.now w.names.now); at = at_first; few = g.lent.few_rows }
+
+  module _ {marks : List ℕ} {r : ReadTo} {w' : SheetWriter} (read : RecordsRead w text marks p r w') where
+    -- the buffers are what the writer left in them
+    pub good-read : {rows rows' names z : List ℕ} → (w.rows.ghost_name ≡ w'.rows.ghost_name → rows ≡ w'.rows.now) → (w.names.ghost_name ≡ w'.names.ghost_name → names ≡ w'.names.now)
+        → z ≡ row0_numbers r.progress w'.used → Row0Put rows z rows' → GoodRead w.rows.now w.names.now text marks (answer_of r.answer) (sheet rows' names)
+    good-read {rows} {rows'} {names} {z} rows_back names_back f put =
+        let reached = read.reached (bare_state_of (sheet w.rows.now w.names.now)) at_first in
+        let s = (read_state (lent_to w.rows.now w.names.now) (bare_state_of (sheet w.rows.now w.names.now)) text marks).state in
+        let stored : Row0Put w'.rows.now (row0_numbers r.progress w'.used) rows' = rw (rows_back (sym read.same.rows), f) at put in
+        let after = sheet-reached reached.at stored ∙ ap₂ (bare_sheet_of s) read.same.rows_length read.same.names_length in
+        record { answers = reached.answer; leaves = ap (λ (l : List ℕ). sheet rows' l) (names_back (sym read.same.names)) ∙ after }
+
+    pub put-room : {rows : List ℕ} → (w.rows.ghost_name ≡ w'.rows.ghost_name → rows ≡ w'.rows.now) → 10 ≤ length w.rows.now → 10 ≤ length rows
+    put-room rows_back h = rw (rows_back (sym read.same.rows), read.same.rows_length) h
+
+    -- the numbers of row 0 that a reading ends with have room in it
+    pub reached-small : (w'.used.rows ≤ 65536) × (w'.used.names ≤ 65536)
+    reached-small =
+        let small = at_small (read.reached (bare_state_of (sheet w.rows.now w.names.now)) at_first).at in
+        (omega (arith, small.0, read.same.rows_length, g.lent.few_rows), omega (arith, small.1, read.same.names_length, g.lent.few_names))

@@ -1,17 +1,17 @@
 -- The sheet of a state is one that what was decided for an event can be done to. Assumes nothing.
 use Rattle.std.specs.Prelude.{Ok}
-use Prim.Native.Nat.{ℕ, ◌*◌, ◌≤◌}
+use Prim.Native.Nat.{◌*◌, ◌≤◌}
 use mathlib.Core.Path.{◌≡◌, sym, ap, subst, ◌∙◌}
 use mathlib.Core.Bool.{true}
 use mathlib.Core.List.{List, ◌∷◌}
 use native.Mathlib.Omega.{arith}
 use lib.ListN.{length}
 use borrow.Author.Tests.{le-leb}
-use Rattle.text.specs.Text.{Text}
 use Rattle.text.proofs.Laws.Tests.{and-true}
 use Rattle.sheet.specs.Limits.{events_limit, open_tags_limit}
 use Rattle.sheet.specs.Lengths.{fits}
 use Rattle.sheet.specs.Rows.{Row}
+use Rattle.rows.specs.declared.writer.SheetWriter.{SheetWriter}
 use Rattle.xsd_types.specs.State.{Context, State}
 use Rattle.xsd_types.specs.Rows.{rows_of, items_rows, context_rows, context_number}
 use Rattle.xsd_parser.specs.Handlers.{ok}
@@ -37,18 +37,17 @@ open-number (Context.in_schema n) r kids e = omega (arith, ap (length {A = Row})
 open-number (Context.in_simple_type t) r kids e = omega arith
 open-number (Context.in_complex_type t) r kids e = omega arith
 
-pub ready_at : {s : State} {rows names : List ℕ} {p : Progress} → (at : At s rows names p)
-    → Ready rows names p.used p.head at.z s.reader.schema.target_namespace (items_rows s.reader.schema.items) (context_rows s.reader.context)
+pub ready_at : {s : State} {w : SheetWriter} {p : Progress} → (at : At s w p)
+    → Ready w.rows.now w.names.now w.used p.head at.z s.reader.schema.target_namespace (items_rows s.reader.schema.items) (context_rows s.reader.context)
 unfolding rows_of
 ready_at {s} at = record { holds = at.holds; here = λ r kids e. at.head (open-number s.reader.context r kids e); paired = paired-rows s }
 
-pub ready_for : {rows names : List ℕ} {text : Text} {marks : List ℕ} {p : Progress} {x : Arrival} → DueRoom rows names text marks p x
-    → (a : Action) → decision text marks (Ok x.decision) ≡ ok a → ReadyFor rows p.used p.head a
-ready_for {rows} {names} q a e =
+pub ready_for : {w : SheetWriter} {p : Progress} {x : Arrival} → DueRoom w p x → (a : Action) → decision (Ok x.decision) ≡ ok a → ReadyFor w.rows.now w.used p.head a
+ready_for {w} q a e =
     let due = q.due in
     let last = context_rows q.s.reader.context in
     record {
-      names = names;
+      names = w.names.now;
       z = due.at.z;
       namespace = q.s.reader.schema.target_namespace;
       done = items_rows q.s.reader.schema.items;
@@ -57,23 +56,21 @@ ready_for {rows} {names} q a e =
       fitting = subst (λ (b : Action). Fitting b last) (ok-back (sym due.decided ∙ e)) due.acted.fitting;
     }
 
-pub due-small : {rows names : List ℕ} {text : Text} {marks : List ℕ} {p : Progress} {x : Arrival} → DueRoom rows names text marks p x
-    → Small p.used (length text)
-due-small q =
+pub due-small : {w : SheetWriter} {p : Progress} {x : Arrival} → DueRoom w p x → Small w.used
+due-small {w} q =
     let small = at_small q.due.at in
-    record { rows_used = omega (arith, small.0, q.lent.few_rows); names_used = omega (arith, small.1, q.lent.few_names); text_length = q.lent.few_bytes }
+    record { rows_used = omega (arith, small.0, q.few); names_used = omega (arith, small.1, w.few) }
 
 -- nesting and events have room for one more
-pub due-counters : {rows names : List ℕ} {text : Text} {marks : List ℕ} {p : Progress} {x : Arrival} → DueRoom rows names text marks p x
-    → (p.mode.nesting ≤ open_tags_limit) × (p.events ≤ events_limit)
+pub due-counters : {w : SheetWriter} {p : Progress} {x : Arrival} → DueRoom w p x → (p.mode.nesting ≤ open_tags_limit) × (p.events ≤ events_limit)
 unfolding mode_of
 due-counters q =
     let at = q.due.at in
     (omega (arith, ap (λ (m : Mode). m.nesting) at.mode, proper-nesting q.s at.proper), omega (arith, at.events, proper-events q.s at.proper))
 
 -- what is used has room
-pub used-fits : {s : State} {rows names : List ℕ} {p : Progress} → At s rows names p → fits p.used.rows p.used.names (length rows) (length names) ≡ true
+pub used-fits : {s : State} {w : SheetWriter} {p : Progress} → At s w p → fits w.used.rows w.used.names (length w.rows.now) (length w.names.now) ≡ true
 unfolding fits
-used-fits {rows = rows} {names = names} {p = p} at =
+used-fits {w = w} at =
     let small = at_small at in
-    and-true (le-leb (10 * p.used.rows) (length rows) small.0) (le-leb p.used.names (length names) small.1)
+    and-true (le-leb (10 * w.used.rows) (length w.rows.now) small.0) (le-leb w.used.names (length w.names.now) small.1)

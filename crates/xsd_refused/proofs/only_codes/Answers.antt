@@ -7,9 +7,6 @@ use Rattle.text.specs.Text.{between}
 use Rattle.xsd_refused.proofs.Laws.Codes.{codes-end, codes_at, codes-not-at}
 use Rattle.xsd_refused.proofs.only_codes.Goals as goal
 
-pub loop-p-init : goal.loop-p-init
-loop-p-init c = λ names. refl
-
 pub returns-then-tag-ne-ENUMERATION : goal.returns-then-tag-ne-ENUMERATION
 returns-then-tag-ne-ENUMERATION c =
     let args = c.args in

@@ -16,7 +16,7 @@ use Rattle.xsd_replace.specs.Head.{HeadAt}
 use Rattle.buffer.proofs.Laws.Buffer.{zeros, filled-cut, filled-append}
 use Rattle.sheet.proofs.Laws.Numbers.{length-numbers}
 use Rattle.sheet.proofs.Laws.Packs.{length-pack, names_of-append}
-use Rattle.rows.proofs.Laws.Texts.{used-bytes, join-rest}
+use Rattle.rows.proofs.Laws.Texts.{used-bytes, texts-rest}
 use Rattle.rows.proofs.Laws.Pack.{used-append, used-length}
 use Rattle.rows.proofs.Laws.Write.{length_more, names-one, rows_more, packs-of}
 use Rattle.rows.proofs.Laws.Middle.{number_at, rows_fit, names-fit}
@@ -133,14 +133,15 @@ module _ {rows names z : List ℕ} {used : Used} {place : ℕ} {rs : List Row} {
       → ((t u : Text) → length t ≡ len → length u ≡ length second → rows₂ ≡ paste rows₁ (10 * place) (numbers_of at (row_of n (used_texts count t u))) 10)
       → names₂ ≡ paste names₁ (at + len) (join (used_texts (count - 1) second second)) (used_length (count - 1) (length second) (length second))
       → end ≡ at + len + used_length (count - 1) (length second) (length second)
-      → Holds rows₂ names₂ (record { rows = place + 1; names = end }) z (rs ++ row_of n (used_texts count name second) ∷ [])
-  unfolding row
+      → Holds rows₂ names₂ (record { rows = place + 1; names = end }) z (rs ++ row_of n (name ∷ used_texts (count - 1) second second) ∷ [])
+  unfolding row join
   head-replaced n count second at len end low high start long room e f set g last =
       let x = head-numbers h in
       let rest = join (used_texts (count - 1) second second) in
+      let r = row_of n (name ∷ used_texts (count - 1) second second) in
       let bytes = used-bytes (count - 1) second second (omega arith) in
       let begins : at ≡ length (names_of rs) = start ∙ x.start in
       let ends : at + len ≡ length (names_of rs) + length name = omega (arith, x.start, x.long) in
-      head-holds (row_of n (used_texts count name second)) rest end (join-rest count name second low high) (omega arith) (omega arith)
-      (head_rows (row_of n (used_texts count name second)) e (rw begins at (set name second (sym (long ∙ x.long)) refl)))
+      head-holds r rest end refl (omega arith) (omega arith)
+      (head_rows r e (rw (begins, texts-rest count name second low high) at (set name second (sym (long ∙ x.long)) refl)))
       (head-names rest (at + len) ends (omega arith) f (rw bytes g))

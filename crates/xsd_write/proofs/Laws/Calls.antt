@@ -1,13 +1,13 @@
 -- What the steps of a writing leave is the definition's (specs/Steps.antt; the crate `xsd_written`, specs/Call.antt). Assumes nothing.
 use Rattle.std.specs.Prelude.{Option as Answered, Some, None, if◌then◌else◌}
-use Prim.Native.Nat.{ℕ, ◌+◌, ◌≤◌, ◌<◌}
+use Prim.Native.Nat.{ℕ, ◌+◌, ◌-◌, ◌≤◌, ◌<◌}
 use native.Mathlib.Omega.{arith}
 use mathlib.Core.Path.{◌≡◌, refl, sym, ap, ◌∙◌}
 use mathlib.Core.Bool.{Bool, true, false, ◌&&◌}
 use mathlib.Core.List.{List, [], ◌∷◌, ◌++◌}
 use mathlib.Core.Option.{Option, some, none}
 use lib.Dec.{eqb, leb}
-use lib.ListN.{length, set, drop}
+use lib.ListN.{length, set, drop, replicate}
 use lib.Seq.{sets, sets-eq}
 use borrow.Author.Tests.{le-leb, leb-true, leb-false}
 use Rattle.text.specs.Text.{Text, every, between}
@@ -39,6 +39,11 @@ use Rattle.xsd_written.proofs.Laws.ByRows.{schema-by-rows}
 use Rattle.xsd_write.specs.Puts.{Puts}
 use Rattle.xsd_write.specs.Texts.{schema_rows}
 use Rattle.xsd_write.specs.Steps.{wrote, unheld_of, held_or_not, finished}
+
+-- what `fill` with zeros leaves
+pub zeros_filled : (n : ℕ) {xs : List ℕ} → xs ≡ replicate n 0 → xs ≡ filled n []
+unfolding filled
+zeros_filled n e = let whole : n - 0 ≡ n = omega arith in rw whole e
 
 -- ---- the text, and 23
 

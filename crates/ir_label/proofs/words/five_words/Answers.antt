@@ -6,9 +6,6 @@ use Rattle.ir_label.proofs.words.five_words.Goals as goal
 pub loop-init : goal.loop-init
 loop-init c = (omega arith, good-five c.args.words.now)
 
-pub line_end-end-requires : goal.line_end-end-requires
-line_end-end-requires c = c.loop.invariant.0
-
 pub returns-then-words-end : goal.returns-then-words-end
 returns-then-words-end c =
     let s = c.args.words.now in

@@ -9,6 +9,3 @@ pub overflow_add-result : goal.overflow_add-result
 overflow_add-result c =
     let rest = c.line_length.ensures ∙ ap line_length (part-from c.args.words.now c.args.at) in
     omega (arith, rest, line-bound (drop c.args.at c.args.words.now), length-drop c.args.at c.args.words.now)
-
-pub returns : goal.returns
-returns c = ap (λ n. c.args.at + n) (c.line_length.ensures ∙ ap line_length (part-from c.args.words.now c.args.at))

@@ -4,14 +4,6 @@ use Rattle.ir_types.specs.Label.{word_at}
 use Rattle.ir_label.proofs.Laws.Start.{start-next}
 use Rattle.ir_label.proofs.words.word_start.Goals as goal
 
-pub loop-init : goal.loop-init
-loop-init c =
-    let all : c.args.n - 0 ≡ c.args.n = omega arith in
-    (omega arith, rw all c.requires, rw all (omega arith))
-
-pub line_end-at-requires : goal.line_end-at-requires
-line_end-at-requires c = c.loop.invariant.0
-
 pub overflow_add-at : goal.overflow_add-at
 overflow_add-at c =
     let next = start-next c.args.words.now (c.args.n - c.loop.counter) c.loop.at _ (omega arith) c.loop.invariant.1 c.line_end-at.ensures in

@@ -4,7 +4,7 @@ use Rattle.ir_reduce.proofs.call.reduce_distinct.Goals as goal
 
 pub returns : goal.returns
 returns c = reduction-of c.requires.0
-    c.requires.2.distinct
+    c.requires.2.all.distinct
     c.mark_reached.ensures
     c.requires.1
     c.place_graph.ensures

@@ -16,4 +16,4 @@ pub returns : goal.returns
 returns c =
     let a = c.args in
     rw (target-some a.part.now.rows.now a.part.now.names.now _ a.place c.in_ok-pair.ensures)
-    (rw c.pair_text.ensures at c.find.ensures)
+    (rw (c.pair_text.ensures, c.requires.0.buckets_are) at c.find.ensures)

@@ -8,63 +8,49 @@ use Rattle.sheet.specs.Rows.{Ten}
 use Rattle.rows.specs.Ten.{as_ten}
 use Rattle.ir_append.proofs.Laws.Grows.{short-rows, short-names, grown-one}
 use Rattle.ir_types.specs.Form.{used_pairs}
-use Rattle.ir_reduce.specs.Places.{row_at}
+use Rattle.ir_reduce.specs.Parts.{part_row}
 use Rattle.ir_reduce.specs.Copy.{bytes_of, moved_numbers}
 use Rattle.ir_reduce.proofs.Laws.Copy.{bytes-length, moved-numbers, part-whole}
 use Rattle.ir_reduce.proofs.write.append_same.Goals as goal
 
-pub returns-then-graph_rows-n : goal.returns-then-graph_rows-n
-returns-then-graph_rows-n c =
-    let a = c.args in
-    short-rows (row_at a.part.now.rows.now a.part.now.names.now a.place) c.if-graph_rows-n.true
+pub returns-then-writer-n : goal.returns-then-writer-n
+returns-then-writer-n c =
+    record { same_rows = refl; same_names = refl; rows_length = refl; names_length = refl; added = short-rows (part_row c.args.part.now c.args.place) c.if-writer-n.true }
 
-pub returns-then-graph_names-at : goal.returns-then-graph_names-at
-returns-then-graph_names-at c =
-    let a = c.args in
-    let size = bytes-length a.part.now.rows.now a.part.now.names.now a.place c.requires.1 in
+pub returns-then-writer-at : goal.returns-then-writer-at
+returns-then-writer-at c =
+    let part = c.args.part.now in
+    let size = bytes-length part.rows.now part.names.now c.args.place c.requires.0 in
     let read = c.bytes_of-size.ensures ∙ ap bytes_of c.ten-t.ensures in
-    short-names (row_at a.part.now.rows.now a.part.now.names.now a.place) refl (omega (arith, size, read, c.if-graph_names-at.true))
+    record { same_rows = refl; same_names = refl; rows_length = refl; names_length = refl; added = short-names (part_row part c.args.place) (omega (arith, size, read, c.if-writer-at.true)) }
 
 pub copy_text-requires : goal.copy_text-requires
 copy_text-requires c =
-    let a = c.args in
-    let s = c.requires.1 in
+    let part = c.args.part.now in
+    let s = c.requires.0 in
     let read = c.bytes_of-size.ensures ∙ ap bytes_of c.ten-t.ensures in
     let start = c.wide.ensures ∙ ap (λ (t : Ten). t.at0) c.ten-t.ensures in
-    let part = rw (read, start) at c.part_of.ensures in
-    let long = ap length (part ∙ part-whole a.part.now.rows.now a.part.now.names.now a.place s) ∙ bytes-length a.part.now.rows.now a.part.now.names.now a.place s in
-    omega (arith, long, read, c.if-graph_names-at.false, c.requires.0.names_inside)
+    let text = rw (read, start) at c.part_of.ensures in
+    let long = ap length (text ∙ part-whole part.rows.now part.names.now c.args.place s) ∙ bytes-length part.rows.now part.names.now c.args.place s in
+    omega (arith, long, read, c.if-writer-at.false, c.args.writer.now.names_inside)
 
 pub moved_row-row-requires : goal.moved_row-row-requires
-moved_row-row-requires c = omega (
-  arith,
-  c.bytes_of-size.ensures,
-  c.if-graph_names-at.false,
-  c.requires.0.names_inside,
-  c.requires.0.few_names,
-)
+moved_row-row-requires c = omega (arith, c.bytes_of-size.ensures, c.if-writer-at.false, c.args.writer.now.names_inside, c.args.writer.now.few_names)
 
 pub returns : goal.returns
 returns c =
-    let a = c.args in
-    let s = c.requires.1 in
-    let r = row_at a.part.now.rows.now a.part.now.names.now a.place in
+    let w = c.args.writer.now in
+    let part = c.args.part.now in
+    let s = c.requires.0 in
     let ten = c.ten-t.ensures in
     let read = c.bytes_of-size.ensures ∙ ap bytes_of ten in
     let start = c.wide.ensures ∙ ap (λ (t : Ten). t.at0) ten in
-    let part = rw (read, start) at c.part_of.ensures in
-    let whole = part ∙ part-whole a.part.now.rows.now a.part.now.names.now a.place s in
-    let bytes = bytes-length a.part.now.rows.now a.part.now.names.now a.place s in
+    let text = rw (read, start) at c.part_of.ensures in
+    let whole = text ∙ part-whole part.rows.now part.names.now c.args.place s in
+    let bytes = bytes-length part.rows.now part.names.now c.args.place s in
     let numbers = c.moved_row-row.ensures
-    ∙ ap (λ (u : ℕ). moved_numbers (as_ten
-    c.ten-t.result) u a.used.names)
-    c.used_pairs.ensures ∙ ap (λ (t : Ten). moved_numbers t (used_pairs t.tag t.a) a.used.names) ten
-    ∙ moved-numbers a.part.now.rows.now a.part.now.names.now a.place s a.used.names in
-    grown-one r _ (omega (arith, c.if-graph_rows-n.false))
-    (omega (
-      arith,
-      bytes,
-      read,
-      c.if-graph_names-at.false,
-      c.requires.0.names_inside,
-    )) (rw (← numbers) c.put_row.ensures) (rw (← whole) c.copy_text.ensures) (omega (arith, bytes, read))
+    ∙ ap (λ (u : ℕ). moved_numbers (as_ten c.ten-t.result) u w.used.names) c.used_pairs.ensures
+    ∙ ap (λ (t : Ten). moved_numbers t (used_pairs t.tag t.a) w.used.names) ten
+    ∙ moved-numbers part.rows.now part.names.now c.args.place s w.used.names in
+    grown-one (part_row part c.args.place) (omega (arith, c.if-writer-n.false)) (omega (arith, bytes, read, c.if-writer-at.false, w.names_inside)) refl refl
+    (rw (← numbers) c.put_row.ensures) (rw (← whole) c.copy_text.ensures) refl (omega (arith, bytes, read))

@@ -8,9 +8,9 @@ use Rattle.lubiksan.proofs.label.lubiksan_label.Goals as goal
 pub returns-in-Ok : goal.returns-in-Ok
 returns-in-Ok c =
     let found = c.in-Ok.ensures in
-    record { number = sym found.number; in_words = c.bit_of.ensures ∙ sym (ap bit found.in_words); starts = sym found.at; long = sym found.len }
+    record { number = sym found.number; in_words = c.from.ensures ∙ sym (ap bit found.buffer); starts = sym found.at; long = sym found.len }
 
 pub returns-in-Err : goal.returns-in-Err
 unfolding no_label bit
 returns-in-Err c =
-    rw c.in-Err.ensures.0 (record { number = c.from.ensures ∙ ap refusal_number c.in-Err.ensures.1; in_words = refl; starts = refl; long = refl })
+    rw c.in-Err.ensures.0 (record { number = c.from-in-Err.ensures ∙ ap refusal_number c.in-Err.ensures.1; in_words = refl; starts = refl; long = refl })

@@ -4,4 +4,5 @@ use Rattle.sheet.specs.Rows.{bit}
 use Rattle.lubiksan.proofs.leaves.lubiksan_same_normalized.Goals as goal
 
 pub returns : goal.returns
-returns c = c.bit_of.ensures ∙ ap bit c.same_normalized.ensures
+unfolding bit
+returns c = c.from.ensures ∙ ap bit c.same_normalized.ensures

@@ -4,4 +4,4 @@ use Rattle.names.proofs.same.same_normalized.Goals as goal
 
 pub returns : goal.returns
 unfolding spelled
-returns c = c.same_spelled.ensures
+returns c = c.is_same.ensures

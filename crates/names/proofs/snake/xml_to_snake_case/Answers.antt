@@ -43,9 +43,6 @@ pub loop-i-init : goal.loop-i-init
 unfolding xml_to_snake_case
 loop-i-init c = writing_start _ _
 
-pub shape_of-out-then-out-len : goal.shape_of-out-then-out-len
-shape_of-out-then-out-len c = writing-length c.loop-i.invariant
-
 pub returns-then-out-len : goal.returns-then-out-len
 returns-then-out-len c =
     let name = c.args.name.now in
@@ -53,28 +50,13 @@ returns-then-out-len c =
     let w = c.loop-i.invariant in
     writing-full (writing-as w (snake-marked c.loop-i.prev name i (omega arith) (starts c.before.before.before ∙ c.if-starts_word.true))) (omega (arith, writing-length w))
 
-pub bounds-out-len : goal.bounds-out-len
-bounds-out-len c = omega (arith, writing-length c.loop-i.invariant)
-
-pub shape_of-out-then-out-len-2 : goal.shape_of-out-then-out-len-2
-shape_of-out-then-out-len-2 c = writing-length (marked c.before.before)
-
 pub returns-then-out-len-2 : goal.returns-then-out-len-2
 returns-then-out-len-2 c = writing-full (marked c.before.before) (omega (arith, writing-length (marked c.before.before)))
-
-pub bounds-out-len-in-loop-i : goal.bounds-out-len-in-loop-i
-bounds-out-len-in-loop-i c = omega (arith, writing-length (marked c.before.before.before))
-
-pub overflow_add-len-in-loop-i : goal.overflow_add-len-in-loop-i
-overflow_add-len-in-loop-i c = omega (arith, writing-length (marked c.before.before.before.before))
 
 pub loop-i-preserved : goal.loop-i-preserved
 loop-i-preserved c =
     let w = marked c.before.before.before.before in
     rw (c.to_lower.ensures, add-one c.loop-i.i) (writing_more w (omega (arith, writing-length w)))
-
-pub shape_of-out : goal.shape_of-out
-shape_of-out c = writing-length c.loop-i.invariant
 
 pub returns : goal.returns
 returns c =

@@ -19,9 +19,6 @@ pub loop-b-init : goal.loop-b-init
 unfolding aside_pairs
 loop-b-init c = (omega arith, refl, omega arith)
 
-pub overflow_add-opens : goal.overflow_add-opens
-overflow_add-opens c = omega (arith, c.from-opens.ensures, byte_small (eqb (get_or c.args.s.now c.loop-b.b-index 0) 40), c.requires)
-
 pub loop-b-preserved : goal.loop-b-preserved
 loop-b-preserved c =
     let z = c.loop-b in

@@ -26,17 +26,6 @@ pub item-requires : goal.item-requires
 unfolding is_bracket
 item-requires c = (omega arith, ne_eqb _ 93 c.if-s-i-eq93.false)
 
-pub loop-i-smaller : goal.loop-i-smaller
-loop-i-smaller c =
-    let g = c.in_ok-i.ensures in
-    omega (arith, g.onward, g.within)
-
-pub loop-i-preserved : goal.loop-i-preserved
-loop-i-preserved c =
-    let z = c.loop-i in
-    let g = c.in_ok-i.ensures in
-    (omega (arith, g.onward), g.within, λ d. z.invariant.2 d ∙ g.reads d)
-
 pub returns : goal.returns
 unfolding final
 returns c =

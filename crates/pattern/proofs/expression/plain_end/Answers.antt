@@ -3,19 +3,8 @@ use Rattle.std.proofs.Common.{◌≡◌, length, refl, sym, ◌∙◌, arith}
 use Rattle.pattern.proofs.Laws.Places.{plain_at}
 use Rattle.pattern.proofs.expression.plain_end.Goals as goal
 
-pub loop-i-init : goal.loop-i-init
-loop-i-init c = λ d. refl
-
-pub returns-then-not-is_plain : goal.returns-then-not-is_plain
-returns-then-not-is_plain c = record { onward = omega arith; within = omega arith; stops = λ _. refl; reads = c.loop-i.invariant }
-
 pub loop-i-preserved : goal.loop-i-preserved
 loop-i-preserved c =
     let z = c.loop-i in
     let plain = sym c.is_plain.ensures ∙ c.if-not-is_plain.false in
     λ d. z.invariant d ∙ plain_at d _ z.i (omega arith) plain
-
-pub returns : goal.returns
-returns c =
-    let e : c.loop-i.i ≡ length c.args.s.now = omega arith in
-    record { onward = c.requires; within = omega arith; stops = λ _. refl; reads = rw e at c.loop-i.invariant }

@@ -4,8 +4,8 @@ use mathlib.Core.Path.{ap, subst, ◌∙◌}
 use Rattle.tape.specs.Answers.{IsPlaced}
 use Rattle.replay.proofs.records.put_value.Goals as goal
 
-pub put_tag_value-requires : goal.put_tag_value-requires
+pub tag_value-found-requires : goal.tag_value-found-requires
 unfolding IsPlaced
-put_tag_value-requires c =
+tag_value-found-requires g c =
     let a = c.args in
-    subst (IsPlaced a.text.now a.marks.now 0) (c.in-Ok-Some.is ∙ ap Ok c.in-Ok-Some.field-0-is) c.read_at.ensures.places
+    subst (IsPlaced a.v.text.now a.v.marks.now 0) (c.in-Ok-Some.is ∙ ap Ok c.in-Ok-Some.field-0-is) c.read_at.ensures.places

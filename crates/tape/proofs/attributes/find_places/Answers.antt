@@ -32,8 +32,8 @@ loop-i-init c =
     let start : a.pairs + 2 + 4 * 0 ≡ a.pairs + 2 = omega arith in
     let all : a.count - 0 ≡ a.count = omega arith in (
       refl,
-      λ k h. rw (start, all) (places-none a.text.now a.marks.now k h
-          (sym (ap (λ (xs : List Attr). lookup_text xs (get_or key_words k [])) (tag-attributes a.text.now a.marks.now a.pairs a.count)))),
+      λ k h. rw (start, all) (places-none a.v.text.now a.v.marks.now k h
+          (sym (ap (λ (xs : List Attr). lookup_text xs (get_or key_words k [])) (tag-attributes a.v.text.now a.v.marks.now a.pairs a.count)))),
     )
 
 pub key_at-requires : goal.key_at-requires
@@ -41,7 +41,7 @@ unfolding pair_count
 key_at-requires c =
     let l = c.loop-i in
     let a = c.args in
-    key-inside a.text.now a.marks.now a.pairs a.count (a.pairs + 2 + 4 * l.i) (a.count - l.i) c.requires (omega arith) (omega arith) (omega arith)
+    key-inside a.v.text.now a.v.marks.now a.pairs a.count (a.pairs + 2 + 4 * l.i) (a.count - l.i) c.requires (omega arith) (omega arith) (omega arith)
 
 pub loop-i-preserved : goal.loop-i-preserved
 unfolding pair_count
@@ -53,7 +53,7 @@ loop-i-preserved c =
     let left : a.count - (l.i + 1) ≡ a.count - l.i - 1 = omega arith in (
       ap (λ (p : List ℕ). length p) c.keep_first.ensures ∙ kept-length _ _ _ l.invariant.0,
       λ k h. rw (c.keep_first.ensures, further, left)
-          (places-step a.text.now a.marks.now l.places at (a.count - l.i) k (key_number c.key_at.result) (omega arith) (omega arith) h l.invariant.0
+          (places-step a.v.text.now a.v.marks.now l.places at (a.count - l.i) k (key_number c.key_at.result) (omega arith) (omega arith) h l.invariant.0
           c.key_at.ensures ∙ l.invariant.1 k h),
     )
 
@@ -63,5 +63,5 @@ returns c =
     let a = c.args in
     record {
       many = l.invariant.0;
-      values = λ k h. places-end a.text.now a.marks.now l.places (drop (a.pairs + 2 + 4 * l.i) a.marks.now) (a.count - l.i) k (omega arith) ∙ l.invariant.1 k h;
+      values = λ k h. places-end a.v.text.now a.v.marks.now l.places (drop (a.pairs + 2 + 4 * l.i) a.v.marks.now) (a.count - l.i) k (omega arith) ∙ l.invariant.1 k h;
     }

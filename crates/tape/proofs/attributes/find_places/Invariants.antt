@@ -13,5 +13,5 @@ use Rattle.tape.proofs.attributes.find_places.Given as goal
 abbrev pub invariant-loop-i : goal.invariant-loop-i
 invariant-loop-i l =
     (length l.places ≡ key_count)
-    × ((k : ℕ) → k < key_count → or_else (value_at l.text l.marks (get_or l.places k 0)) (lookup_text (attrs_of l.text (pairs_of (2 * (l.count - l.i)) (drop (l.pairs + 2 + 4 * l.i) l.marks))) (get_or key_words k []))
-    ≡ lookup_text (tag_at l.text l.marks l.pairs l.count).attributes (get_or key_words k []))
+    × ((k : ℕ) → k < key_count → or_else (value_at l.v.text.now l.v.marks.now (get_or l.places k 0)) (lookup_text (attrs_of l.v.text.now (pairs_of (2 * (l.count - l.i)) (drop (l.pairs + 2 + 4 * l.i) l.v.marks.now))) (get_or key_words k []))
+    ≡ lookup_text (tag_at l.v.text.now l.v.marks.now l.pairs l.count).attributes (get_or key_words k []))

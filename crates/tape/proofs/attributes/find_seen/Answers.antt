@@ -5,23 +5,23 @@ use Rattle.text.specs.Text.{Text, local_name}
 use Rattle.xsd_parser.specs.Words.{word_of}
 use Rattle.xsd_parser.specs.Seen.{seen}
 use Rattle.tape.specs.Pairs.{tag_at}
-use Rattle.tape.specs.Keys.{key_words}
-use Rattle.tape.specs.Lookup.{seen_at}
+use Rattle.tape.specs.Keys.{key_words, key_number}
+use Rattle.tape.specs.Lookup.{value_under, seen_at}
 use Rattle.tape.proofs.Laws.Pairs.{name-inside}
 use Rattle.tape.proofs.Laws.Attributes.{tag-name}
 use Rattle.tape.proofs.Laws.Places.{place-value}
 use Rattle.tape.proofs.attributes.find_seen.Goals as goal
 
-pub word_under-word-requires : goal.word_under-word-requires
-word_under-word-requires c = name-inside _ _ _ _ c.requires
+pub word_under-requires : goal.word_under-requires
+word_under-requires c = name-inside _ _ _ _ c.requires
 
 pub returns : goal.returns
-unfolding seen_at seen key_words
+unfolding seen_at value_under key_number seen key_words
 returns c =
     let a = c.args in
-    let t = tag_at a.text.now a.marks.now a.pairs a.count in
+    let t = tag_at a.v.text.now a.v.marks.now a.pairs a.count in
     let p = c.find_places.ensures in
-    let word = c.word_under-word.ensures ∙ ap (λ (l : Text). word_of (local_name l)) (sym (tag-name a.text.now a.marks.now a.pairs a.count)) in
+    let word = c.word_under.ensures ∙ ap (λ (l : Text). word_of (local_name l)) (sym (tag-name a.v.text.now a.v.marks.now a.pairs a.count)) in
     rw (
       word,
       place-value t "name" p 0 (omega arith) refl,

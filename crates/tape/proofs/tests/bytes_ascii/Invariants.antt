@@ -6,4 +6,4 @@ use Rattle.xsd_parser.specs.Tape.{pairs_of, all_ascii}
 use Rattle.tape.proofs.tests.bytes_ascii.Given as goal
 
 abbrev pub invariant-loop-i : goal.invariant-loop-i
-invariant-loop-i l = all_ascii l.text (pairs_of (l.n - l.i) (drop (l.from + 2 * l.i) l.marks)) ≡ all_ascii l.text (pairs_of l.n (drop l.from l.marks))
+invariant-loop-i l = all_ascii l.v.text.now (pairs_of (l.n - l.i) (drop (l.from + 2 * l.i) l.v.marks.now)) ≡ all_ascii l.v.text.now (pairs_of l.n (drop l.from l.v.marks.now))

@@ -4,26 +4,15 @@ use mathlib.Core.Path.{◌≡◌, refl, sym, ap, ◌∙◌}
 use mathlib.Core.List.{[], ◌∷◌, map}
 use mathlib.Core.Bool.{Bool, true, false, false≢true}
 use native.Mathlib.Omega.{arith}
-use borrow.Author.Tests.{ltb-true, ltb-false, lt-leb, le-leb, eq-eqb, eqb-true}
-use lib.Dec.{ltb}
+use borrow.Author.Tests.{eq-eqb, eqb-true}
 use lib.ListN.{length}
 use Rattle.std.specs.Prelude.{IsTrue, ◌↔◌}
 use Rattle.std.specs.Char.{to_ascii_lowercase}
-use Rattle.text.specs.Text.{Text, lower, between}
-use Rattle.text.proofs.Laws.Tests.{bool_cases, three, not-true-false}
+use Rattle.text.specs.Text.{Text, lower}
+use Rattle.text.proofs.Laws.Std.{lower_is}
+use Rattle.text.proofs.Laws.Tests.{three, not-true-false}
 use Rattle.xml.specs.Grammar.{is_xml}
 use Rattle.xml_parts.proofs.steps.is_xml.Goals as goal
-
--- the two lower forms are the same
-same_lower : (b : ℕ) → to_ascii_lowercase b ≡ lower b
-unfolding between lower
-same_lower b =
-    bool_cases (ltb b 65)
-    (λ t. rw (t, lt-leb 65 b (ltb-true b 65 t)))
-    (λ t.
-    bool_cases (ltb b 91)
-    (λ u. let h = ltb-true b 91 u in rw (t, u, le-leb 65 b (ltb-false b 65 t), le-leb b 90 (omega arith)))
-    (λ u. let h = ltb-false b 91 u in rw (t, u, le-leb 65 b (ltb-false b 65 t), lt-leb b 90 (omega arith))))
 
 from : (s : Text) → map to_ascii_lowercase s ≡ 120 ∷ 109 ∷ 108 ∷ [] → is_xml s ≡ true
 unfolding is_xml
@@ -34,7 +23,7 @@ from (a ∷ b ∷ c ∷ []) e =
     let x : to_ascii_lowercase a ≡ 120 = cc in
     let m : to_ascii_lowercase b ≡ 109 = cc in
     let l : to_ascii_lowercase c ≡ 108 = cc in
-    rw (eq-eqb _ _ (sym (same_lower a) ∙ x), eq-eqb _ _ (sym (same_lower b) ∙ m), eq-eqb _ _ (sym (same_lower c) ∙ l))
+    rw (eq-eqb _ _ (sym (lower_is a) ∙ x), eq-eqb _ _ (sym (lower_is b) ∙ m), eq-eqb _ _ (sym (lower_is c) ∙ l))
 from (a ∷ b ∷ c ∷ d ∷ s) e = absurd (omega (arith, ap length e))
 
 to : (s : Text) → is_xml s ≡ true → map to_ascii_lowercase s ≡ 120 ∷ 109 ∷ 108 ∷ []
@@ -44,9 +33,9 @@ to (a ∷ []) e = absurd (false≢true e)
 to (a ∷ b ∷ []) e = absurd (false≢true e)
 to (a ∷ b ∷ c ∷ []) e =
     let t = three _ _ _ e in
-    let x = same_lower a ∙ eqb-true (lower a) 120 t.0 in
-    let m = same_lower b ∙ eqb-true (lower b) 109 t.1 in
-    let l = same_lower c ∙ eqb-true (lower c) 108 t.2 in
+    let x = lower_is a ∙ eqb-true (lower a) 120 t.0 in
+    let m = lower_is b ∙ eqb-true (lower b) 109 t.1 in
+    let l = lower_is c ∙ eqb-true (lower c) 108 t.2 in
     rw (x, m, l)
 to (a ∷ b ∷ c ∷ d ∷ s) e = absurd (false≢true e)
 

@@ -6,4 +6,4 @@ use Rattle.xml_parts.specs.Answers.{class_of}
 use Rattle.xml_parts.proofs.steps.many.Given as goal
 
 abbrev pub invariant-loop-i : goal.invariant-loop-i
-invariant-loop-i l = many (class_of l.class) l.i (drop l.i l.text) ≡ many (class_of l.class) l.at (drop l.at l.text)
+invariant-loop-i l = (l.end ≡ l.i) × (many (class_of l.class) l.i (drop l.i l.text) ≡ many (class_of l.class) l.at (drop l.at l.text))

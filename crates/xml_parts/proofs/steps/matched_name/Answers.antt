@@ -1,27 +1,34 @@
--- `xml_parts::steps::matched_name` meets its contract: the names are the same where both end at the place up to which they are. Assumes nothing.
-use mathlib.Core.Path.{sym, ap, ◌∙◌}
+-- `xml_parts::steps::matched_name` meets its contract: where a name starts, it is the run of its characters. Assumes nothing.
+use Prim.Native.Nat.{ℕ}
+use mathlib.Core.Path.{◌≡◌, sym, ap, ◌∙◌}
+use mathlib.Core.Bool.{true, false}
+use lib.ListN.{drop}
+use Rattle.std.specs.Prelude.{Option, Some, None, is_some, IfSome}
+use Rattle.text.specs.Text.{Text, first, same}
+use Rattle.text.proofs.Laws.Tests.{bool_cases}
 use Rattle.xml.specs.Classes.{is_name, is_name_start}
-use Rattle.xml.proofs.Laws.Names.{name-no-start, name-run, run_none}
-use Rattle.xml_parts.proofs.Laws.Matched.{matched-differ, matched-longer, matched-same}
+use Rattle.xml.specs.Steps.{bad, behind, many, name_of}
+use Rattle.xml.proofs.Laws.Names.{name-no-start, name-run}
+use Rattle.xml_parts.specs.Answers.{moved, matched}
 use Rattle.xml_parts.proofs.steps.matched_name.Goals as goal
 
-pub returns-then-is_name : goal.returns-then-is_name
-returns-then-is_name c = sym (matched-differ c.same_end-end.ensures (sym (c.is_name.ensures ∙ ap is_name c.byte_at.ensures) ∙ c.if-is_name.true))
+no-start : (text : Text) (at top : ℕ) → is_name_start (first (drop at text)) ≡ false → matched text at top ≡ bad
+unfolding matched
+no-start text at top e =
+    bool_cases (same (name_of (drop at text)) (name_of (drop top text))) (λ h. rw h (name-no-start at (drop at text) e)) (λ h. rw h)
 
-pub returns-then-is_name-2 : goal.returns-then-is_name-2
-returns-then-is_name-2 c =
-    sym (matched-longer c.same_end-end.ensures (sym (c.is_name.ensures ∙ ap is_name c.byte_at.ensures) ∙ c.if-is_name.false)
-    (sym (c.is_name-2.ensures ∙ ap is_name c.byte_at-2.ensures) ∙ c.if-is_name-2.true))
+start : (text : Text) (at top : ℕ) (r : Option ℕ) → is_name_start (first (drop at text)) ≡ true → is_some r ≡ same (name_of (drop at text)) (name_of (drop top text))
+    → IfSome r (λ e. many is_name at (drop at text) ≡ behind e (drop e text)) → moved text r ≡ matched text at top
+unfolding matched
+start text at top (Some e) s h m = rw (sym h) (sym m ∙ name-run at (drop at text) s)
+start text at top None s h m = rw (sym h)
 
 pub returns-then-not-in_class : goal.returns-then-not-in_class
 returns-then-not-in_class c =
-    sym (matched-same c.same_end-end.ensures (sym (c.is_name.ensures ∙ ap is_name c.byte_at.ensures) ∙ c.if-is_name.false)
-    (sym (c.is_name-2.ensures ∙ ap is_name c.byte_at-2.ensures) ∙ c.if-is_name-2.false) ∙ name-no-start _ _
-    (sym (c.in_class.ensures ∙ ap is_name_start c.byte_at-3.ensures) ∙ c.if-not-in_class.true))
+    let a = c.args in
+    sym (no-start a.text.now a.at a.top (ap is_name_start (sym c.byte_at.ensures) ∙ sym c.in_class.ensures ∙ c.if-not-in_class.true))
 
 pub returns : goal.returns
 returns c =
-    let u = c.same_end-end.ensures in
-    let ended = sym (c.is_name.ensures ∙ ap is_name c.byte_at.ensures) ∙ c.if-is_name.false in
-    sym (run_none _ _ ended) ∙ u.same-run ∙ name-run _ _ (sym (c.in_class.ensures ∙ ap is_name_start c.byte_at-3.ensures) ∙ c.if-not-in_class.false) ∙ sym
-    (matched-same u ended (sym (c.is_name-2.ensures ∙ ap is_name c.byte_at-2.ensures) ∙ c.if-is_name-2.false))
+    let a = c.args in
+    start a.text.now a.at a.top _ (ap is_name_start (sym c.byte_at.ensures) ∙ sym c.in_class.ensures ∙ c.if-not-in_class.false) c.same_run.ensures.alike c.same_run.ensures.ends

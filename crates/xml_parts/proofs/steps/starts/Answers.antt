@@ -2,14 +2,10 @@
 use Prim.Native.Nat.{◌+◌}
 use native.Mathlib.Omega.{arith}
 use mathlib.Core.Path.{◌≡◌, sym, ◌∙◌}
-use native.Mathlib.Nat.{add-zero}
 use native.Mathlib.Numerals.{add-one}
 use lib.ListN.{drop}
 use Rattle.xml.proofs.Laws.Steps.{starts-end, starts-past, starts-differ, starts-on}
 use Rattle.xml_parts.proofs.steps.starts.Goals as goal
-
-pub loop-k-init : goal.loop-k-init
-loop-k-init c = (omega arith, rw (add-zero c.args.at))
 
 pub returns-then-text-at : goal.returns-then-text-at
 returns-then-text-at c =

@@ -10,9 +10,6 @@ returns-then-starts c =
     let a = c.args in
     sym (literal-yes a.word.now a.text.now c.loop-i.i (sym c.starts.ensures ∙ c.if-starts.true)) ∙ sym (until-hit a.word.now a.text.now c.loop-i.i c.loop-i.i (omega arith) (sym c.starts.ensures ∙ c.if-starts.true)) ∙ c.loop-i.invariant
 
-pub overflow_cast-text : goal.overflow_cast-text
-overflow_cast-text c = omega (arith, c.shared_slice_known-in-loop-i-1.given c.loop-i.i)
-
 pub returns-then-not-is_char : goal.returns-then-not-is_char
 returns-then-not-is_char c =
     let a = c.args in

@@ -2,15 +2,12 @@
 -- code point stays past it. Assumes nothing.
 use native.Mathlib.Omega.{arith}
 use Prim.Native.Nat.{suc, ◌≤◌, ◌<◌, ◌*◌, ◌+◌}
-use mathlib.Core.Path.{refl, sym, ◌∙◌}
+use mathlib.Core.Path.{sym, ◌∙◌}
 use native.Mathlib.Numerals.{add-one}
 use lib.ListN.{get_or, drop}
 use Rattle.xml.specs.Grammar.{digit_of}
-use Rattle.xml.proofs.Laws.Values.{number-end, number-stop, number-wrong, number-on, number_past, step_fits}
+use Rattle.xml.proofs.Laws.Values.{number-end, number-stop, number-wrong, number-on, number_past}
 use Rattle.xml_parts.proofs.values.is_number.Goals as goal
-
-pub loop-i-init : goal.loop-i-init
-loop-i-init c = (omega arith, refl)
 
 pub returns-then-b-eq59 : goal.returns-then-b-eq59
 returns-then-b-eq59 c =
@@ -28,14 +25,6 @@ returns-in_default c =
     let a = c.args in
     let d : a.base ≤ digit_of (get_or a.text.now c.loop-i.i 0) = omega (arith, c.in_default.ensures, c.requires.1) in
     sym (number-wrong a.base c.loop-i.v a.text.now c.loop-i.i (omega arith) c.if-b-eq59.false d) ∙ c.loop-i.invariant.1
-
-pub overflow_mul-v : goal.overflow_mul-v
-overflow_mul-v c = omega (arith, step_fits _ _ c.loop-i.invariant.0 c.requires.1)
-
-pub overflow_add-v : goal.overflow_add-v
-overflow_add-v c =
-    let digit : c.in-Some.digit < c.args.base = omega (arith, c.if-base-digit.false) in
-    omega (arith, step_fits _ _ c.loop-i.invariant.0 c.requires.1, c.requires.1)
 
 pub returns-then-v-gt1114111 : goal.returns-then-v-gt1114111
 returns-then-v-gt1114111 c =

@@ -9,9 +9,6 @@ returns-then-b-eq38 c =
     let a = c.args in
     c.is_reference.ensures ∙ sym (plain-reference a.text.now a.at (omega arith) c.if-b-eq38.true)
 
-pub overflow_cast-b : goal.overflow_cast-b
-overflow_cast-b c = omega (arith, c.shared_slice_known-2-1.given c.args.at)
-
 pub returns : goal.returns
 returns c =
     let a = c.args in

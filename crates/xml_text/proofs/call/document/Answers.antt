@@ -13,9 +13,6 @@ unfolding document bytes
 returns-then-starts c =
     rw (sym c.in-Some.ensures, sym c.starts.ensures ∙ c.if-starts.true)
 
-pub document_from-requires : goal.document_from-requires
-document_from-requires c = c.requires
-
 pub returns : goal.returns
 unfolding document bytes
 returns c = rw (c.ok_or.ensures.value, sym c.in-Some.ensures, sym c.starts.ensures ∙ c.if-starts.false) c.document_from.ensures

@@ -4,9 +4,6 @@ use Rattle.xml.proofs.Laws.Call.{document-bad, document-misc, document-more, doc
 use native.Mathlib.Omega.{arith}
 use Rattle.xml_text.proofs.call.document_from.Goals as goal
 
-pub root-requires : goal.root-requires
-root-requires c = c.requires
-
 pub returns-in_err-whole : goal.returns-in_err-whole
 returns-in_err-whole c = rw (c.from_residual.ensures, document-bad c.args.at _ c.in_err-whole.ensures)
 

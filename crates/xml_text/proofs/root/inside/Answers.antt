@@ -20,21 +20,12 @@ loop-here-init c =
     let p = c.requires in
     (suc (length (drop a.from.at a.text.now)), [], omega (arith, length-drop a.from.at a.text.now), add_none _, omega arith, refl, refl, p.2, refl)
 
-pub turn-requires : goal.turn-requires
-turn-requires c =
-    (c.requires.0, omega (arith, c.requires.1, c.loop-here.invariant.6), c.loop-here.invariant.7, omega arith)
-
 pub returns-in_err-here : goal.returns-in_err-here
 returns-in_err-here c =
     let stopped = inside-stop c.loop-here.invariant.0 _ c.loop-here.here.at _ (some-open c.args.text.now c.loop-here.slots c.loop-here.here.count (omega arith))
     c.in_err-here.ensures in
     rw c.from_residual.ensures
     (sym c.loop-here.invariant.3 ∙ ap (add_events c.loop-here.invariant.1) stopped ∙ add-bad c.loop-here.invariant.1)
-
-pub loop-here-smaller : goal.loop-here-smaller
-loop-here-smaller c =
-    let g = c.in_ok-here.ensures in
-    omega (arith, g.4, g.5)
 
 pub loop-here-preserved : goal.loop-here-preserved
 loop-here-preserved c =

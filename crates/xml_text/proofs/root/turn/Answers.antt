@@ -17,11 +17,6 @@ invariant_of-tag c =
     let m = char-data-moves _ _ _ _ (sym c.in_ok-start.ensures) in
     record { opened = omega (arith, m, c.args.here.opened); stored = omega (arith, m, c.args.here.stored) }
 
-pub close_tag-requires : goal.close_tag-requires
-close_tag-requires c =
-    let p = c.requires in
-    (p.0, omega (arith, p, c.args.here.opened), p.3, omega (arith, p, c.args.here.stored))
-
 pub returns-then-starts : goal.returns-then-starts
 unfolding bytes
 returns-then-starts c =
@@ -39,11 +34,6 @@ invariant_of-tag-in-Starting c =
     let m = char-data-moves _ _ _ _ (sym c.in_ok-start.ensures) in
     let i = (rw c.in-Starting.is at c.in_ok-piece.ensures).1 in
     record { opened = omega (arith, m, i, c.args.here.opened); stored = omega (arith, m, i, c.args.here.stored) }
-
-pub open_tag-requires : goal.open_tag-requires
-open_tag-requires c =
-    let p = c.requires in
-    (p.0, p.1, omega (arith, p, c.args.here.opened), omega (arith, p, c.args.here.stored))
 
 pub returns-in_err-piece : goal.returns-in_err-piece
 returns-in_err-piece c =

@@ -44,47 +44,6 @@ returns-then-is_among c =
     sym c.loop-part.invariant.3 ∙ attributes-twice c.loop-part.invariant.0 _ c.loop-part.invariant.1 c.loop-part.i _ _ _ _ _ (sym (rw c.in-More.is at c.in_ok-part.ensures).0)
     (sym (c.is_among.ensures ∙ ap (is_among _) (names-part c.args.text.now c.loop-part.keys c.loop-part.count (omega (arith, (rw c.in-More.is at c.in_ok-part.ensures).1, c.loop-part.invariant.6, c.loop-part.invariant.7, c.requires)))) ∙ c.if-is_among.true)
 
-pub overflow_cast-keys : goal.overflow_cast-keys
-overflow_cast-keys c =
-    omega (arith, (rw c.in-More.is at c.in_ok-part.ensures).1, c.loop-part.invariant.6, c.loop-part.invariant.7, c.requires)
-
-pub offset_bounds-keys-count : goal.offset_bounds-keys-count
-offset_bounds-keys-count c =
-    omega (arith, (rw c.in-More.is at c.in_ok-part.ensures).1, c.loop-part.invariant.6, c.loop-part.invariant.7, c.requires)
-
-pub bounds-keys-count : goal.bounds-keys-count
-bounds-keys-count c =
-    omega (arith, (rw c.in-More.is at c.in_ok-part.ensures).1, c.loop-part.invariant.6, c.loop-part.invariant.7, c.requires)
-
-pub overflow_mul-count : goal.overflow_mul-count
-overflow_mul-count c =
-    omega (arith, (rw c.in-More.is at c.in_ok-part.ensures).1, c.loop-part.invariant.6, c.loop-part.invariant.7, c.requires)
-
-pub overflow_add-from : goal.overflow_add-from
-overflow_add-from c =
-    omega (arith, (rw c.in-More.is at c.in_ok-part.ensures).1, c.loop-part.invariant.6, c.loop-part.invariant.7, c.requires)
-
-pub put_attribute-requires : goal.put_attribute-requires
-put_attribute-requires c = (
-  omega (arith, (rw c.in-More.is at c.in_ok-part.ensures).1, c.loop-part.invariant.6, c.loop-part.invariant.7, c.requires),
-  omega
-      (arith, (rw c.in-More.is at c.in_ok-part.ensures).1, c.loop-part.invariant.6, c.loop-part.invariant.7, c.requires),
-  omega
-      (arith, (rw c.in-More.is at c.in_ok-part.ensures).1, c.loop-part.invariant.6, c.loop-part.invariant.7, c.requires),
-  omega
-      (arith, (rw c.in-More.is at c.in_ok-part.ensures).1, c.loop-part.invariant.6, c.loop-part.invariant.7, c.requires),
-  omega
-      (arith, (rw c.in-More.is at c.in_ok-part.ensures).1, c.loop-part.invariant.6, c.loop-part.invariant.7, c.requires),
-)
-
-pub overflow_add-count : goal.overflow_add-count
-overflow_add-count c =
-    omega (arith, (rw c.in-More.is at c.in_ok-part.ensures).1, c.loop-part.invariant.6, c.loop-part.invariant.7, c.requires)
-
-pub loop-part-smaller : goal.loop-part-smaller
-loop-part-smaller c =
-    omega (arith, (rw c.in-More.is at c.in_ok-part.ensures).1, c.loop-part.invariant.6, c.loop-part.invariant.7, c.requires)
-
 pub loop-part-preserved : goal.loop-part-preserved
 loop-part-preserved c =
     let a = c.args in

@@ -1,27 +1,17 @@
--- `xsd_act::needs::needed_row` meets its contract: the texts of the pairs that are used add their bytes. Assumes nothing.
-use Prim.Native.Nat.{ℕ}
-use mathlib.Core.Path.{subst, sym, ap, ◌∙◌}
+-- `xsd_act::needs::needed_row` meets its contract: the texts add their bytes. Assumes nothing.
 use native.Mathlib.Omega.{arith}
-use lib.ListN.{length}
-use Rattle.xsd_actions.specs.Answers.{text_at_mark}
-use Rattle.xsd_act.specs.Needs.{RowNeeded}
-use Rattle.xsd_act.proofs.Laws.Parts.{text_at_mark-bound, new_row-bytes}
+use lib.ListN.{length-append}
+use Rattle.text.specs.Text.{join}
+use Rattle.sheet.specs.Rows.{row}
+use Rattle.xsd_actions.specs.Answers.{new_row}
+use Rattle.xsd_act.proofs.Laws.Parts.{following-listed}
 use Rattle.xsd_act.proofs.needs.needed_row.Goals as goal
 
-pub bytes_of-requires : goal.bytes_of-requires
-unfolding text_at_mark
-bytes_of-requires c =
-    let a = c.args in
-    let first = ap length c.pair_part-first.ensures in
-    let second = ap length c.pair_part-second.ensures in
-    omega (arith, text_at_mark-bound a.text.now a.marks.now a.n.first, text_at_mark-bound a.text.now a.marks.now a.n.second)
+pub overflow_add-n : goal.overflow_add-n
+overflow_add-n c = omega (arith, c.ranges.n, c.bytes_of.ensures.small)
 
 pub returns : goal.returns
-unfolding text_at_mark
+unfolding new_row row join
 returns c =
-    let a = c.args in
-    let few = c.few_pairs-pairs in
-    let bytes = new_row-bytes a.text.now a.marks.now a.n few.result few.ensures.0 few.ensures.1 in
-    let first = ap length c.pair_part-first.ensures in
-    let second = ap length c.pair_part-second.ensures in
-    subst (λ (n : ℕ). RowNeeded a.used n c.with_row.result) (c.bytes_of.ensures.0 ∙ rw (first, second) (sym bytes)) c.with_row.ensures
+    let n = c.args.n in
+    rw (following-listed n.second, length-append, ← c.bytes_of.ensures.bytes) c.with_row.ensures

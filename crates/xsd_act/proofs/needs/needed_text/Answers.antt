@@ -3,6 +3,7 @@ use Prim.Native.Nat.{ℕ, ◌+◌, ◌-◌}
 use mathlib.Core.Path.{refl, ap}
 use mathlib.Core.List.{List}
 use native.Mathlib.Omega.{arith}
+use lib.ListN.{length}
 use Rattle.rows.specs.declared.numbers.Used.{Used}
 use Rattle.xsd_act.specs.Needs.{TextSeen}
 use Rattle.xsd_replace.proofs.Laws.Spot.{SpotNumbers, spot-numbers}
@@ -21,4 +22,4 @@ overflow_sub-result c =
 pub returns : goal.returns
 returns c =
     let a = c.args in
-    record { same_rows = refl; bytes = λ names x h. ap (λ (n : ℕ). a.used.names - n + a.new) (c.text_length-old.ensures names a.used x h) }
+    record { same_rows = refl; held = omega arith; bytes = λ names x h. ap (λ (n : ℕ). a.used.names - n + length a.new.now) (c.text_length-old.ensures names a.used x h) }

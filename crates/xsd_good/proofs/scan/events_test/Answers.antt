@@ -14,6 +14,6 @@ use Rattle.xsd_good.proofs.scan.events_test.Goals as goal
 pub returns : goal.returns
 returns c =
     let a = c.args in
-    all_from_yields_List (λ (k : ℕ). let t = ten (drop (10 * k) a.rows.now) in eqb t.c 0 || ltb t.c a.events) _ _ c.all.result c.all.ensures.ran
-    (YieldsList-from_range 1 a.rows_used (a.rows_used - 1) refl refl) (λ p b q k. search (rules, tests))
-    ∙ events-all a.events a.rows.now (a.rows_used - 1) 1
+    all_from_yields_List (λ (k : ℕ). let t = ten (drop (10 * k) a.part.now.rows.now) in eqb t.c 0 || ltb t.c a.events) _ _ c.all.result c.all.ensures.ran
+    (YieldsList-from_range 1 a.part.now.end (a.part.now.end - 1) refl refl) (λ p b q k. search (rules, tests))
+    ∙ events-all a.events a.part.now.rows.now (a.part.now.end - 1) 1

@@ -1,12 +1,10 @@
--- `xsd_progress::mode::nesting_after` meets its contract: the branch is the one that the definition takes. Assumes nothing.
+-- `xsd_progress::mode::nesting_after` meets its contract: the number of a flag is 1 or 0. Assumes nothing.
 use native.Mathlib.Numerals.{add-one}
+use native.Mathlib.Omega.{arith}
+use Rattle.text.proofs.Laws.Tests.{bool_cases}
 use Rattle.xsd_progress.specs.Modes.{nesting_of}
 use Rattle.xsd_progress.proofs.mode.nesting_after.Goals as goal
 
-pub returns-then-raised : goal.returns-then-raised
+pub returns : goal.returns
 unfolding nesting_of
-returns-then-raised c = rw (c.if-raised.true, add-one)
-
-pub returns-else-raised : goal.returns-else-raised
-unfolding nesting_of
-returns-else-raised c = rw c.if-raised.false
+returns c = bool_cases c.args.raised (λ t. rw (c.from.ensures, t, add-one)) (λ f. rw (c.from.ensures, f) (omega arith))

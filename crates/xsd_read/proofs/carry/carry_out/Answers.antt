@@ -11,29 +11,26 @@ pub stands_after-requires : goal.stands_after-requires
 stands_after-requires c = due-counters c.requires
 
 pub returns-in-Keep : goal.returns-in-Keep
-returns-in-Keep c = stepped_kept c.requires c.in-Keep.is c.stands_after.ensures
+returns-in-Keep c = stepped_kept c.requires c.in-Keep.is (rw (← c.head_after-head.ensures) c.stands_after.ensures)
 
 pub needed-need-requires : goal.needed-need-requires
-needed-need-requires c = let q = c.requires in record { ready = ready_for q; small = due-small q }
+needed-need-requires c = rw c.as_rows.ensures (record { ready = ready_for c.requires; small = due-small c.requires })
 
 pub has_room-requires : goal.has_room-requires
-has_room-requires c = omega (arith, c.needed-need.ensures.few)
+has_room-requires c = let n = c.needed-need.ensures in rw n.is (omega (arith, n.needed.few))
 
 pub returns-then-not-has_room : goal.returns-then-not-has_room
-returns-then-not-has_room c = stepped-refused c.needed-need.ensures (sym c.has_room.ensures ∙ c.if-not-has_room.true)
+returns-then-not-has_room c = stepped-refused (rw c.as_rows.ensures at c.needed-need.ensures) (sym c.has_room.ensures ∙ c.if-not-has_room.true)
 
-pub act-used-requires : goal.act-used-requires
-act-used-requires c =
-    let q = c.requires in record {
-      room = act-room c.needed-need.ensures (ready_at q.due.at) q.due.decided q.due.acted.fitting
-          (sym c.has_room.ensures ∙ c.if-not-has_room.false);
-      names = q.lent.few_names;
-    }
+pub act-requires : goal.act-requires
+act-requires c =
+    let q = c.requires in
+    act-room (rw c.as_rows.ensures at c.needed-need.ensures) (ready_at q.due.at) q.due.decided q.due.acted.fitting (sym c.has_room.ensures ∙ c.if-not-has_room.false)
 
 pub stands_after-requires-2 : goal.stands_after-requires-2
 stands_after-requires-2 c = due-counters c.requires
 
 pub returns : goal.returns
 returns c =
-    stepped-done c.needed-need.ensures (sym c.has_room.ensures ∙ c.if-not-has_room.false)
-    c.act-used.ensures c.stands_after-2.ensures
+    stepped-done (rw c.as_rows.ensures at c.needed-need.ensures) (sym c.has_room.ensures ∙ c.if-not-has_room.false)
+    c.act.ensures (rw (← c.head_after-head.ensures) c.stands_after-2.ensures)

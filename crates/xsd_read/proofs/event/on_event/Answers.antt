@@ -1,6 +1,6 @@
 -- `xsd_read::event::on_event` meets its contract: the refusals stand in the order of the definition's, and an event that meets none of them is due. Assumes nothing.
 use Prim.Native.Nat.{ℕ, ◌<◌}
-use mathlib.Core.Path.{◌≡◌, refl, ap, ◌∙◌}
+use mathlib.Core.Path.{◌≡◌, refl}
 use mathlib.Core.List.{List}
 use native.Mathlib.Omega.{arith}
 use Rattle.std.specs.Prelude.{Result, Ok}
@@ -8,68 +8,49 @@ use Rattle.std.proofs.lemmas.Result.{err_from_is_err_and}
 use Rattle.text.specs.Text.{Text}
 use Rattle.sheet.specs.declared.refusal.Refusal.{Refusal}
 use Rattle.sheet.specs.Limits.{events_limit}
-use Rattle.xsd_parser.specs.Event.{Tag, Event}
-use Rattle.xsd_parser.specs.Kinds.{close_kind, kind_number}
+use Rattle.xsd_parser.specs.Event.{Tag}
+use Rattle.xsd_parser.specs.Kinds.{kind_number}
 use Rattle.xsd_parser.specs.Step.{tags_after}
-use Rattle.tape.specs.Marks.{event_marks}
-use Rattle.tape.specs.Pairs.{tag_at}
 use Rattle.tape.specs.declared.TagRecord.{TagRecord}
 use Rattle.tape.specs.Answers.{record_event}
-use Rattle.tape.proofs.Laws.Cut.{inside-cut}
 use Rattle.xsd_actions.specs.declared.Decision.{Decision}
 use Rattle.xsd_actions.specs.Answers.{decision}
 use Rattle.xsd_actions.specs.Decided.{decided}
 use Rattle.xsd_progress.specs.Answers.{tags, event_as}
 use Rattle.xsd_progress.specs.Open.{TagOfHead}
 use Rattle.xsd_progress.specs.declared.Progress.{Progress}
-use Rattle.xsd_read.proofs.Laws.Decisions.{Told, record-as, event-own, counted-as, accepted}
+use Rattle.xsd_read.proofs.Laws.Decisions.{record-as, counted-as}
 use Rattle.xsd_read.proofs.Laws.Steps.{Arrives, taken-eight, taken-tags, taken-decided, due-room, taken-done}
 use Rattle.xsd_read.proofs.event.on_event.Goals as goal
 
--- what was decided by its own marks was decided for the event
-told-own : {rows : List ℕ} {text : Text} (marks : List ℕ) {own : List ℕ} (t : TagRecord) {p : Progress} (d : Result Decision Refusal) {head : ℕ}
-    → TagOfHead rows p.mode.context p.head head → ((kind_number t.kind ≡ close_kind → ⊥) → own ≡ event_marks marks t.pairs t.count)
-    → decision text own d ≡ decided p.events (event_as (kind_number t.kind) (tag_at text own 0 t.count)) p.mode head
-    → Told rows text own p (record_event text marks t) d
-told-own {rows} {text} marks {own} t {p} d {head} told cut decided_is =
-    record {
-      head = head;
-      head_is = told;
-      decided_is = decided_is ∙ ap (λ (e : Event). decided p.events e p.mode head) (event-own text marks own t cut);
-    }
-
 -- the event with its decision
-arrives : {rows : List ℕ} {text : Text} (marks : List ℕ) {own : List ℕ} (t : TagRecord) {p : Progress} {n : ℕ} {d : Decision} {r : Result ℕ Refusal}
+arrives : {rows : List ℕ} (text : Text) (marks : List ℕ) (t : TagRecord) {p : Progress} {n head : ℕ} {d : Decision} {r : Result ℕ Refusal}
     → p.events < events_limit → ((g : Tag) → tags r ≡ tags_after (event_as (kind_number t.kind) g) p.open_tags) → r ≡ Ok n
-    → Told rows text own p (record_event text marks t) (Ok d)
-    → Arrives rows text own p (record_event text marks t) (record { kind = t.kind; decision = d; open_tags = n; by_standard = p.by_standard })
+    → TagOfHead rows p.mode.context p.head head → decision (Ok d) ≡ decided p.events (record_event text marks t) p.mode head
+    → Arrives rows p (record_event text marks t) (record { kind = t.kind; decision = d; open_tags = n; by_standard = p.by_standard })
 unfolding tags
-arrives {rows} {text} marks {own} t {p} {n} {d} {r} more counted is told =
+arrives text marks t {p} {head = head} more counted is head_is decided_is =
     record {
       more = more;
       tagged = counted-as text marks t p.open_tags _ counted is;
       tag = _;
       event_is = record-as text marks t;
       choice = refl;
-      told = told;
+      told = record { head = head; head_is = head_is; decided_is = decided_is };
     }
 
 pub returns-then-p-ge-EVENTS : goal.returns-then-p-ge-EVENTS
 returns-then-p-ge-EVENTS c = taken-eight c.if-p-ge-EVENTS.true
 
-pub own_marks-own-requires : goal.own_marks-own-requires
-own_marks-own-requires c = λ other. (c.requires.tag_inside other).marks_inside
-
 pub decide_event-requires : goal.decide_event-requires
-decide_event-requires c =
-    λ other. rw (c.own_marks-own.ensures other) (inside-cut c.args.text.now c.args.marks.now c.args.t.pairs c.args.t.count (c.requires.tag_inside other))
+decide_event-requires c = c.requires.tag_inside
 
 pub carry_out-requires : goal.carry_out-requires
 carry_out-requires c =
     let a = c.args in
     due-room c.requires.event_room
-    (arrives a.marks.now a.t (omega (arith, c.if-p-ge-EVENTS.false)) c.tags_after.ensures c.in_ok-open_tags.was
-    (told-own a.marks.now a.t _ c.head_tag-head.ensures c.own_marks-own.ensures c.in_ok-decision.ensures)) (accepted a.text.now c.own_marks-own.result.now _)
+    (arrives a.v.text.now a.v.marks.now a.t (omega (arith, c.if-p-ge-EVENTS.false)) c.tags_of.ensures c.in_ok-open_tags.was
+    (rw c.as_rows.ensures at c.head_tag-head.ensures) c.in_ok-decision.ensures)
 
 pub returns-in_err-open_tags : goal.returns-in_err-open_tags
 unfolding tags
@@ -77,7 +58,7 @@ returns-in_err-open_tags c =
     let a = c.args in
     let e = err_from_is_err_and c.from_residual.result c.from_residual.ensures.1 in
     rw (e.1, e.2) (taken-tags _ (omega (arith, c.if-p-ge-EVENTS.false))
-    (counted-as a.text.now a.marks.now a.t a.p.open_tags _ c.tags_after.ensures c.in_err-open_tags.was))
+    (counted-as a.v.text.now a.v.marks.now a.t a.p.open_tags _ c.tags_of.ensures c.in_err-open_tags.was))
 
 pub returns-in_err-decision : goal.returns-in_err-decision
 unfolding tags
@@ -85,12 +66,12 @@ returns-in_err-decision c =
     let a = c.args in
     let e = err_from_is_err_and c.from_residual-in_err-decision.result c.from_residual-in_err-decision.ensures.1 in
     rw (e.1, e.2) (taken-decided c.in_ok-open_tags.open_tags _ (omega (arith, c.if-p-ge-EVENTS.false))
-    (counted-as a.text.now a.marks.now a.t a.p.open_tags _ c.tags_after.ensures c.in_ok-open_tags.was)
-    (told-own a.marks.now a.t _ c.head_tag-head.ensures c.own_marks-own.ensures c.in_err-decision.ensures))
+    (counted-as a.v.text.now a.v.marks.now a.t a.p.open_tags _ c.tags_of.ensures c.in_ok-open_tags.was)
+    (record { head = _; head_is = rw c.as_rows.ensures at c.head_tag-head.ensures; decided_is = c.in_err-decision.ensures }))
 
 pub returns : goal.returns
 returns c =
     let a = c.args in
     taken-done
-    (arrives a.marks.now a.t (omega (arith, c.if-p-ge-EVENTS.false)) c.tags_after.ensures c.in_ok-open_tags.was
-    (told-own a.marks.now a.t _ c.head_tag-head.ensures c.own_marks-own.ensures c.in_ok-decision.ensures)) (accepted a.text.now c.own_marks-own.result.now _) c.carry_out.ensures
+    (arrives a.v.text.now a.v.marks.now a.t (omega (arith, c.if-p-ge-EVENTS.false)) c.tags_of.ensures c.in_ok-open_tags.was
+    (rw c.as_rows.ensures at c.head_tag-head.ensures) c.in_ok-decision.ensures) c.carry_out.ensures

@@ -1,6 +1,5 @@
 -- `xsd_read::records::read_records` meets its contract. The loop's invariant: the sheet holds the rows of a state from which the rest of the marks leads to
 -- the whole reading. The measure is how many marks are left. Assumes nothing.
-use mathlib.Core.Path.{◌∙◌}
 use native.Mathlib.Omega.{arith}
 use Rattle.xsd_read.proofs.Laws.Loop.{reads_first, reads_end, reads-form, followed, reads-refuse, reads-next, event-room}
 use Rattle.xsd_read.proofs.records.read_records.Goals as goal
@@ -8,25 +7,13 @@ use Rattle.xsd_read.proofs.records.read_records.Goals as goal
 pub loop-t-init : goal.loop-t-init
 loop-t-init c =
     let a = c.args in
-    reads_first a.rows.now a.names.now a.text.now a.marks.now a.from
+    reads_first a.sheet.now a.v.text.now a.v.marks.now a.from
 
 pub record_at-requires : goal.record_at-requires
 record_at-requires c = c.is_plain-plain.ensures
 
-pub shape_of-rows-in-Ok-None : goal.shape_of-rows-in-Ok-None
-shape_of-rows-in-Ok-None c = c.loop-t.invariant.rows_length
-
-pub shape_of-names-in-Ok-None : goal.shape_of-names-in-Ok-None
-shape_of-names-in-Ok-None c = c.loop-t.invariant.names_length
-
 pub returns-in-Ok-None : goal.returns-in-Ok-None
 returns-in-Ok-None c = reads_end c.loop-t.invariant c.record_at.ensures c.in-Ok-None.is c.in-Ok-None.field-0-is
-
-pub shape_of-rows-in-Err : goal.shape_of-rows-in-Err
-shape_of-rows-in-Err c = c.loop-t.invariant.rows_length
-
-pub shape_of-names-in-Err : goal.shape_of-names-in-Err
-shape_of-names-in-Err c = c.loop-t.invariant.names_length
 
 pub returns-in-Err : goal.returns-in-Err
 returns-in-Err c = rw c.stopped_at.ensures
@@ -36,14 +23,6 @@ pub on_event-requires : goal.on_event-requires
 on_event-requires c =
     let f = followed _ c.record_at.ensures c.in-Ok-Some.is c.in-Ok-Some.field-0-is in
     record { event_room = event-room c.requires c.loop-t.invariant f; tag_inside = f.inside }
-
-pub shape_of-rows-in-Err-on_event : goal.shape_of-rows-in-Err-on_event
-shape_of-rows-in-Err-on_event c = c.on_event.ensures.rows_length
-    ∙ c.loop-t.invariant.rows_length
-
-pub shape_of-names-in-Err-on_event : goal.shape_of-names-in-Err-on_event
-shape_of-names-in-Err-on_event c = c.on_event.ensures.names_length
-    ∙ c.loop-t.invariant.names_length
 
 pub returns-in-Err-on_event : goal.returns-in-Err-on_event
 returns-in-Err-on_event c = rw c.stopped_at-in-Err-on_event.ensures

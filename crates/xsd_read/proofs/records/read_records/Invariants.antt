@@ -6,7 +6,7 @@ use Rattle.xsd_read.proofs.Laws.Loop.{Reads}
 use Rattle.xsd_read.proofs.records.read_records.Given as goal
 
 abbrev pub invariant-loop-t : goal.invariant-loop-t
-invariant-loop-t l = Reads l.initial.rows l.initial.names l.text l.marks l.initial.progress l.rows l.names l.progress l.place l.at
+invariant-loop-t l = Reads l.initial.sheet l.v.text.now l.v.marks.now l.initial.progress l.sheet l.progress l.place l.at
 
 abbrev pub decreases-loop-t : goal.decreases-loop-t
-decreases-loop-t l = length l.marks - l.at
+decreases-loop-t l = length l.v.marks.now - l.at

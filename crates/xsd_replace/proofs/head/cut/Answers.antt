@@ -5,11 +5,12 @@ use native.Mathlib.Omega.{arith}
 use Rattle.buffer.proofs.Laws.Zeros.{part-zeroed}
 use Rattle.xsd_replace.proofs.head.cut.Goals as goal
 
-pub returns : goal.returns
-returns c =
+pub returns-clause-rows : goal.returns-clause-rows
+returns-clause-rows c =
     let a = c.args in
-    let count : 10 * a.used.rows - 10 * a.place ≡ 10 * (a.used.rows - a.place) = omega arith in
-    record {
-      rows = rw (← count) (part-zeroed (10 * a.place) (10 * a.used.rows) a.rows.now _ (omega (arith, c.requires)) (omega (arith, c.requires)) (c.fill.ensures.after (λ y h. h)));
-      names = part-zeroed _ _ _ _ (omega (arith, c.requires)) (omega (arith, c.requires)) (c.fill-2.ensures.after (λ y h. h));
-    }
+    let w = a.sheet.now in
+    let count : 10 * w.used.rows - 10 * a.place ≡ 10 * (w.used.rows - a.place) = omega arith in
+    rw (← count) (part-zeroed (10 * a.place) (10 * w.used.rows) w.rows.now _ (omega (arith, c.requires)) (omega (arith, c.requires)) (c.fill.ensures.after (λ y h. h)))
+
+pub returns-clause-names : goal.returns-clause-names
+returns-clause-names c = part-zeroed _ _ _ _ (omega (arith, c.requires)) (omega (arith, c.requires)) (c.fill-2.ensures.after (λ y h. h))

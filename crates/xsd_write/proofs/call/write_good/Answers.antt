@@ -1,6 +1,6 @@
 -- `xsd_write::call::write_good` meets its contract: the sheet holds its state, whose finished items end where row 0 says. Assumes nothing.
 use Prim.Native.Nat.{ℕ, ◌+◌}
-use mathlib.Core.Path.{◌≡◌, ap, ◌∙◌}
+use mathlib.Core.Path.{◌≡◌, refl, ◌∙◌}
 use mathlib.Core.Bool.{true}
 use mathlib.Core.List.{List}
 use native.Mathlib.Omega.{arith}
@@ -29,30 +29,31 @@ row0_at-z-requires c =
     let names = c.args.names.now in
     omega (arith, (bare-used rows names (good-bare (sheet rows names) c.requires)).0)
 
-pub finished_end-end-requires : goal.finished_end-end-requires
-finished_end-end-requires c =
+pub finished_place-end-requires : goal.finished_place-end-requires
+finished_place-end-requires c =
     let rows = c.args.rows.now in
     let names = c.args.names.now in
-    rw (ap (λ (z : Row0). z.rows_used) c.row0_at-z.ensures) (bare-used rows names (good-bare (sheet rows names) c.requires)).1
+    let u = bare-used rows names (good-bare (sheet rows names) c.requires) in
+    (omega (arith, u.0), u.1)
 
 pub write_finished-requires : goal.write_finished-requires
 write_finished-requires c =
-    omega (arith, ends c.args.rows.now c.args.names.now c.requires c.finished_end-end.ensures.words (as_row0 c.row0_at-z.result) c.row0_at-z.ensures c.finished_end-end.ensures.place)
+    omega (arith, ends c.args.rows.now c.args.names.now c.requires c.finished_place-end.ensures.words (row0_from (ten c.args.rows.now)) refl c.finished_place-end.ensures.place)
 
 pub invariant_of-part : goal.invariant_of-part
 invariant_of-part c =
     let rows = c.args.rows.now in
     let names = c.args.names.now in
-    let w = c.finished_end-end.ensures.words in
+    let w = c.finished_place-end.ensures.words in
     record {
-      within = (bare-room rows names (good-bare (sheet rows names) c.requires) w (ends rows names c.requires w (as_row0 c.row0_at-z.result) c.row0_at-z.ensures c.finished_end-end.ensures.place)).1;
+      within = (bare-room rows names (good-bare (sheet rows names) c.requires) w (ends rows names c.requires w (row0_from (ten rows)) refl c.finished_place-end.ensures.place)).1;
     }
 
 pub returns : goal.returns
 returns c =
     let rows = c.args.rows.now in
     let names = c.args.names.now in
-    let w = c.finished_end-end.ensures.words in
-    let end = ends rows names c.requires c.finished_end-end.ensures.words (as_row0 c.row0_at-z.result) c.row0_at-z.ensures c.finished_end-end.ensures.place in
+    let w = c.finished_place-end.ensures.words in
+    let end = ends rows names c.requires c.finished_place-end.ensures.words (row0_from (ten rows)) refl c.finished_place-end.ensures.place in
     c.write_finished.ensures ∙ good-written rows names c.requires w end _ _
     (good-root rows names c.requires w (as_row0 c.row0_at-z.result) c.row0_at-z.ensures)

@@ -1,0 +1,47 @@
+-- Named in docs/PORT.md. No contract cites them. Assumes nothing.
+--     key_of        a word's length and first byte, 0 where it is longer than any built-in name; keys_of: the keys of a list's names
+use Rattle.std.specs.Prelude.{if◌then◌else◌}
+use Prim.Native.String.{String}
+use Prim.Native.Nat.{ℕ, ◌+◌, ◌*◌}
+use mathlib.Core.Path.{◌≡◌, refl, sym, ap}
+use mathlib.Core.Bool.{Bool, false}
+use mathlib.Core.List.{List, [], ◌∷◌}
+use mathlib.Core.Option.{none}
+use lib.Dec.{eqb, ltb}
+use lib.ListN.{length}
+use borrow.Author.Tests.{eqb-false}
+use Rattle.text.specs.Text.{Text, bytes, first, is, contains}
+use Rattle.text.proofs.Laws.Texts.{same-eq}
+use Rattle.text.proofs.Laws.Tests.{not-true-false, or-false-left, or-false-right}
+use Rattle.builtin.specs.Builtin.{RustType, string, bool, decimal, date, date_time, first_match}
+use Rattle.builtin.specs.declared.Builtin.{Builtin}
+use Rattle.builtin.specs.Answers.{type_of}
+
+unfoldable pub key_of : Text → ℕ
+key_of w = if ltb 18 (length w) then 0 else 256 * length w + first w
+
+unfoldable pub keys_of : List (String × RustType) → List ℕ
+keys_of [] = []
+keys_of (e ∷ es) = key_of (bytes e.0) ∷ keys_of es
+
+-- a word with another key is another word
+other_key : (word : Text) (name : String) → (key_of (bytes name) ≡ key_of word → ⊥) → is word name ≡ false
+unfolding is
+other_key word name h = not-true-false _ (λ e. h (sym (ap key_of (same-eq word (bytes name) e))))
+
+-- where no name has the word's key, none is the word
+pub no_key : (word : Text) (es : List (String × RustType)) → contains (key_of word) (keys_of es) ≡ false → first_match word es ≡ none
+unfolding contains keys_of first_match
+no_key word [] e = refl
+no_key word (x ∷ xs) e =
+    let first = or-false-left (eqb (key_of (bytes x.0)) (key_of word)) (contains (key_of word) (keys_of xs)) e in
+    let rest = or-false-right (eqb (key_of (bytes x.0)) (key_of word)) (contains (key_of word) (keys_of xs)) e in
+    rw (other_key word x.0 (eqb-false _ _ first)) (no_key word xs rest)
+
+-- each type is that of one of the code's five
+type_of-digit : (t : RustType) → (b : Builtin) × (type_of b ≡ t)
+type_of-digit string = (Builtin.String, refl)
+type_of-digit bool = (Builtin.Bool, refl)
+type_of-digit decimal = (Builtin.Decimal, refl)
+type_of-digit date = (Builtin.Date, refl)
+type_of-digit date_time = (Builtin.DateTime, refl)

@@ -1,8 +1,0 @@
--- `xsd_good::row0::row0_numbers` meets its contract: the array is the row's ten numbers in their order. Assumes nothing.
-use mathlib.Core.Path.{refl}
-use Rattle.sheet.specs.Rows.{numbers}
-use Rattle.xsd_good.proofs.row0.row0_numbers.Goals as goal
-
-pub returns : goal.returns
-unfolding numbers
-returns c = refl

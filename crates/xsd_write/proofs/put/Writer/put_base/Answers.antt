@@ -1,0 +1,15 @@
+-- `xsd_write::put::Writer::put_base` meets its contract: an opening, a value and the end of a tag, one behind the other. Assumes nothing.
+use Rattle.text.specs.Text.{bytes}
+use Rattle.xml.specs.Written.{written_attributes}
+use Rattle.xsd_written.specs.Schema.{attr}
+use Rattle.xsd_written.specs.ByRows.{attribute_text}
+use Rattle.xsd_write.specs.Texts.{quoted}
+use Rattle.xsd_write.proofs.Laws.Puts.{writes_then}
+use Rattle.xsd_write.proofs.put.Writer.put_base.Goals as goal
+
+pub returns : goal.returns
+unfolding attribute_text written_attributes attr bytes quoted
+returns c =
+    rw (← c.second_text.ensures)
+    (writes_then c.put.ensures
+    (writes_then c.put_value.ensures c.put-2.ensures))

@@ -1,0 +1,12 @@
+-- `xsd_write::put::Writer::put_element` meets its contract: name and type, and the end of an empty tag. Assumes nothing.
+use Rattle.text.specs.Text.{bytes}
+use Rattle.xml.specs.Written.{written_attributes}
+use Rattle.xsd_written.specs.Schema.{attr}
+use Rattle.xsd_written.specs.ByRows.{attribute_text, empty_text, named_text}
+use Rattle.xsd_write.specs.Texts.{quoted, named}
+use Rattle.xsd_write.proofs.Laws.Puts.{writes_then}
+use Rattle.xsd_write.proofs.put.Writer.put_element.Goals as goal
+
+pub returns : goal.returns
+unfolding empty_text named_text named attribute_text written_attributes attr bytes quoted
+returns c = writes_then c.put_named.ensures c.put.ensures
