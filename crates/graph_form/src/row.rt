@@ -1,4 +1,5 @@
 // The tests of a row of a graph sheet behind row 1.
+// The numbers of a row one by one, as in the definitions: each test asks for two or three of them.
 ghost use Rattle.std.specs.Prelude.{◌≡◌, ◌+◌, ◌≤◌, eqb, if◌then◌else◌};
 ghost use Rattle.ir_types.specs.Form.{used_pairs, is_type_tag, form_a, form_b, form_c, is_child};
 ghost use Rattle.graph_form.specs.Tests.{graph_tests};

@@ -91,6 +91,7 @@ pub fn offset(used: bool, at: usize) -> u32
     if used { at as u32 } else { 0 }
 }
 
+// `n`, `m`, `k`: how long the three texts are, not the used part of a buffer.
 fn spelled_row(recipe: Recipe, at: usize, n: usize, m: usize, k: usize) -> [u32; 10]
     requires { at + (n + (m + k)) ≤ names_limit }
     ensures { result ≡ row_numbers recipe at n m k }

@@ -22,6 +22,7 @@ pub enum Buffer {
     Words = 1,
 }
 
+// By hand: std derives no `From` of a discriminant.
 impl From<Buffer> for u32 {
     ghost from_gives = { λ buffer number. number ≡ bit (in_words buffer) };
 

@@ -37,6 +37,7 @@ pub fn five_words(words: &[u8]) -> bool
     words.len() <= at
 }
 
+// `n`: the number of a word, not a length of the list.
 pub fn word_start(words: &[u8], n: usize) -> usize
     requires { n < length (words_of words.now) }
     ensures { result ≡ word_at n (words_of words.now) }

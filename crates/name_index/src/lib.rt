@@ -55,6 +55,7 @@ fn hash_of(name: Spelled) -> u64
     h
 }
 
+// No table: one that is read and one that is written both ask, and the number of buckets is all that is needed.
 fn bucket_of(asked: Spelled, buckets: usize) -> usize
     requires { buckets ≤ rows_limit }
     ensures { result ≡ bucket_of buckets (spelled_text asked.entry) }

@@ -52,6 +52,7 @@ impl Iterator for SpelledBytes<'_> {
     ghost remaining = { item_count bytes_left };
 
     fn next(&mut self) -> Option<u8> {
+        // A `while`: underscores are passed, any number of them, before a byte is given.
         while let Some((&b, rest)) = self.rest.split_first() {
             self.rest = rest;
             if !self.normalised {

@@ -8,7 +8,7 @@ use std::io::{BufWriter, Write};
 // The bytes of the header, the longest text and the longest marks; what stands behind them is ignored.
 const LONGEST: u64 = 131080;
 
-// The same calls in each program's main: only the limit and the function that is called differ.
+// The same calls in each main: only the limit and the function called differ. One function would take both, a closure over allocator, writer and input among them, for four calls.
 fn main(rt: HostRuntime) -> io::Result<()> {
     let input = input::read_input(rt.alloc(), rt.reader(), LONGEST)?;
     let mut out = BufWriter::new(rt.alloc(), io::writer(&rt))?;

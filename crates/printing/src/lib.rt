@@ -1,4 +1,5 @@
 // The printing program's work (paper 01, "Specimens"): a tape is cleared, read and lowered, and what came of it is printed.
+// Allocator and writer are arguments of their own, as in replay.
 #![tactic(auto)]
 
 ghost use Rattle.std.specs.Prelude.{◌≡◌, ◌+◌, ◌<◌, ◌≤◌, length, take, drop, MatchOption, OnOk, IfOk, replicate};

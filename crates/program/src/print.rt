@@ -27,7 +27,7 @@ fn put_row<W: Write>(out: &mut W, row: &[u32]) -> io::Result<()>
     Ok(())
 }
 
-// The first rows, as many as are used.
+// The first rows, as many as are used. A count and no slice: more may be used than there are.
 fn put_rows<W: Write>(out: &mut W, rows: &[u32], used: usize) -> io::Result<()>
     ensures { OnOk result (Appends (W.contents out.old) (W.contents out.new) (rows_text used rows.now)) }
 {

@@ -13,7 +13,7 @@ fn put<W: Write>(out: &mut W, label: &str, text: &[u8]) -> io::Result<()> {
     out.write_all(text)
 }
 
-// As that of the other program but for what is printed where there is no number, which is all that it says.
+// Beside that of the other program, which differs in the label and in what is printed where there is no number: a common one would be handed both and be as long.
 fn put_number<W: Write>(out: &mut W, label: &str, number: Option<u64>) -> io::Result<()> {
     match number {
         Some(number) => write!(out, "{label}{number}"),

@@ -15,6 +15,7 @@ fn tag_mark(at: usize) -> u32 {
     if at % 4 == 0 { Kind::Empty as u32 } else { 0 }
 }
 
+// The marks, as many as are asked for.
 fn tags_of(alloc: Global, count: usize) -> Result<Vec<u32>, AllocError> {
     (0..count).map(tag_mark).collect(alloc)
 }

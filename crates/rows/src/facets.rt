@@ -1,4 +1,5 @@
 // The rows of the facets that are counts, added to a schema sheet.
+// `RowRoom` is a clause and no ghost field: it is about the next row, and need not hold behind it.
 ghost use Rattle.std.specs.Prelude.{[], ◌/◌, ◌%◌, ◌^◌};
 ghost use Rattle.sheet.specs.Rows.{row};
 ghost use Rattle.rows.specs.Append.{RowRoom, Appended};

@@ -1,4 +1,5 @@
 // The lengths that a call may be lent (paper 01, "Returned numbers", 1), and whether what row 0 says is used lies inside the buffers.
+// Two lengths: nothing else of the buffers is asked.
 ghost use Rattle.std.specs.Prelude.{◌≡◌, true, ◌&&◌, ◌*◌, ◌≤◌, leb};
 ghost use Rattle.sheet.specs.Limits.{names_limit};
 ghost use Rattle.sheet.specs.Lengths.{sheet_lengths, tape_lengths};

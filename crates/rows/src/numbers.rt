@@ -1,4 +1,5 @@
 // What is read of a sheet by numbers alone: a row's tag, its pairs, its other numbers, and whether what is used has room.
+// That a row is there is a clause: it is asked of all rows of a sheet for one look, and a struct made for that look would be taken apart at once.
 ghost use Rattle.std.specs.Prelude.{◌≡◌, ◌+◌, ◌*◌, ◌/◌, ◌%◌, ◌^◌, ◌≤◌, ◌<◌, length, get_or};
 ghost use Rattle.sheet.specs.Lengths.{fits};
 ghost use Rattle.rows.specs.Numbers.{numbers_at};
@@ -84,6 +85,7 @@ pub fn numbers_at(rows: &[u32], place: usize) -> RowNumbers
     }
 }
 
+// No bound on what is used in the type: what `needed` of xsd_act counts may be more than a sheet has.
 pub fn has_room(used: Used, rows: usize, names: usize) -> bool
     requires { used.rows ≤ 65536 }
     ensures { result ≡ fits used.rows used.names rows names }

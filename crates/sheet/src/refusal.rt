@@ -60,6 +60,7 @@ pub enum Refusal {
     PatternAside = 25,
 }
 
+// By hand: std derives no `From` of a discriminant.
 impl From<Refusal> for u32 {
     ghost from_gives = { λ refusal number. number ≡ refusal_number refusal };
 

@@ -51,7 +51,7 @@ fn type_word(answer: Option<Builtin>) -> &'static str {
     }
 }
 
-// As that of the other program but for what is printed where there is no number, which is all that it says.
+// Beside that of the other program, which differs in the label and in what is printed where there is no number: a common one would be handed both and be as long.
 fn put_number<W: Write>(out: &mut W, number: Option<u64>) -> io::Result<()> {
     match number {
         Some(number) => write!(out, "{number}"),
@@ -88,7 +88,7 @@ fn put_lines<W: Write>(alloc: Global, out: &mut W, input: &[u8]) -> io::Result<(
     Ok(())
 }
 
-// The same calls in each program's main: only the limit and the function that is called differ.
+// The same calls in each main: only the limit and the function called differ. One function would take both, a closure over allocator, writer and input among them, for four calls.
 fn main(rt: HostRuntime) -> io::Result<()> {
     let input = input::read_input(rt.alloc(), rt.reader(), LONGEST)?;
     let mut out = BufWriter::new(rt.alloc(), io::writer(&rt))?;

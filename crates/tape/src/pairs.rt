@@ -1,4 +1,5 @@
 // The pairs of the tape (paper 01, "Tape"): the numbers of the marks, and the part of the text under a pair.
+// That a pair lies inside is a clause: it is known of the pairs of a judged tag, not of all marks of a view.
 ghost use Rattle.std.specs.Prelude.{◌≡◌, get_or};
 ghost use Rattle.xsd_parser.specs.Tape.{pair_text};
 ghost use Rattle.tape.specs.Pairs.{pair_at, PairInside};

@@ -1,4 +1,5 @@
 // The pairs of a record (paper 01, "Tape") judged for the refusals 4 and 5.
+// A record's pairs stand among the marks of all records, so how many there are is an argument.
 ghost use Rattle.std.specs.Prelude.{◌≡◌, ◌+◌, ◌*◌, ◌≤◌, length, drop, true};
 ghost use Rattle.text.specs.Text.{is_text};
 ghost use Rattle.xsd_parser.specs.Tape.{pairs_of, all_inside, all_ascii};

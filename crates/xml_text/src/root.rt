@@ -188,7 +188,7 @@ fn root_over(
     }
 }
 
-// The root of a text of less than 3 * N bytes, with N places, which stand on the stack of this call alone.
+// The root of a text of less than 3 * N bytes, with N places, which stand on the stack of this call alone. An array: the library has no heap.
 fn root_of<const N: usize>(
     classes: &Classes,
     text: &[u8],

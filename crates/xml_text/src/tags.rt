@@ -105,6 +105,7 @@ pub fn attributes(
 {
     let mut i = at;
     let mut count = 0;
+    // No `for`: an attribute has any number of bytes, and how many there are is known at the end.
     loop {
         let part = part_of(classes, text, i)?;
         match part {
@@ -137,6 +138,7 @@ pub struct WholeTag {
     pub behind: usize,
 }
 
+// `used`: the marks counted so far, which may be more than the marks lent, so it is no end of a slice.
 pub fn tag(
     classes: &Classes,
     text: &[u8],

@@ -1,4 +1,5 @@
 // The mode of the reader and the open tags after an event.
+// The bound on nesting is a clause: a `Mode` is read from sheets that nobody has judged (xsd_actions).
 ghost use Rattle.std.specs.Prelude.{◌≡◌, ◌≤◌, Ok};
 ghost use Rattle.sheet.specs.Limits.{open_tags_limit};
 ghost use Rattle.xsd_parser.specs.Event.{Tag, Event};

@@ -1,4 +1,5 @@
 // The tests of a row of a schema sheet.
+// The numbers of a row one by one, as in the definitions: each test asks for two or three of them.
 ghost use Rattle.std.specs.Prelude.{◌≡◌};
 ghost use Rattle.xsd_types.specs.Good.{used_pairs, is_head, is_child, head_after};
 ghost use Rattle.xsd_good.specs.Forms.{a_form, schema_tests};
