@@ -20,6 +20,7 @@ pub fn zero_graph(rows: &mut [u32], names: &mut [u8])
 }
 
 // The rows and names that a graph is written into, and what is used of them. Where a row has no room, what the buffers hold is the caller's to clear.
+// Not a `rows::writer::SheetWriter`, which keeps only the last of these four facts; and it holds none, since of buffers in a struct inside a struct the proofs know only the lengths after the loan.
 #[derive(Drop)]
 pub struct GraphWriter<'a> {
     pub rows: &'a mut [u32],

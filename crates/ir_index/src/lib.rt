@@ -121,13 +121,9 @@ impl Index<'_> {
         requires print_value { print ≡ fingerprint (part_name part.now place) }
         ensures { result ≡ among (part_name part.now place) (names_held part.now self.now) }
     {
-        // A loop and no `any`: what `entry_same` requires would be asked for at the call, of all entries at once (tried: the proof did not close).
-        for &entry in &self.entries[..self.count] {
-            if entry_same(part, entry, place, print) {
-                return true;
-            }
-        }
-        false
+        self.entries[..self.count]
+            .iter()
+            .any(|entry| entry_same(part, *entry, place, print))
     }
 
     fn name_came(&self, part: &SheetPart<'_>, place: usize, print: u32) -> bool

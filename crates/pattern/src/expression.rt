@@ -93,13 +93,7 @@ fn plain_end(s: &[u8], at: usize) -> usize
     requires { at ≤ length s.now }
     ensures { Goes s.now atom at atom at result any_byte }
 {
-    // No `position`: the scan goes on byte by byte, as this loop does; by `position` its invariant says nothing, and more laws are needed.
-    for i in at..s.len() {
-        if !is_plain(s[i]) {
-            return i;
-        }
-    }
-    s.len()
+    (at..s.len()).find(|i| !is_plain(s[*i])).unwrap_or(s.len())
 }
 
 // Whether the whole is an expression.

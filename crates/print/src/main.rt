@@ -12,6 +12,6 @@ const LONGEST: u64 = 131080;
 fn main(rt: HostRuntime) -> io::Result<()> {
     let input = input::read_input(rt.alloc(), rt.reader(), LONGEST)?;
     let mut out = BufWriter::new(rt.alloc(), io::writer(&rt))?;
-    printing::put_input(rt.alloc(), &mut out, &input)?;
+    printing::write_input(rt.alloc(), &mut out, &input)?;
     out.flush()
 }

@@ -67,7 +67,7 @@ fn put_lowered<W: Write>(out: &mut W, lowered: Answer, graph: &Buffers) -> io::R
 {
     put_answer(out, "lower", lowered)?;
     match lowered {
-        Ok(_) => print::put_sheet(out, &graph.rows, &graph.names),
+        Ok(_) => print::write_sheet(out, &graph.rows, &graph.names),
         Err(_) => Ok(()),
     }
 }
@@ -110,7 +110,12 @@ pub fn graph_of(alloc: Global, text: &[u8], marks: &[u32]) -> Result<(Made, Buff
 }
 
 // Prints what comes of a tape.
-pub fn put_tape<W: Write>(alloc: Global, out: &mut W, text: &[u8], marks: &[u32]) -> io::Result<()>
+pub fn write_tape<W: Write>(
+    alloc: Global,
+    out: &mut W,
+    text: &[u8],
+    marks: &[u32],
+) -> io::Result<()>
     ensures { OnOk result (TapePrinted text.now marks.now (W.contents out.old) (W.contents out.new)) }
 {
     let (made, graph) = graph_of(alloc, text, marks)?;
@@ -194,11 +199,11 @@ fn put_behind<W: Write>(
     let (_, behind) = input.split_at(8);
     let (text, numbers) = behind.split_at(text);
     let marks = numbers_of(alloc, numbers, marks)?;
-    put_tape(alloc, out, text, &marks)
+    write_tape(alloc, out, text, &marks)
 }
 
 // Prints what the program prints for its input.
-pub fn put_input<W: Write>(alloc: Global, out: &mut W, input: &[u8]) -> io::Result<()>
+pub fn write_input<W: Write>(alloc: Global, out: &mut W, input: &[u8]) -> io::Result<()>
     ensures { OnOk result (InputPrinted input.now (W.contents out.old) (W.contents out.new)) }
 {
     match input_of(input) {

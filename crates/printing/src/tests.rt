@@ -1,5 +1,5 @@
 // That each call which needs memory can succeed, as no clause says, on the printing program's specimen.
-use crate::{graph_of, put_input, put_tape};
+use crate::{graph_of, write_input, write_tape};
 use std::test::Fail;
 
 const TEXT: &[u8] = b"schemaelementnameDtypeT";
@@ -15,11 +15,11 @@ fn calls_succeed(rt: HostRuntime) -> Result<(), Fail> {
     assert!(rt; made.read.is_ok() & made.lowered.is_ok());
     assert_eq!(rt; graph.rows.get(1).copied(), Some(3));
     let mut out = Vec::new(rt.alloc());
-    put_tape(rt.alloc(), &mut out, TEXT, &MARKS)?;
+    write_tape(rt.alloc(), &mut out, TEXT, &MARKS)?;
     assert_eq!(rt; out.as_slice(), PRINTED);
     let mut out = Vec::new(rt.alloc());
-    put_input(rt.alloc(), &mut out, b"")?;
-    put_input(rt.alloc(), &mut out, b"\0\0\0\0\0\0\0\0")?;
+    write_input(rt.alloc(), &mut out, b"")?;
+    write_input(rt.alloc(), &mut out, b"\0\0\0\0\0\0\0\0")?;
     assert_eq!(rt; out.as_slice(), b"short\nread 0 0\nlower 12 0\n".as_slice());
     Ok(())
 }

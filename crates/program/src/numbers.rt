@@ -4,7 +4,7 @@ ghost use Rattle.std.specs.Prelude.{◌≤◌, IfOk, vec_len};
 use std::alloc::{AllocError, Global};
 
 // The numbers up to the first that is none, and so many at most. By the crate `number`, whose numbers these are: std's `parse` refuses some of them.
-pub fn read_numbers(alloc: Global, list: &[u8], most: usize) -> Result<Vec<u32>, AllocError>
+pub fn collect_numbers(alloc: Global, list: &[u8], most: usize) -> Result<Vec<u32>, AllocError>
     ensures { IfOk result (λ numbers. vec_len numbers ≤ most) }
 {
     list.split(|b| *b == b' ')

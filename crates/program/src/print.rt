@@ -53,7 +53,7 @@ fn put_names<W: Write>(out: &mut W, names: &[u8], used: usize) -> io::Result<()>
 }
 
 #[tactic(auto, unfolding(crate::specs::Print::sheet_text))]
-pub fn put_sheet<W: Write>(out: &mut W, rows: &[u32], names: &[u8]) -> io::Result<()>
+pub fn write_sheet<W: Write>(out: &mut W, rows: &[u32], names: &[u8]) -> io::Result<()>
     ensures { OnOk result (Appends (W.contents out.old) (W.contents out.new) (sheet_text (sheet rows.now names.now))) }
 {
     put_rows(out, rows, wide(mark_at(rows, 1)))?;

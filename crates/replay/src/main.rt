@@ -127,7 +127,7 @@ fn put_kept<W: Write>(
 // A line about a limit.
 fn put_limit<W: Write>(alloc: Global, out: &mut W, line: &[u8], kept: &mut Kept) -> io::Result<()> {
     let rest = lines::behind(line, b';');
-    let numbers = numbers::read_numbers(alloc, lines::before(rest, b';'), NUMBERS)?;
+    let numbers = numbers::collect_numbers(alloc, lines::before(rest, b';'), NUMBERS)?;
     let end = lines::behind(rest, b';');
     if let Some(task) = kept_task(line) {
         return put_kept(out, task, &numbers, end, kept);

@@ -30,7 +30,7 @@ impl Case<'_> {
 pub fn case_of(alloc: Global, line: &[u8]) -> Result<Case<'_>, AllocError> {
     let rest = lines::behind(line, b';');
     let end = lines::behind(rest, b';');
-    let numbers = numbers::read_numbers(alloc, lines::behind(end, b';'), MARKS)?;
+    let numbers = numbers::collect_numbers(alloc, lines::behind(end, b';'), MARKS)?;
     Ok(Case {
         label: lines::before(rest, b';'),
         text: lines::before(end, b';'),
@@ -52,7 +52,7 @@ pub fn put_printed<W: Write>(alloc: Global, out: &mut W, line: &[u8]) -> io::Res
     let case = case_of(alloc, line)?;
     case.put_label(out)?;
     match line {
-        [b't', ..] => printing::put_tape(alloc, out, case.text, &case.numbers),
-        _ => printing::put_input(alloc, out, &bytes_of(alloc, &case.numbers)?),
+        [b't', ..] => printing::write_tape(alloc, out, case.text, &case.numbers),
+        _ => printing::write_input(alloc, out, &bytes_of(alloc, &case.numbers)?),
     }
 }

@@ -85,7 +85,7 @@ fn put_done<W: Write>(
         Task::ReadOfLengths => return put_read(out, asked, rows, names),
         Task::Print => {
             writeln!(out)?;
-            return print::put_sheet(out, rows, names);
+            return print::write_sheet(out, rows, names);
         }
     }
     writeln!(out)

@@ -40,13 +40,7 @@ fn bytes_ascii(v: View<'_, '_>, from: usize, n: usize) -> bool
     requires { from + 2 * n ≤ length v.marks.now }
     ensures { result ≡ all_ascii v.entry.text.now (pairs_of n (drop from v.entry.marks.now)) }
 {
-    // No `all`: the definition goes through a list, as this loop does; by `all` its invariant says nothing, and more laws are needed.
-    for i in 0..n {
-        if !text::is_text(pairs::pair_part(v, from + 2 * i)) {
-            return false;
-        }
-    }
-    true
+    (0..n).all(|i| text::is_text(pairs::pair_part(v, from + 2 * i)))
 }
 
 // The same; `plain` says that the whole text was judged before, so that none of its bytes is read again. It is known at run time alone, so it is an argument;

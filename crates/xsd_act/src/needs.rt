@@ -6,7 +6,7 @@ ghost use Rattle.sheet.specs.Limits.{names_limit};
 ghost use Rattle.xsd_parser.specs.Handlers.{ok};
 ghost use Rattle.rows.specs.Texts.{listed};
 ghost use Rattle.xsd_actions.specs.Actions.{Action};
-ghost use Rattle.xsd_actions.specs.Answers.{new_row, following, decision};
+ghost use Rattle.xsd_actions.specs.Answers.{new_row, decision};
 ghost use Rattle.xsd_act.specs.Ready.{ReadyFor};
 ghost use Rattle.xsd_act.specs.Needs.{Small, RowNeeded, HeadSeen, HeadNeeded, TextSeen, TextNeeded, Needed};
 
@@ -46,7 +46,7 @@ fn needed_row(used: Used, n: NewRow) -> Used
 fn needed_content(rows: &[u32], used: Used, head: usize, n: NewContent) -> Used
     requires head_seen { HeadSeen rows.now used head }
     requires small { Small used }
-    ensures { HeadNeeded rows.now used head (length (join (following n.entry.second))) result }
+    ensures { HeadNeeded rows.now used head (length (join (listed n.entry.second))) result }
 {
     let end = name_end(rows, head);
     Used {

@@ -5,7 +5,7 @@ ghost use Rattle.sheet.specs.Rows.{row};
 ghost use Rattle.rows.specs.Texts.{listed};
 ghost use Rattle.rows.specs.Append.{RowRoom, Appended};
 ghost use Rattle.xsd_replace.specs.Head.{HeadRoom, HeadReplaced};
-ghost use Rattle.xsd_actions.specs.Answers.{following, new_row};
+ghost use Rattle.xsd_actions.specs.Answers.{new_row};
 ghost use Rattle.xsd_act.specs.Acts.{content_numbers};
 
 use rows::numbers::{RowNumbers, numbers_at};
@@ -28,6 +28,7 @@ pub fn open_type(sheet: &mut SheetWriter, tag: u32, n: NewType, base: Option<&[u
 }
 
 // Adds the row that a decision gives.
+#[tactic(auto, unfolding(sheet::specs::Rows::row, xsd_actions::specs::Answers::new_row))]
 pub fn add_row(sheet: &mut SheetWriter, n: NewRow)
     requires { RowRoom sheet.old (length (join (new_row n).texts)) }
     ensures { Appended (new_row n.entry) sheet.old sheet.new }
@@ -43,8 +44,8 @@ pub fn add_row(sheet: &mut SheetWriter, n: NewRow)
 
 // Replaces the open type's content by another one. The event's number stays that of the name.
 pub fn put_content(sheet: &mut SheetWriter, head: usize, n: NewContent)
-    requires { HeadRoom sheet.old head (length (join (following n.second))) }
-    ensures { HeadReplaced sheet.old head (content_numbers n.entry (get_or sheet.old.rows.now (10 * head + 9) 0)) (following n.entry.second) sheet.new }
+    requires { HeadRoom sheet.old head (length (join (listed n.second))) }
+    ensures { HeadReplaced sheet.old head (content_numbers n.entry (get_or sheet.old.rows.now (10 * head + 9) 0)) (listed n.entry.second) sheet.new }
 {
     let old = numbers_at(sheet.as_rows(), head);
     let numbers = RowNumbers {

@@ -1,24 +1,18 @@
 -- What the code decides says in the terms of Actions: a decision, an enum whose texts are parts of the text of the tape, or a refusal.
---     following     the text that an answer of the code holds, if it holds one, in a list
 --     new_row        the row that the code's record stands for
 --     decision      the action, or the refusal
-use Rattle.std.specs.Prelude.{ℕ, ◌%◌, ◌/◌, ◌^◌, List, [], ◌∷◌, Option, Some, None, Result, Ok, Err}
-use Rattle.std.specs.Borrow.{Bor}
-use Rattle.text.specs.Text.{Text}
+use Rattle.std.specs.Prelude.{◌%◌, ◌/◌, ◌^◌, [], ◌∷◌, Result, Ok, Err}
 use Rattle.sheet.specs.declared.refusal.Refusal.{Refusal}
 use Rattle.sheet.specs.Returned.{refusal_number}
 use Rattle.sheet.specs.Rows.{Row, row}
 use Rattle.xsd_parser.specs.Handlers.{Outcome, ok, refuse}
+use Rattle.rows.specs.Texts.{listed}
 use Rattle.xsd_actions.specs.declared.NewRow.{NewRow}
 use Rattle.xsd_actions.specs.declared.Decision.{Decision}
 use Rattle.xsd_actions.specs.Actions.{Action}
 
-unfoldable pub following : Option (Bor Text) → List Text
-following (Some v) = v.now ∷ []
-following None = []
-
 unfoldable pub new_row : NewRow → Row
-new_row n = row n.tag (n.first.now ∷ following n.second) n.a n.b n.c
+new_row n = row n.tag (n.first.now ∷ listed n.second) n.a n.b n.c
 
 unfoldable pub decision : Result Decision Refusal → Outcome Action
 decision (Err r) = refuse (refusal_number r)
@@ -29,5 +23,5 @@ decision (Ok (Decision.OpenComplex n)) = ok (Action.open_complex n.event n.name.
 decision (Ok (Decision.Add n)) = ok (Action.add (new_row n))
 decision (Ok (Decision.Characters f)) = ok (Action.add (row f.tag [] (f.count.0 % 2 ^ 32) (f.count.0 / 2 ^ 32) 0))
 decision (Ok (Decision.Digits f)) = ok (Action.add (row f.tag [] f.count.0 0 0))
-decision (Ok (Decision.Content n)) = ok (Action.content n.tag (following n.second) n.a)
+decision (Ok (Decision.Content n)) = ok (Action.content n.tag (listed n.second) n.a)
 decision (Ok (Decision.Base v)) = ok (Action.base v.now)

@@ -3,9 +3,10 @@
 --     nesting_of     the nesting after a tag
 use Rattle.std.specs.Prelude.{ℕ, suc, ◌%◌, ◌/◌, ◌^◌, [], Bool, if◌then◌else◌}
 use Rattle.sheet.specs.Rows.{row}
+use Rattle.rows.specs.Texts.{listed}
 use Rattle.xsd_actions.specs.declared.Decision.{Decision}
 use Rattle.xsd_actions.specs.Actions.{Action}
-use Rattle.xsd_actions.specs.Answers.{following, new_row}
+use Rattle.xsd_actions.specs.Answers.{new_row}
 
 abbrev pub action_of : Decision → Action
 action_of Decision.Keep = Action.keep
@@ -15,7 +16,7 @@ action_of (Decision.OpenComplex n) = Action.open_complex n.event n.name.now
 action_of (Decision.Add n) = Action.add (new_row n)
 action_of (Decision.Characters f) = Action.add (row f.tag [] (f.count.0 % 2 ^ 32) (f.count.0 / 2 ^ 32) 0)
 action_of (Decision.Digits f) = Action.add (row f.tag [] f.count.0 0 0)
-action_of (Decision.Content n) = Action.content n.tag (following n.second) n.a
+action_of (Decision.Content n) = Action.content n.tag (listed n.second) n.a
 action_of (Decision.Base v) = Action.base v.now
 
 unfoldable pub nesting_of : Bool → ℕ → ℕ

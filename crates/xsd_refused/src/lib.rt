@@ -65,13 +65,7 @@ pub fn first_refused(part: &SheetPart<'_>) -> Option<usize>
     requires { 2 ≤ part.now.end }
     ensures { let place = refused_place 2 (rows_from part.now.rows.now part.now.names.now 2 part.now.end) in MatchOption result (place ≡ 0) (λ p. (0 < p) × (place ≡ p)) }
 {
-    // No `find`: the definition goes through the rows as a list, as this loop does; by `find` its invariant says nothing, and more laws are needed.
-    for p in 2..part.end {
-        if is_refused(part, p) {
-            return Some(p);
-        }
-    }
-    None
+    (2..part.end).find(|p| is_refused(part, *p))
 }
 
 // Order 7: how many such heads stand from a place on.

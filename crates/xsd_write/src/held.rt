@@ -70,13 +70,7 @@ fn unheld_from(classes: &Classes, part: &SheetPart) -> Option<usize>
     ensures { unheld_of result ≡ unheld_from 1 (part_rows part.now 1) }
 {
     let clear = value_run(classes, part.names, 0);
-    // No `find`: the definition goes through the rows as a list, as this loop does; by `find` its invariant says nothing, and more laws are needed.
-    for place in 1..part.end {
-        if !row_holds(classes, clear, Row::at(part, place)) {
-            return Some(place);
-        }
-    }
-    None
+    (1..part.end).find(|place| !row_holds(classes, clear, Row::at(part, *place)))
 }
 
 pub fn first_unheld(part: &SheetPart) -> Option<usize>

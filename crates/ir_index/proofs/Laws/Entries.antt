@@ -1,12 +1,13 @@
 -- Laws of the entries: whether one of them has the name of a place, and what one entry more leaves known. An entry whose fingerprint is
 -- another has another name, and an entry whose flag is there and not set is not there. Assumes nothing.
+use Rattle.std.specs.List.{list_any}
 use Prim.Native.Nat.{ℕ, suc, ◌+◌, ◌*◌, ◌/◌, ◌%◌, ◌≤◌, ◌<◌}
 use mathlib.Core.Path.{◌≡◌, refl, sym, ap, ◌∙◌}
-use mathlib.Core.Bool.{true, false, ◌&&◌}
+use mathlib.Core.Bool.{Bool, true, false, ◌&&◌, ◌||◌}
 use mathlib.Core.List.{List, [], ◌∷◌, ◌++◌, map}
 use native.Mathlib.Omega.{arith}
 use lib.Dec.{eqb, ltb}
-use lib.ListN.{length, get_or, take, drop, set, length-set, drop_of_length-le}
+use lib.ListN.{length, get_or, take, set, length-set}
 use lib.Seq.{length-take-le, get_or-take, get_or-set_same, get_or-set_other}
 use borrow.Author.Tests.{ltb-true, eqb-true, eqb-false}
 use Rattle.text.specs.Text.{Text, same}
@@ -16,8 +17,8 @@ use Rattle.sheet.specs.Limits.{rows_limit}
 use Rattle.ir_types.specs.Distinct.{among}
 use Rattle.rows.specs.declared.part.SheetPart.{SheetPart}
 use Rattle.ir_rows.specs.Parts.{part_name}
-use Rattle.ir_rows.specs.Types.{places_in}
-use Rattle.ir_rows.proofs.Laws.Entries.{places-length, places-at, places-cons, places-more}
+use Rattle.ir_rows.specs.Types.{entry_places, places_in}
+use Rattle.ir_rows.proofs.Laws.Entries.{places-length, places-at, places-more}
 use Rattle.ir_index.specs.Prints.{fingerprint}
 use Rattle.ir_index.specs.declared.Index.{Index}
 use Rattle.ir_index.specs.Entries.{places_held, names_held, has_print, HeadAt, EntryOf, Known, Added}
@@ -27,22 +28,11 @@ use Rattle.ir_index.proofs.Laws.Prints.{fingerprint-below, no-print}
 pub prints-differ : (s t : Text) → (fingerprint s ≡ fingerprint t → ⊥) → same s t ≡ false
 prints-differ s t h = same-differ s t (λ e. h (ap fingerprint e))
 
--- whether one has the name, from entry k on
-module _ (name : ℕ → Text) (t : Text) (n : ℕ) (scratch : List ℕ) (k : ℕ) where
-  pub same-hit : k < n → n ≤ length scratch → same (name (get_or scratch k 0 % 65536)) t ≡ true → among t (map name (drop k (places_in n scratch))) ≡ true
-  unfolding among
-  same-hit h i e = rw (places-cons n scratch k h i) (rw e)
-
-  pub same-on : k < n → n ≤ length scratch → same (name (get_or scratch k 0 % 65536)) t ≡ false
-      → among t (map name (drop k (places_in n scratch))) ≡ among t (map name (drop (suc k) (places_in n scratch)))
-  unfolding among
-  same-on h i e = rw (places-cons n scratch k h i) (rw e)
-
-  pub same_end : n ≤ k → n ≤ length scratch → among t (map name (drop k (places_in n scratch))) ≡ false
-  unfolding among
-  same_end h i =
-      let w : length (places_in n scratch) ≤ k = omega (arith, places-length n scratch i) in
-      rw (drop_of_length-le (places_in n scratch) w)
+-- whether one has the name
+pub among-any : (name : ℕ → Text) (t : Text) (es : List ℕ) → list_any (λ (e : ℕ). same (name (e % 65536)) t) es ≡ among t (map name (entry_places es))
+unfolding among entry_places
+among-any name t [] = refl
+among-any name t (e ∷ es) = ap (λ (b : Bool). same (name (e % 65536)) t || b) (among-any name t es)
 
 among_none : (name : ℕ → Text) (t : Text) (qs : List ℕ) → ((k : ℕ) → k < length qs → same (name (get_or qs k 0)) t ≡ false) → among t (map name qs) ≡ false
 unfolding among

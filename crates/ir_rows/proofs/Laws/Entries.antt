@@ -2,7 +2,6 @@
 use Prim.Native.Nat.{ℕ, zero, suc, ◌+◌, ◌%◌, ◌≤◌, ◌<◌}
 use mathlib.Core.Path.{◌≡◌, refl, ap, ◌∙◌}
 use mathlib.Core.List.{List, [], ◌∷◌, ◌++◌, map, map-append}
-use native.Mathlib.Omega.{arith}
 use native.Mathlib.Numerals.{add-one}
 use lib.ListN.{length, get_or, take, drop, set, length-map, drop_of_length-le, get_or-map}
 use lib.Seq.{length-take-le, get_or-take, drop-cons, take-set-lt, take-suc-set}
@@ -32,11 +31,6 @@ module _ (n : ℕ) (scratch : List ℕ) where
   pub places-at : (k : ℕ) → k < n → get_or (places_in n scratch) k 0 ≡ get_or scratch k 0 % 65536
   unfolding entry_places
   places-at k h = get_or-map (λ e. e % 65536) (take n scratch) k 0 ∙ ap (λ (e : ℕ). e % 65536) (get_or-take n scratch k 0 h)
-
-  pub places-cons : (k : ℕ) → k < n → n ≤ length scratch → drop k (places_in n scratch) ≡ get_or scratch k 0 % 65536 ∷ drop (suc k) (places_in n scratch)
-  places-cons k h i =
-      drop-cons (places_in n scratch) k 0 (omega (arith, places-length i))
-      ∙ ap (λ (q : ℕ). q ∷ drop (suc k) (places_in n scratch)) (places-at k h)
 
   pub places-set : (k e : ℕ) → k < n → places_in n (set scratch k e) ≡ set (places_in n scratch) k (e % 65536)
   unfolding entry_places

@@ -1,10 +1,13 @@
 -- The scan from a place of a pattern on, as the code reads it. Assumes nothing.
 use Rattle.std.specs.Prelude.{if◌then◌else◌}
-use Prim.Native.Nat.{ℕ, suc, ◌+◌, ◌≤◌, ◌<◌}
+use Rattle.std.specs.List.{find, range_with_len}
+use Rattle.std.specs.Option.{unwrap_or}
+use Prim.Native.Nat.{ℕ, zero, suc, ◌+◌, ◌≤◌, ◌<◌}
 use native.Mathlib.Numerals.{add-one}
 use native.Mathlib.Omega.{arith}
+use native.Mathlib.Nat.{add-zero}
 use mathlib.Core.Path.{◌≡◌, refl, sym, ap, ◌∙◌}
-use mathlib.Core.Bool.{Bool, true, false, false≢true}
+use mathlib.Core.Bool.{Bool, true, false, not, false≢true}
 use mathlib.Core.List.{[], ◌∷◌}
 use lib.Dec.{eqb, ltb}
 use lib.ListN.{length, drop, get_or, drop_of_length-le}
@@ -149,3 +152,13 @@ module _ (s : Text) (at : ℕ) (h : at < length s) (n : is_bracket (get_or s at 
 pub plain_at : (d : ℕ) (s : Text) (i : ℕ) → i < length s → is_plain (get_or s i 0) ≡ true → scan (go d atom) (drop i s) ≡ scan (go d atom) (drop (i + 1) s)
 unfolding step
 plain_at d s i h e = to_at (go d atom) s i h (rw (plain-unmarked _ e, plain-fresh d _ e))
+
+-- characters behind an atom, n bytes before the end: the scan goes on at the first that is no such one, or at the end
+pub plain-found : (s : Text) (n at : ℕ) → at + n ≡ length s
+    → Goes s atom at atom at (unwrap_or (find (λ (i : ℕ). not (is_plain (get_or s i 0))) (range_with_len at n)) (length s)) any_byte
+plain-found s zero at h = rw (sym h) (record { onward = omega arith; within = omega arith; stops = λ _. refl; reads = λ d. rw (add-zero at) refl })
+plain-found s (suc n) at h =
+    bool_cases (is_plain (get_or s at 0))
+    (λ e. let g = plain-found s n (at + 1) (omega arith) in
+    rw e (record { onward = omega (arith, g.onward); within = g.within; stops = λ _. refl; reads = λ d. plain_at d s at (omega arith) e ∙ g.reads d }))
+    (λ e. rw e (record { onward = omega arith; within = omega arith; stops = λ _. refl; reads = λ d. refl }))

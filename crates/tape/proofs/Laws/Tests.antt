@@ -1,7 +1,8 @@
 -- The tests of the pairs of a record: the first pair decides, or the rest does. Laws of xsd_parser's Tape and of specs/Pairs.antt.
 -- No contract cites them. Assumes nothing.
-use mathlib.Core.Path.{◌≡◌, refl}
-use mathlib.Core.Bool.{true, false, ◌&&◌}
+use Rattle.std.specs.List.{list_all, range_with_len}
+use mathlib.Core.Path.{◌≡◌, refl, ap}
+use mathlib.Core.Bool.{Bool, true, false, ◌&&◌}
 use mathlib.Core.List.{List, [], ◌∷◌}
 use Prim.Native.Nat.{ℕ, zero, suc, ◌+◌, ◌-◌, ◌*◌, ◌≤◌, ◌<◌}
 use native.Mathlib.Nat.{add-zero, not-suc-le-zero}
@@ -31,24 +32,21 @@ module _ (marks : List ℕ) (at n : ℕ) (h : at + 2 ≤ length marks) (p : 0 < 
   unfolding all_inside pair_at
   inside_on limit end l k = rw (pairs-left marks at n h p, le-leb end (get_or marks at 0) l, le-leb (get_or marks at 0 + get_or marks (at + 1) 0) limit k)
 
-  pub ascii-hit : (text : Text) → is_text (pair_text text (pair_at marks at)) ≡ false → all_ascii text (pairs_of n (drop at marks)) ≡ false
-  unfolding all_ascii every
-  ascii-hit text e = rw (pairs-left marks at n h p, e)
-
-  pub ascii-on : (text : Text) → is_text (pair_text text (pair_at marks at)) ≡ true → all_ascii text (pairs_of n (drop at marks)) ≡ all_ascii text (pairs_of (n - 1) (drop (at + 2) marks))
-  unfolding all_ascii every
-  ascii-on text e = rw (pairs-left marks at n h p, e)
-
 -- no pair is left
 pub inside-end : (limit end n : ℕ) (l : List ℕ) → n ≤ 0 → all_inside limit end (pairs_of n l) ≡ true
 unfolding all_inside pairs_of
 inside-end limit end zero l h = refl
 inside-end limit end (suc n) l h = absurd (not-suc-le-zero h)
 
-pub ascii-end : (text : Text) (n : ℕ) (l : List ℕ) → n ≤ 0 → all_ascii text (pairs_of n l) ≡ true
+-- each of n pairs from the i-th on
+pub ascii-all : (text : Text) (marks : List ℕ) (from n i : ℕ) → from + 2 * (i + n) ≤ length marks
+    → list_all (λ (k : ℕ). is_text (pair_text text (pair_at marks (from + 2 * k)))) (range_with_len i n) ≡ all_ascii text (pairs_of n (drop (from + 2 * i) marks))
 unfolding all_ascii every pairs_of
-ascii-end text zero l h = refl
-ascii-end text (suc n) l h = absurd (not-suc-le-zero h)
+ascii-all text marks from zero i h = refl
+ascii-all text marks from (suc n) i h =
+    let next : from + 2 * i + 2 ≡ from + 2 * (i + 1) = omega arith in
+    rw (pairs-step marks (from + 2 * i) n (omega arith), next)
+    (ap (λ (b : Bool). is_text (pair_text text (pair_at marks (from + 2 * i))) && b) (ascii-all text marks from n (i + 1) (omega arith)))
 
 -- a part of a text is a text
 pair-ascii : (text : Text) (p : Pair) → is_text text ≡ true → is_text (pair_text text p) ≡ true

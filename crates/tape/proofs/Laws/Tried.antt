@@ -8,11 +8,11 @@ use Rattle.tape.specs.Marks.{event_marks}
 use Rattle.tape.specs.Lookup.{value_of, value_at, value_under, kept_first}
 use Rattle.tape.proofs.Laws.Pairs.{pair-text, pair-past}
 use Rattle.tape.proofs.Laws.Words.{key-place}
-use Rattle.tape.proofs.Laws.Tests.{ascii-whole, ascii-hit, ascii-on, ascii-end, inside-early, inside_past, inside_on, inside-end}
+use Rattle.tape.proofs.Laws.Tests.{ascii-whole, inside-early, inside_past, inside_on, inside-end}
 use Rattle.tape.proofs.Laws.Form.{form-many, form-close, form-tag, form-none, kind-least, kind-most, kind-tag}
 
 unfoldable pub opened : Unit {0}
 unfolding found or_empty pair_count pair_at event_marks value_of value_at value_under kept_first
 opened = tt
 
-pub ruleset laws = (cut_inside, pair-text, pair-past, key-place, ascii-whole, ascii-hit, ascii-on, ascii-end, inside-early, inside_past, inside_on, inside-end, form-many, form-close, form-tag, form-none, kind-least, kind-most, kind-tag)
+pub ruleset laws = (cut_inside, pair-text, pair-past, key-place, ascii-whole, inside-early, inside_past, inside_on, inside-end, form-many, form-close, form-tag, form-none, kind-least, kind-most, kind-tag)

@@ -11,9 +11,9 @@ use lib.Seq.{take-nil}
 use Rattle.text.specs.Text.{Text, join}
 use Rattle.sheet.specs.Rows.{row}
 use Rattle.xsd_parser.specs.Tape.{Pair, pair_text}
-use Rattle.rows.specs.Texts.{used_texts, used_length}
+use Rattle.rows.specs.Texts.{used_texts, used_length, listed}
 use Rattle.xsd_actions.specs.declared.NewRow.{NewRow}
-use Rattle.xsd_actions.specs.Answers.{new_row, following}
+use Rattle.xsd_actions.specs.Answers.{new_row}
 
 pub pair_text-bound : (text : Text) (p : Pair) → length (pair_text text p) ≤ length text
 unfolding pair_text
@@ -43,6 +43,6 @@ content_pairs-bound true = (omega arith, omega arith)
 content_pairs-bound false = (omega arith, omega arith)
 
 -- the bytes of a new row's texts
-pub new_row-bytes : (n : NewRow) → length (join (new_row n).texts) ≡ length n.first.now + length (join (following n.second))
+pub new_row-bytes : (n : NewRow) → length (join (new_row n).texts) ≡ length n.first.now + length (join (listed n.second))
 unfolding new_row row join
-new_row-bytes n = length-append n.first.now (join (following n.second))
+new_row-bytes n = length-append n.first.now (join (listed n.second))

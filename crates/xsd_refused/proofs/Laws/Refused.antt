@@ -1,13 +1,17 @@
 -- The first simple type that lowering refuses, by the numbers at the places. A text that gives no built-in type has the reference 0. Assumes nothing.
-use Prim.Native.Nat.{ℕ, ◌+◌, ◌*◌, ◌<◌, ◌≤◌}
+use Prim.Native.Nat.{ℕ, zero, suc, ◌+◌, ◌*◌, ◌<◌}
 use mathlib.Core.Path.{◌≡◌, refl}
 use mathlib.Core.Bool.{true, false}
 use mathlib.Core.List.{List}
 use mathlib.Core.Option.{Option, some, none}
+use native.Mathlib.Omega.{arith}
 use lib.Dec.{eqb}
 use lib.ListN.{get_or}
 use borrow.Author.Tests.{ne_eqb}
+use Rattle.std.specs.List.{find, range_with_len}
+use Rattle.std.specs.Option.{MatchOption}
 use Rattle.text.specs.Text.{Text}
+use Rattle.text.proofs.Laws.Tests.{bool_cases}
 use Rattle.builtin.specs.Builtin.{RustType, string, bool, decimal, date, date_time, map_builtin, reference}
 use Rattle.sheet.specs.Rows.{Row, text_at}
 use Rattle.xsd_types.specs.Places.{row_at, rows_from}
@@ -39,16 +43,12 @@ module _ (rows names : List ℕ) (p : ℕ) (rs : List Row) where
   refused-by-base {base} e f b r =
       rw (row_at-base rows names p e, row_at-tag rows names p, e, f, ← b, r) (reference-none (map_builtin base))
 
-module _ (rows names : List ℕ) (p end : ℕ) where
-  pub refused_end : end ≤ p → 0 ≡ refused_place p (rows_from rows names p end)
-  unfolding refused_place
-  refused_end h = rw (rows_from-end rows names p end h)
-
-  pub refused-at : p < end → refused_row (row_at rows names p) (rows_from rows names (p + 1) end) ≡ true → p ≡ refused_place p (rows_from rows names p end)
-  unfolding refused_place
-  refused-at h e = rw (rows_from-cons rows names p end h, e)
-
-  pub refused-not-at : p < end → refused_row (row_at rows names p) (rows_from rows names (p + 1) end) ≡ false
-      → refused_place (p + 1) (rows_from rows names (p + 1) end) ≡ refused_place p (rows_from rows names p end)
-  unfolding refused_place
-  refused-not-at h e = rw (rows_from-cons rows names p end h, e)
+-- the place of the first such row, among n of them from row p on
+pub found : (rows names : List ℕ) (end n p : ℕ) → 0 < p → p + n ≡ end
+    → MatchOption (find (λ (i : ℕ). refused_row (row_at rows names i) (rows_from rows names (i + 1) end)) (range_with_len p n)) (refused_place p (rows_from rows names p end) ≡ 0)
+    (λ q. (0 < q) × (refused_place p (rows_from rows names p end) ≡ q))
+unfolding refused_place
+found rows names end zero p l h = rw (rows_from-end rows names p end (omega arith)) refl
+found rows names end (suc n) p l h =
+    rw (rows_from-cons rows names p end (omega arith))
+    (bool_cases (refused_row (row_at rows names p) (rows_from rows names (p + 1) end)) (λ e. rw e (l, refl)) (λ e. rw e (found rows names end n (p + 1) (omega arith) (omega arith))))

@@ -1,6 +1,6 @@
 -- `xsd_refused::only_codes` meets its contract. The loop's invariant: the answer for the rows from p on is that for all.
 -- Assumes nothing.
-use mathlib.Core.Path.{refl, sym, ap, ◌∙◌}
+use mathlib.Core.Path.{sym, ap, ◌∙◌}
 use mathlib.Core.Bool.{not}
 use native.Mathlib.Omega.{arith}
 use Rattle.text.specs.Text.{between}

@@ -1,14 +1,14 @@
 -- The first value that XML cannot hold, row by row, and the texts of a row one after the other (the crate `xsd_written`, specs/Call.antt). Assumes nothing.
-use Prim.Native.Nat.{ℕ, zero, suc, ◌+◌, ◌≤◌, ◌<◌}
+use Rattle.std.specs.List.{find, range_with_len}
+use Prim.Native.Nat.{ℕ, zero, suc, ◌+◌, ◌-◌, ◌≤◌}
 use native.Mathlib.Omega.{arith}
 use native.Mathlib.Numerals.{add-one}
-use mathlib.Core.Path.{◌≡◌, refl, sym, ap}
-use mathlib.Core.Bool.{Bool, true, false, ◌&&◌}
+use mathlib.Core.Path.{◌≡◌, refl}
+use mathlib.Core.Bool.{Bool, true, false, not, ◌&&◌}
 use mathlib.Core.List.{List, [], ◌∷◌}
-use mathlib.Core.Option.{some, none}
 use lib.ListN.{take, drop}
 use Rattle.text.specs.Text.{Text, every}
-use Rattle.text.proofs.Laws.Tests.{and-true}
+use Rattle.text.proofs.Laws.Tests.{and-true, bool_cases}
 use Rattle.text.proofs.Laws.Every.{every-head, every-tail}
 use Rattle.sheet.specs.Rows.{text_at}
 use Rattle.xsd_types.specs.Places.{row_at, rows_from}
@@ -18,6 +18,7 @@ use Rattle.xml.specs.Written.{quote_of}
 use Rattle.xml.proofs.Laws.Written.{quote-is}
 use Rattle.xml_parts.proofs.Laws.Held.{plain-held}
 use Rattle.xsd_written.specs.Call.{holds, unheld_from}
+use Rattle.xsd_write.specs.Steps.{unheld_of}
 
 -- the first n of three texts
 module _ (n : ℕ) (x y z : Text) where
@@ -56,18 +57,14 @@ third-decides (suc (suc zero)) x y z s t u h k = absurd (u refl)
 third-decides (suc (suc (suc zero))) x y z s t u h k = rw (h, k) (and-end (holds z))
 third-decides (suc (suc (suc (suc n)))) x y z s t u h k = rw (h, k) (and-end (holds z))
 
-module _ (rows names : List ℕ) (p end : ℕ) where
-  pub unheld-hit : p < end → every holds (row_at rows names p).texts ≡ false → unheld_from p (rows_from rows names p end) ≡ some p
-  unfolding unheld_from
-  unheld-hit h e = rw (rows_from-cons rows names p end h, e)
-
-  pub unheld-on : p < end → every holds (row_at rows names p).texts ≡ true → unheld_from p (rows_from rows names p end) ≡ unheld_from (p + 1) (rows_from rows names (p + 1) end)
-  unfolding unheld_from
-  unheld-on h e = rw (rows_from-cons rows names p end h, e) (ap (λ (k : ℕ). unheld_from k (rows_from rows names (p + 1) end)) (sym (add-one p)))
-
-  pub unheld-end : end ≤ p → unheld_from p (rows_from rows names p end) ≡ none
-  unfolding unheld_from
-  unheld-end h = rw (rows_from-end rows names p end h)
+-- the place of the first row with such a text, among n of them from row p on
+pub unheld-found : (rows names : List ℕ) (end n p : ℕ) → end - p ≡ n
+    → unheld_of (find (λ (i : ℕ). not (every holds (row_at rows names i).texts)) (range_with_len p n)) ≡ unheld_from p (rows_from rows names p end)
+unfolding unheld_from
+unheld-found rows names end zero p h = rw (rows_from-end rows names p end (omega arith)) refl
+unheld-found rows names end (suc n) p h =
+    rw (rows_from-cons rows names p end (omega arith))
+    (bool_cases (every holds (row_at rows names p).texts) (λ e. rw (e, ← add-one p) (unheld-found rows names end n (p + 1) (omega arith))) (λ e. rw e refl))
 
 -- a part of bytes that need no look is held
 take-every : (p : ℕ → Bool) (c n : ℕ) (s : Text) → n ≤ c → every p (take c s) ≡ true → every p (take n s) ≡ true

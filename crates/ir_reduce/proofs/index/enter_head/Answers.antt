@@ -30,26 +30,15 @@ pub returns-then-is_some : goal.returns-then-is_some
 unfolding head_at
 returns-then-is_some c =
     let e = c.enter.ensures in
-    record {
-      same_numbers = e.same_numbers;
-      same_buckets = e.same_buckets;
-      same_length = e.same_length;
-      entered =
-          head-old c.requires.index.index c.args.place (rw c.requires.index.buckets_are at e.entered) (sym c.is_some.ensures ∙ c.if-is_some.true)
-          (ap is_type_tag (sym c.tag.ensures) ∙ sym c.is_type.ensures ∙ c.if-not-is_type.false);
-    }
+    let head = ap is_type_tag (sym c.tag.ensures) ∙ sym c.is_type.ensures ∙ c.if-not-is_type.false in
+    let old = head-old c.requires.index.index c.args.place (rw c.requires.index.buckets_are at e.entered) (sym c.is_some.ensures ∙ c.if-is_some.true) head in
+    record { same_numbers = e.same_numbers; same_buckets = e.same_buckets; same_length = e.same_length; entered = old }
 
 pub returns : goal.returns
 unfolding head_at
 returns c =
     let e = c.enter.ensures in
     let none = sym c.is_some.ensures ∙ c.if-is_some.false in
-    record {
-      same_numbers = e.same_numbers;
-      same_buckets = e.same_buckets;
-      same_length = e.same_length;
-      entered =
-          rw (e.count, none)
-          (head-new c.requires.index.index c.args.place (rw c.requires.index.buckets_are at e.entered) none
-          (ap is_type_tag (sym c.tag.ensures) ∙ sym c.is_type.ensures ∙ c.if-not-is_type.false));
-    }
+    let head = ap is_type_tag (sym c.tag.ensures) ∙ sym c.is_type.ensures ∙ c.if-not-is_type.false in
+    let new = head-new c.requires.index.index c.args.place (rw c.requires.index.buckets_are at e.entered) none head in
+    record { same_numbers = e.same_numbers; same_buckets = e.same_buckets; same_length = e.same_length; entered = rw (e.count, none) new }

@@ -1,10 +1,21 @@
--- `pattern::expression::plain_end` meets its contract: the scan goes on where it stops. Assumes nothing.
-use Rattle.std.proofs.Common.{◌≡◌, length, refl, sym, ◌∙◌, arith}
-use Rattle.pattern.proofs.Laws.Places.{plain_at}
+-- `pattern::expression::plain_end` meets its contract: the scan goes on at the first byte that is no character, or at the end. Assumes nothing.
+use Prim.Native.Nat.{ℕ, ◌-◌}
+use mathlib.Core.Bool.{not}
+use mathlib.Core.Path.{refl, sym, ◌∙◌}
+use native.Mathlib.Omega.{arith}
+use lib.ListN.{length, get_or}
+use Rattle.std.proofs.Common.{rules, tests}
+use Rattle.std.proofs.lemmas.Iterator.{YieldsList-from_range}
+use Rattle.std.proofs.lemmas.Iterator.Adapters.{option_map_id}
+use Rattle.std.proofs.lemmas.Iterator.Search.{find_from_yields_List}
+use Rattle.pattern.specs.Scan.{is_plain}
+use Rattle.pattern.proofs.Laws.Places.{plain-found}
 use Rattle.pattern.proofs.expression.plain_end.Goals as goal
 
-pub loop-i-preserved : goal.loop-i-preserved
-loop-i-preserved c =
-    let z = c.loop-i in
-    let plain = sym c.is_plain.ensures ∙ c.if-not-is_plain.false in
-    λ d. z.invariant d ∙ plain_at d _ z.i (omega arith) plain
+pub returns : goal.returns
+returns c =
+    let s = c.args.s.now in
+    let n = length s - c.args.at in
+    let all = YieldsList-from_range c.args.at (length s) n refl refl in
+    let e = sym (option_map_id c.find.result) ∙ find_from_yields_List (λ (i : ℕ). not (is_plain (get_or s i 0))) _ _ c.find.result c.find.ensures.ran all (λ p b q k. search (rules, tests)) in
+    rw (c.unwrap_or.ensures, e) (plain-found s n c.args.at (omega arith))

@@ -5,7 +5,6 @@ use native.Mathlib.Omega.{arith}
 use Rattle.rows.specs.declared.numbers.Used.{Used}
 use Rattle.xsd_act.specs.Needs.{HeadSeen}
 use Rattle.xsd_replace.proofs.Laws.Head.{HeadNumbers, head-numbers}
-use Rattle.xsd_act.proofs.Laws.Parts.{following-listed}
 use Rattle.xsd_act.proofs.needs.needed_content.Goals as goal
 
 facts : {rows : List ℕ} {used : Used} {head : ℕ} (h : HeadSeen rows used head) → HeadNumbers rows h.names used head h.rs h.name
@@ -24,10 +23,10 @@ overflow_add-result-2 c =
 pub returns : goal.returns
 returns c =
     let a = c.args in
-    rw (following-listed a.n.second) (record {
+    record {
       few = omega (arith, facts c.requires.head_seen);
       held = omega (arith, facts c.requires.head_seen, c.name_end-end.ensures _ _ _ _ _ c.requires.head_seen.head, c.bytes_of.ensures.small);
       counted = λ names z rs name h.
           let end = c.name_end-end.ensures names a.used z rs name h in
           (omega (arith, h.here), omega arith);
-    })
+    }

@@ -4,7 +4,6 @@ use lib.ListN.{length-append}
 use Rattle.text.specs.Text.{join}
 use Rattle.sheet.specs.Rows.{row}
 use Rattle.xsd_actions.specs.Answers.{new_row}
-use Rattle.xsd_act.proofs.Laws.Parts.{following-listed}
 use Rattle.xsd_act.proofs.needs.needed_row.Goals as goal
 
 pub overflow_add-n : goal.overflow_add-n
@@ -13,5 +12,4 @@ overflow_add-n c = omega (arith, c.ranges.n, c.bytes_of.ensures.small)
 pub returns : goal.returns
 unfolding new_row row join
 returns c =
-    let n = c.args.n in
-    rw (following-listed n.second, length-append, ← c.bytes_of.ensures.bytes) c.with_row.ensures
+    rw (length-append, ← c.bytes_of.ensures.bytes) c.with_row.ensures

@@ -4,14 +4,10 @@ use Prim.Native.Nat.{ℕ}
 use native.Mathlib.Omega.{arith}
 use lib.ListN.{length}
 use Rattle.xsd_replace.proofs.Laws.Head.{head-numbers}
-use Rattle.xsd_act.proofs.Laws.Parts.{following-listed}
 use Rattle.xsd_act.proofs.put.put_content.Goals as goal
 
 pub numbers_at-old-requires : goal.numbers_at-old-requires
 numbers_at-old-requires c = omega (arith, ap (length {A = ℕ}) c.as_rows.ensures, head-numbers c.requires.head)
 
-pub replace_head-requires : goal.replace_head-requires
-replace_head-requires c = rw (← following-listed c.args.n.second) c.requires
-
 pub returns : goal.returns
-returns c = rw (following-listed c.args.n.second) (rw (c.numbers_at-old.ensures, c.as_rows.ensures) at c.replace_head.ensures)
+returns c = rw (c.numbers_at-old.ensures, c.as_rows.ensures) at c.replace_head.ensures

@@ -1,8 +1,8 @@
--- `program::print::put_sheet` meets its contract. Assumes nothing.
+-- `program::print::write_sheet` meets its contract. Assumes nothing.
 use Rattle.std.proofs.Common.{refl}
 use Rattle.program.specs.Print.{sheet_text}
 use Rattle.program.proofs.Laws.Print.{written-last}
-use Rattle.program.proofs.print.put_sheet.Goals as goal
+use Rattle.program.proofs.print.write_sheet.Goals as goal
 
 pub returns : goal.returns
 unfolding sheet_text
