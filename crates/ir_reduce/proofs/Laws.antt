@@ -2,6 +2,8 @@
 pub mod Reach
 pub mod Parted
 pub mod Once
+pub mod KeptForm
+pub mod Twice
 pub mod Marks
 pub mod Places
 pub mod Chains

@@ -2,6 +2,7 @@
 pub mod Groups
 pub mod Reach
 pub mod Call
+pub mod Twice
 pub mod Marks
 pub mod Places
 pub mod Copy

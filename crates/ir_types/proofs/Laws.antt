@@ -4,6 +4,8 @@ pub mod Distinct
 pub mod Last
 pub mod GraphRows
 pub mod GraphOrder
+pub mod FormParts
+pub mod RowsForm
 pub mod GraphForm
 pub mod Label
 pub mod Words

@@ -17,9 +17,9 @@ use Rattle.builtin.specs.Builtin.{first_match, map_builtin}
 use Rattle.builtin.specs.Source.{source_builtins}
 use Rattle.builtin.proofs.Laws.Source.{builtin-kept}
 use Rattle.sheet.specs.Rows.{Row, Sheet}
-use Rattle.sheet.specs.Form.{words, tens_of}
+use Rattle.sheet.specs.Form.{words, rows_used_of, names_used_of, tens_of}
 use Rattle.sheet.specs.Returned.{accepted, malformed, doctype}
-use Rattle.sheet.specs.Lengths.{sheet_lengths, Lengths, lengths_of, good_lengths, Answer}
+use Rattle.sheet.specs.Lengths.{sheet_lengths, Lengths, lengths_of, good_lengths, fits, Answer}
 use Rattle.sheet.specs.Calls.{answered}
 use Rattle.xsd_types.specs.Types.{Schema, MaxOccurs}
 use Rattle.xsd_types.specs.State.{Reader, State, first_state, heads_pass, proper}
@@ -94,9 +94,11 @@ use Rattle.ir_lower.proofs.Laws.Count.{thirteen-exactly}
 use Rattle.ir_reduce.specs.Groups.{GraphType, Parted, parted, rows_of as rows_of_graph}
 use Rattle.ir_reduce.specs.Reach.{In, Chain, Reduced}
 use Rattle.ir_reduce.specs.Call.{in_form, Reduction}
+use Rattle.ir_reduce.specs.Twice.{SameUsed}
 use Rattle.ir_reduce.proofs.Laws.Reach.{reduced-exactly}
 use Rattle.ir_reduce.proofs.Laws.Parted.{rows-twice}
 use Rattle.ir_reduce.proofs.Laws.Once.{reduction-once}
+use Rattle.ir_reduce.proofs.Laws.Twice.{reduced-form, no-twenty_one, sheet-twice, room-again}
 use Rattle.pattern.specs.Grammar.{Derives, reg_exp}
 use Rattle.pattern.specs.Scan.{start, go, scan}
 use Rattle.pattern.specs.Call.{Verdict}
@@ -420,6 +422,24 @@ claim-reduced = reduced-exactly
 -- "reducing twice equals reducing once": the rows of what is kept, parted and reduced again
 pub claim-reduced-twice : (rs : List Row) {q r : Parted} → Reduced (parted rs) q → Reduced (parted (rows_of_graph q)) r → r ≡ q
 claim-reduced-twice = rows-twice
+
+-- and the sheet that is left: it is in the form, "in paper 01's graph form" and without "two types of one name". 21 is for no such sheet, so a call on it never gives 21
+pub claim-reduced-form : {x target y : Sheet} {a : Answer} → Reduction x target a y → a.number ≡ 0 → in_form y ≡ true
+claim-reduced-form = reduced-form
+
+pub claim-no-twenty_one : {x target y : Sheet} {a : Answer} → Reduction x target a y → in_form x ≡ true → a.number ≡ 21 → ⊥
+claim-no-twenty_one = no-twenty_one
+
+-- "reducing twice equals reducing once", on sheets: a call on the sheet that is left, with a target whose lengths no call refuses and that has room for the used rows and
+-- names, gives 0 and the same place, and leaves the same used rows and names; where the target has the same lengths, the same sheet
+pub claim-reduced-sheet-twice : {x target y again z : Sheet} {a b : Answer} → Reduction x target a y → a.number ≡ 0 → sheet_lengths (length again.rows) (length again.names) ≡ true
+    → fits (rows_used_of y) (names_used_of y) (length again.rows) (length again.names) ≡ true → Reduction y again b z → (b ≡ a) × SameUsed y z
+claim-reduced-sheet-twice = sheet-twice
+
+-- a target of at least the lengths of the first has that room
+pub claim-reduced-room : {x target y : Sheet} {a : Answer} (r n : ℕ) → Reduction x target a y → a.number ≡ 0 → length target.rows ≤ r → length target.names ≤ n
+    → fits (rows_used_of y) (names_used_of y) r n ≡ true
+claim-reduced-room = room-again
 
 -- what lowering writes never gives 21: it is in the form, and no two of its types have one name
 pub claim-lowered-in-form : (x graph : Sheet) (scratch : List ℕ) → words x.rows ≡ true → (lowering x graph scratch).answer.number ≡ 0 → in_form (lowering x graph scratch).graph ≡ true

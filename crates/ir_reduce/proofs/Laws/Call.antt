@@ -142,7 +142,7 @@ same-lengths : (rows names rows₁ names₁ : List ℕ) (rs : List Row) → leng
 unfolding graph_fits
 same-lengths rows names rows₁ names₁ rs e f = rw (e, f)
 
-same_graph : (rows names rows₁ names₁ : List ℕ) (rs : List Row) → length rows₁ ≡ length rows → length names₁ ≡ length names → graph_of rs (sheet rows₁ names₁) ≡ graph_of rs (sheet rows names)
+pub same_graph : (rows names rows₁ names₁ : List ℕ) (rs : List Row) → length rows₁ ≡ length rows → length names₁ ≡ length names → graph_of rs (sheet rows₁ names₁) ≡ graph_of rs (sheet rows names)
 unfolding graph_of
 same_graph rows names rows₁ names₁ rs e f = rw (e, f)
 

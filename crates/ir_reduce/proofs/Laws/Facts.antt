@@ -1,26 +1,23 @@
 -- What is known of a graph sheet in the form: how many rows are used, that their texts stand in the names, the order of the rows, and the rows with their texts by
 -- their places. Assumes nothing.
 use mathlib.Core.Path.{◌≡◌, refl, sym, ap, ◌∙◌}
-use mathlib.Core.Bool.{Bool, true, false, ◌&&◌, false≢true}
+use mathlib.Core.Bool.{Bool, true, false, false≢true}
 use mathlib.Core.List.{List, [], ◌∷◌}
 use Prim.Native.Nat.{ℕ, ◌-◌, ◌*◌, ◌≤◌, ◌<◌}
 use native.Mathlib.Omega.{arith}
-use lib.Dec.{eqb, leb}
-use lib.ListN.{length, get_or, take, drop}
+use lib.Dec.{eqb}
+use lib.ListN.{length, get_or, drop}
 use lib.Seq.{get_or-drop}
-use borrow.Author.Tests.{eqb-true, eqb-false, leb-true, le-leb}
-use Rattle.text.specs.Text.{Text, every, is_text, between}
-use Rattle.text.proofs.Laws.Tests.{and-true-left, and-true-right, and-true, two}
-use Rattle.text.proofs.Laws.Every.{every-weaken}
+use borrow.Author.Tests.{eqb-true, eqb-false}
+use Rattle.text.specs.Text.{Text, every, between}
 use Rattle.sheet.specs.Rows.{Ten, ten, tens}
-use Rattle.sheet.specs.Form.{row0_of, tens_of, used_parts, zeros_behind, covers, covered}
-use Rattle.sheet.specs.Lengths.{fits}
+use Rattle.sheet.specs.Form.{row0_of, rows_used_of, tens_of, covered}
 use Rattle.sheet.specs.Calls.{sheet}
 use Rattle.rows.proofs.Laws.Tens.{tens-two}
-use Rattle.rows.proofs.Laws.Room.{fits-room}
 use Rattle.ir_types.specs.Tags.{root_tag}
 use Rattle.ir_types.specs.Row0.{GraphRow0, graph_row0_in}
-use Rattle.ir_types.specs.Form.{used_pairs, is_type_tag, form_a, form_b, form_c, ten_form, in_order, tags_of, count, row0_form, rows_form, names_form, graph_form}
+use Rattle.ir_types.specs.Form.{is_type_tag, ten_form, in_order, tags_of, rows_form}
+use Rattle.ir_types.proofs.Laws.FormParts.{Parts, parts, behind, few-behind, rows-two, rows-room, names-room, pairs-cover, names-end}
 use Rattle.ir_reduce.specs.Groups.{parted}
 use Rattle.ir_reduce.specs.Reach.{In}
 use Rattle.ir_reduce.specs.Call.{rows_in, graph_in}
@@ -32,18 +29,8 @@ use Rattle.ir_reduce.specs.Steps.{Graph}
 use Rattle.ir_reduce.proofs.Laws.Places.{in-none, is_head}
 use Rattle.ir_reduce.proofs.Laws.Kept.{row-tag-at}
 use Rattle.ir_reduce.proofs.Laws.Chains.{Ordered}
-use Rattle.ir_reduce.proofs.Laws.Form.{rows-by-place, tags-by-place, used-few, few-row, stands_from, tags_from, front-roots, under-types}
+use Rattle.ir_reduce.proofs.Laws.Form.{rows-by-place, tags-by-place, stands_from, tags_from, front-roots, under-types}
 use Rattle.ir_reduce.proofs.Laws.Asked.{asked-at, head-is}
-
-form-few : (t : Ten) → ten_form t ≡ true → few-row t ≡ true
-unfolding ten_form
-form-few t h =
-    let a = between 2 19 t.tag in let b = form_a t.tag t.a in let c = form_b t.tag t.b in let d = form_c t.tag t.b t.c in
-    le-leb (used_pairs t.tag t.a) 3 (used-few t.tag t.a (and-true-right a b (and-true-left (a && b) c (and-true-left (a && b && c) d h))))
-
-first-few : (t : Ten) → t.tag ≡ 1 → few-row t ≡ true
-unfolding used_pairs between
-first-few t e = rw e
 
 -- what the form of the rows says
 record RowsOk (n : Ten) (ts : List Ten) : Type 0 where
@@ -52,70 +39,46 @@ record RowsOk (n : Ten) (ts : List Ten) : Type 0 where
   order : in_order 1 (tags_of ts) ≡ true
 
 rows_ok_lem : (z : GraphRow0) (n : Ten) (ts : List Ten) → rows_form z (n ∷ ts) ≡ true → RowsOk n ts
-unfolding rows_form
 rows_ok_lem z n ts h =
-    let a = eqb n.tag 1 in let b = eqb n.a 0 in let c = eqb n.b 0 in let d = eqb n.c 0 in let e = every ten_form ts in let f = in_order 1 (tags_of ts) in
-    let g = eqb z.root_elements (count (λ tag. eqb tag root_tag) (tags_of ts)) in let k = eqb z.types (count is_type_tag (tags_of ts)) in
-    let s = and-true-left (a && b && c && d && e && f) g (and-true-left (a && b && c && d && e && f && g) k h) in
-    let r = and-true-left (a && b && c && d && e) f s in
-    record {
-      first = eqb-true n.tag 1 (and-true-left a b (and-true-left (a && b) c (and-true-left (a && b && c) d (and-true-left (a && b && c && d) e r))));
-      forms = and-true-right (a && b && c && d) e r;
-      order = and-true-right (a && b && c && d && e) f s;
-    }
+    let b = behind z (n ∷ ts) h in
+    let f : n ≡ b.first = cc in
+    let g : ts ≡ b.body = cc in
+    record { first = rw f b.tag_is; forms = rw g b.formed; order = rw g b.ordered }
 
 module _ {rows names : List ℕ} {end : ℕ} (g : Graph rows names end) where
-  record Parts : Type 0 where
-    parts : used_parts (sheet rows names) ≡ true
-    rows_ok : rows_form (graph_row0_in (sheet rows names)) (tens_of (sheet rows names)) ≡ true
-    names_ok : names_form (get_or rows 2 0) (tens_of (sheet rows names)) ≡ true
+  parts-of : Parts (sheet rows names)
+  parts-of = parts (sheet rows names) g.form
 
-  parts-of : Parts
-  unfolding graph_form row0_of ten
-  parts-of =
-      let x = sheet rows names in
-      let z = graph_row0_in x in
-      let a = used_parts x in let b = row0_form z in let c = rows_form z (tens_of x) in let d = names_form z.names_used
-      (tens_of x) in let e = zeros_behind x in let f = is_text (take z.names_used names) in
-      let s = and-true-left (a && b && c && d) e (and-true-left (a && b && c && d && e) f g.form) in
-      let r = and-true-left (a && b && c) d s in
-      record { parts = and-true-left a b (and-true-left (a && b) c r); rows_ok = and-true-right (a && b) c r; names_ok = and-true-right (a && b && c) d s }
-
-  used-room : (2 ≤ end) × ((10 * end ≤ length rows) × (get_or rows 2 0 ≤ length names))
-  unfolding used_parts row0_of ten
-  used-room =
-      let both = two (leb 2 (get_or rows 1 0)) (fits (get_or rows 1 0) (get_or rows 2 0) (length rows) (length names)) parts-of.parts in
-      rw g.used (leb-true 2 (get_or rows 1 0) both.0, fits-room (get_or rows 1 0) (get_or rows 2 0) (length rows) (length names) both.1)
+  used-is : end ≡ rows_used_of (sheet rows names)
+  unfolding row0_of ten
+  used-is = g.used
 
   pub at_least : 2 ≤ end
-  at_least = used-room.0
+  at_least = rw used-is (rows-two (sheet rows names) parts-of)
 
   pub rows_inside_lem : 10 * end ≤ length rows
-  rows_inside_lem = used-room.1.0
+  rows_inside_lem = rw used-is (rows-room (sheet rows names) parts-of)
 
   tens-are : tens_of (sheet rows names) ≡ tens (end - 1) (drop (10 * 1) rows)
-  unfolding tens_of row0_of ten
-  tens-are = rw g.used
+  unfolding tens_of
+  tens-are = rw used-is
 
   tens-split : tens (end - 1) (drop (10 * 1) rows) ≡ ten (drop (10 * 1) rows) ∷ tens (end - 2) (drop (10 * 2) rows)
   tens-split = tens-two end rows at_least
 
   rows-checked : RowsOk (ten (drop (10 * 1) rows)) (tens (end - 2) (drop (10 * 2) rows))
-  rows-checked = rows_ok_lem (graph_row0_in (sheet rows names)) (ten (drop (10 * 1) rows)) (tens (end - 2) (drop (10 * 2) rows)) (rw (tens-are ∙ tens-split) at parts-of.rows_ok)
+  rows-checked = rows_ok_lem (graph_row0_in (sheet rows names)) (ten (drop (10 * 1) rows)) (tens (end - 2) (drop (10 * 2) rows)) (rw (tens-are ∙ tens-split) at parts-of.rows)
 
   first-tag : get_or rows (10 * 1) 0 ≡ 1
   unfolding ten
   first-tag = sym (get_or-drop 10 rows 0 0) ∙ rows-checked.first
 
   pub rows-stand : (p : ℕ) → 0 < p → p < end → Stands rows names p
-  unfolding names_form every
   rows-stand p a b =
-      let ts = tens (end - 1) (drop (10 * 1) rows) in
-      let few : every few-row ts ≡ true = rw tens-split
-      (and-true {a = few-row (ten (drop (10 * 1) rows))} (first-few (ten (drop (10 * 1) rows)) rows-checked.first)
-      (every-weaken ten_form few-row form-few (tens (end - 2) (drop (10 * 2) rows)) rows-checked.forms)) in
-      let both = two (covers used_pairs 0 ts) (eqb (covered 0 ts) (get_or rows 2 0)) (rw tens-are at parts-of.names_ok) in
-      stands_from rows names (end - 1) 1 0 few both.0 (omega (arith, eqb-true (covered 0 ts) (get_or rows 2 0) both.1, used-room.1.1)) p a (omega arith)
+      let x = sheet rows names in
+      let some = few-behind (tens_of x) (behind (graph_row0_in x) (tens_of x) parts-of.rows) in
+      let inside : covered 0 (tens_of x) ≤ length names = rw (names-end x parts-of) (names-room x parts-of) in
+      stands_from rows names (end - 1) 1 0 (rw tens-are at some) (rw tens-are at (pairs-cover x parts-of)) (rw tens-are at inside) p a (omega arith)
 
   pub rows_are : rows_in (sheet rows names) ≡ rows_from (row_at rows names) 1 (end - 1)
   unfolding rows_in

@@ -1,8 +1,7 @@
 -- What a graph sheet's form says of its rows by their places: their pairs stand side by side in the names, and the roots stand before the types. By induction over the
 -- rows from a place on. Assumes nothing.
-use Rattle.std.specs.Prelude.{if◌then◌else◌}
 use mathlib.Core.Path.{◌≡◌, refl, sym, ap, ◌∙◌}
-use mathlib.Core.Bool.{Bool, true, false, ◌||◌, false≢true, and-false}
+use mathlib.Core.Bool.{Bool, true, false, false≢true, and-false}
 use mathlib.Core.List.{List, [], ◌∷◌, map}
 use Prim.Native.Nat.{ℕ, zero, suc, ◌+◌, ◌*◌, ◌≤◌, ◌<◌}
 use native.Mathlib.Omega.{arith}
@@ -13,10 +12,10 @@ use borrow.Author.Tests.{eqb-true, eqb-false, leb-true, lt-leb}
 use Rattle.text.specs.Text.{every, between}
 use Rattle.text.proofs.Laws.Tests.{and-true-left, and-true-right, two}
 use Rattle.text.proofs.Laws.Every.{every-head, every-tail}
-use Rattle.sheet.specs.Rows.{Ten, ten, tens, unpack_row}
-use Rattle.sheet.specs.Form.{is_flag, row_covers, end_of, covers, covered}
-use Rattle.sheet.proofs.Laws.Unpacks.{covered-from}
-use Rattle.ir_types.specs.Form.{used_pairs, is_type_tag, form_a, is_child, may_follow, head_after, in_order, tags_of}
+use Rattle.sheet.specs.Rows.{ten, tens, unpack_row}
+use Rattle.sheet.specs.Form.{row_covers, end_of, covers, covered}
+use Rattle.sheet.proofs.Laws.Unpacks.{few, few-used, covered-from}
+use Rattle.ir_types.specs.Form.{used_pairs, is_type_tag, is_child, may_follow, head_after, in_order, tags_of}
 use Rattle.ir_reduce.specs.Places.{row_at, rows_from}
 use Rattle.ir_reduce.specs.Copy.{Stands}
 
@@ -40,35 +39,8 @@ tags-by-place rows (suc m) p =
     let tag : get_or (drop (10 * p) rows) 0 0 ≡ get_or rows (10 * p) 0 = get_or-drop (10 * p) rows 0 0 ∙ ap (λ (k : ℕ). get_or rows k 0) (omega arith) in
     rw (ten-next rows p, tag) (ap (λ (l : List ℕ). get_or rows (10 * p) 0 ∷ l) (tags-by-place rows m (suc p)))
 
--- ---- a row uses at most three pairs
-flag-of : (a : ℕ) → form_a 8 a ≡ true → leb a 1 ≡ true
-unfolding form_a is_flag between
-flag-of a h = h
-
-some_pairs : (b c d e f : Bool) (a : ℕ) → (b ≡ true → a ≤ 1) → (if b then 1 + a else if c then (if f then 2 else 1) else if d then (if f then 3 else 2) else if e then 2 else 1) ≤ 3
-some_pairs true c d e f a h = omega (arith, h refl)
-some_pairs false true d e true a h = omega arith
-some_pairs false true d e false a h = omega arith
-some_pairs false false true e true a h = omega arith
-some_pairs false false true e false a h = omega arith
-some_pairs false false false true f a h = omega arith
-some_pairs false false false false f a h = omega arith
-
-at-most-pairs : (b : Bool) (n : ℕ) → n ≤ 3 → (if b then 0 else n) ≤ 3
-at-most-pairs true n h = omega arith
-at-most-pairs false n h = h
-
-pub used-few : (tag a : ℕ) → form_a tag a ≡ true → used_pairs tag a ≤ 3
-unfolding used_pairs
-used-few tag a h =
-    at-most-pairs (between 12 13 tag || between 16 17 tag) _
-    (some_pairs (eqb tag 8) (eqb tag 7) (between 9 10 tag || eqb tag 19) (eqb tag 2 || eqb tag 18) (eqb a 0) a (λ e. leb-true a 1 (flag-of a (rw (eqb-true tag 8 e) at h))))
-
 -- ---- the pairs by their places
-abbrev pub few-row : Ten → Bool
-few-row t = leb (used_pairs t.tag t.a) 3
-
-pub stands_from : (rows names : List ℕ) (m p k : ℕ) → every few-row (tens m (drop (10 * p) rows)) ≡ true → covers used_pairs k (tens m (drop (10 * p) rows)) ≡ true
+pub stands_from : (rows names : List ℕ) (m p k : ℕ) → every (few used_pairs) (tens m (drop (10 * p) rows)) ≡ true → covers used_pairs k (tens m (drop (10 * p) rows)) ≡ true
     → covered k (tens m (drop (10 * p) rows)) ≤ length names
     → (q : ℕ) → p ≤ q → q < p + m → Stands rows names q
 unfolding tens covers covered
@@ -78,7 +50,7 @@ stands_from rows names (suc m) p k f e n q a b =
     let ts = tens m (drop 10 (drop (10 * p) rows)) in
     let next = ap (tens m) (ten-next rows p) in
     by_place (eqb q p) refl
-    (λ o. stands_from rows names m (suc p) (end_of k t) (rw next at (every-tail few-row t ts f))
+    (λ o. stands_from rows names m (suc p) (end_of k t) (rw next at (every-tail (few used_pairs) t ts f))
     (rw next at (and-true-right (row_covers used_pairs k t) (covers used_pairs (end_of k t) ts) e)) (rw next at n) q (omega arith) (omega arith))
   where
     by_place : (b : Bool) → eqb q p ≡ b → (p < q → Stands rows names q) → Stands rows names q
@@ -87,7 +59,7 @@ stands_from rows names (suc m) p k f e n q a b =
         (record {
           from = k;
           covers = and-true-left (row_covers used_pairs k (ten (drop (10 * p) rows))) _ e;
-          few = leb-true _ 3 (every-head few-row (ten (drop (10 * p) rows)) _ f);
+          few = few-used used_pairs (ten (drop (10 * p) rows)) (every-head (few used_pairs) (ten (drop (10 * p) rows)) _ f);
           inside = omega (arith, covered-from (end_of k (ten (drop (10 * p) rows))) (tens m (drop 10 (drop (10 * p) rows))));
         })
     by_place false g again = again (omega (arith, eqb-false q p g))

@@ -7,8 +7,8 @@ use Rattle.text.proofs.Laws.Tests.{and-true-left, and-true-right, and-true}
 use Rattle.sheet.specs.Rows.{Row}
 use Rattle.ir_types.specs.Form.{is_type_tag}
 use Rattle.ir_reduce.specs.Groups.{GraphType, Parted, add_row, parted, rows_of_types, rows_of}
-use Rattle.ir_reduce.specs.Reach.{Kept, Reduced}
-use Rattle.ir_reduce.proofs.Laws.Reach.{reduced-twice}
+use Rattle.ir_reduce.specs.Reach.{Reduced}
+use Rattle.ir_reduce.proofs.Laws.Reach.{kept-every, reduced-twice}
 
 -- ---- parting loses nothing
 added : (r : Row) (p : Parted) (b : Bool) → is_type_tag r.tag ≡ b → rows_of (add_row r p) ≡ r ∷ rows_of p
@@ -70,13 +70,6 @@ unfolding parted shaped every
 shaped-parted [] = refl
 shaped-parted (r ∷ rs) = shaped-added r (parted rs) (is_type_tag r.tag) refl (shaped-parted rs)
 
--- and so are those that are kept
-kept-shaped : {P : GraphType → Type 0} {ts us : List GraphType} → Kept P ts us → every type_shaped ts ≡ true → every type_shaped us ≡ true
-unfolding every
-kept-shaped Kept.end h = refl
-kept-shaped (Kept.keep {t} {ts} {us} c k) h = and-true (and-true-left (type_shaped t) (every type_shaped ts) h) (kept-shaped k (and-true-right (type_shaped t) (every type_shaped ts) h))
-kept-shaped (Kept.leave {t} {ts} {us} c k) h = kept-shaped k (and-true-right (type_shaped t) (every type_shaped ts) h)
-
 -- so the rows of a reduced graph are parted as it is: reducing them again is reducing it again
 pub reduced-parted : (rs : List Row) {q : Parted} → Reduced (parted rs) q → parted (rows_of q) ≡ q
 unfolding shaped
@@ -84,7 +77,7 @@ reduced-parted rs {q} w =
     let s = shaped-parted rs in
     parted-rows q (and-true {a = every is_child_row q.front}
     (rw w.front (and-true-left (every is_child_row (parted rs).front) (every type_shaped (parted rs).types) s))
-    (kept-shaped w.types (and-true-right (every is_child_row (parted rs).front) (every type_shaped (parted rs).types) s)))
+    (kept-every type_shaped w.types (and-true-right (every is_child_row (parted rs).front) (every type_shaped (parted rs).types) s)))
 
 twice_of : {p q q' r : Parted} → Reduced p q → q' ≡ q → Reduced q' r → r ≡ q
 twice_of w e v = reduced-twice w (rw (sym e) v)

@@ -4,6 +4,9 @@ use mathlib.Core.Path.{◌≡◌, refl, sym, ap, ◌∙◌}
 use mathlib.Core.Logic.{◌↔◌}
 use mathlib.Core.Bool.{Bool, true, false, false≢true}
 use mathlib.Core.List.{List, [], ◌∷◌}
+use Rattle.text.specs.Text.{every}
+use Rattle.text.proofs.Laws.Tests.{and-true}
+use Rattle.text.proofs.Laws.Every.{every-head, every-tail}
 use Rattle.sheet.specs.Rows.{Row}
 use Rattle.ir_types.specs.Tags.{root_tag}
 use Rattle.ir_reduce.specs.Groups.{GraphType, Parted, type_name, root_type, references}
@@ -66,7 +69,13 @@ kept-each (Kept.keep c k) In.here = c
 kept-each (Kept.keep c k) (In.there i) = kept-each k i
 kept-each (Kept.leave c k) i = kept-each k i
 
-kept-all : {P : GraphType → Type 0} (ts : List GraphType) → ((t : GraphType) → In t ts → P t) → Kept P ts ts
+pub kept-every : {P : GraphType → Type 0} {ts us : List GraphType} (test : GraphType → Bool) → Kept P ts us → every test ts ≡ true → every test us ≡ true
+unfolding every
+kept-every test Kept.end h = refl
+kept-every test (Kept.keep {t} {ts} {us} c k) h = and-true (every-head test t ts h) (kept-every test k (every-tail test t ts h))
+kept-every test (Kept.leave {t} {ts} {us} c k) h = kept-every test k (every-tail test t ts h)
+
+pub kept-all : {P : GraphType → Type 0} (ts : List GraphType) → ((t : GraphType) → In t ts → P t) → Kept P ts ts
 kept-all [] f = Kept.end
 kept-all (t ∷ ts) f = Kept.keep (f t In.here) (kept-all ts (λ u i. f u (In.there i)))
 

@@ -1,0 +1,131 @@
+-- What the form of a graph sheet says, part by part: the used parts, the rows one by one, their pairs, and that each row uses at most three. Assumes nothing.
+use Rattle.std.specs.Prelude.{if◌then◌else◌}
+use mathlib.Core.Path.{◌≡◌, refl}
+use mathlib.Core.Bool.{Bool, true, false, ◌&&◌, ◌||◌, false≢true}
+use mathlib.Core.List.{List, [], ◌∷◌}
+use Prim.Native.Nat.{ℕ, ◌+◌, ◌*◌, ◌≤◌}
+use native.Mathlib.Omega.{arith}
+use lib.Dec.{eqb, leb}
+use lib.ListN.{length, take}
+use borrow.Author.Tests.{eqb-true, leb-true, le-leb}
+use Rattle.text.specs.Text.{every, is_text, between}
+use Rattle.text.proofs.Laws.Tests.{two, three, six, and-true, and-true-left, and-true-right}
+use Rattle.text.proofs.Laws.Every.{every-weaken}
+use Rattle.sheet.specs.Rows.{Ten, Sheet}
+use Rattle.sheet.specs.Form.{is_flag, covers, covered, rows_used_of, names_used_of, tens_of, used_parts, zeros_behind}
+use Rattle.sheet.specs.Lengths.{fits}
+use Rattle.sheet.proofs.Laws.Unpacks.{few}
+use Rattle.ir_types.specs.Tags.{root_tag}
+use Rattle.ir_types.specs.Row0.{GraphRow0, graph_row0_in}
+use Rattle.ir_types.specs.Form.{used_pairs, is_type_tag, form_a, form_b, form_c, ten_form, in_order, tags_of, count, row0_form, rows_form, names_form, graph_form}
+
+pub record Parts (x : Sheet) : Type 0 where
+  pub used : used_parts x ≡ true
+  pub rows : rows_form (graph_row0_in x) (tens_of x) ≡ true
+  pub names : names_form (names_used_of x) (tens_of x) ≡ true
+  pub zeros : zeros_behind x ≡ true
+  pub text : is_text (take (names_used_of x) x.names) ≡ true
+
+pub parts : (x : Sheet) → graph_form x ≡ true → Parts x
+unfolding graph_form
+parts x h =
+    let z = graph_row0_in x in
+    let w = six (used_parts x) (row0_form z) (rows_form z (tens_of x)) (names_form z.names_used (tens_of x)) (zeros_behind x) (is_text (take z.names_used x.names)) h in
+    record { used = w.0; rows = w.2; names = w.3; zeros = w.4; text = w.5 }
+
+-- row 1 and the rows behind it
+pub record Behind (ts : List Ten) : Type 0 where
+  pub first : Ten
+  pub body : List Ten
+  pub same : ts ≡ first ∷ body
+  pub tag_is : first.tag ≡ 1
+  pub a_is : first.a ≡ 0
+  pub b_is : first.b ≡ 0
+  pub c_is : first.c ≡ 0
+  pub formed : every ten_form body ≡ true
+  pub ordered : in_order 1 (tags_of body) ≡ true
+
+pub behind : (z : GraphRow0) (ts : List Ten) → rows_form z ts ≡ true → Behind ts
+unfolding rows_form
+behind z [] h = absurd (false≢true h)
+behind z (n ∷ ts) h =
+    let a = eqb n.tag 1 in let b = eqb n.a 0 in let c = eqb n.b 0 in let d = eqb n.c 0 in let e = every ten_form ts in let f = in_order 1 (tags_of ts) in
+    let counts = three (a && b && c && d && e && f) (eqb z.root_elements (count (λ tag. eqb tag root_tag) (tags_of ts))) (eqb z.types (count is_type_tag (tags_of ts))) h in
+    let w = six a b c d e f counts.0 in
+    record {
+      first = n;
+      body = ts;
+      same = refl;
+      tag_is = eqb-true n.tag 1 w.0;
+      a_is = eqb-true n.a 0 w.1;
+      b_is = eqb-true n.b 0 w.2;
+      c_is = eqb-true n.c 0 w.3;
+      formed = w.4;
+      ordered = w.5;
+    }
+
+-- ---- a row uses at most three pairs
+flag-of : (a : ℕ) → form_a 8 a ≡ true → leb a 1 ≡ true
+unfolding form_a is_flag between
+flag-of a h = h
+
+some_pairs : (b c d e f : Bool) (a : ℕ) → (b ≡ true → a ≤ 1) → (if b then 1 + a else if c then (if f then 2 else 1) else if d then (if f then 3 else 2) else if e then 2 else 1) ≤ 3
+some_pairs true c d e f a h = omega (arith, h refl)
+some_pairs false true d e true a h = omega arith
+some_pairs false true d e false a h = omega arith
+some_pairs false false true e true a h = omega arith
+some_pairs false false true e false a h = omega arith
+some_pairs false false false true f a h = omega arith
+some_pairs false false false false f a h = omega arith
+
+at-most-pairs : (b : Bool) (n : ℕ) → n ≤ 3 → (if b then 0 else n) ≤ 3
+at-most-pairs true n h = omega arith
+at-most-pairs false n h = h
+
+used-few : (tag a : ℕ) → form_a tag a ≡ true → used_pairs tag a ≤ 3
+unfolding used_pairs
+used-few tag a h =
+    at-most-pairs (between 12 13 tag || between 16 17 tag) _
+    (some_pairs (eqb tag 8) (eqb tag 7) (between 9 10 tag || eqb tag 19) (eqb tag 2 || eqb tag 18) (eqb a 0) a (λ e. leb-true a 1 (flag-of a (rw (eqb-true tag 8 e) at h))))
+
+few-form : (t : Ten) → ten_form t ≡ true → few used_pairs t ≡ true
+unfolding ten_form few
+few-form t h =
+    let a = between 2 19 t.tag in let b = form_a t.tag t.a in let c = form_b t.tag t.b in let d = form_c t.tag t.b t.c in
+    le-leb (used_pairs t.tag t.a) 3 (used-few t.tag t.a (and-true-right a b (and-true-left (a && b) c (and-true-left (a && b && c) d h))))
+
+few-first : (t : Ten) → t.tag ≡ 1 → few used_pairs t ≡ true
+unfolding few used_pairs between
+few-first t e = rw e
+
+pub few-behind : (ts : List Ten) → Behind ts → every (few used_pairs) ts ≡ true
+unfolding every
+few-behind ts b = rw b.same (and-true {a = few used_pairs b.first} (few-first b.first b.tag_is) (every-weaken ten_form (few used_pairs) few-form b.body b.formed))
+
+-- ---- the parts as numbers
+module _ (x : Sheet) (p : Parts x) where
+  used-room : (2 ≤ rows_used_of x) × (10 * rows_used_of x ≤ length x.rows) × (names_used_of x ≤ length x.names)
+  unfolding used_parts fits
+  used-room =
+      let w = two (leb 2 (rows_used_of x)) (fits (rows_used_of x) (names_used_of x) (length x.rows) (length x.names)) p.used in
+      let v = two (leb (10 * rows_used_of x) (length x.rows)) (leb (names_used_of x) (length x.names)) w.1 in
+      (leb-true 2 (rows_used_of x) w.0, leb-true (10 * rows_used_of x) (length x.rows) v.0, leb-true (names_used_of x) (length x.names) v.1)
+
+  pub rows-two : 2 ≤ rows_used_of x
+  rows-two = used-room.0
+
+  pub rows-room : 10 * rows_used_of x ≤ length x.rows
+  rows-room = used-room.1
+
+  pub names-room : names_used_of x ≤ length x.names
+  names-room = used-room.2
+
+  pairs-end : (covers used_pairs 0 (tens_of x) ≡ true) × (eqb (covered 0 (tens_of x)) (names_used_of x) ≡ true)
+  unfolding names_form
+  pairs-end = two (covers used_pairs 0 (tens_of x)) (eqb (covered 0 (tens_of x)) (names_used_of x)) p.names
+
+  pub pairs-cover : covers used_pairs 0 (tens_of x) ≡ true
+  pairs-cover = pairs-end.0
+
+  pub names-end : covered 0 (tens_of x) ≡ names_used_of x
+  names-end = eqb-true (covered 0 (tens_of x)) (names_used_of x) pairs-end.1
