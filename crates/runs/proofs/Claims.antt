@@ -1,7 +1,8 @@
--- The outer claims, each under the paper's words. What a call says of itself is `ClearIs`, `ConvertIs`, `ReadIs`, `TapeIs`, `LowerIs`, `LabelIs`, `LabelNumberIs`,
--- `WriteIs` and `Reduction` (specs/ of xsd_types, xsd_parser, xml, ir_lower, ir_types, xsd_written, ir_reduce); a `Trace` is a list of readings and lowerings, each by
--- its `ReadIs` or `LowerIs`. Every claim is
--- proved below this file. Assumes nothing.
+-- The outer claims, each under the paper's words. What a call says of itself is `ClearIs`, `ConvertIs`, `ReadIs`, `TapeIs`, `LowerIs`, `LabelIs`, `LabelNumberIs`, `FormIs`,
+-- `Reduction`, `WriteIs`, `PatternIs`, `ColumnsIs` and `RowsIs` (specs/ of xsd_types, xsd_parser, xml, ir_lower, ir_types, graph_form, ir_reduce, xsd_written, pattern
+-- and columns); the code's contracts state these. A `Trace` is a list of readings and lowerings that were made one after the other on one sheet, each with what it
+-- answered and by its `ReadIs` or `LowerIs`; `run` gives the same by the definition, from the first sheet alone. A `GoodStart` is a good sheet with lengths
+-- within the limits. Every claim is proved below this file. Assumes nothing.
 use Prim.Native.Nat.{ℕ, ◌+◌, ◌≤◌, ◌<◌}
 use mathlib.Core.Path.{◌≡◌}
 use mathlib.Core.Logic.{◌↔◌}
@@ -49,7 +50,7 @@ use Rattle.xsd_parser.specs.Step.{step}
 use Rattle.xsd_parser.specs.Read.{read_records, read, read_state, ReadIs}
 use Rattle.xsd_parser.specs.Table.{ReadTable}
 use Rattle.xsd_parser.proofs.Laws.Table.{read_table}
-use Rattle.xsd_parser.specs.Numbered.{read_records_by, read_state_by, unknown_number, unnumbered_reading, gave}
+use Rattle.xsd_parser.specs.Numbered.{read_records_by, read_state_by, unknown_number, unnumbered_reading, numbered_heads, heads_given, gave}
 use Rattle.xsd_parser.specs.Children.{direct_children, heads, only_types}
 use Rattle.xsd_parser.proofs.Laws.Cleared.{read_state-unnumbered, read_records-numbered}
 use Rattle.xsd_parser.proofs.Laws.Occurs.{unbounded-exactly}
@@ -111,7 +112,7 @@ use Rattle.xsd_written.proofs.Laws.Values.{held-exactly}
 use Rattle.xsd_written.proofs.Laws.Table.{write-exactly}
 use Rattle.columns.specs.Columns.{columns_of, rows_of as rows_of_columns}
 use Rattle.columns.proofs.Laws.Calls.{rows_back, columns-back}
-use Rattle.runs.specs.Runs.{Call, Answered, Ran, run}
+use Rattle.runs.specs.Runs.{Call, Answered, GoodStart, Ran, run}
 use Rattle.runs.specs.Trace.{Trace}
 use Rattle.runs.specs.Cuts.{Job, jobs_done, jobs_judged, CutInto, CutAlike}
 use Rattle.runs.specs.Joined.{joined, accepted_events, after_records}
@@ -128,7 +129,7 @@ use Rattle.runs.proofs.Accepted.{run-children}
 use Rattle.runs.proofs.Notes.{notes-nothing, notes-made}
 use Rattle.ir_types.specs.Rows.{rows_of as graph_rows_of}
 use Rattle.ir_types.specs.Unnumbered.{unnumbered_graph}
-use Rattle.runs.specs.Cleared.{cleared_graph_row, is_zero, Stored, run_before, RunCleared}
+use Rattle.runs.specs.Cleared.{cleared_graph_row, Stored, run_before, RunCleared}
 use Rattle.runs.proofs.Cleared.{graph-cleared, sheet-cleared}
 use Rattle.runs.proofs.Stored.{stored-run}
 use mathlib.Core.Option.{some}
@@ -164,7 +165,7 @@ claim-lower-table = lowering-table
 pub claim-label-table : (rows names words : List ℕ) (k : ℕ) → LabelTable rows names words k (label rows names words k)
 claim-label-table = label-table
 
--- "The label call gives a row's type reference": on an accepted graph, for every row
+-- "**The label call** gives a row's type reference": on an accepted graph, for every row
 pub claim-labels : (x graph : Sheet) (scratch words : List ℕ) → (lowering x graph scratch).answer.number ≡ 0
     → LoweredLabels (state_of x).reader.schema (lowering x graph scratch).graph words
 claim-labels = lowering-labels
@@ -190,13 +191,13 @@ claim-runs = runs
 
 -- "Events joined are the records so judged." From a good sheet the last sheet is that of the first state after them, one after the other, wherever the
 -- pieces ended: by the definition, and for the calls made
-pub claim-joined : (x : Sheet) (calls : List Call) → good_lengths (lengths_of x) ≡ true → good x ≡ true
+pub claim-joined : (x : Sheet) (calls : List Call) → GoodStart x
     → (run x calls).last ≡ sheet_of (after_records (lengths_of x) (state_of x) (joined x calls)) (length x.rows) (length x.names)
-claim-joined = last-joined
+claim-joined x calls g = last-joined x calls g.lengths g.is_good
 
-pub claim-joined-made : {x x' : Sheet} {calls : List Call} {answers : List Answered} → words x.rows ≡ true → good_lengths (lengths_of x) ≡ true → good x ≡ true
+pub claim-joined-made : {x x' : Sheet} {calls : List Call} {answers : List Answered} → words x.rows ≡ true → GoodStart x
     → Trace x calls answers x' → x' ≡ sheet_of (after_records (lengths_of x) (state_of x) (joined x calls)) (length x.rows) (length x.names)
-claim-joined-made = made-joined
+claim-joined-made w g made = made-joined w g.lengths g.is_good made
 
 -- "From a good sheet no call of the run gives 2."
 pub claim-no-two : (x : Sheet) (calls : List Call) → good x ≡ true → NoneTwo (run x calls).answers
@@ -209,28 +210,28 @@ claim-number = read_state-place
 -- "where no reading meets 1, a tape may be cut between any events over the same text: up to its first refused event the sheet is the same, and that
 -- event has the same refusal and the same number in the run". "Past it the cut counts, since it decides what is dropped": any number of tapes, each of any
 -- length and in any number of pieces, any lowerings between them, end as the tapes read whole; by the definition, and for the calls made
-pub claim-cut : (x : Sheet) (jobs : List Job) (calls : List Call) → good_lengths (lengths_of x) ≡ true → good x ≡ true → CutInto (lengths_of x) (state_of x) jobs calls
+pub claim-cut : (x : Sheet) (jobs : List Job) (calls : List Call) → GoodStart x → CutInto (lengths_of x) (state_of x) jobs calls
     → CutAlike (lengths_of x) (jobs_done (lengths_of x) (state_of x) jobs) (run x calls)
-claim-cut = cut-run
+claim-cut x jobs calls g = cut-run x jobs calls g.lengths g.is_good
 
-pub claim-cut-made : {x x' : Sheet} {jobs : List Job} {calls : List Call} {answers : List Answered} → words x.rows ≡ true → good_lengths (lengths_of x) ≡ true → good x ≡ true
+pub claim-cut-made : {x x' : Sheet} {jobs : List Job} {calls : List Call} {answers : List Answered} → words x.rows ≡ true → GoodStart x
     → CutInto (lengths_of x) (state_of x) jobs calls → Trace x calls answers x' → CutAlike (lengths_of x) (jobs_done (lengths_of x) (state_of x) jobs) (record { answers = answers; last = x' })
-claim-cut-made = cut-made
+claim-cut-made w g = cut-made w g.lengths g.is_good
 
 -- the events joined are those of the tapes, wherever the pieces end
-pub claim-joined-cut : (x : Sheet) (jobs : List Job) (calls : List Call) → good_lengths (lengths_of x) ≡ true → good x ≡ true → CutInto (lengths_of x) (state_of x) jobs calls
+pub claim-joined-cut : (x : Sheet) (jobs : List Job) (calls : List Call) → GoodStart x → CutInto (lengths_of x) (state_of x) jobs calls
     → joined x calls ≡ jobs_judged (lengths_of x) (state_of x) jobs
-claim-joined-cut = cut-joined
+claim-joined-cut x jobs calls g = cut-joined x jobs calls g.lengths g.is_good
 
--- order 2, numbers: a text accepted before keeps its value. What is accepted is white space around a text accepted before or around minus zeros, or such a
--- text alone, at every width; what is new is `-` before zeros and white space around either
+-- order 2, "The number leaf takes both from now on, a minus only before zeros": a text accepted before keeps its value. What is accepted is white space around
+-- a text accepted before or around minus zeros, or such a text alone, at every width; what is new is `-` before zeros and white space around either
 pub claim-number-kept : (w : ℕ) (s : Text) (v : ℕ) → plain_number w s ≡ parsed v → number w s ≡ parsed v
 claim-number-kept = number-kept
 
 pub claim-number-exactly : (w : ℕ) (s : Text) (v : ℕ) → (number w s ≡ parsed v) ↔ ((core : Text) × Around core s × Spells w core v)
 claim-number-exactly = number-exactly
 
--- "`unbounded` may have white space around it too", and nothing else is unbounded
+-- order 2, "`unbounded` may have white space around it too", and nothing else is unbounded
 pub claim-unbounded : (v : Text) → (is_unbounded v ≡ true) ↔ Around (bytes "unbounded") v
 claim-unbounded = unbounded-exactly
 
@@ -242,43 +243,45 @@ claim-document = document-exactly
 pub claim-document-once : {text : Text} {es fs : List TapeEvent} → Derived text es → Derived text fs → es ≡ fs
 claim-document-once = derived-once
 
--- "18 the bytes `<!DOCTYPE` with only a well-formed prolog, or nothing, before them", behind 1 and 5
+-- order 1, "18 the bytes `<!DOCTYPE` with only a well-formed prolog, or nothing, before them", behind 1 and 5
 pub claim-doctype : (text : Text) (before : List ℕ) → ((tape_of text before).number ≡ doctype) ↔ (Readable text before × BegunByDoctype text)
 claim-doctype = eighteen-exactly
 
--- "17 not well formed": below 128, not 18, and no derivation
+-- order 1, "17 not well formed": below 128, not 18, and no derivation
 pub claim-malformed : (text : Text) (before : List ℕ)
     → ((tape_of text before).number ≡ malformed) ↔ (Readable text before × (BegunByDoctype text → ⊥) × ((es : List TapeEvent) → Derived text es → ⊥))
 claim-malformed = seventeen-exactly
 
--- what the call says of itself, by the productions alone, fixes number, place and every mark
+-- order 1, "order 1, 5 for any byte above 127, 18, 17, 19, marks zero from 5 on; accepted, place is the marks used and the rest are zero": what the call says of
+-- itself, by the productions alone, fixes number, place and every mark
 pub claim-tape-is : (text : Text) (before : List ℕ) (number place : ℕ) (after : List ℕ) → TapeIs text before number place after ↔ (taken number place after ≡ tape_of text before)
 claim-tape-is = tape-exactly
 
--- an accepted tape is that of a well-formed text below 128, up to its place
+-- order 1, "accepted, place is the marks used": an accepted tape is that of a well-formed text below 128, up to its place
 pub claim-tape : (text : Text) (before : List ℕ) → (tape_of text before).number ≡ accepted → (es : List TapeEvent) × (document text ≡ well_formed es) × (is_text text ≡ true)
     × (take (tape_of text before).place (tape_of text before).marks ≡ tape_marks es)
 claim-tape = accepted-tape
 
--- "a tape whose pairs point into it": under each pair stands the name or the value that the production has at that place
+-- order 1, "a tape whose pairs point into it": under each pair stands the name or the value that the production has at that place
 pub claim-tape-pairs : (text : Text) (es : List TapeEvent) → document text ≡ well_formed es → EventsAt text es
 claim-tape-pairs = events-at
 
--- such a tape, read whole with its text, is read as its events: with at most 32 attributes it meets none of 3, 4 and 5
+-- order 1, "Over 32 attributes are written too, for reading to refuse": such a tape, read whole with its text, is read as its events; with at most 32 attributes
+-- it meets none of 3, 4 and 5
 pub claim-tape-records : (text : Text) (es : List TapeEvent) → document text ≡ well_formed es → is_text text ≡ true → every few_attributes es ≡ true → records text (tape_marks es) ≡ records_read text es
 claim-tape-records = tape-records
 
--- nor does it meet 6, from any state, and where it is accepted as many tags are open as before
+-- order 1, "The text must be whole; unclosed tags .. are malformed here": nor does it meet 6, from any state, and where it is accepted as many tags are open as before
 pub claim-tape-read : (lent : Lengths) (s : State) (text : Text) (es : List TapeEvent) → document text ≡ well_formed es → is_text text ≡ true
     → every few_attributes es ≡ true → ReadsThrough s.open_tags (read_state lent s text (tape_marks es))
 claim-tape-read = tape-reads
 
--- a tag written by the productions is read as that tag, whatever stands behind it
+-- order 8, "Read into a cleared sheet through order 1": a tag written by the productions is read as that tag, whatever stands behind it
 pub claim-tag-written : (at kind : ℕ) (t : Tag) (rest : Text) → start_kind ≤ kind → kind ≤ empty_kind → is_name_text t.name ≡ true
     → every attribute_ok t.attributes ≡ true → new_keys [] t.attributes ≡ true → tag at (written_tag kind t ++ rest) ≡ tagged_as at kind t rest
 claim-tag-written = tag-written
 
--- and the pairs of what it is read as stand for the tag's own texts
+-- order 1, "a tape whose pairs point into it": the pairs of what such a tag is read as stand for the tag's own texts
 pub claim-tag-back : (text : Text) (at kind : ℕ) (t : Tag) (rest : Text) → drop at text ≡ written_tag kind t ++ rest → event_read text (written_event at kind t) ≡ event_of kind t
 claim-tag-back = tag_back
 
@@ -297,13 +300,14 @@ pub claim-written-back : (x y : Sheet) (choice : ℕ) (lent marks : List ℕ) �
     → length marks ≤ 16384 → let text = written_text x lent in RoundTrip x y (length marks) (tape_of text marks).number (read_written y choice text marks)
 claim-written-back = round_trip
 
--- the same of any four such calls, by what they say of themselves
+-- "it gives the same finished rows and names, event numbers aside", of any four such calls, by what they say of themselves
 pub claim-written-made : (x y y' z : Sheet) (choice place number used k : ℕ) (lent text marks tape : List ℕ) (a : Answer) → WriteIs x lent accepted place text
     → ClearIs choice y (answered accepted k) y' → TapeIs (take place text) marks number used tape → ReadIs y' (take place text) (take used tape) a z
     → words x.rows ≡ true → length marks ≤ 16384 → RoundTrip x y (length marks) number (record { answer = a; sheet = z })
 claim-written-made = round-made
 
--- two sheets with the same finished rows have the same numbers and bytes up to where those of the second are used, event numbers aside
+-- order 8, "the same finished rows and names, event numbers aside": two sheets with the same finished part have the same numbers and bytes up to where those of
+-- the second are used, but for c of heads
 pub claim-written-numbers : (x y : Sheet) → words x.rows ≡ true → words y.rows ≡ true → good x ≡ true → good y ≡ true → SameFinished x y → SameNumbers x y
 claim-written-numbers = finished-numbers
 
@@ -312,60 +316,67 @@ claim-written-numbers = finished-numbers
 pub claim-good-before : (x : Sheet) → (paper_good x ≡ true) ↔ ((bare_good x ≡ true) × ((bare_state_of x).by_standard ≡ false) × (no_numbers (tens_of x) ≡ true))
 claim-good-before = good-before
 
--- "kept as the last number of row 0": no call changes it, refused or not, from every first sheet
+-- order 3, "kept as the last number of row 0": no call changes it, refused or not, from every first sheet
 pub claim-choice-kept : (x : Sheet) (calls : List Call) → (row0_in (run x calls).last).choice ≡ (row0_in x).choice
 claim-choice-kept = run-choice
 
--- with choice 1 "only its direct children become elements or types": of the accepted events of every run from a cleared sheet, in any pieces, refused events
+-- order 3, with choice 1 "only its direct children become elements or types": of the accepted events of every run from a cleared sheet, in any pieces, refused events
 -- and refused calls among them
 pub claim-children : (x : Sheet) (calls : List Call) → (clear 1 x).answer.number ≡ 0
     → heads (state_of (run (clear 1 x).sheet calls).last).reader ≡ direct_children (map event (accepted_events (lengths_of x) (first_state true) (joined (clear 1 x).sheet calls)))
 claim-children = run-children
 
--- where of the accepted events of a run only types are started directly below the schema, so that its own close is the only one in context 1, both choices answer
--- the same, call by call, refused events and refused calls among them, and leave the same sheet but for the last number of row 0
+-- order 3, "any close there leads to context 0. Part 1 has the schema end at its own tag": where of the accepted events of a run only types are started directly below
+-- the schema, so that its own close is the only one in context 1, both choices answer the same, call by call, refused events and refused calls among them, and
+-- leave the same sheet but for the last number of row 0
 pub claim-both-choices : (x : Sheet) (calls : List Call) → (clear 0 x).answer.number ≡ 0
     → only_types (map event (accepted_events (lengths_of x) (first_state false) (joined (clear 0 x).sheet calls))) ≡ true
     → let r = run (clear 0 x).sheet calls in run (clear 1 x).sheet calls ≡ record { answers = r.answers; last = sheet_chosen true r.last }
 claim-both-choices = cleared-runs
 
--- order 5, the numbers of events: with c cleared everywhere, reading and lowering are those of before. A state without numbers has the state's rows, without
--- order 7's count, with c of every head cleared. Sheets, and the claims on cutting, are with c: a cut changes none
+-- order 5, "Equality with the Rust leaves the heads' c out .. New numbers: none": with c cleared everywhere, reading and lowering are those of before. A state
+-- without numbers has the state's rows, without order 7's count, with c of every head cleared. Sheets, and the claims on cutting, are with c: a cut changes none
 pub claim-cleared-rows : (s : State) → map cleared_row (rows_of s) ≡ rows_of (unnumbered s)
 claim-cleared-rows = rows-cleared
 
+-- order 5, "leaves the heads' c out": a reading without numbers from the state without numbers answers the same and leaves the state of the reading, without numbers
 pub claim-cleared-read : (lent : Lengths) (s : State) (text : Text) (marks : List ℕ) → unnumbered_reading (read_state lent s text marks) ≡ read_state_by unknown_number lent (unnumbered s) text marks
 claim-cleared-read = read_state-unnumbered
 
--- reading by a numbering is reading where the numbering gives the events done
+-- order 5, "carries in c the number in the run": reading by a numbering is reading where the numbering gives the events done
 pub claim-numbered-read : (lent : Lengths) (n : ℕ) (s : State) (js : List Judged) → read_records_by (λ k. k) lent n s js ≡ read_records lent n s js
 claim-numbered-read = read_records-numbered
 
+-- order 5, "leaves the heads' c out": a schema without numbers is lowered to the graph without numbers
 pub claim-cleared-lower : (s : Schema) → unnumbered_lowered (lower s) ≡ lower (unnumbered_schema s)
 claim-cleared-lower = lower-unnumbered
 
--- the rows of a graph without numbers are the graph's with c of roots and types cleared; and calls and runs on a state without numbers, numbered as before the
--- order, answer as those on the state: numbers, places, 13's and 20's among them, the number in the run; graphs and last sheet are cleared
+-- order 5, "(.. graph tags 2 to 8)": the rows of a graph without numbers are the graph's with c of roots and types cleared; and calls and runs on a state
+-- without numbers, numbered as before the order, answer as those on the state: numbers, places, 13's and 20's among them, the number in the run; graphs and
+-- last sheet are cleared
 pub claim-cleared-graph : (g : TypeGraph) → map cleared_graph_row (graph_rows_of g) ≡ graph_rows_of (unnumbered_graph g)
 claim-cleared-graph = graph-cleared
 
-pub claim-cleared-run : (x : Sheet) (calls : List Call) → good_lengths (lengths_of x) ≡ true → good x ≡ true
+pub claim-cleared-run : (x : Sheet) (calls : List Call) → GoodStart x
     → RunCleared (lengths_of x) (run x calls) (run_before calls (lengths_of x) (unnumbered (state_of x)))
-claim-cleared-run = sheet-cleared
+claim-cleared-run x calls g = sheet-cleared x calls g.lengths g.is_good
 
--- "Zero means unknown, as in sheets stored earlier, which stay good": from a good sheet without numbers the last sheet of every run is good, and every c is 0 or that of an event of the run
-pub claim-stored : (x : Sheet) (calls : List Call) → words x.rows ≡ true → good_lengths (lengths_of x) ≡ true → good x ≡ true
-    → heads_pass is_zero (state_of x).reader ≡ true → Stored x (run x calls).last
+-- order 5, "Zero means unknown, as in sheets stored earlier, which stay good", "A sheet stored earlier counts as the one its run began with, its events done and its
+-- zeros kept": from every good sheet the last sheet of a run is good; its heads are those of the first one, each with the c that it had there, 0 too, and behind
+-- them those that the run's events gave, each with its event's number in the run, which is not below the events done
+pub claim-stored : (x : Sheet) (calls : List Call) → words x.rows ≡ true → GoodStart x
+    → Stored x (run x calls).last (heads_given (lengths_of x) (state_of x).events (state_of x) (joined x calls))
 claim-stored = stored-run
 
--- "the number in the run of the event that gave it its name": in the last sheet of a run from a cleared one, event c of those accepted is a tag that a head is made of,
--- start or empty, and its name is the head's
-pub claim-carried : (by_standard : Bool) (x : Sheet) (calls : List Call) → good_lengths (lengths_of x) ≡ true → good x ≡ true → state_of x ≡ first_state by_standard
+-- order 5, "Every head .. carries in c the number in the run of the event that gave it its name": the heads of the last sheet of a run from a cleared one, in order,
+-- with their names and c, are those that the accepted events gave: each by a start or empty tag of that name, whose number in the run is c, and in whose handling
+-- the head was made. So no head has the number of a field's tag, of the same name or not; `claim-graph-names` carries that to the graph
+pub claim-carried : (by_standard : Bool) (x : Sheet) (calls : List Call) → GoodStart x → state_of x ≡ first_state by_standard
     → (s : State) × ((run x calls).last ≡ sheet_of s (length x.rows) (length x.names))
-    × (heads_pass (λ name c. gave (accepted_events (lengths_of x) (first_state by_standard) (joined x calls)) c name) s.reader ≡ true)
+    × (let given = heads_given (lengths_of x) 0 (first_state by_standard) (joined x calls) in (numbered_heads s.reader ≡ given) × (heads_pass (gave given) s.reader ≡ true))
 claim-carried = carried-run
 
--- "of both sheets": what the names and numbers of a state's heads pass, those of its graph pass, a type's by its name in the schema
+-- order 5, "Every head of both sheets": what the names and numbers of a state's heads pass, those of its graph pass, a type's by its name in the schema
 pub claim-graph-names : (p : Text → ℕ → Bool) (r : Reader) (g : TypeGraph) → heads_pass p r ≡ true → lower r.schema ≡ some g → GraphPasses p g
 claim-graph-names = graph-passes
 
@@ -384,20 +395,21 @@ claim-required = required-exactly
 pub claim-vec : (min : ℕ) (max : MaxOccurs) → (lower_cardinality min max ≡ Cardinality.vec) ↔ (max ≡ MaxOccurs.unbounded)
 claim-vec = vec-exactly
 
--- order 4, one name for two types: in an accepted lowering the names are distinct, and the types are all finished types in lowering's order
+-- order 4, "Lowering refuses when two finished types normalise to the same name": in an accepted lowering the names are distinct, and the types are all
+-- finished types in lowering's order
 pub claim-types : (x graph : Sheet) (scratch : List ℕ) → (lowering x graph scratch).answer.number ≡ 0 → Accepted (state_of x).reader.schema graph (lowering x graph scratch)
 claim-types = lowering-accepted
 
--- "The last-definition rule then touches no accepted sheet": by paper 01's rule the types would be the same
+-- order 4, "The last-definition rule then touches no accepted sheet": by paper 01's rule the types would be the same
 pub claim-last : (x graph : Sheet) (scratch : List ℕ) → (lowering x graph scratch).answer.number ≡ 0
     → insert_all (finished_definitions (state_of x).reader.schema) [] ≡ finished_definitions (state_of x).reader.schema
 claim-last = lowering-last
 
--- 20 exactly where 1, 2, 14, 12 and 13 do not come and "two finished types normalise to the same name"
+-- order 4, "New numbers: 20, between 13 and 15": exactly where 1, 2, 14, 12 and 13 do not come and "two finished types normalise to the same name"
 pub claim-repeated : (x graph : Sheet) (scratch : List ℕ) → ((lowering x graph scratch).answer.number ≡ 20) ↔ NameTwice x graph scratch
 claim-repeated = repeated-exactly
 
--- "the place is the row of the first head, in lowering's order, whose name came before"
+-- order 4, "the place is the row of the first head, in lowering's order, whose name came before"
 pub claim-repeated-place : (x graph : Sheet) (scratch : List ℕ) → (lowering x graph scratch).answer.number ≡ 20
     → FirstRepeat [] (type_heads 2 (state_of x).reader.schema.items) (lowering x graph scratch).answer.place
 claim-repeated-place = repeated-place
@@ -406,7 +418,7 @@ claim-repeated-place = repeated-place
 pub claim-graph-back : (g : TypeGraph) (r n : ℕ) → graph_ok g ≡ true → graph_back (graph_sheet g r n) ≡ g
 claim-graph-back = graph-back
 
--- what lowering writes has the graph's form
+-- order 6, "paper 01's graph form (tag 5 with a 1 to 5, any c in heads, any number of children; what names say is not judged)": what lowering writes has it
 pub claim-form : (x graph : Sheet) (scratch : List ℕ) → words x.rows ≡ true → (lowering x graph scratch).answer.number ≡ 0 → graph_form (lowering x graph scratch).graph ≡ true
 claim-form = lowering-form
 
@@ -415,11 +427,11 @@ claim-form = lowering-form
 pub claim-reduction-once : {x target y z : Sheet} {a b : Answer} → Reduction x target a y → Reduction x target b z → (a ≡ b) × (y ≡ z)
 claim-reduction-once = reduction-once
 
--- "exactly the types that some chain of references reaches from a root": a type is among those kept exactly if there is a chain to it
+-- order 6, "exactly the types that some chain of references reaches from a root": a type is among those kept exactly if there is a chain to it
 pub claim-reduced : {p q : Parted} → Reduced p q → (t : GraphType) → In t q.types ↔ Chain p t
 claim-reduced = reduced-exactly
 
--- "reducing twice equals reducing once": the rows of what is kept, parted and reduced again
+-- order 6, "reducing twice equals reducing once": the rows of what is kept, parted and reduced again
 pub claim-reduced-twice : (rs : List Row) {q r : Parted} → Reduced (parted rs) q → Reduced (parted (rows_of_graph q)) r → r ≡ q
 claim-reduced-twice = rows-twice
 
@@ -441,7 +453,7 @@ pub claim-reduced-room : {x target y : Sheet} {a : Answer} (r n : ℕ) → Reduc
     → fits (rows_used_of y) (names_used_of y) r n ≡ true
 claim-reduced-room = room-again
 
--- what lowering writes never gives 21: it is in the form, and no two of its types have one name
+-- order 6, "21 not in paper 01's graph form .., or two types of one name": what lowering writes never gives 21
 pub claim-lowered-in-form : (x graph : Sheet) (scratch : List ℕ) → words x.rows ≡ true → (lowering x graph scratch).answer.number ≡ 0 → in_form (lowering x graph scratch).graph ≡ true
 claim-lowered-in-form = lowering-in-form
 
@@ -453,31 +465,34 @@ claim-count-good = good-count
 pub claim-count-kept : (s : State) (r n : ℕ) → state_fits r n s ≡ true → count_in (sheet_of s r n) ≡ refused_types s.reader.schema.items
 claim-count-kept = count-sheet_of
 
--- but for it a good sheet is as it was before the order
+-- order 7, "Keep that count in row 1 under a": but for it a good sheet is as it was before the order
 pub claim-count-bare : (x : Sheet) → good x ≡ true → bare_good (bare x) ≡ true
 claim-count-bare = good-bare
 
--- the light: where 1, 2, 14 and 12 do not come, 13 comes exactly if a of row 1 is above 0
+-- order 7, "how many finished simple types lowering would refuse by 13": where 1, 2, 14 and 12 do not come, 13 comes exactly if a of row 1 is above 0
 pub claim-red-light : (x graph : Sheet) (scratch : List ℕ) → good_lengths (lengths_of x) && good_lengths (lengths_of graph) ≡ true → good x ≡ true
     → (state_of x).reader.root_seen ≡ true → finished_types (state_of x).reader.schema ≤ length scratch
     → ((lowering x graph scratch).answer.number ≡ 13) ↔ (0 < count_in x)
 claim-red-light = thirteen-exactly
 
--- the conversion: "it gives 1, or 2 for any other fault, and then changes nothing"
+-- order 7, "A conversion .. gives 1, or 2 for any other fault, and then changes nothing"
 pub claim-convert-table : (x : Sheet) → ConvertTable x (convert x)
 claim-convert-table = convert-table
 
--- what it gives is good, a good sheet stays, and twice is once
+-- order 7, "A conversion takes sheets with 0 there, or the right count, and fills it in": what it gives is good
 pub claim-converted-good : (x : Sheet) → (convert x).answer.number ≡ 0 → good (convert x).sheet ≡ true
 claim-converted-good = converted-good
 
+-- order 7, "or the right count": a good sheet stays
 pub claim-convert-good : (x : Sheet) → good x ≡ true → (convert x).sheet ≡ x
 claim-convert-good = convert-good
 
+-- order 7, "and fills it in": converting twice is converting once
 pub claim-convert-twice : (x : Sheet) → (convert (convert x).sheet).sheet ≡ (convert x).sheet
 claim-convert-twice = convert-twice
 
--- "a converted sheet, too, counts as the one its run began with": it holds the state that was stored, its events done among it, and a run from it goes on from there
+-- order 7, "a converted sheet, too, counts as the one its run began with": it holds the state that was stored, its events done among it, and a run from it goes
+-- on from there
 pub claim-converted-state : (x : Sheet) → state_of (convert x).sheet ≡ state_of x
 claim-converted-state = converted-state
 
@@ -489,7 +504,8 @@ claim-converted-run = converted-run
 pub claim-pattern-one : (s : Text) → (n : ℕ) × Verdict s n × ((m : ℕ) → Verdict s m → m ≡ n)
 claim-pattern-one = verdict-one
 
--- the recogniser is the grammar: what it takes has a derivation by the productions, and what has one it takes
+-- order 13, "Accepted means a derivation exists by the productions alone, refused that none does": the recogniser is the grammar, what it takes has a
+-- derivation by the productions, and what has one it takes
 pub claim-pattern-scan : (s : Text) → (scan (go 0 start) s ≡ true) ↔ Derives reg_exp s
 claim-pattern-scan = scan-exactly
 

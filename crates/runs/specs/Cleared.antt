@@ -4,18 +4,19 @@
 --     LoweringCleared   number, place and scratch are the same, of 13, 20 and every other answer; the graph is cleared
 --     read_before, run_before    a reading and a run as before the order, where events have no number
 --     is_zero, zero_or_later   a head's number is 0; is 0 or that of an event from some number on
---     Stored        a sheet stored earlier and the last one of a run from it: that is good, and keeps the zeros
+--     Stored        a sheet stored earlier, the last one of a run from it, and the heads that the run's events gave: the last one is good, keeps the first
+--                   one's heads with their names and numbers, the zeros among them, and holds those given behind them, with numbers of the run's events
 --     AnswersCleared, RunCleared    a run beside one before the order: the same answers, graphs and last sheet but for the numbers
-use Rattle.std.specs.Prelude.{ℕ, ◌≡◌, Bool, true, ◌||◌, List, [], ◌∷◌, eqb, leb, length, if◌then◌else◌}
+use Rattle.std.specs.Prelude.{ℕ, ◌≡◌, Bool, true, ◌||◌, List, [], ◌∷◌, ◌++◌, eqb, leb, length, if◌then◌else◌}
 use Rattle.std.proofs.Math.Option.{Option}
-use Rattle.text.specs.Text.{Text, between}
+use Rattle.text.specs.Text.{Text, every, between}
 use Rattle.sheet.specs.Rows.{Row, Sheet, row}
 use Rattle.sheet.specs.Lengths.{Answer, Lengths, tape_lengths}
 use Rattle.xsd_types.specs.State.{State, heads_pass}
 use Rattle.xsd_types.specs.Count.{sheet_of, good, state_of}
 use Rattle.xsd_types.specs.Unnumbered.{unnumbered}
 use Rattle.xsd_parser.specs.Read.{Reading}
-use Rattle.xsd_parser.specs.Numbered.{unknown_number, read_state_by}
+use Rattle.xsd_parser.specs.Numbered.{unknown_number, read_state_by, HeadNumber, numbered_heads}
 use Rattle.ir_types.specs.Tags.{root_tag, opaque_tag}
 use Rattle.ir_types.specs.Types.{TypeGraph}
 use Rattle.ir_types.specs.Sheet.{graph_sheet}
@@ -54,10 +55,12 @@ is_zero name c = eqb c 0
 unfoldable pub zero_or_later : ℕ → Text → ℕ → Bool
 zero_or_later from name c = eqb c 0 || leb from c
 
--- "sheets stored earlier, which stay good", beside the last sheet of a run from one
-pub record Stored (x y : Sheet) : Type 0 where
+-- "sheets stored earlier, which stay good", and "its zeros kept", beside the last sheet of a run from one
+pub record Stored (x y : Sheet) (given : List HeadNumber) : Type 0 where
   pub stays : good y ≡ true
-  pub zeros : heads_pass (zero_or_later (state_of x).events) (state_of y).reader ≡ true
+  pub kept : numbered_heads (state_of y).reader ≡ numbered_heads (state_of x).reader ++ given
+  pub later : every (λ (h : HeadNumber). leb (state_of x).events h.event) given ≡ true
+  pub zeros : heads_pass is_zero (state_of x).reader ≡ true → heads_pass (zero_or_later (state_of x).events) (state_of y).reader ≡ true
 
 pub data AnswersCleared : List Answered → List Answered → Type 0 where
   end : AnswersCleared [] []

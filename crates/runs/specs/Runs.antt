@@ -5,10 +5,11 @@
 --     number_in_run   the number in the run of the event that a reading refuses, after so many events done before the call
 --     Held          what the run holds: a state with the lengths of its buffers; or the first sheet, where its lengths are bad or it is not good
 --     hold          what a run begins with
+--     GoodStart     a sheet that a run begins with as a state: its lengths are within the limits and it is good
 --     read_held, lower_held    a call on what is held
 --     run_calls      the calls in order
 --     run           the answers of all calls and the last sheet. It packs no sheet in between
-use Rattle.std.specs.Prelude.{ℕ, ◌+◌, List, [], ◌∷◌, length, if◌then◌else◌}
+use Rattle.std.specs.Prelude.{ℕ, ◌+◌, ◌≡◌, true, List, [], ◌∷◌, length, if◌then◌else◌}
 use Rattle.std.proofs.Math.Option.{Option, some, none}
 use Rattle.text.specs.Text.{Text, between}
 use Rattle.sheet.specs.Rows.{Sheet}
@@ -41,6 +42,10 @@ hold x =
     if good_lengths (lengths_of x)
     then if good x then Held.holding (lengths_of x) (state_of x) else Held.not_good x
     else Held.bad_lengths x
+
+pub record GoodStart (x : Sheet) : Type 0 where
+  pub lengths : good_lengths (lengths_of x) ≡ true
+  pub is_good : good x ≡ true
 
 unfoldable pub sheet_held : Held → Sheet
 sheet_held (Held.bad_lengths x) = x

@@ -10,7 +10,7 @@ use Rattle.xsd_parser.specs.Handlers.{is_required, attribute_added, on_attribute
 use Rattle.xsd_parser.specs.Handlers.{on_direct_child, on_start_in_schema, raised_simple, on_start_in_simple_type, raised_complex, content_started, content_at_two}
 use Rattle.xsd_parser.specs.Handlers.{on_start_in_complex_type, on_start, facet_value, facet_of, on_facet, on_empty_in_simple_type, on_empty_in_complex_type, on_empty}
 use Rattle.xsd_parser.specs.Handlers.{close_simple_type, close_complex_type, close_in_schema, on_end}
-use Rattle.xsd_parser.specs.Numbered.{step_by, read_records_by, read_state_by, unknown_number, is_name, makes_head, gives_name, gave}
+use Rattle.xsd_parser.specs.Numbered.{step_by, read_records_by, read_state_by, unknown_number, makes_head, item_number, open_number, numbered_heads, more_heads, named_by, given_by, heads_given, gave}
 use Rattle.xsd_parser.specs.Pieces.{onward, read_pieces}
 use Rattle.xsd_parser.specs.Read.{read_records, read_state, refused_at, sheet_of_reading, read}
 use Rattle.xsd_parser.specs.Step.{handled, closed, tags_after, counted, room_for, step}
@@ -25,5 +25,6 @@ unfolding depth_after named_head element_head child_head head_at children_from d
     raised_simple on_start_in_simple_type raised_complex content_started content_at_two on_start_in_complex_type on_start facet_value facet_of on_facet on_empty_in_simple_type
     on_empty_in_complex_type on_empty close_simple_type close_complex_type close_in_schema on_end onward read_pieces read_records read_state refused_at sheet_of_reading read handled
     closed tags_after counted room_for step pairs_of pair_text all_inside all_ascii attrs_of tag_of pair_count event_of form_test tag_record record1 records_from records all_events
-    cut_short whole_from whole_records step_by read_records_by read_state_by unknown_number is_name makes_head gives_name gave
+    cut_short whole_from whole_records step_by read_records_by read_state_by unknown_number makes_head item_number open_number numbered_heads
+    more_heads named_by given_by heads_given gave
 computes = tt

@@ -12,12 +12,12 @@ use Rattle.xsd_parser.specs.declared.words.FacetWord.{FacetWord}
 use Rattle.xsd_parser.specs.Words.{facet_word}
 use Rattle.xsd_parser.specs.Event.{or_empty}
 use Rattle.xsd_parser.specs.Seen.{Seen, tag_is}
-use Rattle.xsd_parser.specs.Handlers.{on_parsed, found_root, with_base, with_facet, facet_value, facet_of, on_empty_in_simple_type, on_empty}
+use Rattle.xsd_parser.specs.Handlers.{on_parsed, found_root, with_base, with_facet, with_content, facet_value, facet_of, on_empty_in_simple_type, on_empty}
 use Rattle.xsd_parser.proofs.Laws.SeenTexts.{SeenText, or-empty-text}
 use Rattle.xsd_parser.proofs.Laws.Outcomes.{Gives, value, Any, Kept, gives-if, gives-and_then, gives-parsed, gives-facet}
 use Rattle.xsd_parser.proofs.Laws.Contents.{number_fits, empty_in_complex-kept}
 use Rattle.xsd_parser.proofs.Laws.Readers.{ReaderOk, ComplexOk, root-seen, seen-root, context-set, SimpleOk, simple-parts, simple-whole, complex-parts, complex-whole}
-use Rattle.xsd_parser.proofs.Laws.Starts.{namespace-set, top_level-kept, content-set}
+use Rattle.xsd_parser.proofs.Laws.Starts.{namespace-set, top_level-kept}
 use Rattle.text.proofs.Laws.Tests.{if-either}
 use Rattle.text.proofs.Laws.Every.{every-one-more}
 
@@ -71,9 +71,10 @@ module _ (by_standard : Bool) where
 
   pub empty_in_complex_type-kept : (m : ℕ) (t : Seen) (r : Reader) (n : ℕ) (b : ComplexTypeBuilder) → SeenText t → r.root_seen ≡ true → ComplexOk b n → schema_ok r.schema ≡ true
       → Gives (λ x. ReaderOk by_standard x n) Any (on_empty m t r (Context.in_complex_type b))
-  unfolding on_empty
+  unfolding on_empty with_content
   empty_in_complex_type-kept m t r n b e h p k =
-      gives-and_then (empty_in_complex-kept t b.content e p.content) λ c q. value (context-set by_standard r _ n h (complex-whole by_standard _ n (content-set b c n p q)) k)
+      gives-and_then (empty_in_complex-kept t b.content e p.content) λ c q.
+      value (context-set by_standard r _ n h (complex-whole by_standard _ n (record { tags = p.tags; name = p.name; content = q })) k)
 
   pub empty-kept : (m : ℕ) (t : Seen) (r : Reader) (n : ℕ) (x : Context) → r.context ≡ x → SeenText t → ReaderOk by_standard r n → Gives (λ x. ReaderOk by_standard x n) Any (on_empty m t r x)
   unfolding on_empty is_no_context

@@ -1,8 +1,12 @@
 -- Order 5, by computation: c of a head is the number in the run of the event that gave it its name. The other examples show it too.
-use Rattle.std.specs.Prelude.{◌≡◌, refl, [], ◌∷◌}
+use Rattle.std.specs.Prelude.{◌≡◌, refl, false, [], ◌∷◌}
+use Rattle.text.specs.Text.{bytes}
 use Rattle.sheet.specs.Rows.{Sheet}
+use Rattle.xsd_types.specs.State.{first_state}
 use Rattle.xsd_types.specs.Examples.Sheets.{line, no_namespace, sheet, blank}
-use Rattle.xsd_parser.specs.Examples.Tapes.{start, empty, close, typed, based, schema, simple_type, complex_type, reads, gives, taped}
+use Rattle.xsd_parser.specs.Tape.{records}
+use Rattle.xsd_parser.specs.Numbered.{heads_given}
+use Rattle.xsd_parser.specs.Examples.Tapes.{start, empty, close, typed, based, schema, simple_type, complex_type, text_of, marks_of, reads, gives, taped}
 
 -- new content, an empty `any` and the close leave it: head 15, c 1, before the close
 content-leaves-it :
@@ -17,6 +21,21 @@ close-leaves-it :
     ≡ gives 0 8 (sheet 60 12 (line 0 3 2 1 0 1 8 1 0 0 ∷ no_namespace ∷ line 15 0 1 1 1 0 0 1 0 1 ∷ []) "Dn")
 unfolding taped
 close-leaves-it = refl
+
+-- a field of the type's own name leaves it
+own-name-leaves-it :
+    reads (blank 60 12) (schema ∷ complex_type "D" ∷ start "sequence" [] ∷ empty "element" (typed "D" "t") ∷ [])
+    ≡ gives 0 4 (sheet 60 12 (line 0 4 3 3 1 1 4 3 0 0 ∷ no_namespace ∷ line 12 0 1 0 0 0 0 0 0 1 ∷ line 17 1 1 2 1 0 0 1 1 0 ∷ []) "DDt")
+unfolding taped
+own-name-leaves-it = refl
+
+-- nor does the field's tag give a name
+field-tag-gives-none :
+    let tags = schema ∷ complex_type "D" ∷ start "sequence" [] ∷ empty "element" (typed "D" "t") ∷ close ∷ close ∷ empty "element" (typed "D" "D") ∷ [] in
+    heads_given (record { rows = 60; names = 12 }) 0 (first_state false) (records (text_of tags) (marks_of 0 tags))
+    ≡ record { name = bytes "D"; event = 1 } ∷ record { name = bytes "D"; event = 6 } ∷ []
+unfolding taped
+field-tag-gives-none = refl
 
 -- a tag that is passed over is an event, and counts
 passed-over-counts :
