@@ -16,7 +16,7 @@
 
 #define ROWS LUBIKSAN_ROWS_MAX
 #define NAMES LUBIKSAN_NAMES_MAX
-#define SCRATCH (LUBIKSAN_ROWS_MAX / LUBIKSAN_ROW)
+#define SCRATCH LUBIKSAN_SCRATCH_MIN
 
 /* A sheet of full size. */
 struct sheet {

@@ -83,8 +83,8 @@ causes! {
     NoRoot = LUBIKSAN_NO_ROOT, "no schema element was read";
     /// 13: the base of a simple type is not built in.
     UnknownBase = LUBIKSAN_UNKNOWN_BASE, "the base of a simple type is not built in";
-    /// 14: the scratch has not a number for each finished type.
-    Scratch = LUBIKSAN_SCRATCH, "the scratch is shorter than the number of types";
+    /// 14: the scratch has fewer than 64 numbers.
+    Scratch = LUBIKSAN_SCRATCH, "the scratch has fewer than 64 numbers";
     /// 15: the graph has not the rows or names that the schema needs.
     GraphRoom = LUBIKSAN_GRAPH_ROOM, "the graph has no room for the schema";
     /// 16: the row has no label.

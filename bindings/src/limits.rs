@@ -10,6 +10,8 @@ pub const ROW: usize = sys::LUBIKSAN_ROW;
 pub const ROWS: usize = ROW_NUMBERS / ROW;
 /// Bytes in the names of a sheet, at most.
 pub const NAMES: usize = sys::LUBIKSAN_NAMES_MAX;
+/// Numbers in the scratch of a lowering, at least.
+pub const SCRATCH: usize = sys::LUBIKSAN_SCRATCH_MIN;
 /// Bytes in the text of a piece, at most.
 pub const TEXT: usize = sys::LUBIKSAN_TEXT_MAX;
 /// Marks of a piece, at most.

@@ -65,7 +65,7 @@ pub enum Refusal {
         /// The row of the type, from 0.
         row: usize,
     },
-    /// 14: the scratch has not a number for each finished type.
+    /// 14: the scratch has fewer than 64 numbers.
     Scratch,
     /// 15: the graph has not the rows or names that the schema needs.
     GraphRoom,

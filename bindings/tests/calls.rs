@@ -154,7 +154,7 @@ fn lowering_refuses_by_number() -> Tried {
         sheet.lower(&mut graph),
         Err(Refusal::UnknownBase { row: 2 })
     );
-    let (mut rows, mut names, mut scratch) = ([0; 20], [0; 0], [0; 0]);
+    let (mut rows, mut names, mut scratch) = ([0; 20], [0; 0], [0; 63]);
     let mut none = Graph::lend(&mut rows, &mut names, &mut scratch);
     assert_eq!(sheet.lower(&mut none), Err(Refusal::Scratch));
     assert_eq!(
@@ -274,7 +274,7 @@ fn a_graph_too_small_is_refused_and_empty() -> Tried {
     piece.empty("element", &[("name", "D"), ("type", "T")])?;
     let mut sheet = SchemaSheet::cleared(ReadAs::Original);
     sheet.read(&piece.finish())?;
-    let (mut rows, mut names, mut scratch) = ([0; 20], [0; 2], [0; 0]);
+    let (mut rows, mut names, mut scratch) = ([0; 20], [0; 2], [0; 64]);
     let mut small = Graph::lend(&mut rows, &mut names, &mut scratch);
     assert_eq!(sheet.lower(&mut small), Err(Refusal::GraphRoom));
     assert_eq!(

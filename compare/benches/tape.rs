@@ -15,7 +15,7 @@ use std::time::{Duration, Instant};
 use compare::grapher;
 use compare::ir::lower::lower;
 use compare::paper::answer;
-use compare::paper::lowering::Lowered;
+use compare::paper::lowering::{Lowered, SCRATCH_LEAST};
 use compare::paper::sheet::Sheet;
 use compare::parsers::quick_xml_events;
 use compare::reader;
@@ -172,9 +172,8 @@ impl Lent {
             sheet(ROWS.min(10 * rows + 100), names)
         };
         let graph = &used.lowered.graph;
-        let scratch = graph.rows[1] as usize;
         let marks = used.tape.marks.len();
-        Lent::new(text, marks, about(&used.sheet), about(graph), scratch)
+        Lent::new(text, marks, about(&used.sheet), about(graph), SCRATCH_LEAST)
     }
 
     /// Tape, clear, read, lower; the four numbers. The marks behind the tape are not lent to reading.

@@ -12,7 +12,7 @@ use lubiksan_sys as sys;
 
 use crate::buffer::Buffer;
 use crate::calls::{self, Answer};
-use crate::limits::{NAMES, ROW, ROWS, ROW_NUMBERS};
+use crate::limits::{NAMES, ROW, ROW_NUMBERS, SCRATCH};
 use crate::refusal::Refusal;
 use rows::Rows;
 use types::Types;
@@ -89,7 +89,7 @@ impl Graph<'static> {
     }
 
     fn owned(rows: Vec<u32>, names: Vec<u8>, used: usize) -> Graph<'static> {
-        let scratch = Buffer::Owned(vec![0; ROWS]);
+        let scratch = Buffer::Owned(vec![0; SCRATCH]);
         Graph {
             rows: Buffer::Owned(rows),
             names: Buffer::Owned(names),
@@ -100,7 +100,7 @@ impl Graph<'static> {
 }
 
 impl<'a> Graph<'a> {
-    /// An empty graph in lent buffers, with a scratch of at least one number for each type of the schema.
+    /// An empty graph in lent buffers, with a scratch of at least [`SCRATCH`] numbers, however many types the schema has.
     pub fn lend(rows: &'a mut [u32], names: &'a mut [u8], scratch: &'a mut [u32]) -> Graph<'a> {
         Graph {
             rows: Buffer::Lent(rows),

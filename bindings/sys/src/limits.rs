@@ -11,6 +11,8 @@ pub const LUBIKSAN_ROWS_MIN: usize = 20;
 pub const LUBIKSAN_ROWS_MAX: usize = 40960;
 /// Bytes in the names of a sheet, at most.
 pub const LUBIKSAN_NAMES_MAX: usize = 65536;
+/// Numbers in the scratch of a lowering, at least.
+pub const LUBIKSAN_SCRATCH_MIN: usize = 64;
 /// Bytes in a text, at most.
 pub const LUBIKSAN_TEXT_MAX: usize = 65536;
 /// Marks of a tape, at most.
@@ -33,7 +35,7 @@ pub const LUBIKSAN_CLEAR_STACK: usize = 1024;
 /// Bytes of stack that `lubiksan_read` takes.
 pub const LUBIKSAN_READ_STACK: usize = 2048;
 /// Bytes of stack that `lubiksan_lower` takes.
-pub const LUBIKSAN_LOWER_STACK: usize = 66560;
+pub const LUBIKSAN_LOWER_STACK: usize = 1024;
 /// Bytes of stack that `lubiksan_reduce` takes.
 pub const LUBIKSAN_REDUCE_STACK: usize = 70656;
 /// Bytes of stack that `lubiksan_write` takes.

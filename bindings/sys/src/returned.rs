@@ -28,7 +28,7 @@ pub const LUBIKSAN_ROOM: u32 = 11;
 pub const LUBIKSAN_NO_ROOT: u32 = 12;
 /// A simple type's base is not built in.
 pub const LUBIKSAN_UNKNOWN_BASE: u32 = 13;
-/// The scratch has less than one number for each finished type.
+/// The scratch has fewer than [`LUBIKSAN_SCRATCH_MIN`](crate::LUBIKSAN_SCRATCH_MIN) numbers.
 pub const LUBIKSAN_SCRATCH: u32 = 14;
 /// The graph needs more rows or names than lent.
 pub const LUBIKSAN_GRAPH_ROOM: u32 = 15;

@@ -61,7 +61,7 @@ impl Sheets {
 
     /// The rows used after a lowering.
     fn lower(&mut self) -> usize {
-        let mut scratch = vec![9; ROWS];
+        let mut scratch = [9; LUBIKSAN_SCRATCH_MIN];
         let mut place = 77;
         // SAFETY: each address and its length are those of one vector; all are lent for the call.
         let number = unsafe {

@@ -25,7 +25,7 @@ type Calls = BTreeMap<String, (Call, Vec<String>)>;
 type Renamed = &'static [(&'static str, &'static str)];
 
 /// The library's constants and cases with numbers, by file: the prefix behind `LUBIKSAN_` of their macros, and those with another name.
-const SOURCES: [(&str, &str, Renamed); 8] = [
+const SOURCES: [(&str, &str, Renamed); 9] = [
     ("lubiksan/src/version.rt", "", &[]),
     (
         "sheet/src/limits.rt",
@@ -81,6 +81,11 @@ const SOURCES: [(&str, &str, Renamed); 8] = [
         &[("VALUE_WITH_ATTRIBUTES", "IR_VALUE")],
     ),
     ("ir_row/src/lib.rt", "", &[]),
+    (
+        "ir_call/src/lib.rt",
+        "",
+        &[("LEAST_SCRATCH", "SCRATCH_MIN")],
+    ),
 ];
 
 /// The macros that no constant of the library names; `answers.rs` tries them, and `c.rs` measures the stack.

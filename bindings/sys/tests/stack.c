@@ -19,7 +19,7 @@ static uint8_t text[LUBIKSAN_TEXT_MAX];
 static size_t text_length;
 static uint32_t marks[LUBIKSAN_MARKS_MAX];
 static size_t marks_used;
-static uint32_t rows[LUBIKSAN_ROWS_MAX], graph_rows[LUBIKSAN_ROWS_MAX], scratch[LUBIKSAN_ROWS_MAX / LUBIKSAN_ROW];
+static uint32_t rows[LUBIKSAN_ROWS_MAX], graph_rows[LUBIKSAN_ROWS_MAX], scratch[LUBIKSAN_SCRATCH_MIN];
 static uint8_t names[LUBIKSAN_NAMES_MAX], graph_names[LUBIKSAN_NAMES_MAX], out[2 * LUBIKSAN_TEXT_MAX];
 static uint32_t reduced_rows[LUBIKSAN_ROWS_MAX];
 static uint8_t reduced_names[LUBIKSAN_NAMES_MAX];
@@ -42,7 +42,7 @@ static void read_piece(void) {
 
 static void lower(void) {
     number = lubiksan_lower(rows, LUBIKSAN_ROWS_MAX, names, LUBIKSAN_NAMES_MAX, graph_rows, LUBIKSAN_ROWS_MAX, graph_names,
-                            LUBIKSAN_NAMES_MAX, scratch, LUBIKSAN_ROWS_MAX / LUBIKSAN_ROW, &place);
+                            LUBIKSAN_NAMES_MAX, scratch, LUBIKSAN_SCRATCH_MIN, &place);
 }
 
 static void write_back(void) {

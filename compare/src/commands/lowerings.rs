@@ -3,7 +3,7 @@
 use std::process::ExitCode;
 use std::thread;
 
-use compare::lowerings::{limits, longer, notes, repeated, runs, small, written};
+use compare::lowerings::{blocks, limits, longer, notes, repeated, runs, small, written};
 use compare::schemas;
 use compare::tally::Tally;
 
@@ -11,13 +11,14 @@ type Group = fn() -> Vec<Tally>;
 
 /// All of them.
 pub fn run() -> ExitCode {
-    let groups: [Group; 11] = [
+    let groups: [Group; 12] = [
         small::compare,
         repeated::examples,
         repeated::compare,
         longer::schemas,
         longer::documents,
         longer::sheets,
+        blocks::compare,
         limits::compare,
         runs::compare,
         notes::compare,

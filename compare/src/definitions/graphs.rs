@@ -5,7 +5,7 @@ use super::readings::roomy;
 use super::sheets::random_state;
 use super::{generator, Case};
 use crate::names::{near_misses, BUILTIN_NAMES, OTHER_BUILTIN_NAMES};
-use crate::paper::lowering::lowering;
+use crate::paper::lowering::{lowering, SCRATCH_LEAST};
 use crate::paper::reading::read;
 use crate::paper::sheet::{names_used, Lent, Row, Sheet};
 use crate::paper::state::State;
@@ -66,11 +66,10 @@ impl Room {
             scratch: 100,
         };
         let graph = lowering(sheet, &large.graph(), &vec![0; large.scratch]).graph;
-        let state = State::of(sheet).expect("the sheet is good");
         Room {
             rows: 10 * (graph.rows[1] as usize).max(2),
             names: graph.rows[2] as usize,
-            scratch: state.finished_types(),
+            scratch: SCRATCH_LEAST,
         }
     }
 
@@ -217,7 +216,7 @@ fn tight_graphs(seed: u64) -> Vec<Case> {
         add("one row less", Room { rows, ..exact });
         let names = exact.names.saturating_sub(1);
         add("one byte less", Room { names, ..exact });
-        let scratch = exact.scratch.saturating_sub(1);
+        let scratch = exact.scratch - 1;
         add("one number of scratch less", Room { scratch, ..exact });
     }
     cases
@@ -242,36 +241,41 @@ fn refusals() -> Vec<Case> {
         scratch,
     };
     let lists = [
-        ("12 on a cleared sheet", cleared.clone(), room(40, 5, 0)),
-        ("12 before 15", cleared.clone(), room(20, 0, 3)),
-        ("1 before 12", cleared, room(10, 0, 3)),
-        ("13 with its row", unknown.clone(), room(40, 5, 1)),
-        ("14 before 13", unknown.clone(), room(40, 5, 0)),
-        ("13 before 15", unknown.clone(), room(20, 0, 1)),
-        ("1 for the graph's rows", unknown.clone(), room(25, 5, 1)),
-        ("1 for no rows of the graph", unknown.clone(), room(0, 5, 1)),
+        ("12 on a cleared sheet", cleared.clone(), room(40, 5, 64)),
+        ("14 before 12", cleared.clone(), room(40, 5, 63)),
+        ("12 before 15", cleared.clone(), room(20, 0, 64)),
+        ("1 before 12", cleared, room(10, 0, 64)),
+        ("13 with its row", unknown.clone(), room(40, 5, 64)),
+        ("14 before 13", unknown.clone(), room(40, 5, 63)),
+        ("13 before 15", unknown.clone(), room(20, 0, 64)),
+        ("1 for the graph's rows", unknown.clone(), room(25, 5, 64)),
+        (
+            "1 for no rows of the graph",
+            unknown.clone(),
+            room(0, 5, 64),
+        ),
         (
             "1 for too many rows of the graph",
             unknown.clone(),
-            room(40_970, 5, 1),
+            room(40_970, 5, 64),
         ),
         (
             "1 for the graph's names",
             unknown.clone(),
-            room(40, 65_537, 1),
+            room(40, 65_537, 64),
         ),
-        ("1 for the sheet's rows", short, room(40, 5, 1)),
-        ("1 for the sheet's names", wide, room(40, 5, 1)),
-        ("2 on a bad sheet", bad.clone(), room(40, 5, 1)),
-        ("2 before 14", bad.clone(), room(40, 5, 0)),
-        ("1 before 2", bad, room(45, 5, 1)),
+        ("1 for the sheet's rows", short, room(40, 5, 64)),
+        ("1 for the sheet's names", wide, room(40, 5, 64)),
+        ("2 on a bad sheet", bad.clone(), room(40, 5, 64)),
+        ("2 before 14", bad.clone(), room(40, 5, 63)),
+        ("1 before 2", bad, room(45, 5, 64)),
         (
             "15 is about the graph, not the sheet",
             one.clone(),
-            room(30, 2, 1),
+            room(30, 2, 64),
         ),
-        ("15 by a row", one.clone(), room(20, 2, 1)),
-        ("15 by a byte", one, room(30, 1, 1)),
+        ("15 by a row", one.clone(), room(20, 2, 64)),
+        ("15 by a byte", one, room(30, 1, 64)),
         ("much scratch", unknown, room(40, 5, 70)),
     ];
     let case = |(shows, sheet, lent): (&str, Sheet, Room)| {

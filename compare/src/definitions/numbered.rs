@@ -4,6 +4,7 @@ use super::call::Call;
 use super::readings::roomy_by;
 use super::standard::heads;
 use super::Case;
+use crate::paper::lowering::SCRATCH_LEAST;
 use crate::paper::sheet::{names_used, Lent, Row, Sheet};
 use crate::paper::state::State;
 use crate::paper::{answer, Answer};
@@ -260,7 +261,7 @@ fn lowered() -> Vec<Case> {
     let case = |given: (u32, u32, u32, bool)| Case {
         group: "numbers of events",
         shows: format!("{} events, c {} and {}, lowered", given.0, given.1, given.2),
-        call: Call::Lower(numbered_sheet(given), lent(), vec![7; 2]),
+        call: Call::Lower(numbered_sheet(given), lent(), vec![7; SCRATCH_LEAST]),
     };
     GOODS.into_iter().map(case).collect()
 }

@@ -19,7 +19,7 @@ pub struct Example {
 /// Numbers of the graph's rows, bytes of its names, numbers of scratch.
 type Lendings = (usize, usize, usize);
 
-const ROOMY: Lendings = (120, 40, 9);
+const ROOMY: Lendings = (120, 40, 64);
 
 /// A simple type with this base.
 fn simple_of(name: &str, base: &str) -> Vec<Row> {
@@ -153,9 +153,9 @@ fn numbers() -> Vec<Example> {
             &[o("X"), bad("A"), bad("a_")],
             (13, 3),
         ),
-        example("14 counts both of a pair", &twice(), 0, (60, 9, 1), (14, 0)),
-        example("20 before 15", &twice(), 0, (20, 0, 2), (20, 3)),
-        example("1 before 20", &twice(), 0, (25, 9, 2), (1, 0)),
+        example("14 before 20", &twice(), 0, (60, 9, 63), (14, 0)),
+        example("20 before 15", &twice(), 0, (20, 0, 64), (20, 3)),
+        example("1 before 20", &twice(), 0, (25, 9, 64), (1, 0)),
         example(
             "an open complex type",
             &[s("AB"), o("AB")],

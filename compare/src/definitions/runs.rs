@@ -70,10 +70,10 @@ fn between(random: &mut Random) -> Option<Step> {
             text: Vec::new(),
             marks: vec![0; 16_385],
         })),
-        2 => Some(lower(205, 90, 9)),
-        3 => Some(lower(60, 8, 2)),
-        4 => Some(lower(900, 300, 0)),
-        _ => Some(lower(900, 300, 40)),
+        2 => Some(lower(205, 90, 64)),
+        3 => Some(lower(60, 8, 65)),
+        4 => Some(lower(900, 300, 63)),
+        _ => Some(lower(900, 300, 64)),
     }
 }
 

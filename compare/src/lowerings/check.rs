@@ -5,7 +5,7 @@ use crate::ir::lower::{lower, LowerError};
 use crate::paper::answer;
 use crate::paper::back::{graph_of, Graph};
 use crate::paper::graph::graph_rows;
-use crate::paper::lowering::{lowering, Lowered};
+use crate::paper::lowering::{lowering, Lowered, SCRATCH_LEAST};
 use crate::paper::sheet::{names_used, rows_used, Lent, Row, Sheet};
 use crate::paper::state::State;
 use crate::tally::Tally;
@@ -38,7 +38,7 @@ impl Room {
         Room {
             rows: 10 * rows_used(&rows),
             names: names_used(&rows),
-            scratch: state.finished_types(),
+            scratch: SCRATCH_LEAST,
         }
     }
 
@@ -53,9 +53,9 @@ impl Room {
             (rows, names, scratch),
             (rows - 10, names, scratch),
             (rows, names.saturating_sub(1), scratch),
-            (rows, names, scratch.saturating_sub(1)),
-            (rows + 10, 0, scratch + 3),
-            (rows + 50, names + 40, scratch + 9),
+            (rows, names, scratch - 1),
+            (rows + 10, 0, scratch + 1),
+            (rows + 50, names + 40, 4_096),
             (20, 0, scratch),
         ]
         .map(|(rows, names, scratch)| Room {

@@ -45,7 +45,7 @@ fn lengths(checks: &mut Checks) {
             let room = Room {
                 rows,
                 names,
-                scratch: 2,
+                scratch: 64,
             };
             checks.lower(&State::cleared().sheet(ROOM), room);
             checks.lower(&small().sheet(ROOM), room);
@@ -71,7 +71,7 @@ const ROOM: Lent = Lent { rows: 50, names: 5 };
 const GRAPH: Room = Room {
     rows: 60,
     names: 7,
-    scratch: 1,
+    scratch: 64,
 };
 
 /// Scratch of all short lengths and a long one, on no types, one, and five of which one is open.
@@ -81,7 +81,7 @@ fn scratch(checks: &mut Checks) {
     open.open_tags = 2;
     for state in [State::cleared(), small(), open] {
         let exact = Room::exact(&state);
-        for scratch in (0..=7).chain([100_000]) {
+        for scratch in (0..=7).chain(60..=70).chain([4_095, 4_096, 100_000]) {
             let sheet = state.sheet(Lent {
                 rows: 80,
                 names: 10,
@@ -184,7 +184,7 @@ fn largest_names(checks: &mut Checks, state: &State) {
         let room = Room {
             rows: ROWS_MOST,
             names: NAMES_MOST,
-            scratch: 10,
+            scratch: 64,
         };
         checks.lower(&state.sheet(lent), room);
     }

@@ -8,11 +8,13 @@
 //! | `small` | every list of a few types |
 //! | `longer` | random schemas, documents, sheets that no reading reaches, damaged ones |
 //! | `repeated` | types of one name |
+//! | `blocks` | types of one name in graphs too small for all heads at once, of order 11 |
 //! | `limits` | lengths around the limits, the largest graphs |
 //! | `runs` | lists of readings and lowerings |
 //! | `notes` | the same lists with other notes in attributes, of order 14 |
 //! | `written` | the cases of the definitions, the schemas |
 
+pub mod blocks;
 pub mod check;
 pub mod generate;
 pub mod limits;

@@ -11,6 +11,9 @@ use crate::xsd::types::{
     Schema, SequenceElement, SimpleType,
 };
 
+/// Order 11: "From now on 14 means fewer than 64".
+pub const SCRATCH_LEAST: usize = 64;
+
 /// A lowering's answer, the graph sheet and the scratch afterwards.
 #[derive(Clone, Debug, PartialEq, Eq)]
 pub struct Lowered {
@@ -31,7 +34,7 @@ pub fn lowering(sheet: &Sheet, graph: &Sheet, scratch: &[u32]) -> Lowered {
     }
     match State::of(sheet) {
         None => unchanged(2),
-        Some(state) if scratch.len() < state.finished_types() => unchanged(14),
+        Some(_) if scratch.len() < SCRATCH_LEAST => unchanged(14),
         Some(state) => state.lowered(graph, scratch.len()),
     }
 }

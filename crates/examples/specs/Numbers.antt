@@ -28,15 +28,15 @@ graph-refused x r n e = rw (length-replicate {A = ℕ} r 7, length-replicate {A 
 
 -- no element, no type: two rows
 two-rows :
-    lowers (sheet 20 0 (line 0 2 0 0 0 1 0 0 0 0 ∷ no_namespace ∷ []) "") 20 0 0
-    ≡ lowered 0 2 (sheet 20 0 (line 0 2 0 0 0 0 0 0 0 0 ∷ no_namespace ∷ []) "") 0
+    lowers (sheet 20 0 (line 0 2 0 0 0 1 0 0 0 0 ∷ no_namespace ∷ []) "") 20 0 64
+    ≡ lowered 0 2 (sheet 20 0 (line 0 2 0 0 0 0 0 0 0 0 ∷ no_namespace ∷ []) "") 64
 unfolding called
 two-rows = refl
 
 -- what graph and scratch held does not matter; zeros behind the used parts
 larger-graph :
-    lowers (sheet 30 2 (line 0 3 2 0 0 1 3 0 0 0 ∷ no_namespace ∷ line 2 0 1 1 1 0 0 0 0 0 ∷ []) "DT") 50 4 3
-    ≡ lowered 0 3 (sheet 50 4 (line 0 3 2 1 0 0 0 0 0 0 ∷ no_namespace ∷ line 2 0 1 1 1 0 0 0 0 0 ∷ []) "DT") 3
+    lowers (sheet 30 2 (line 0 3 2 0 0 1 3 0 0 0 ∷ no_namespace ∷ line 2 0 1 1 1 0 0 0 0 0 ∷ []) "DT") 50 4 64
+    ≡ lowered 0 3 (sheet 50 4 (line 0 3 2 1 0 0 0 0 0 0 ∷ no_namespace ∷ line 2 0 1 1 1 0 0 0 0 0 ∷ []) "DT") 64
 unfolding called
 larger-graph = refl
 
@@ -96,58 +96,61 @@ two-before-fourteen : lowers (sheet 30 1 (line 0 3 1 1 0 1 3 1 0 0 ∷ no_namesp
 unfolding called
 two-before-fourteen = refl
 
--- ---- 14: "scratch below one number for each finished type"; "nothing changed"
+-- ---- 14, order 11: "From now on 14 means fewer than 64"; "nothing changed"
 
--- one type and no scratch
-no-scratch : compiles (schema ∷ complex_type "C" ∷ close ∷ []) 40 9 0 ≡ compiled 3 (unchanged 14 40 9 0)
+-- one type, and none at all
+short-scratch : compiles (schema ∷ complex_type "C" ∷ close ∷ []) 40 9 63 ≡ compiled 3 (unchanged 14 40 9 63)
 unfolding called
-no-scratch = refl
+short-scratch = refl
 
--- one number is enough; it is zero afterwards
+short-for-none : lowers (sheet 20 0 (line 0 2 0 0 0 1 0 0 0 0 ∷ no_namespace ∷ []) "") 20 0 63 ≡ unchanged 14 20 0 63
+unfolding called
+short-for-none = refl
+
+-- 64 numbers are enough; they are zero afterwards, and so are those behind them
 exact-scratch :
-    compiles (schema ∷ complex_type "C" ∷ close ∷ []) 40 9 1
-    ≡ compiled 3 (lowered 0 3 (sheet 40 9 (line 0 3 1 0 1 0 0 0 0 0 ∷ no_namespace ∷ line 8 0 1 0 0 0 0 0 0 1 ∷ []) "C") 1)
+    compiles (schema ∷ complex_type "C" ∷ close ∷ []) 40 9 64
+    ≡ compiled 3 (lowered 0 3 (sheet 40 9 (line 0 3 1 0 1 0 0 0 0 0 ∷ no_namespace ∷ line 8 0 1 0 0 0 0 0 0 1 ∷ []) "C") 64)
 unfolding called
 exact-scratch = refl
 
--- two types of one name are two (G8)
-same-name-scratch : compiles (schema ∷ complex_type "C" ∷ close ∷ complex_type "C" ∷ close ∷ []) 40 9 1 ≡ compiled 5 (unchanged 14 40 9 1)
+longer-scratch :
+    compiles (schema ∷ complex_type "C" ∷ close ∷ []) 40 9 70
+    ≡ compiled 3 (lowered 0 3 (sheet 40 9 (line 0 3 1 0 1 0 0 0 0 0 ∷ no_namespace ∷ line 8 0 1 0 0 0 0 0 0 1 ∷ []) "C") 70)
 unfolding called
-same-name-scratch = refl
+longer-scratch = refl
 
--- a simple and a complex one
-two-kinds-scratch :
-    compiles (schema ∷ simple_type "S" ∷ empty "restriction" (based "date") ∷ close ∷ complex_type "C" ∷ close ∷ []) 40 9 1
-    ≡ compiled 6 (unchanged 14 40 9 1)
+-- 14 before 12: a cleared sheet
+fourteen-before-twelve : lowers (blank 20 0) 30 2 63 ≡ unchanged 14 30 2 63
 unfolding called
-two-kinds-scratch = refl
+fourteen-before-twelve = refl
 
--- an element and an open type count for nothing (G8); the open type is not lowered (G14)
+-- the open type is not lowered (G14)
 no-finished-type :
-    compiles (schema ∷ empty "element" (typed "D" "T") ∷ complex_type "C" ∷ []) 30 2 0
-    ≡ compiled 3 (lowered 0 3 (sheet 30 2 (line 0 3 2 1 0 0 0 0 0 0 ∷ no_namespace ∷ line 2 0 1 1 1 0 0 0 0 1 ∷ []) "DT") 0)
+    compiles (schema ∷ empty "element" (typed "D" "T") ∷ complex_type "C" ∷ []) 30 2 64
+    ≡ compiled 3 (lowered 0 3 (sheet 30 2 (line 0 3 2 1 0 0 0 0 0 0 ∷ no_namespace ∷ line 2 0 1 1 1 0 0 0 0 1 ∷ []) "DT") 64)
 unfolding called
 no-finished-type = refl
 
 -- 14 before 13
-fourteen-before-thirteen : compiles (schema ∷ simple_type "S" ∷ close ∷ []) 40 9 0 ≡ compiled 3 (unchanged 14 40 9 0)
+fourteen-before-thirteen : compiles (schema ∷ simple_type "S" ∷ close ∷ []) 40 9 63 ≡ compiled 3 (unchanged 14 40 9 63)
 unfolding called
 fourteen-before-thirteen = refl
 
 -- 14 before 15
-fourteen-before-fifteen : compiles (schema ∷ complex_type "C" ∷ close ∷ []) 20 0 0 ≡ compiled 3 (unchanged 14 20 0 0)
+fourteen-before-fifteen : compiles (schema ∷ complex_type "C" ∷ close ∷ []) 20 0 63 ≡ compiled 3 (unchanged 14 20 0 63)
 unfolding called
 fourteen-before-fifteen = refl
 
 -- ---- 12: "lowering, no root seen"; "graph and scratch zero"
 
 -- a cleared sheet
-cleared : lowers (blank 20 0) 30 2 3 ≡ lowered 12 0 (zeroed 30 2) 3
+cleared : lowers (blank 20 0) 30 2 64 ≡ lowered 12 0 (zeroed 30 2) 64
 unfolding called
 cleared = refl
 
 -- events done and tags open
-no-root : lowers (sheet 20 0 (line 0 2 0 0 0 0 5 3 0 0 ∷ no_namespace ∷ []) "") 20 0 0 ≡ lowered 12 0 (zeroed 20 0) 0
+no-root : lowers (sheet 20 0 (line 0 2 0 0 0 0 5 3 0 0 ∷ no_namespace ∷ []) "") 20 0 64 ≡ lowered 12 0 (zeroed 20 0) 64
 unfolding called
 no-root = refl
 
@@ -156,45 +159,45 @@ no-root = refl
 -- "`QName` is unknown": behind row 1, an element, a simple type and its facet
 thirteen :
     compiles (schema ∷ empty "element" (typed "D" "T") ∷ simple_type "S" ∷ empty "restriction" (based "xs:string")
-    ∷ empty "pattern" (valued "v") ∷ close ∷ simple_type "R" ∷ empty "restriction" (based "QName") ∷ close ∷ []) 40 9 2
-    ≡ compiled 9 (lowered 13 5 (zeroed 40 9) 2)
+    ∷ empty "pattern" (valued "v") ∷ close ∷ simple_type "R" ∷ empty "restriction" (based "QName") ∷ close ∷ []) 40 9 64
+    ≡ compiled 9 (lowered 13 5 (zeroed 40 9) 64)
 unfolding called
 thirteen = refl
 
 -- no restriction at all (G6)
-no-base : compiles (schema ∷ simple_type "S" ∷ close ∷ []) 40 9 1 ≡ compiled 3 (lowered 13 2 (zeroed 40 9) 1)
+no-base : compiles (schema ∷ simple_type "S" ∷ close ∷ []) 40 9 64 ≡ compiled 3 (lowered 13 2 (zeroed 40 9) 64)
 unfolding called
 no-base = refl
 
 -- behind a complex type with a child
 behind-complex :
     compiles (schema ∷ complex_type "C" ∷ start "sequence" [] ∷ empty "element" (typed "e" "t") ∷ close ∷ close ∷ simple_type "S"
-    ∷ close ∷ []) 40 9 2
-    ≡ compiled 8 (lowered 13 4 (zeroed 40 9) 2)
+    ∷ close ∷ []) 40 9 64
+    ≡ compiled 8 (lowered 13 4 (zeroed 40 9) 64)
 unfolding called
 behind-complex = refl
 
 -- the first of two
-first-of-two : compiles (schema ∷ simple_type "S" ∷ close ∷ simple_type "R" ∷ close ∷ []) 40 9 2 ≡ compiled 5 (lowered 13 2 (zeroed 40 9) 2)
+first-of-two : compiles (schema ∷ simple_type "S" ∷ close ∷ simple_type "R" ∷ close ∷ []) 40 9 64 ≡ compiled 5 (lowered 13 2 (zeroed 40 9) 64)
 unfolding called
 first-of-two = refl
 
 -- one facet is no enumeration
 mixed-facets :
-    compiles (schema ∷ simple_type "S" ∷ empty "enumeration" (valued "a") ∷ empty "pattern" (valued "p") ∷ close ∷ []) 40 9 1
-    ≡ compiled 5 (lowered 13 2 (zeroed 40 9) 1)
+    compiles (schema ∷ simple_type "S" ∷ empty "enumeration" (valued "a") ∷ empty "pattern" (valued "p") ∷ close ∷ []) 40 9 64
+    ≡ compiled 5 (lowered 13 2 (zeroed 40 9) 64)
 unfolding called
 mixed-facets = refl
 
 -- "Only finished types": an open one is not judged (G7)
 open-not-judged :
-    compiles (schema ∷ simple_type "S" ∷ []) 20 0 0
-    ≡ compiled 2 (lowered 0 2 (sheet 20 0 (line 0 2 0 0 0 0 0 0 0 0 ∷ no_namespace ∷ []) "") 0)
+    compiles (schema ∷ simple_type "S" ∷ []) 20 0 64
+    ≡ compiled 2 (lowered 0 2 (sheet 20 0 (line 0 2 0 0 0 0 0 0 0 0 ∷ no_namespace ∷ []) "") 64)
 unfolding called
 open-not-judged = refl
 
 -- 13 before 15
-thirteen-before-fifteen : compiles (schema ∷ complex_type "C" ∷ close ∷ simple_type "S" ∷ close ∷ []) 20 0 2 ≡ compiled 5 (lowered 13 3 (zeroed 20 0) 2)
+thirteen-before-fifteen : compiles (schema ∷ complex_type "C" ∷ close ∷ simple_type "S" ∷ close ∷ []) 20 0 64 ≡ compiled 5 (lowered 13 3 (zeroed 20 0) 64)
 unfolding called
 thirteen-before-fifteen = refl
 
@@ -202,34 +205,34 @@ thirteen-before-fifteen = refl
 
 -- three rows and two bytes: exactly so much
 exact-room :
-    lowers (sheet 30 2 (line 0 3 2 0 0 1 3 0 0 0 ∷ no_namespace ∷ line 2 0 1 1 1 0 0 0 0 0 ∷ []) "DT") 30 2 1
-    ≡ lowered 0 3 (sheet 30 2 (line 0 3 2 1 0 0 0 0 0 0 ∷ no_namespace ∷ line 2 0 1 1 1 0 0 0 0 0 ∷ []) "DT") 1
+    lowers (sheet 30 2 (line 0 3 2 0 0 1 3 0 0 0 ∷ no_namespace ∷ line 2 0 1 1 1 0 0 0 0 0 ∷ []) "DT") 30 2 64
+    ≡ lowered 0 3 (sheet 30 2 (line 0 3 2 1 0 0 0 0 0 0 ∷ no_namespace ∷ line 2 0 1 1 1 0 0 0 0 0 ∷ []) "DT") 64
 unfolding called
 exact-room = refl
 
 -- one row less
-one-row-less : lowers (sheet 30 2 (line 0 3 2 0 0 1 3 0 0 0 ∷ no_namespace ∷ line 2 0 1 1 1 0 0 0 0 0 ∷ []) "DT") 20 2 1 ≡ lowered 15 0 (zeroed 20 2) 1
+one-row-less : lowers (sheet 30 2 (line 0 3 2 0 0 1 3 0 0 0 ∷ no_namespace ∷ line 2 0 1 1 1 0 0 0 0 0 ∷ []) "DT") 20 2 64 ≡ lowered 15 0 (zeroed 20 2) 64
 unfolding called
 one-row-less = refl
 
 -- one byte less
 one-byte-less :
-    lowers (sheet 30 2 (line 0 3 2 0 0 1 3 0 0 0 ∷ no_namespace ∷ line 2 0 1 1 1 0 0 0 0 0 ∷ []) "DT") 30 1 1
-    ≡ lowered 15 0 (zeroed 30 1) 1
+    lowers (sheet 30 2 (line 0 3 2 0 0 1 3 0 0 0 ∷ no_namespace ∷ line 2 0 1 1 1 0 0 0 0 0 ∷ []) "DT") 30 1 64
+    ≡ lowered 15 0 (zeroed 30 1) 64
 unfolding called
 one-byte-less = refl
 
 -- a field, which has its name twice
 one_field :
-    compiles (schema ∷ complex_type "C" ∷ start "sequence" [] ∷ empty "element" (typed "e" "t") ∷ close ∷ close ∷ []) 40 4 1
+    compiles (schema ∷ complex_type "C" ∷ start "sequence" [] ∷ empty "element" (typed "e" "t") ∷ close ∷ close ∷ []) 40 4 64
     ≡ compiled 6 (lowered 0 4 (sheet 40 4 (line 0 4 4 0 1 0 0 0 0 0 ∷ no_namespace ∷ line 3 0 1 0 0 0 0 0 0 1
-    ∷ line 9 1 1 2 1 3 1 0 0 0 ∷ []) "Ceet") 1)
+    ∷ line 9 1 1 2 1 3 1 0 0 0 ∷ []) "Ceet") 64)
 unfolding called
 one_field = refl
 
 -- its last byte
 one-field-less :
-    compiles (schema ∷ complex_type "C" ∷ start "sequence" [] ∷ empty "element" (typed "e" "t") ∷ close ∷ close ∷ []) 40 3 1
-    ≡ compiled 6 (lowered 15 0 (zeroed 40 3) 1)
+    compiles (schema ∷ complex_type "C" ∷ start "sequence" [] ∷ empty "element" (typed "e" "t") ∷ close ∷ close ∷ []) 40 3 64
+    ≡ compiled 6 (lowered 15 0 (zeroed 40 3) 64)
 unfolding called
 one-field-less = refl

@@ -22,7 +22,7 @@ reading : ReadAnswer
 reading = read clearing.sheet text marks
 
 graph : Lowered
-graph = lowering reading.sheet (junk 40 10) (replicate 4 7)
+graph = lowering reading.sheet (junk 40 10) (replicate 64 7)
 
 clears : clearing.answer ≡ answer 0 0
 unfolding clearing called
@@ -34,7 +34,7 @@ unfolding text marks clearing reading called
 reads-it = refl
 
 -- "lower 0 3", "the graph's used rows, its used names": the three rows and DT, zeros behind them, the scratch zero
-lowers-it : graph ≡ lowered 0 3 (sheet 40 10 (line 0 3 2 1 0 0 0 0 0 0 ∷ line 1 0 0 0 0 0 0 0 0 0 ∷ line 2 0 1 1 1 0 0 0 0 1 ∷ []) "DT") 4
+lowers-it : graph ≡ lowered 0 3 (sheet 40 10 (line 0 3 2 1 0 0 0 0 0 0 ∷ line 1 0 0 0 0 0 0 0 0 0 ∷ line 2 0 1 1 1 0 0 0 0 1 ∷ []) "DT") 64
 unfolding text marks clearing reading graph called
 lowers-it = refl
 
@@ -53,6 +53,6 @@ empty-tape : (read clearing.sheet [] []).answer ≡ answer 0 0
 unfolding clearing called
 empty-tape = refl
 
-empty-tape-lowers : lowering (read clearing.sheet [] []).sheet (junk 40 10) (replicate 4 7) ≡ lowered 12 0 (zeroed 40 10) 4
+empty-tape-lowers : lowering (read clearing.sheet [] []).sheet (junk 40 10) (replicate 64 7) ≡ lowered 12 0 (zeroed 40 10) 64
 unfolding clearing called
 empty-tape-lowers = refl

@@ -10,15 +10,15 @@ ghost use Rattle.xsd_types.specs.Count.{good, state_of};
 ghost use Rattle.xsd_types.specs.Refused.{refused_place};
 ghost use Rattle.ir_types.specs.Types.{TypeGraph};
 ghost use Rattle.ir_lower.specs.Repeated.{first_repeated};
-ghost use Rattle.ir_lower.specs.Call.{LowerIs, zeros, written, repeated_or_written, lower_finished, lower_state};
-ghost use Rattle.ir_rows.specs.Types.{entry_places};
-ghost use Rattle.ir_rows.specs.Parts.{part_rows, part_places, part_heads};
+ghost use Rattle.ir_lower.specs.Call.{LowerIs, zeros, written, repeated_or_written, scratch_least, lower_finished, lower_state};
+ghost use Rattle.ir_rows.specs.Parts.{part_rows, part_heads};
+ghost use Rattle.ir_index.specs.Blocks.{row_of};
 ghost use Rattle.ir_append.specs.Whole.{Cleared};
 ghost use Rattle.ir_call.specs.Steps.{Sized, lowered, Finished, Lowers, GraphOf, GraphWritten};
 
 use ir_append::writer::{GraphWriter, zero_graph};
 use ir_checks::{count_roots, count_types};
-use ir_index::index_types;
+use ir_index::first_repeated;
 use ir_write::put_graph;
 use rows::answers::{Answer, Refused};
 use rows::lengths::both_sheet_lengths;
@@ -28,37 +28,59 @@ use xsd_good::count::count_in;
 use xsd_good::{row0, scan};
 use xsd_refused::first_refused;
 
+// Order 11: "a scratch of 64 numbers, however many types there are".
+const LEAST_SCRATCH: usize = 64;
+
 // The rows behind row 0, then row 0, which says how much is used: how many rows are, or `None` where there is no room. Then the sheet is left to be cleared.
 // Beside `ir_reduce::place::write_graph`: one function over both would take what puts the rows and both counts as closures, for the four lines that are the same.
 fn write_graph(
     part: &SheetPart<'_>,
     graph_rows: &mut [u32],
     graph_names: &mut [u8],
-    entries: &[u32],
 ) -> Option<usize>
-    requires { Finished part.now × Cleared graph_rows.old graph_names.old × (entry_places entries.now ≡ part_places part.now) }
+    requires { Finished part.now × Cleared graph_rows.old graph_names.old }
     ensures { (g : TypeGraph) → GraphOf part.now g → GraphWritten g graph_rows.old graph_names.old result graph_rows.new graph_names.new }
 {
     let mut writer = GraphWriter::start(graph_rows, graph_names);
-    put_graph(&mut writer, part, entries)?;
-    Some(writer.put_row0(count_roots(part), entries.len()))
+    put_graph(&mut writer, part)?;
+    Some(writer.put_row0(count_roots(part), count_types(part)))
 }
 
-// From 15 on: there is an entry for each type. The scratch is left to be cleared, as in the steps that lead here.
-fn lower_distinct(
-    part: &SheetPart<'_>,
-    entries: &[u32],
-    graph_rows: &mut [u32],
-    graph_names: &mut [u8],
-) -> Answer
-    requires { Finished part.now × Cleared graph_rows.old graph_names.old × (entry_places entries.now ≡ part_places part.now) }
+// From 15 on. The scratch is left to be cleared, as in the steps that lead here.
+fn lower_distinct(part: &SheetPart<'_>, graph_rows: &mut [u32], graph_names: &mut [u8]) -> Answer
+    requires { Finished part.now × Cleared graph_rows.old graph_names.old }
     ensures { (g : TypeGraph) (scratch : List ℕ) → GraphOf part.now g → lowered (answer_of result) graph_rows.new graph_names.new (zeros scratch) ≡ written g (sheet graph_rows.old graph_names.old) scratch }
 {
-    let Some(used) = write_graph(part, graph_rows, graph_names, entries) else {
+    let Some(used) = write_graph(part, graph_rows, graph_names) else {
         zero_graph(graph_rows, graph_names);
         return Err(Refusal::NoRoomInGraph.into());
     };
     Ok(used)
+}
+
+// The row of the first head whose name came before. No more of the table is used, and cleared again, than serves: with eight numbers for each row all heads go into
+// one block, and few of them into one bucket. A table of zeros is left so.
+fn search_in(part: &SheetPart<'_>, table: &mut [u32]) -> Option<usize>
+    requires { Finished part.now × (2 ≤ length table.old) }
+    ensures found { first_repeated [] (part_heads part.now) ≡ row_of result }
+    ensures kept { table.old ≡ zeros table.old → table.new ≡ table.old }
+{
+    let used = table.len().min(8 * part.end);
+    let found = first_repeated(part, &mut table[..used]);
+    table[..used].fill(0);
+    found
+}
+
+// The table is the longer of the two: the graph's rows, so that a graph with room for the types takes one block, or the scratch.
+fn search(part: &SheetPart<'_>, graph_rows: &mut [u32], scratch: &mut [u32]) -> Option<usize>
+    requires { Finished part.now × (scratch_least ≤ length scratch.old) }
+    ensures found { first_repeated [] (part_heads part.now) ≡ row_of result }
+    ensures kept { graph_rows.old ≡ zeros graph_rows.old → graph_rows.new ≡ graph_rows.old }
+{
+    if scratch.len() < graph_rows.len() {
+        return search_in(part, graph_rows);
+    }
+    search_in(part, scratch)
 }
 
 // From 20 on: nothing is written before every name is seen to be new.
@@ -68,17 +90,16 @@ fn lower_known(
     graph_names: &mut [u8],
     scratch: &mut [u32],
 ) -> Answer
-    requires { Finished part.now × Cleared graph_rows.old graph_names.old × (length (part_places part.now) ≤ length scratch.old) }
+    requires { Finished part.now × Cleared graph_rows.old graph_names.old × (scratch_least ≤ length scratch.old) }
     ensures { (g : TypeGraph) → GraphOf part.now g → lowered (answer_of result) graph_rows.new graph_names.new (zeros scratch.old) ≡ repeated_or_written (first_repeated [] (part_heads part.now)) g (sheet graph_rows.old graph_names.old) scratch.old }
 {
-    let indexed = index_types(part, scratch);
-    match indexed {
-        Ok(types) => lower_distinct(part, &scratch[..types], graph_rows, graph_names),
-        Err(first) => Err(Refused {
+    if let Some(place) = search(part, graph_rows, scratch) {
+        return Err(Refused {
             refusal: Refusal::RepeatedName,
-            place: first.place,
-        }),
+            place,
+        });
     }
+    lower_distinct(part, graph_rows, graph_names)
 }
 
 // 13's place, where a simple type is refused: the sheet's count says whether there is one to look for (order 7).
@@ -100,7 +121,7 @@ fn lower_cleared(
     graph_names: &mut [u8],
     scratch: &mut [u32],
 ) -> Answer
-    requires { Finished part.now × Cleared graph_rows.old graph_names.old × (length (part_places part.now) ≤ length scratch.old) }
+    requires { Finished part.now × Cleared graph_rows.old graph_names.old × (scratch_least ≤ length scratch.old) }
     ensures { (s : State) → Lowers part.now root_seen s → lowered (answer_of result) graph_rows.new graph_names.new (zeros scratch.old) ≡ lower_finished s (sheet graph_rows.old graph_names.old) scratch.old }
 {
     if !root_seen {
@@ -123,7 +144,7 @@ fn lower_finished(
     graph_names: &mut [u8],
     scratch: &mut [u32],
 ) -> Answer
-    requires { Finished part.now × Sized graph_rows.old graph_names.old × (length (part_places part.now) ≤ length scratch.old) }
+    requires { Finished part.now × Sized graph_rows.old graph_names.old × (scratch_least ≤ length scratch.old) }
     ensures { (s : State) → Lowers part.now root_seen s → lowered (answer_of result) graph_rows.new graph_names.new scratch.new ≡ lower_finished s (sheet graph_rows.old graph_names.old) scratch.old }
 {
     zero_graph(graph_rows, graph_names);
@@ -146,7 +167,7 @@ fn lower_good(
     let z = row0::row0_at(rows);
     let end = scan::finished_end(rows, z.context, z.rows_used as usize);
     let part = SheetPart { rows, names, end };
-    if scratch.len() < count_types(&part) {
+    if scratch.len() < LEAST_SCRATCH {
         return Err(Refusal::ShortScratch.into());
     }
     lower_finished(&part, z.root_seen == 1, graph_rows, graph_names, scratch)

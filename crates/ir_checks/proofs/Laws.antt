@@ -1,2 +1,3 @@
--- Laws of the definitions that the contracts cite: of the counts of types and elements.
+-- Laws of the definitions that the contracts cite: Kinds of the places of one kind from a place on, Counts of the counts of types and elements.
+pub mod Kinds
 pub mod Counts

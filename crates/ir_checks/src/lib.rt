@@ -1,19 +1,36 @@
-// What lowering asks of a schema sheet before it writes: how many types and elements there are. Places count rows; row 0 is at place 0.
+// What lowering asks of a schema sheet's rows: the kind of a type by its head's tag, and how many types and elements there are. Places count rows; row 0 is at place 0.
 #![tactic(auto)]
 
 ghost use Rattle.std.specs.Prelude.{ℕ, ◌≤◌, ◌≡◌, List, length};
 ghost use Rattle.xsd_types.specs.Places.{rows_from};
 ghost use Rattle.ir_rows.specs.Lowered.{root_rows};
 ghost use Rattle.ir_rows.specs.Types.{is_type, type_places};
+ghost use Rattle.ir_checks.specs.Kinds.{is_kind};
 
 use rows::form::in_range;
 use rows::part::SheetPart;
 use xsd_types::tags;
 
+#[derive(Clone, Copy)]
+pub enum Kind {
+    Simple,
+    Complex,
+}
+
+// The head of a finished type of one kind.
+pub fn is_kind(kind: Kind, tag: u32) -> bool
+    ensures { result ≡ is_kind kind tag }
+{
+    match kind {
+        Kind::Simple => tag == tags::SIMPLE_TYPE,
+        Kind::Complex => in_range(tags::SEQUENCE, tags::ANY, tag),
+    }
+}
+
 fn is_type(tag: u32) -> bool
     ensures { result ≡ is_type tag }
 {
-    (tag == tags::SIMPLE_TYPE) | in_range(tags::SEQUENCE, tags::ANY, tag)
+    is_kind(Kind::Simple, tag) | is_kind(Kind::Complex, tag)
 }
 
 // How many types there are.

@@ -1,8 +1,6 @@
--- Laws of the definitions in specs/: Prints of fingerprints, Heads of the names of heads, Kinds of the places of heads,
--- Entries of the entries stored so far, Walk of the pass over the rows, Named of what docs/PORT.md names.
-pub mod Prints
-pub mod Heads
-pub mod Kinds
-pub mod Entries
-pub mod Walk
-pub mod Named
+-- Laws of the definitions in specs/: Turns of the heads turn by turn, Names of their names, Steps of the heads entered and asked one by one, Blocks of the
+-- search block by block.
+pub mod Turns
+pub mod Names
+pub mod Steps
+pub mod Blocks

@@ -1,4 +1,3 @@
--- The definitions of the crate `ir_index`: Index has what the outer call answers, Prints the fingerprint of a name, Entries what the numbers stored so far say.
-pub mod Index
-pub mod Prints
-pub mod Entries
+-- The definitions of the crate `ir_index`: Heads has the heads of finished types turn by turn, Blocks what is known of a block of them and of those behind it.
+pub mod Heads
+pub mod Blocks

@@ -1,209 +1,207 @@
-// The finished types in lowering's order, one number for each, up to the first whose name came before (order 4: "Lowering refuses when
-// two finished types normalise to the same name"). An entry is one number: the scratch that the C call lends has one for each type.
-// The head asked about stays as part, place and fingerprint: beside a struct of them `Known` would still be said of the index and of the struct's part.
+// The first head of a finished type, in lowering's order, whose name came before (order 4: "Lowering refuses when two finished types normalise to the same
+// name"), by a table of any length: a block of heads is entered, those behind it are asked against it, and then comes the next block. Behind the first head that
+// came with a block nothing need be looked at again.
 #![tactic(auto)]
 
-ghost use Rattle.std.specs.Prelude.{◌≡◌, ◌&&◌, ◌+◌, ◌%◌, ◌≤◌, ◌<◌, ltb, eqb, length, get_or, set};
-ghost use Rattle.text.specs.Text.{same};
-ghost use Rattle.names.specs.Names.{normalize_type_name};
+ghost use Rattle.std.specs.Prelude.{◌≡◌, ◌-◌, ◌+◌, ◌*◌, ◌≤◌, ◌<◌, [], length};
 ghost use Rattle.sheet.specs.Limits.{rows_limit};
-ghost use Rattle.ir_types.specs.Distinct.{among};
-ghost use Rattle.ir_rows.specs.Parts.{part_name, part_places};
-ghost use Rattle.ir_index.specs.Index.{IndexIs};
-ghost use Rattle.ir_index.specs.Prints.{mixed, fingerprint};
-ghost use Rattle.ir_index.specs.Entries.{is_kind, kind_places, names_held, has_print, HeadAt, EntryOf, Known, Entered, KindEntered};
+ghost use Rattle.ir_lower.specs.Repeated.{first_repeated};
+ghost use Rattle.ir_rows.specs.Parts.{part_heads};
+ghost use Rattle.name_index.specs.Index.{Starts};
+ghost use Rattle.ir_index.specs.Heads.{kind_place, head_place};
+ghost use Rattle.ir_index.specs.Blocks.{Within, row_of, HeadsIn, HeadsOf, names_in, EntersTurn, BlockIs, AskedIs, FirstIs, SearchedBehind, SearchedOn};
 
-use name_index::name_at;
-use names::cased;
-use names::same::same_normalized;
-use rows::numbers::wide;
+use ir_checks::{Kind, is_kind};
+use name_index::{Heads, Table, TableWriter, find};
 use rows::part::SheetPart;
-use text::has_byte;
-use xsd_types::tags;
 
-// The row of the first type whose name came before.
+// The row of a head whose name came before in its block.
 #[derive(Clone, Copy)]
-pub struct Repeated {
-    pub place: usize,
+struct Repeated {
+    place: usize,
 }
 
+// A block that is entered: the turn behind it, and how many entries it has.
 #[derive(Clone, Copy)]
-enum Kind {
-    Simple,
-    Complex,
+struct Block {
+    next: usize,
+    entries: usize,
 }
 
-fn mix(h: u32, b: u8) -> u32
-    requires { h < 65536 }
-    ensures { result ≡ mixed h b }
+// A head whose name came with a block: its turn and its row.
+#[derive(Clone, Copy)]
+struct Came {
+    turn: usize,
+    place: usize,
+}
+
+// How far the search is: the turns that are left, from one up to a limit, and the row that was found at the limit.
+#[derive(Clone, Copy)]
+struct Search {
+    from: usize,
+    limit: usize,
+    found: Option<usize>,
+}
+
+fn kind_at(part: &SheetPart<'_>, kind: Kind, place: usize) -> Option<usize>
+    requires { place < part.now.end }
+    ensures { result ≡ kind_place part.now kind place }
 {
-    (h * 60493 + b as u32) % 65536
+    if is_kind(kind, part.tag(place)) {
+        Some(place)
+    } else {
+        None
+    }
 }
 
-fn print_of(name: &[u8]) -> u32
-    ensures { result ≡ fingerprint (normalize_type_name name.now) }
+// The place of the head at a turn, if there is one. "Only finished types are lowered, simple ones before complex.": the first half of the turns is for the simple ones.
+fn head_at(part: &SheetPart<'_>, turn: usize) -> Option<usize>
+    requires { turn < 2 * (part.now.end - 2) }
+    ensures { result ≡ head_place part.now turn }
 {
-    let mut up = has_byte(name, b'_');
-    let mut h = 0;
-    for &b in name {
-        if b == b'_' {
-            up = true;
-        } else {
-            h = mix(h, cased(b, up, false));
-            up = false;
-        }
+    let half = part.end - 2;
+    if turn < half {
+        return kind_at(part, Kind::Simple, turn + 2);
     }
-    h
+    kind_at(part, Kind::Complex, turn - half + 2)
 }
 
-fn is_kind(kind: Kind, tag: u32) -> bool
-    ensures { result ≡ is_kind kind tag }
-{
-    match kind {
-        Kind::Simple => tag == tags::SIMPLE_TYPE,
-        Kind::Complex => (tags::SEQUENCE <= tag) & (tag <= tags::ANY),
-    }
-}
-
-// The fingerprints are compared first: names that differ mostly differ there.
-fn entry_same(part: &SheetPart<'_>, entry: u32, place: usize, print: u32) -> bool
-    requires entry_of { EntryOf part.now entry }
-    requires head_at { HeadAt part.now place }
-    requires print_value { print ≡ fingerprint (part_name part.now place) }
-    ensures { result ≡ same (part_name part.now (entry % 65536)) (part_name part.now place) }
-{
-    if entry / 65536 != print {
-        return false;
-    }
-    let held = name_at(part.rows, part.names, wide(entry % 65536));
-    let asked = name_at(part.rows, part.names, place);
-    same_normalized(held, asked)
-}
-
-// A fold, with no early exit: the compiler makes wide compares of it.
-fn has_print(entries: &[u32], print: u32) -> bool
-    ensures { result ≡ has_print print entries.now }
-{
-    entries
-        .iter()
-        .fold(false, |found, entry| found | (*entry / 65536 == print))
-}
-
-// Whether a flag says that no entry has the fingerprint f. Where there is no flag for it, nothing is said.
-fn unseen(flags: &[u8], f: usize) -> bool
-    ensures { result ≡ ltb f (length flags.now) && eqb (get_or flags.now f 0) 0 }
-{
-    flags.get(f).is_some_and(|flag| *flag == 0)
-}
-
-// Sets the flag of the fingerprint f, where there is one.
-fn set_flag(flags: &mut [u8], f: usize)
-    ensures { flags.new ≡ set flags.old f 1 }
-{
-    // Tried with `get_mut`: the proof does not close, since of what is written by a slice's `get_mut` only the length is known.
-    if f < flags.len() {
-        flags[f] = 1;
-    }
-}
-
-// The first `count` numbers are entries, and a flag that is not set says that there is none with its fingerprint.
-#[derive(Drop)]
-struct Index<'a> {
-    entries: &'a mut [u32],
-    count: usize,
-    flags: &'a mut [u8],
-}
-
-impl Index<'_> {
-    fn has_name(&self, part: &SheetPart<'_>, place: usize, print: u32) -> bool
-        requires known { Known part.now self.now }
-        requires head_at { HeadAt part.now place }
-        requires print_value { print ≡ fingerprint (part_name part.now place) }
-        ensures { result ≡ among (part_name part.now place) (names_held part.now self.now) }
-    {
-        self.entries[..self.count]
-            .iter()
-            .any(|entry| entry_same(part, *entry, place, print))
-    }
-
-    fn name_came(&self, part: &SheetPart<'_>, place: usize, print: u32) -> bool
-        requires known { Known part.now self.now }
-        requires head_at { HeadAt part.now place }
-        requires print_value { print ≡ fingerprint (part_name part.now place) }
-        ensures { result ≡ among (part_name part.now place) (names_held part.now self.now) }
-    {
-        if unseen(self.flags, wide(print)) {
-            return false;
-        }
-        if !has_print(&self.entries[..self.count], print) {
-            return false;
-        }
-        self.has_name(part, place, print)
-    }
-
-    // Whether the name is new; only then is there one entry more.
-    fn enter(&mut self, part: &SheetPart<'_>, place: usize) -> bool
-        requires known { Known part.now self.old }
-        requires head_at { HeadAt part.now place }
-        requires room { (length part.now.rows.now ≤ rows_limit) × (self.old.count < length self.old.entries.now) }
-        ensures { Entered part.now self.old place self.new result }
-    {
-        let print = print_of(name_at(part.rows, part.names, place));
-        if self.name_came(part, place, print) {
-            return false;
-        }
-        self.entries[self.count] = place as u32 + 65536 * print;
-        self.count += 1;
-        set_flag(self.flags, wide(print));
-        true
-    }
-
-    fn enter_kind(&mut self, part: &SheetPart<'_>, kind: Kind) -> Result<(), Repeated>
-        requires known { Known part.now self.old }
-        requires room { (length part.now.rows.now ≤ rows_limit) × (self.old.count + length (kind_places part.now kind 2) ≤ length self.old.entries.now) }
-        ensures { KindEntered part.now kind self.old self.new result }
-    {
-        for place in 2..part.end {
-            if is_kind(kind, part.tag(place)) && !self.enter(part, place) {
-                return Err(Repeated { place });
-            }
-        }
-        Ok(())
-    }
-}
-
-// "Only finished types are lowered, simple ones before complex." The answer is the same whatever the flags hold and however many there are; those that
-// are 0 save work.
-fn index_over(
+// Enters the head of a turn, if there is one, or answers its row where its name came before.
+fn enter_turn(
     part: &SheetPart<'_>,
-    scratch: &mut [u32],
-    flags: &mut [u8],
-) -> Result<usize, Repeated>
-    requires { (length part.now.rows.now ≤ rows_limit) × (length (part_places part.now) ≤ length scratch.old) }
-    ensures { IndexIs part.now scratch.new result }
+    table: &mut TableWriter<'_>,
+    turn: usize,
+) -> Result<(), Repeated>
+    requires index { HeadsIn part.now table.old }
+    requires turn_inside { (turn < 2 * (part.now.end - 2)) × (length part.now.rows.now ≤ rows_limit) }
+    requires room { table.old.buckets + table.old.entries < length table.old.numbers.now }
+    ensures { EntersTurn part.now table.old turn table.new result }
 {
-    let mut index = Index {
-        entries: scratch,
-        count: 0,
-        flags,
+    let Some(place) = head_at(part, turn) else {
+        return Ok(());
     };
-    index.enter_kind(part, Kind::Simple)?;
-    index.enter_kind(part, Kind::Complex)?;
-    Ok(index.count)
+    let heads = Heads {
+        rows: part.rows,
+        names: part.names,
+        normalised: true,
+    };
+    if table.enter(heads, place).is_some() {
+        return Err(Repeated { place });
+    }
+    Ok(())
 }
 
-// Below place 64 stand at most 62 types: to look for a fingerprint among so few takes less time than to clear 65,536 flags.
-const FEW: usize = 64;
-
-// How many types there are, or the row of the first whose name came before.
-pub fn index_types(part: &SheetPart<'_>, scratch: &mut [u32]) -> Result<usize, Repeated>
-    requires { (2 ≤ part.now.end) × (length part.now.rows.now ≤ rows_limit) × (length (part_places part.now) ≤ length scratch.old) }
-    ensures { IndexIs part.now scratch.new result }
+// Enters the heads of the turns that are left, as many as the table takes. A `while`: how far it comes, the table says.
+fn enter_block(
+    part: &SheetPart<'_>,
+    numbers: &mut [u32],
+    buckets: usize,
+    search: Search,
+) -> Result<Block, Repeated>
+    requires within { Within part.now search × (search.from < search.limit) }
+    requires starts { Starts numbers.old buckets × (buckets < length numbers.old) }
+    ensures { BlockIs part.now numbers.new buckets search result }
 {
-    if part.end <= FEW {
-        return index_over(part, scratch, &mut []);
+    let mut table = TableWriter::start(numbers, buckets);
+    let mut next = search.from;
+    while next < search.limit && table.buckets + table.entries < table.numbers.len() {
+        enter_turn(part, &mut table, next)?;
+        next += 1;
     }
-    // A flag for each fingerprint that there is, on the stack: the library has no heap.
-    let mut flags = [0u8; 65536];
-    index_over(part, scratch, &mut flags)
+    Ok(Block {
+        next,
+        entries: table.entries,
+    })
+}
+
+// The row of the head of a turn, if its name is among those of a block.
+fn came_at(part: &SheetPart<'_>, table: &Table<'_>, turn: usize) -> Option<usize>
+    requires index { HeadsOf part.now table.now }
+    requires turn_inside { turn < 2 * (part.now.end - 2) }
+    ensures { AskedIs part.now (names_in part.now table.now) turn result }
+{
+    let place = head_at(part, turn)?;
+    let heads = Heads {
+        rows: part.rows,
+        names: part.names,
+        normalised: true,
+    };
+    find(heads, *table, heads.spelled_at(place))?;
+    Some(place)
+}
+
+// The first turn whose head came with a block. A loop and no `find`: what `came_at` requires would be asked for at the call, of all turns at once.
+fn first_came(part: &SheetPart<'_>, table: &Table<'_>, search: Search) -> Option<Came>
+    requires index { HeadsOf part.now table.now }
+    requires within { Within part.now search × (search.from ≤ search.limit) }
+    ensures { FirstIs part.now (names_in part.now table.now) search result }
+{
+    for turn in search.from..search.limit {
+        if let Some(place) = came_at(part, table, turn) {
+            return Some(Came { turn, place });
+        }
+    }
+    None
+}
+
+// Behind a block: a head that came with it is what is found, unless one before it came with another block, so that it is the limit of what is left.
+fn search_behind(part: &SheetPart<'_>, table: &Table<'_>, search: Search) -> Search
+    requires index { HeadsOf part.now table.now }
+    requires within { Within part.now search × (search.from ≤ search.limit) }
+    ensures { SearchedBehind part.now (names_in part.now table.now) search result }
+{
+    let Some(came) = first_came(part, table, search) else {
+        return search;
+    };
+    Search {
+        from: search.from,
+        limit: came.turn,
+        found: Some(came.place),
+    }
+}
+
+// A block, and what is behind it. Half of the numbers are buckets.
+fn search_block(part: &SheetPart<'_>, numbers: &mut [u32], search: Search) -> Search
+    requires within { Within part.now search × (search.from < search.limit) }
+    requires numbers_long { (2 ≤ length numbers.old) × (length numbers.old ≤ rows_limit) }
+    ensures { SearchedOn part.now search result }
+{
+    let buckets = numbers.len() / 2;
+    match enter_block(part, numbers, buckets, search) {
+        Ok(block) => {
+            let table = Table {
+                numbers,
+                buckets,
+                entries: block.entries,
+            };
+            let behind = Search {
+                from: block.next,
+                limit: search.limit,
+                found: search.found,
+            };
+            search_behind(part, &table, behind)
+        }
+        Err(first) => Search {
+            from: search.limit,
+            limit: search.limit,
+            found: Some(first.place),
+        },
+    }
+}
+
+// The row of the first head whose name came before. A table of four numbers for each row takes all heads in one block.
+pub fn first_repeated(part: &SheetPart<'_>, numbers: &mut [u32]) -> Option<usize>
+    requires part_rows { (2 ≤ part.now.end) × (length part.now.rows.now ≤ rows_limit) }
+    requires numbers_long { (2 ≤ length numbers.old) × (length numbers.old ≤ rows_limit) }
+    ensures { first_repeated [] (part_heads part.now) ≡ row_of result }
+{
+    let mut search = Search {
+        from: 0,
+        limit: 2 * (part.end - 2),
+        found: None,
+    };
+    while search.from < search.limit {
+        search = search_block(part, numbers, search);
+    }
+    search.found
 }

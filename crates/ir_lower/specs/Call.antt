@@ -6,6 +6,7 @@
 --     written           the graph, or 15
 --     repeated_or_written 20, or the graph
 --     refused_or_written  13, or what follows it
+--     scratch_least      how many numbers a scratch must have
 --     lower_finished     the call on a state with scratch enough, from 12 on
 --     lower_state        the call on a state, from 14 on
 --     lowering          the call; LowerIs: what it says of itself
@@ -20,7 +21,7 @@ use Rattle.xsd_types.specs.Count.{good, state_of}
 use Rattle.ir_types.specs.Types.{TypeGraph}
 use Rattle.ir_types.specs.Rows.{rows_used}
 use Rattle.ir_types.specs.Sheet.{graph_fits, graph_sheet}
-use Rattle.ir_lower.specs.Lower.{lower, unknown_row, finished_types}
+use Rattle.ir_lower.specs.Lower.{lower, unknown_row}
 use Rattle.ir_lower.specs.Repeated.{repeated_row}
 
 pub record Lowered : Type 0 where
@@ -72,10 +73,14 @@ lower_finished s graph scratch =
     then refused_or_written s.reader.schema (lower s.reader.schema) graph scratch
     else cleared returned.no_root 0 graph scratch
 
--- 14: "scratch below one number for each finished type"
+-- order 11: "The same graph, refusals and places must come from a scratch of 64 numbers, however many types there are."
+abbrev pub scratch_least : ℕ
+scratch_least = 64
+
+-- 14, order 11: "From now on 14 means fewer than 64"
 unfoldable pub lower_state : State → Sheet → List ℕ → Lowered
 lower_state s graph scratch =
-    if leb (finished_types s.reader.schema) (length scratch)
+    if leb scratch_least (length scratch)
     then lower_finished s graph scratch
     else unchanged returned.short_scratch graph scratch
 

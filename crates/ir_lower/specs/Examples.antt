@@ -15,7 +15,7 @@ use Rattle.xsd_types.specs.Unfold.{computes as schemas}
 use Rattle.ir_types.specs.Types.{TypeRef, Cardinality, TypeDef, TypeGraph}
 use Rattle.ir_types.specs.Unfold.{computes as graphs}
 use Rattle.ir_lower.specs.Lower.{lower_cardinality, lower}
-use Rattle.ir_lower.specs.Call.{Lowered, lower_state, lowering}
+use Rattle.ir_lower.specs.Call.{Lowered, lowering}
 use Rattle.ir_lower.specs.Unfold.{computes as lowerings}
 
 schema : List Item → Schema
@@ -94,34 +94,32 @@ bad : Item
 bad = simple (bytes "A") (bytes "QName") []
 
 -- 13: the place is the row of the first refused simple type's head
-unknown-base : call (state (Item.element (record { name = bytes "D"; type_name = bytes "A"; event = 1 }) ∷ a ∷ bad ∷ bad ∷ [])) 20 3 3 ≡ zeroed 13 5 20 3 3
+unknown-base : call (state (Item.element (record { name = bytes "D"; type_name = bytes "A"; event = 1 }) ∷ a ∷ bad ∷ bad ∷ [])) 20 3 64 ≡ zeroed 13 5 20 3 64
 unfolding call sevens zeroed state_in state schema simple a bad texts builtin_names conversions sheets schemas graphs lowerings
 unknown-base = refl
 
 -- 12: no root seen
-no-root : call (first_state false) 20 0 1 ≡ zeroed 12 0 20 0 1
+no-root : call (first_state false) 20 0 64 ≡ zeroed 12 0 20 0 64
 unfolding call sevens zeroed texts builtin_names conversions sheets schemas graphs lowerings
 no-root = refl
 
 -- the choice is not looked at
-no-root-standard : call (first_state true) 20 0 1 ≡ zeroed 12 0 20 0 1
+no-root-standard : call (first_state true) 20 0 64 ≡ zeroed 12 0 20 0 64
 unfolding call sevens zeroed texts builtin_names conversions sheets schemas graphs lowerings
 no-root-standard = refl
 
--- 14 before 12, on a state that no sheet holds: types and no root seen, one number of scratch for two types
-scratch-before-root :
-    lower_state (record { reader = record { schema = schema (a ∷ a ∷ []); root_seen = false; context = Context.no_context }; events = 9; open_tags = 0; by_standard = false }) (sevens 40 9) (replicate 1 7)
-    ≡ kept 14 40 9 1
-unfolding sevens kept schema simple a texts builtin_names conversions sheets schemas graphs lowerings
+-- 14 before 12, with no types at all
+scratch-before-root : call (first_state false) 20 0 63 ≡ kept 14 20 0 63
+unfolding call sevens kept texts builtin_names conversions sheets schemas graphs lowerings
 scratch-before-root = refl
 
--- 14: two finished types, one number of scratch
-scratch-short : call (state (a ∷ a ∷ [])) 40 9 1 ≡ kept 14 40 9 1
+-- 14: 63 numbers are too few, for two types and for one
+scratch-short : (call (state (a ∷ a ∷ [])) 40 9 63 ≡ kept 14 40 9 63) × (call (state (a ∷ [])) 40 9 63 ≡ kept 14 40 9 63)
 unfolding call sevens kept state_in state schema simple a texts builtin_names conversions sheets schemas graphs lowerings
-scratch-short = refl
+scratch-short = (refl, refl)
 
 -- 0 with exact room: four rows and two bytes of names; 15 with one row or one byte less
-exact-room : call (state (a ∷ [])) 40 2 2
+exact-room : call (state (a ∷ [])) 40 2 64
     ≡ record {
       answer = record { number = 0; place = 4 };
       graph =
@@ -130,16 +128,16 @@ exact-room : call (state (a ∷ [])) 40 2 2
                 ∷ 5 ∷ 0 ∷ 1 ∷ 0 ∷ 0 ∷ 0 ∷ 0 ∷ 1 ∷ 0 ∷ 4 ∷ 11 ∷ 1 ∷ 1 ∷ 0 ∷ 0 ∷ 0 ∷ 0 ∷ 0 ∷ 0 ∷ 0 ∷ [];
             names = bytes "Ap";
           };
-      scratch = 0 ∷ 0 ∷ [];
+      scratch = replicate 64 0;
     }
 unfolding call sevens state_in state schema simple a texts builtin_names conversions sheets schemas graphs lowerings
 exact-room = refl
 
-one-row-less : call (state (a ∷ [])) 30 2 2 ≡ zeroed 15 0 30 2 2
+one-row-less : call (state (a ∷ [])) 30 2 64 ≡ zeroed 15 0 30 2 64
 unfolding call sevens zeroed state_in state schema simple a texts builtin_names conversions sheets schemas graphs lowerings
 one-row-less = refl
 
-one-byte-less : call (state (a ∷ [])) 40 1 2 ≡ zeroed 15 0 40 1 2
+one-byte-less : call (state (a ∷ [])) 40 1 64 ≡ zeroed 15 0 40 1 64
 unfolding call sevens zeroed state_in state schema simple a texts builtin_names conversions sheets schemas graphs lowerings
 one-byte-less = refl
 
@@ -153,7 +151,7 @@ c name = complex name (ComplexContent.sequence (record { name = bytes "e"; type_
 
 -- number and place of a lowering with scratch enough and a graph of 20 numbers without names: 20 comes before 15
 IsJudged : List Item → ℕ → ℕ → Type 0
-IsJudged items number place = call (state items) 20 0 4 ≡ zeroed number place 20 0 4
+IsJudged items number place = call (state items) 20 0 64 ≡ zeroed number place 20 0 64
 
 -- the complex one comes behind the simple one, wherever it stands
 simple-first : IsJudged (s (bytes "a_b") ∷ c (bytes "AB") ∷ []) 20 3 × IsJudged (c (bytes "AB") ∷ s (bytes "a_b") ∷ []) 20 2 × IsJudged (c (bytes "AB") ∷ c (bytes "X") ∷ c (bytes "a_b") ∷ []) 20 6
@@ -170,7 +168,7 @@ thirteen-first : IsJudged (s (bytes "AB") ∷ s (bytes "AB") ∷ simple (bytes "
 unfolding IsJudged call sevens zeroed state_in state schema simple a bad s texts builtin_names conversions sheets schemas graphs lowerings
 thirteen-first = (refl, refl, refl)
 
-fourteen-first : call (state (s (bytes "AB") ∷ s (bytes "AB") ∷ [])) 20 0 1 ≡ kept 14 20 0 1
+fourteen-first : call (state (s (bytes "AB") ∷ s (bytes "AB") ∷ [])) 20 0 63 ≡ kept 14 20 0 63
 unfolding call sevens kept state_in state schema simple s texts builtin_names conversions sheets schemas graphs lowerings
 fourteen-first = refl
 
@@ -180,14 +178,14 @@ unfolding IsJudged call sevens zeroed state_in state schema simple s texts built
 one_name = (refl, refl)
 
 -- an element is no type, and the open type is not finished
-elements-apart : (call (state (Item.element (record { name = bytes "AB"; type_name = bytes "AB"; event = 0 }) ∷ s (bytes "AB") ∷ [])) 40 6 1).answer ≡ record { number = 0; place = 4 }
+elements-apart : (call (state (Item.element (record { name = bytes "AB"; type_name = bytes "AB"; event = 0 }) ∷ s (bytes "AB") ∷ [])) 40 6 64).answer ≡ record { number = 0; place = 4 }
 unfolding call sevens state_in state schema simple s texts builtin_names conversions sheets schemas graphs lowerings
 elements-apart = refl
 
 opened : State
 opened = state_in (Context.in_complex_type (record { name = bytes "AB"; content = ComplexContentBuilder.empty; nesting_depth = 0; event = 0 })) 2 (s (bytes "AB") ∷ [])
 
-open-apart : (call opened 30 2 1).answer ≡ record { number = 0; place = 3 }
+open-apart : (call opened 30 2 64).answer ≡ record { number = 0; place = 3 }
 unfolding call sevens opened state_in schema simple s texts builtin_names conversions sheets schemas graphs lowerings
 open-apart = refl
 

@@ -128,7 +128,3 @@ lower s = if any_unknown (simple_types s.items) then none else some (graph_of s)
 unfoldable pub unknown_row : ℕ → List Item → ℕ
 unknown_row row [] = 0
 unknown_row row (i ∷ is) = if refused_item i then row else unknown_row (row + length (item_rows i)) is
-
--- 14: "scratch below one number for each finished type"
-unfoldable pub finished_types : Schema → ℕ
-finished_types s = length (simple_types s.items) + length (complex_types s.items)

@@ -14,21 +14,21 @@ use Rattle.ir_types.specs.Types.{TypeGraph}
 use Rattle.ir_types.specs.Distinct.{type_names, distinct_texts, distinct}
 use Rattle.ir_types.specs.Rows.{rows_used}
 use Rattle.ir_types.specs.Sheet.{graph_fits, graph_sheet}
-use Rattle.ir_lower.specs.Lower.{any_unknown, finished_definitions, lower, unknown_row, finished_types}
+use Rattle.ir_lower.specs.Lower.{any_unknown, finished_definitions, lower, unknown_row}
 use Rattle.ir_lower.specs.Finished.{finished_names}
 use Rattle.ir_lower.specs.Repeated.{repeated_row}
-use Rattle.ir_lower.specs.Call.{Lowered, zeros, unchanged, cleared}
+use Rattle.ir_lower.specs.Call.{Lowered, zeros, unchanged, cleared, scratch_least}
 
 pub data Outcome (s : State) (graph : Sheet) (scratch : List ℕ) (l : Lowered) : Type 0 where
-  short : length scratch < finished_types s.reader.schema → l ≡ unchanged returned.short_scratch graph scratch → Outcome s graph scratch l
-  rootless : finished_types s.reader.schema ≤ length scratch → s.reader.root_seen ≡ false → l ≡ cleared returned.no_root 0 graph scratch → Outcome s graph scratch l
-  unknown : finished_types s.reader.schema ≤ length scratch → s.reader.root_seen ≡ true → any_unknown (simple_types s.reader.schema.items) ≡ true
+  short : length scratch < scratch_least → l ≡ unchanged returned.short_scratch graph scratch → Outcome s graph scratch l
+  rootless : scratch_least ≤ length scratch → s.reader.root_seen ≡ false → l ≡ cleared returned.no_root 0 graph scratch → Outcome s graph scratch l
+  unknown : scratch_least ≤ length scratch → s.reader.root_seen ≡ true → any_unknown (simple_types s.reader.schema.items) ≡ true
       → l ≡ cleared returned.unknown_base (unknown_row 2 s.reader.schema.items) graph scratch → Outcome s graph scratch l
-  repeated : finished_types s.reader.schema ≤ length scratch → s.reader.root_seen ≡ true → (g : TypeGraph) → lower s.reader.schema ≡ some g
+  repeated : scratch_least ≤ length scratch → s.reader.root_seen ≡ true → (g : TypeGraph) → lower s.reader.schema ≡ some g
       → (row : ℕ) → repeated_row s.reader.schema ≡ some row → l ≡ cleared returned.repeated_name row graph scratch → Outcome s graph scratch l
-  tight : finished_types s.reader.schema ≤ length scratch → s.reader.root_seen ≡ true → (g : TypeGraph) → lower s.reader.schema ≡ some g
+  tight : scratch_least ≤ length scratch → s.reader.root_seen ≡ true → (g : TypeGraph) → lower s.reader.schema ≡ some g
       → repeated_row s.reader.schema ≡ none → graph_fits (length graph.rows) (length graph.names) g ≡ false → l ≡ cleared returned.no_room_in_graph 0 graph scratch → Outcome s graph scratch l
-  fitting : finished_types s.reader.schema ≤ length scratch → s.reader.root_seen ≡ true → (g : TypeGraph) → lower s.reader.schema ≡ some g
+  fitting : scratch_least ≤ length scratch → s.reader.root_seen ≡ true → (g : TypeGraph) → lower s.reader.schema ≡ some g
       → repeated_row s.reader.schema ≡ none → graph_fits (length graph.rows) (length graph.names) g ≡ true
       → l ≡ record { answer = record { number = returned.accepted; place = rows_used g }; graph = graph_sheet g (length graph.rows) (length graph.names); scratch = zeros scratch }
       → Outcome s graph scratch l
@@ -44,7 +44,7 @@ pub record Accepted (s : Schema) (graph : Sheet) (l : Lowered) : Type 0 where
 pub record NameTwice (x graph : Sheet) (scratch : List ℕ) : Type 0 where
   pub lengths : good_lengths (lengths_of x) && good_lengths (lengths_of graph) ≡ true
   pub is_good : good x ≡ true
-  pub enough : finished_types (state_of x).reader.schema ≤ length scratch
+  pub enough : scratch_least ≤ length scratch
   pub root : (state_of x).reader.root_seen ≡ true
   pub known : any_unknown (simple_types (state_of x).reader.schema.items) ≡ false
   pub twice : distinct_texts (finished_names (state_of x).reader.schema) ≡ false

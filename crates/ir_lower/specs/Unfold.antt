@@ -4,12 +4,12 @@ use Rattle.ir_lower.specs.Finished.{simple_name, complex_name, finished_names, r
 use Rattle.ir_lower.specs.Left.{changes_nothing, clears_graph, clears_scratch, no_graph}
 use Rattle.ir_lower.specs.Lower.{resolved, resolve_type_ref, codes, constraints, lower_newtype, lower_simple_type, lower_cardinality, lower_field, lower_variant}
 use Rattle.ir_lower.specs.Lower.{lower_attribute, lower_content, lower_complex_type, any_unknown, with_definition, simple_definitions, finished_definitions, root_of}
-use Rattle.ir_lower.specs.Lower.{graph_of, lower, unknown_row, finished_types}
+use Rattle.ir_lower.specs.Lower.{graph_of, lower, unknown_row}
 use Rattle.ir_lower.specs.Repeated.{simple_head, complex_head, heads_of, heads, head_names, first_repeated, repeated_row}
 
 unfoldable pub computes : Unit {0}
 unfolding zeros unchanged cleared written lower_finished lower_state lowering simple_name complex_name finished_names references type_names_in changes_nothing clears_graph
     clears_scratch no_graph resolved resolve_type_ref codes constraints lower_newtype lower_simple_type lower_cardinality lower_field lower_variant lower_attribute lower_content
-    lower_complex_type any_unknown with_definition simple_definitions finished_definitions root_of graph_of lower unknown_row finished_types simple_head complex_head heads_of heads
+    lower_complex_type any_unknown with_definition simple_definitions finished_definitions root_of graph_of lower unknown_row simple_head complex_head heads_of heads
     head_names first_repeated repeated_row
 computes = tt

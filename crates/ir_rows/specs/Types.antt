@@ -4,11 +4,9 @@
 --     type_places        the places of the finished types' heads in lowering's order
 --     finished_places    those of the rows from row 2 up to a place
 --     head_at            the head at a place, for order 4; heads_at: those of the finished types
---     entry_places       the places that entries hold, each in its low 16 bits
---     places_in          those of the first n entries of a scratch
 --     types_rows         the graph's rows for the types at the given places
 --     graph_row_list         the graph's rows behind row 0
-use Rattle.std.specs.Prelude.{ℕ, ◌+◌, ◌%◌, List, [], ◌∷◌, ◌++◌, map, Bool, false, ◌||◌, eqb, take, if◌then◌else◌}
+use Rattle.std.specs.Prelude.{ℕ, ◌+◌, List, [], ◌∷◌, ◌++◌, map, Bool, false, ◌||◌, eqb, if◌then◌else◌}
 use Rattle.text.specs.Text.{between}
 use Rattle.sheet.specs.Rows.{Row}
 use Rattle.xsd_types.specs.Tags.{simple_type_tag, sequence_tag, any_tag}
@@ -41,12 +39,6 @@ head_at rows names p = record { row = p; name = name_at rows names p }
 
 abbrev pub heads_at : List ℕ → List ℕ → ℕ → List Head
 heads_at rows names end = map (head_at rows names) (finished_places rows names end)
-
-unfoldable pub entry_places : List ℕ → List ℕ
-entry_places entries = map (λ (e : ℕ). e % 65536) entries
-
-abbrev pub places_in : ℕ → List ℕ → List ℕ
-places_in n scratch = entry_places (take n scratch)
 
 unfoldable pub types_rows : List ℕ → List ℕ → ℕ → List ℕ → List Row
 types_rows rows names end [] = []

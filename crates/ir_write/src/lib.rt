@@ -2,26 +2,19 @@
 // Writer and part go side by side through all of them: the one is changed and the other read, and nothing is known of both together.
 #![tactic(auto)]
 
-ghost use Rattle.std.specs.Prelude.{◌≡◌, true, [], ◌∷◌, ◌%◌, ◌≤◌, ◌<◌, ltb};
-ghost use Rattle.text.specs.Text.{every};
+ghost use Rattle.std.specs.Prelude.{[], ◌∷◌, ◌≤◌, ◌<◌};
 ghost use Rattle.ir_rows.specs.Lowered.{child_rows, type_rows_of, root_rows};
-ghost use Rattle.ir_rows.specs.Types.{entry_places};
-ghost use Rattle.ir_rows.specs.Parts.{part_row, part_rows, part_types, part_graph};
+ghost use Rattle.ir_rows.specs.Parts.{part_row, part_rows, part_places, part_types, part_graph};
 ghost use Rattle.ir_append.specs.Grows.{Grows};
+ghost use Rattle.ir_write.specs.Kinds.{one_rows, kind_rows};
 
 use ir_append::writer::GraphWriter;
+use ir_checks::{Kind, is_kind};
 use ir_row::put_lowered;
 use rows::part::SheetPart;
 use xsd_good::forms::row;
 use xsd_refused::is_code_enum;
 use xsd_types::tags;
-
-// An entry of the scratch has its place in its low 16 bits.
-fn place_of(entry: u32) -> usize
-    ensures { result ≡ entry % 65536 }
-{
-    (entry % 65536) as usize
-}
 
 // The children of a type: they stand from `first` up to the next head, or up to the end.
 #[derive(Clone, Copy)]
@@ -47,6 +40,8 @@ fn put_children(
     Some(())
 }
 
+// Not inlined: the pass over all rows that calls it would lose its registers to the loops in here.
+#[inline(never)]
 fn put_type(writer: &mut GraphWriter<'_>, part: &SheetPart<'_>, place: usize) -> Option<()>
     requires { place < part.now.end }
     ensures { Grows writer.old (type_rows_of (part_rows part.now place)) writer.new result }
@@ -79,22 +74,45 @@ fn put_roots(writer: &mut GraphWriter<'_>, part: &SheetPart<'_>) -> Option<()>
     Some(())
 }
 
-fn put_types(writer: &mut GraphWriter<'_>, part: &SheetPart<'_>, entries: &[u32]) -> Option<()>
-    requires { every (λ p. ltb p part.now.end) (entry_places entries.now) ≡ true }
-    ensures { Grows writer.old (part_types part.now (entry_places entries.now)) writer.new result }
+// The type whose head stands at a place, if it is of that kind.
+fn put_one(
+    writer: &mut GraphWriter<'_>,
+    part: &SheetPart<'_>,
+    kind: Kind,
+    place: usize,
+) -> Option<()>
+    requires { place < part.now.end }
+    ensures { Grows writer.old (one_rows part.now kind place) writer.new result }
 {
-    for entry in entries {
-        put_type(writer, part, place_of(*entry))?;
+    if !is_kind(kind, part.tag(place)) {
+        return Some(());
+    }
+    put_type(writer, part, place)
+}
+
+fn put_kind(writer: &mut GraphWriter<'_>, part: &SheetPart<'_>, kind: Kind) -> Option<()>
+    ensures { Grows writer.old (kind_rows part.now kind 2) writer.new result }
+{
+    for place in 2..part.end {
+        put_one(writer, part, kind, place)?;
     }
     Some(())
 }
 
+// "Only finished types are lowered, simple ones before complex."
+fn put_types(writer: &mut GraphWriter<'_>, part: &SheetPart<'_>) -> Option<()>
+    ensures { Grows writer.old (part_types part.now (part_places part.now)) writer.new result }
+{
+    put_kind(writer, part, Kind::Simple)?;
+    put_kind(writer, part, Kind::Complex)
+}
+
 // The namespace's row, the elements' and the types' are added, or `None` is answered where there is no room.
-pub fn put_graph(writer: &mut GraphWriter<'_>, part: &SheetPart<'_>, entries: &[u32]) -> Option<()>
-    requires { (2 ≤ part.now.end) × (every (λ p. ltb p part.now.end) (entry_places entries.now) ≡ true) }
-    ensures { Grows writer.old (part_graph part.now (entry_places entries.now)) writer.new result }
+pub fn put_graph(writer: &mut GraphWriter<'_>, part: &SheetPart<'_>) -> Option<()>
+    requires { 2 ≤ part.now.end }
+    ensures { Grows writer.old (part_graph part.now (part_places part.now)) writer.new result }
 {
     put_lowered(writer, part, 1, false)?;
     put_roots(writer, part)?;
-    put_types(writer, part, entries)
+    put_types(writer, part)
 }

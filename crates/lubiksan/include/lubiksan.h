@@ -27,6 +27,7 @@ extern "C" {
 #define LUBIKSAN_ROWS_MIN 20
 #define LUBIKSAN_ROWS_MAX 40960
 #define LUBIKSAN_NAMES_MAX 65536
+#define LUBIKSAN_SCRATCH_MIN 64 /* numbers of a lowering's scratch, at least */
 #define LUBIKSAN_TEXT_MAX 65536
 #define LUBIKSAN_MARKS_MAX 16384
 /* Of a tape: attributes of a tag, tags open at once, events of a run. */
@@ -41,7 +42,7 @@ extern "C" {
 #define LUBIKSAN_TAPE_STACK 45056
 #define LUBIKSAN_CLEAR_STACK 1024
 #define LUBIKSAN_READ_STACK 2048
-#define LUBIKSAN_LOWER_STACK 66560
+#define LUBIKSAN_LOWER_STACK 1024
 #define LUBIKSAN_REDUCE_STACK 70656
 #define LUBIKSAN_WRITE_STACK 1024
 #define LUBIKSAN_PATTERN_STACK 2048
@@ -68,7 +69,7 @@ extern "C" {
    in the order 14, 12, 13, 20, 15 is returned. */
 #define LUBIKSAN_NO_ROOT 12      /* no schema tag was read; also of lubiksan_write: all of the text is 0 */
 #define LUBIKSAN_UNKNOWN_BASE 13 /* a simple type's base is not built in; the place is the row of the first such type */
-#define LUBIKSAN_SCRATCH 14      /* the scratch has less than one number for each finished type */
+#define LUBIKSAN_SCRATCH 14      /* the scratch has fewer than LUBIKSAN_SCRATCH_MIN numbers */
 #define LUBIKSAN_GRAPH_ROOM 15   /* the graph needs more rows or names than lent; also of lubiksan_reduce: all of its target is 0 */
 #define LUBIKSAN_NO_LABEL 16     /* label: the row has no type reference, or the word list is not five words */
 /* 17 to 19: the tape of a text, and 5 before them. All marks are 0. */
@@ -259,7 +260,8 @@ uint32_t lubiksan_write(const uint32_t *rows, size_t rows_length, const uint8_t 
                         size_t text_length, size_t *place);
 
 /* Lowers the finished types of a schema sheet, which is unchanged, to a graph sheet, whatever that held: 0, 1, 2, 12 to 15 or
-   20, the place in *place. The scratch has at least one number for each finished type, and is 0 afterwards. */
+   20, the place in *place. The scratch has at least LUBIKSAN_SCRATCH_MIN numbers, however many types
+   there are, and all of it is 0 afterwards; a graph with room for the types makes the call faster. */
 uint32_t lubiksan_lower(const uint32_t *rows, size_t rows_length, const uint8_t *names, size_t names_length,
                         uint32_t *graph_rows, size_t graph_rows_length, uint8_t *graph_names, size_t graph_names_length,
                         uint32_t *scratch, size_t scratch_length, size_t *place);

@@ -80,9 +80,9 @@ use Rattle.ir_types.specs.Form.{graph_form}
 use Rattle.ir_types.specs.Label.{label}
 use Rattle.ir_types.specs.Table.{LabelTable}
 use Rattle.ir_types.proofs.Laws.Table.{label-table}
-use Rattle.ir_lower.specs.Lower.{lower, lower_cardinality, finished_definitions, finished_types}
+use Rattle.ir_lower.specs.Lower.{lower, lower_cardinality, finished_definitions}
 use Rattle.ir_lower.specs.Repeated.{heads as type_heads, FirstRepeat}
-use Rattle.ir_lower.specs.Call.{lowering}
+use Rattle.ir_lower.specs.Call.{lowering, scratch_least}
 use Rattle.ir_lower.specs.Unnumbered.{unnumbered_lowered}
 use Rattle.ir_lower.proofs.Laws.Unnumbered.{lower-unnumbered}
 use Rattle.ir_lower.specs.Outcome.{Accepted, NameTwice}
@@ -471,7 +471,7 @@ claim-count-bare = good-bare
 
 -- order 7, "how many finished simple types lowering would refuse by 13": where 1, 2, 14 and 12 do not come, 13 comes exactly if a of row 1 is above 0
 pub claim-red-light : (x graph : Sheet) (scratch : List ℕ) → good_lengths (lengths_of x) && good_lengths (lengths_of graph) ≡ true → good x ≡ true
-    → (state_of x).reader.root_seen ≡ true → finished_types (state_of x).reader.schema ≤ length scratch
+    → (state_of x).reader.root_seen ≡ true → scratch_least ≤ length scratch
     → ((lowering x graph scratch).answer.number ≡ 13) ↔ (0 < count_in x)
 claim-red-light = thirteen-exactly
 

@@ -12,10 +12,10 @@ use Rattle.text.specs.Text.{Text, between}
 use Rattle.text.proofs.Laws.Tests.{bool_cases}
 use Rattle.sheet.specs.Rows.{Row, Sheet, row, names_of}
 use Rattle.sheet.specs.Lengths.{Lengths, tape_lengths, lengths_of, good_lengths}
-use Rattle.xsd_types.specs.Types.{Item, Schema, simple_types, complex_types}
+use Rattle.xsd_types.specs.Types.{Schema}
 use Rattle.xsd_types.specs.State.{State}
 use Rattle.xsd_types.specs.Count.{good, state_of}
-use Rattle.xsd_types.specs.Unnumbered.{unnumbered_item, unnumbered_schema, unnumbered_reader, unnumbered}
+use Rattle.xsd_types.specs.Unnumbered.{unnumbered_schema, unnumbered_reader, unnumbered}
 use Rattle.xsd_parser.specs.Read.{read_state}
 use Rattle.xsd_parser.specs.Numbered.{unnumbered_reading}
 use Rattle.xsd_parser.proofs.Laws.Cleared.{read_state-unnumbered}
@@ -23,10 +23,10 @@ use Rattle.ir_types.specs.Types.{Constraint, TypeDef, RootElement, TypeGraph}
 use Rattle.ir_types.specs.Rows.{field_row, variant_row, constraint_row, code_row, attr_row, type_rows, types_rows, root_row, rows_of, rows_used, names_used}
 use Rattle.ir_types.specs.Sheet.{graph_fits}
 use Rattle.ir_types.specs.Unnumbered.{unnumbered_root, unnumbered_type, unnumbered_graph}
-use Rattle.ir_lower.specs.Lower.{lower, unknown_row, finished_types}
+use Rattle.ir_lower.specs.Lower.{lower, unknown_row}
 use Rattle.ir_lower.specs.Repeated.{repeated_row}
 use Rattle.ir_lower.specs.Unnumbered.{unnumbered_lowered}
-use Rattle.ir_lower.specs.Call.{Lowered, unchanged, cleared, written, repeated_or_written, refused_or_written, lower_finished, lower_state}
+use Rattle.ir_lower.specs.Call.{Lowered, unchanged, cleared, written, repeated_or_written, refused_or_written, lower_finished, lower_state, scratch_least}
 use Rattle.ir_lower.proofs.Laws.Unnumbered.{lower-unnumbered, unknown_row-unnumbered, repeated_row-unnumbered}
 use Rattle.runs.specs.Runs.{Call, number_in_run, Held, sheet_held, refused_with, held_after, read_held, lower_held, answered_first, run_calls, hold, run}
 use Rattle.runs.specs.Cleared.{cleared_graph_row, GraphCleared, LoweringCleared, read_before, run_before, AnswersCleared, RunCleared}
@@ -111,24 +111,6 @@ module _ (graph : Sheet) (scratch : List ℕ) where
   refused-cleared s none = rw (unknown_row-unnumbered 2 s.items) (alike (cleared 13 (unknown_row 2 s.items) graph scratch))
   refused-cleared s (some g) = rw (repeated_row-unnumbered s) (repeated-cleared (repeated_row s) g)
 
-  simple-count : (is : List Item) → length (simple_types (map unnumbered_item is)) ≡ length (simple_types is)
-  unfolding simple_types unnumbered_item
-  simple-count [] = refl
-  simple-count (Item.element e ∷ is) = simple-count is
-  simple-count (Item.simple_type t ∷ is) = rw (simple-count is)
-  simple-count (Item.complex_type t ∷ is) = simple-count is
-
-  complex-count : (is : List Item) → length (complex_types (map unnumbered_item is)) ≡ length (complex_types is)
-  unfolding complex_types unnumbered_item
-  complex-count [] = refl
-  complex-count (Item.element e ∷ is) = complex-count is
-  complex-count (Item.simple_type t ∷ is) = complex-count is
-  complex-count (Item.complex_type t ∷ is) = rw (complex-count is)
-
-  finished-count : (s : Schema) → finished_types (unnumbered_schema s) ≡ finished_types s
-  unfolding finished_types unnumbered_schema
-  finished-count s = rw (simple-count s.items, complex-count s.items)
-
   finished-cleared : (s : State) → LoweringCleared (lower_finished s graph scratch) (lower_finished (unnumbered s) graph scratch)
   unfolding lower_finished unnumbered unnumbered_reader
   finished-cleared s =
@@ -138,8 +120,7 @@ module _ (graph : Sheet) (scratch : List ℕ) where
   pub lowering-cleared : (s : State) → LoweringCleared (lower_state s graph scratch) (lower_state (unnumbered s) graph scratch)
   unfolding lower_state unnumbered unnumbered_reader
   lowering-cleared s =
-      rw (finished-count s.reader.schema)
-      (if-cleared (leb (finished_types s.reader.schema) (length scratch)) (finished-cleared s) (alike (unchanged 14 graph scratch)))
+      if-cleared (leb scratch_least (length scratch)) (finished-cleared s) (alike (unchanged 14 graph scratch))
 
 -- ---- the run
 held-cleared : (lent : Lengths) (s : State) (graph : Sheet) (scratch : List ℕ)

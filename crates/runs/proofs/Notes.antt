@@ -22,9 +22,9 @@ use Rattle.xsd_parser.proofs.Laws.Outcomes.{outcome-cases}
 use Rattle.xsd_parser.proofs.Laws.Reads.{read_ok, read-refuse}
 use Rattle.ir_types.specs.Types.{TypeGraph}
 use Rattle.ir_types.specs.Sheet.{graph_fits}
-use Rattle.ir_lower.specs.Lower.{lower, unknown_row, finished_types}
+use Rattle.ir_lower.specs.Lower.{lower, unknown_row}
 use Rattle.ir_lower.specs.Repeated.{repeated_row}
-use Rattle.ir_lower.specs.Call.{Lowered, zeros, unchanged, cleared, written, repeated_or_written, refused_or_written, lower_finished, lower_state}
+use Rattle.ir_lower.specs.Call.{Lowered, zeros, unchanged, cleared, written, repeated_or_written, refused_or_written, lower_finished, lower_state, scratch_least}
 use Rattle.runs.specs.Runs.{Call, Answered, Held, hold, sheet_held, Stepped, refused_with, held_after, read_held, lower_held, Ran, answered_first, run_calls, run}
 use Rattle.runs.specs.Trace.{Trace}
 use Rattle.runs.specs.Notes.{AlikeRecords, AlikeCalls, meets, number_of, meets_none, AlikeAnswers, AlikeRuns, sheets_after, sheets_of, sheets_made}
@@ -124,7 +124,7 @@ module _ (graph graph' : Sheet) (scratch scratch' : List ℕ) (e : lengths_of gr
 
   state-like : (s : State) → Like (lower_state s graph scratch) (lower_state s graph' scratch')
   unfolding lower_state lower_finished
-  state-like s = rw (← f) (if-like (leb (finished_types s.reader.schema) (length scratch))
+  state-like s = rw (← f) (if-like (leb scratch_least (length scratch))
       (if-like s.reader.root_seen (refused-like s.reader.schema (lower s.reader.schema)) (cleared-like 12 0)) short-like)
 
   good-like : (b : Bool) {l l' : Lowered} → Like l l' → not (meets (if b then l else unchanged 1 graph scratch).answer.number) ≡ true

@@ -41,13 +41,13 @@ left num place g k = Answered.lowered_as (record { answer = answer num place; gr
 -- A cleared sheet lowered (12), read, lowered, lowered into a graph of a bad length (1), a refused event (6), number 3 of the run, with the one before it
 -- kept, a tape too long (1), a type read on, whose number in the run is 4, too little scratch (14), and lowered at the end.
 a-run :
-    run (blank 40 6) (lowering 30 4 1 ∷ reading (schema ∷ empty "element" (typed "D" "T") ∷ []) ∷ lowering 30 4 1 ∷ lowering 25 4 1
-    ∷ reading (close ∷ close ∷ schema ∷ []) ∷ Call.reading [] (replicate 16385 0) ∷ reading (start "schema" [] ∷ complex_type "C" ∷ close ∷ []) ∷ lowering 30 4 0 ∷ lowering 40 4 1 ∷ [])
+    run (blank 40 6) (lowering 30 4 64 ∷ reading (schema ∷ empty "element" (typed "D" "T") ∷ []) ∷ lowering 30 4 64 ∷ lowering 25 4 1
+    ∷ reading (close ∷ close ∷ schema ∷ []) ∷ Call.reading [] (replicate 16385 0) ∷ reading (start "schema" [] ∷ complex_type "C" ∷ close ∷ []) ∷ lowering 30 4 0 ∷ lowering 40 4 64 ∷ [])
     ≡ record {
-      answers = left 12 0 (sheet 30 4 [] "") 1 ∷ read_to 0 2
-          ∷ left 0 3 (sheet 30 4 (line 0 3 2 1 0 0 0 0 0 0 ∷ no_namespace ∷ line 2 0 1 1 1 0 0 0 0 1 ∷ []) "DT") 1
+      answers = left 12 0 (sheet 30 4 [] "") 64 ∷ read_to 0 2
+          ∷ left 0 3 (sheet 30 4 (line 0 3 2 1 0 0 0 0 0 0 ∷ no_namespace ∷ line 2 0 1 1 1 0 0 0 0 1 ∷ []) "DT") 64
           ∷ kept 1 25 4 1 ∷ refused_by 6 1 3 ∷ read_to 1 0 ∷ read_to 0 3 ∷ kept 14 30 4 0
-          ∷ left 0 4 (sheet 40 4 (line 0 4 3 1 1 0 0 0 0 0 ∷ no_namespace ∷ line 2 0 1 1 1 0 0 0 0 1 ∷ line 8 2 1 0 0 0 0 0 0 4 ∷ []) "DTC") 1 ∷ [];
+          ∷ left 0 4 (sheet 40 4 (line 0 4 3 1 1 0 0 0 0 0 ∷ no_namespace ∷ line 2 0 1 1 1 0 0 0 0 1 ∷ line 8 2 1 0 0 0 0 0 0 4 ∷ []) "DTC") 64 ∷ [];
       last = sheet 40 6 (line 0 4 3 1 0 1 6 1 0 0 ∷ no_namespace ∷ line 2 0 1 1 1 0 0 0 0 1 ∷ line 15 2 1 0 0 0 0 0 0 4 ∷ []) "DTC";
     }
 unfolding reading lowering read_to refused_by kept left taped builtins conversions graphs lowerings running
@@ -77,9 +77,9 @@ uncut-run : run (blank 20 0) (Call.reading (bytes "schema") (1 ∷ 0 ∷ 0 ∷ 6
 unfolding refused_by taped running
 uncut-run = refl
 
-cut-run : run (blank 20 0) (Call.reading (bytes "schema") (1 ∷ 0 ∷ 0 ∷ 6 ∷ []) ∷ lowering 20 0 0 ∷ Call.reading (bytes "schema") (3 ∷ 0 ∷ 3 ∷ 0 ∷ []) ∷ [])
+cut-run : run (blank 20 0) (Call.reading (bytes "schema") (1 ∷ 0 ∷ 0 ∷ 6 ∷ []) ∷ lowering 20 0 64 ∷ Call.reading (bytes "schema") (3 ∷ 0 ∷ 3 ∷ 0 ∷ []) ∷ [])
     ≡ record {
-      answers = read_to 0 1 ∷ left 0 2 (sheet 20 0 (line 0 2 0 0 0 0 0 0 0 0 ∷ no_namespace ∷ []) "") 0 ∷ refused_by 6 1 2 ∷ [];
+      answers = read_to 0 1 ∷ left 0 2 (sheet 20 0 (line 0 2 0 0 0 0 0 0 0 0 ∷ no_namespace ∷ []) "") 64 ∷ refused_by 6 1 2 ∷ [];
       last = sheet 20 0 (line 0 2 0 0 0 1 2 0 0 0 ∷ no_namespace ∷ []) "";
     }
 unfolding lowering read_to refused_by left taped builtins conversions graphs lowerings running

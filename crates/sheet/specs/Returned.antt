@@ -61,7 +61,7 @@ no_root = 12
 abbrev pub unknown_base : ℕ
 unknown_base = 13
 
--- "scratch below one number for each finished type"
+-- order 11: "From now on 14 means fewer than 64"
 abbrev pub short_scratch : ℕ
 short_scratch = 14
 

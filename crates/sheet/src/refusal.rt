@@ -34,7 +34,7 @@ pub enum Refusal {
     NoRoot = 12,
     // "`UnknownBase`; place is the row of the first such simple type"
     UnknownBase = 13,
-    // "scratch below one number for each finished type"
+    // Order 11: "From now on 14 means fewer than 64"
     ShortScratch = 14,
     // "graph needs more rows or names than lent"
     NoRoomInGraph = 15,

@@ -1,15 +1,15 @@
 -- What the steps of a lowering answer and leave is the definition's, number by number: each by the definition's tests, since zeros and room depend on
 -- lengths alone. Assumes nothing.
-use Prim.Native.Nat.{ℕ, suc, ◌+◌, ◌*◌, ◌%◌, ◌≤◌, ◌<◌}
+use Prim.Native.Nat.{ℕ, suc, ◌+◌, ◌-◌, ◌*◌, ◌%◌, ◌≤◌, ◌<◌}
 use mathlib.Core.Path.{◌≡◌, refl, sym, ap, ap₂, ◌∙◌}
 use mathlib.Core.Bool.{Bool, true, false, ◌&&◌}
 use mathlib.Core.Option.{Option, some, none}
 use Rattle.std.specs.Prelude.{Err}
-use mathlib.Core.List.{List, [], ◌∷◌}
+use mathlib.Core.List.{List, [], ◌∷◌, ◌++◌}
 use native.Mathlib.Omega.{arith}
 use lib.Dec.{eqb, leb}
-use lib.ListN.{length, get_or, set, drop, replicate}
-use lib.Seq.{get_or-set_other, drop-set-add}
+use lib.ListN.{length, get_or, set, take, drop, replicate, length-append, length-replicate, replicate-append-replicate}
+use lib.Seq.{get_or-set_other, drop-set-add, drop_at, length-take-le}
 use borrow.Author.Tests.{le-leb, lt-leb, leb-true}
 use Rattle.text.specs.Text.{Text, between}
 use Rattle.text.proofs.Laws.Tests.{bool_cases, two, four}
@@ -37,16 +37,15 @@ use Rattle.xsd_good.proofs.Laws.Held.{root-held}
 use Rattle.xsd_good.proofs.Laws.Bare.{bare-held, bare-end, bare-room, bare-count}
 use Rattle.ir_types.specs.Types.{TypeGraph}
 use Rattle.ir_types.specs.Sheet.{graph_fits}
-use Rattle.ir_lower.specs.Lower.{lower, finished_types}
-use Rattle.ir_lower.specs.Call.{Lowered, zeros, unchanged, cleared, written, repeated_or_written, refused_or_written, lower_finished, lower_state, lowering}
+use Rattle.ir_lower.specs.Lower.{lower}
+use Rattle.ir_lower.specs.Call.{Lowered, zeros, unchanged, cleared, written, repeated_or_written, refused_or_written, lower_finished, lower_state, lowering, scratch_least}
 use Rattle.ir_lower.specs.Repeated.{first_repeated, repeated_row}
 use Rattle.ir_lower.proofs.Laws.Left.{length-zeros}
 use Rattle.xsd_types.specs.Places.{row_at, rows_from}
 use Rattle.xsd_types.specs.Refused.{refused_row, refused_place}
 use Rattle.ir_rows.specs.Lowered.{lowered_row}
-use Rattle.ir_rows.specs.Types.{finished_places}
 use Rattle.ir_rows.specs.Parts.{part_rows, part_heads}
-use Rattle.ir_rows.proofs.Laws.Graph.{finished-types, unknown-place, unknown-refused, unknown-lowered, repeated-heads, root-count, type-count, graph-rows, namespace-lowered, Stands}
+use Rattle.ir_rows.proofs.Laws.Graph.{unknown-place, unknown-refused, unknown-lowered, repeated-heads, root-count, type-count, graph-rows, namespace-lowered, Stands}
 use Rattle.ir_append.specs.Whole.{Cleared}
 use Rattle.ir_call.specs.Steps.{Sized, lowered, Lowers, GraphOf, GraphStands}
 
@@ -73,6 +72,20 @@ cleared-zeros {rows} {names} s =
       few_rows = rw (length-zeros rows) s.few_rows;
       few_names = rw (length-zeros names) s.few_names;
     }
+
+-- zeros whose first numbers were changed, and are set to 0 again
+pub zeros-again : {table filled : List ℕ} {used : ℕ} (front : List ℕ) → used ≤ length table → length front ≡ used → filled ≡ replicate (length (take used (front ++ drop used table))) 0
+    → table ≡ zeros table → filled ++ drop used (front ++ drop used table) ≡ table
+unfolding zeros
+zeros-again {table} {filled} {used} front l f w z =
+    let n = length table in
+    let behind : drop used (front ++ drop used table) ≡ drop used table = drop_at front (drop used table) used f in
+    let long : length (take used (front ++ drop used table)) ≡ used =
+    length-take-le used (front ++ drop used table) (omega (arith, length-append front (drop used table), f)) in
+    let count : used + (n - used) ≡ n = omega arith in
+    let split : replicate {A = ℕ} n 0 ≡ replicate used 0 ++ replicate (n - used) 0 = rw (replicate-append-replicate {A = ℕ} used (n - used) 0, count) in
+    let rest : drop used table ≡ replicate (n - used) 0 = ap (drop used) (z ∙ split) ∙ drop_at (replicate used 0) (replicate (n - used) 0) used (length-replicate {A = ℕ} used 0) in
+    rw (behind, rest, w, long) (sym (z ∙ split))
 
 -- ---- a graph, and 15
 
@@ -230,20 +243,14 @@ lowers-held part h root =
       lowers = λ g q. (unknown-lowered h g q, record { rows_are = graph-rows h g q; roots = root-count h g q; types = type-count h g q });
     }
 
-module _ {s : State} {rows names : List ℕ} {end : ℕ} (h : Stands s rows names end) where
-  pub state-short : (gr gn scratch : List ℕ) {n : ℕ} {a : Answer} → n ≡ length (finished_places rows names end) → length scratch < n → a ≡ answered 14 0
-      → lowered a gr gn scratch ≡ lower_state s (sheet gr gn) scratch
+module _ (s : State) (gr gn scratch : List ℕ) where
+  pub state-short : {a : Answer} → length scratch < scratch_least → a ≡ answered 14 0 → lowered a gr gn scratch ≡ lower_state s (sheet gr gn) scratch
   unfolding lower_state unchanged
-  state-short gr gn scratch c l q =
-      let short = lt-leb (finished_types s.reader.schema) (length scratch) (rw (← finished-types h, ← c) l) in
-      rw short (λ i. lowered (q i) gr gn scratch)
+  state-short l q = rw (lt-leb scratch_least (length scratch) l) (λ i. lowered (q i) gr gn scratch)
 
-  pub state-enough : (gr gn scratch : List ℕ) {n : ℕ} {x : Lowered} → n ≡ length (finished_places rows names end) → n ≤ length scratch
-      → x ≡ lower_finished s (sheet gr gn) scratch → x ≡ lower_state s (sheet gr gn) scratch
+  pub state-enough : {x : Lowered} → scratch_least ≤ length scratch → x ≡ lower_finished s (sheet gr gn) scratch → x ≡ lower_state s (sheet gr gn) scratch
   unfolding lower_state
-  state-enough gr gn scratch c l q =
-      let enough = le-leb (finished_types s.reader.schema) (length scratch) (rw (← finished-types h, ← c) l) in
-      rw enough q
+  state-enough l q = rw (le-leb scratch_least (length scratch) l) q
 
 -- ---- 1 and 2
 

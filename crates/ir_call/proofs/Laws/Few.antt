@@ -1,18 +1,18 @@
 -- There are no more elements than rows, and no more types than twice the rows: each row adds one place or row at most. Assumes nothing.
-use Prim.Native.Nat.{ℕ, ◌+◌, ◌*◌, ◌%◌, ◌≤◌}
-use mathlib.Core.Path.{◌≡◌, sym, ap, ◌∙◌}
+use Prim.Native.Nat.{ℕ, ◌+◌, ◌*◌, ◌≤◌}
+use mathlib.Core.Path.{◌≡◌, ap}
 use mathlib.Core.Bool.{Bool, true, false}
 use mathlib.Core.List.{List, [], ◌∷◌}
 use native.Mathlib.Omega.{arith}
 use lib.Dec.{eqb}
-use lib.ListN.{length, length-append, length-map}
+use lib.ListN.{length, length-append}
 use borrow.Author.Tests.{eqb-true}
 use Rattle.text.proofs.Laws.Tests.{if-cases}
 use Rattle.sheet.specs.Rows.{Row}
 use Rattle.xsd_types.specs.Back.{text0, text1}
 use Rattle.rows.specs.declared.part.SheetPart.{SheetPart}
 use Rattle.ir_rows.specs.Lowered.{lowered_as, lowered_row, root_rows}
-use Rattle.ir_rows.specs.Types.{is_simple, is_complex, places_of, type_places, entry_places}
+use Rattle.ir_rows.specs.Types.{is_simple, is_complex, places_of, type_places}
 use Rattle.ir_rows.specs.Parts.{part_rows, part_places}
 use Rattle.xsd_types.proofs.Laws.Places.{length-rows_from}
 
@@ -44,8 +44,3 @@ unfolding type_places
 types-twice part =
     let rs = part_rows part 2 in
     omega (arith, length-append (places_of is_simple 2 rs) (places_of is_complex 2 rs), places_of-few is_simple 2 rs, places_of-few is_complex 2 rs, length-rows_from part.rows.now part.names.now 2 part.end)
-
--- as many entries as the places that they hold
-pub entries-count : (entries places : List ℕ) → entry_places entries ≡ places → length entries ≡ length places
-unfolding entry_places
-entries-count entries places e = sym (length-map entries (λ x. x % 65536)) ∙ ap length e

@@ -1,4 +1,4 @@
--- `ir_call::lower_good` meets its contract: the sheet's state is found by row 0, and its finished types are counted for 14. Assumes nothing.
+-- `ir_call::lower_good` meets its contract: the sheet's state is found by row 0, and a short scratch is refused before anything is cleared. Assumes nothing.
 use Prim.Native.Nat.{ℕ, ◌+◌, ◌*◌, ◌≤◌}
 use mathlib.Core.Bool.{true}
 use mathlib.Core.List.{List}
@@ -52,17 +52,10 @@ invariant_of-part c =
     let end = c.finished_end-end.ensures in
     record { within = (room c.args.rows.now c.args.names.now c.requires.0 end.words c.row0_at-z.result c.row0_at-z.ensures end.place).1 }
 
-pub count_types-requires : goal.count_types-requires
-count_types-requires c =
-    let end = c.finished_end-end.ensures in
-    (room c.args.rows.now c.args.names.now c.requires.0 end.words c.row0_at-z.result c.row0_at-z.ensures end.place).0
-
-pub returns-then-scratch-count_types : goal.returns-then-scratch-count_types
-returns-then-scratch-count_types c =
+pub returns-then-scratch-lt-LEAST_SCRATCH : goal.returns-then-scratch-lt-LEAST_SCRATCH
+returns-then-scratch-lt-LEAST_SCRATCH c =
     let a = c.args in
-    let end = c.finished_end-end.ensures in
-    state-short (stands a.rows.now a.names.now c.requires.0 end.words c.row0_at-z.result c.row0_at-z.ensures end.place)
-    a.graph_rows.now a.graph_names.now a.scratch.now (c.count_types.ensures a.names.now) c.if-scratch-count_types.true (refusal_at_0 c.into.ensures)
+    state-short _ a.graph_rows.now a.graph_names.now a.scratch.now c.if-scratch-lt-LEAST_SCRATCH.true (refusal_at_0 c.into.ensures)
 
 pub lower_finished-requires : goal.lower_finished-requires
 lower_finished-requires c =
@@ -71,7 +64,7 @@ lower_finished-requires c =
     let two = (room a.rows.now a.names.now c.requires.0 end.words c.row0_at-z.result c.row0_at-z.ensures end.place).0 in (
       record { at_least = two; few = c.requires.1.few_rows; count = counts a.rows.now a.names.now c.requires.0 end.words c.row0_at-z.result c.row0_at-z.ensures end.place },
       c.requires.2,
-      rw (← c.count_types.ensures a.names.now) c.if-scratch-count_types.false,
+      c.if-scratch-lt-LEAST_SCRATCH.false,
     )
 
 pub returns : goal.returns
@@ -80,5 +73,5 @@ returns c =
     let end = c.finished_end-end.ensures in
     let there = stands a.rows.now a.names.now c.requires.0 end.words c.row0_at-z.result c.row0_at-z.ensures end.place in
     let root = good-root a.rows.now a.names.now c.requires.0 end.words (as_row0 c.row0_at-z.result) c.row0_at-z.ensures in
-    state-enough there a.graph_rows.now a.graph_names.now a.scratch.now (c.count_types.ensures a.names.now) c.if-scratch-count_types.false
+    state-enough _ a.graph_rows.now a.graph_names.now a.scratch.now c.if-scratch-lt-LEAST_SCRATCH.false
     (c.lower_finished.ensures _ (lowers-held _ there root))

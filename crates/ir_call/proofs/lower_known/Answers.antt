@@ -1,17 +1,29 @@
--- `ir_call::lower_known` meets its contract: 20, and else what is written. Assumes nothing.
-use mathlib.Core.Path.{refl}
+-- `ir_call::lower_known` meets its contract: the search leaves the graph's zeros; 20, and else what is written. Assumes nothing.
+use Prim.Native.Nat.{ℕ}
+use mathlib.Core.List.{List}
+use mathlib.Core.Path.{refl, ap, ◌∙◌}
+use Rattle.sheet.specs.Calls.{sheet}
+use Rattle.ir_lower.specs.Call.{zeros, written}
+use Rattle.ir_index.specs.Blocks.{row_of}
 use Rattle.ir_call.proofs.Laws.Calls.{known-repeated, known-once}
 use Rattle.ir_call.proofs.lower_known.Goals as goal
 
+pub returns-in-Some : goal.returns-in-Some
+unfolding row_of zeros
+returns-in-Some c =
+    let a = c.args in
+    let same = c.in-Some.ensures.kept c.requires.1.rows_zero in
+    λ g o. rw same (known-repeated a.graph_rows.now a.graph_names.now a.scratch.now g _ c.in-Some.ensures.found c.requires.1 refl)
+
 pub lower_distinct-requires : goal.lower_distinct-requires
-lower_distinct-requires c = (c.requires.0, c.requires.1, c.in-Ok.ensures.places)
+unfolding zeros
+lower_distinct-requires c =
+    (c.requires.0, rw (c.in_default.ensures.kept c.requires.1.rows_zero) c.requires.1)
 
-pub returns-in-Ok : goal.returns-in-Ok
-returns-in-Ok c =
+pub returns : goal.returns
+unfolding row_of zeros
+returns c =
     let a = c.args in
-    λ g o. known-once a.graph_rows.now a.graph_names.now a.scratch.now g _ c.in-Ok.ensures.once (c.lower_distinct.ensures g a.scratch.now o)
-
-pub returns-in-Err : goal.returns-in-Err
-returns-in-Err c =
-    let a = c.args in
-    λ g o. known-repeated a.graph_rows.now a.graph_names.now a.scratch.now g _ c.in-Err.ensures c.requires.1 refl
+    let same = c.in_default.ensures.kept c.requires.1.rows_zero in
+    λ g o. known-once a.graph_rows.now a.graph_names.now a.scratch.now g _ c.in_default.ensures.found
+    (c.lower_distinct.ensures g a.scratch.now o ∙ ap (λ (rows : List ℕ). written g (sheet rows a.graph_names.now) a.scratch.now) same)

@@ -3,20 +3,17 @@ use mathlib.Core.Path.{ap, ◌∙◌}
 use native.Mathlib.Omega.{arith}
 use lib.ListN.{length}
 use borrow.Author.Rules.{rules}
-use Rattle.ir_rows.specs.Parts.{part_graph}
-use Rattle.ir_rows.proofs.Laws.Inside.{types-below}
-use Rattle.ir_call.proofs.Laws.Few.{roots_few, types-twice, entries-count}
+use Rattle.ir_call.proofs.Laws.Few.{roots_few, types-twice}
 use Rattle.ir_call.proofs.Laws.Graph.{graph-short, graph-stands}
 use Rattle.ir_call.proofs.write_graph.Goals as goal
 
 pub put_graph-requires : goal.put_graph-requires
 put_graph-requires c =
-    let part = c.args.part.now in
-    (c.requires.0.at_least, rw c.requires.2 (types-below part.rows.now part.names.now part.end))
+    c.requires.0.at_least
 
 pub returns-in_err-put_graph : goal.returns-in_err-put_graph
 returns-in_err-put_graph c =
-    rw c.from_residual.ensures (λ g o. graph-short c.requires.1 c.start-writer.ensures.begins g (ap (part_graph c.args.part.now) c.requires.2 ∙ o.rows_are) c.in_err-put_graph.ensures)
+    rw c.from_residual.ensures (λ g o. graph-short c.requires.1 c.start-writer.ensures.begins g o.rows_are c.in_err-put_graph.ensures)
 
 pub put_row0-requires : goal.put_row0-requires
 put_row0-requires c =
@@ -25,11 +22,11 @@ put_row0-requires c =
     let f = c.requires.0 in (
       omega (arith, c.in_ok-put_graph.ensures.rows_length, ap length b.rows_are, c.requires.1.some_rows),
       omega (arith, c.count_roots.ensures a.part.now.names.now, roots_few a.part.now, a.part.now.within, f.few),
-      omega (arith, entries-count a.entries.now _ c.requires.2, types-twice a.part.now, a.part.now.within, f.few),
+      omega (arith, c.count_types.ensures a.part.now.names.now, types-twice a.part.now, a.part.now.within, f.few),
     )
 
 pub returns : goal.returns
 returns c =
     let a = c.args in
-    λ g o. graph-stands c.requires.1 c.start-writer.ensures.begins g (ap (part_graph a.part.now) c.requires.2 ∙ o.rows_are) c.in_ok-put_graph.ensures
-    (c.count_roots.ensures a.part.now.names.now ∙ o.roots) (entries-count a.entries.now _ c.requires.2 ∙ o.types) c.put_row0.ensures (search rules) (search rules)
+    λ g o. graph-stands c.requires.1 c.start-writer.ensures.begins g o.rows_are c.in_ok-put_graph.ensures
+    (c.count_roots.ensures a.part.now.names.now ∙ o.roots) (c.count_types.ensures a.part.now.names.now ∙ o.types) c.put_row0.ensures (search rules) (search rules)

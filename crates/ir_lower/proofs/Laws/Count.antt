@@ -16,8 +16,8 @@ use Rattle.xsd_types.specs.Refused.{refused_base, refused_item}
 use Rattle.xsd_types.specs.Count.{refused_types, count_in, state_of, good}
 use Rattle.xsd_types.proofs.Laws.Count.{good-count}
 use Rattle.ir_types.specs.Types.{TypeGraph}
-use Rattle.ir_lower.specs.Lower.{any_unknown, lower, finished_types}
-use Rattle.ir_lower.specs.Call.{Lowered, lowering}
+use Rattle.ir_lower.specs.Lower.{any_unknown, lower}
+use Rattle.ir_lower.specs.Call.{Lowered, lowering, scratch_least}
 use Rattle.ir_lower.specs.Outcome.{Outcome}
 use Rattle.ir_lower.proofs.Laws.Refusals.{refused-exactly}
 use Rattle.ir_lower.proofs.Laws.Outcome.{cleared-number, lowering-state, outcome}
@@ -38,7 +38,7 @@ refused-some (Item.complex_type t ∷ is) = refused-some is
 lowered_none : (s : State) (g : TypeGraph) → lower s.reader.schema ≡ some g → any_unknown (simple_types s.reader.schema.items) ≡ true → ⊥
 lowered_none s g c u = let n = (refused-exactly s.reader.schema).1 u in let z : ◌≡◌ {A = ℕ} 0 1 = cc in omega arith
 
-outcome-thirteen : (s : State) (graph : Sheet) (scratch : List ℕ) (l : Lowered) → Outcome s graph scratch l → finished_types s.reader.schema ≤ length scratch → s.reader.root_seen ≡ true
+outcome-thirteen : (s : State) (graph : Sheet) (scratch : List ℕ) (l : Lowered) → Outcome s graph scratch l → scratch_least ≤ length scratch → s.reader.root_seen ≡ true
     → (l.answer.number ≡ 13) ↔ (any_unknown (simple_types s.reader.schema.items) ≡ true)
 outcome-thirteen s graph scratch l (Outcome.short a e) k r = absurd (omega arith)
 outcome-thirteen s graph scratch l (Outcome.rootless a b e) k r = absurd (false≢true (sym b ∙ r))
@@ -51,7 +51,7 @@ outcome-thirteen s graph scratch l (Outcome.fitting a b g c q f e) k r =
     (λ n. let z : l.answer.number ≡ 0 = ap (λ (y : Lowered). y.answer.number) e in absurd (omega arith), λ n. absurd (lowered_none s g c n))
 
 pub thirteen-exactly : (x graph : Sheet) (scratch : List ℕ) → good_lengths (lengths_of x) && good_lengths (lengths_of graph) ≡ true → good x ≡ true
-    → (state_of x).reader.root_seen ≡ true → finished_types (state_of x).reader.schema ≤ length scratch
+    → (state_of x).reader.root_seen ≡ true → scratch_least ≤ length scratch
     → ((lowering x graph scratch).answer.number ≡ 13) ↔ (0 < count_in x)
 thirteen-exactly x graph scratch h g r k =
     let e = lowering-state x graph scratch h g in

@@ -18,10 +18,10 @@ use Rattle.ir_types.specs.Distinct.{distinct_texts, distinct}
 use Rattle.ir_types.specs.Sheet.{graph_sheet}
 use Rattle.ir_types.specs.Last.{insert_all}
 use Rattle.ir_types.proofs.Laws.Last.{last-distinct}
-use Rattle.ir_lower.specs.Lower.{any_unknown, finished_definitions, lower, finished_types}
+use Rattle.ir_lower.specs.Lower.{any_unknown, finished_definitions, lower}
 use Rattle.ir_lower.specs.Finished.{finished_names}
 use Rattle.ir_lower.specs.Repeated.{heads, repeated_row, FirstRepeat}
-use Rattle.ir_lower.specs.Call.{Lowered, cleared, lower_state, lowering}
+use Rattle.ir_lower.specs.Call.{Lowered, cleared, lower_state, lowering, scratch_least}
 use Rattle.ir_lower.specs.Outcome.{Outcome, Accepted, NameTwice}
 use Rattle.ir_lower.proofs.Laws.Types.{lower-some, lower-types, lower-names}
 use Rattle.ir_lower.proofs.Laws.Repeated.{repeated-none, repeated-first}
@@ -67,7 +67,7 @@ lowering-last x graph scratch z =
 -- ---- 20
 
 outcome-twice : (s : State) (graph : Sheet) (scratch : List ℕ) (l : Lowered) → Outcome s graph scratch l → l.answer.number ≡ 20
-    → (finished_types s.reader.schema ≤ length scratch) × (s.reader.root_seen ≡ true) × (any_unknown (simple_types s.reader.schema.items) ≡ false)
+    → (scratch_least ≤ length scratch) × (s.reader.root_seen ≡ true) × (any_unknown (simple_types s.reader.schema.items) ≡ false)
     × (repeated_row s.reader.schema ≡ some l.answer.place)
 unfolding cleared
 outcome-twice s graph scratch l (Outcome.short a e) z = let n = unchanged-number 14 graph scratch l e in absurd (omega arith)
@@ -77,7 +77,7 @@ outcome-twice s graph scratch l (Outcome.repeated a b g c row r e) z = (a, b, (l
 outcome-twice s graph scratch l (Outcome.tight a b g c r f e) z = let n = cleared-number 15 0 graph scratch l e in absurd (omega arith)
 outcome-twice s graph scratch l (Outcome.fitting a b g c r f e) z = let n : l.answer.number ≡ 0 = rw e in absurd (omega arith)
 
-twice-outcome : (s : State) (graph : Sheet) (scratch : List ℕ) (l : Lowered) → Outcome s graph scratch l → finished_types s.reader.schema ≤ length scratch → s.reader.root_seen ≡ true
+twice-outcome : (s : State) (graph : Sheet) (scratch : List ℕ) (l : Lowered) → Outcome s graph scratch l → scratch_least ≤ length scratch → s.reader.root_seen ≡ true
     → any_unknown (simple_types s.reader.schema.items) ≡ false → distinct_texts (finished_names s.reader.schema) ≡ false → l.answer.number ≡ 20
 twice-outcome s graph scratch l (Outcome.short a e) h k u t = absurd (omega arith)
 twice-outcome s graph scratch l (Outcome.rootless a b e) h k u t = absurd (false≢true (sym b ∙ k))
@@ -89,7 +89,7 @@ twice-outcome s graph scratch l (Outcome.fitting a b g c r f e) h k u t = absurd
 module _ (x graph : Sheet) (scratch : List ℕ) where
   -- a lowering under 20, by the state
   repeats : (lowering x graph scratch).answer.number ≡ 20 → let s = (state_of x).reader.schema in
-      (finished_types s ≤ length scratch) × ((state_of x).reader.root_seen ≡ true) × (any_unknown (simple_types s.items) ≡ false) × (repeated_row s ≡ some (lowering x graph scratch).answer.place)
+      (scratch_least ≤ length scratch) × ((state_of x).reader.root_seen ≡ true) × (any_unknown (simple_types s.items) ≡ false) × (repeated_row s ≡ some (lowering x graph scratch).answer.place)
   repeats z =
       let j = judged 20 x graph scratch (λ e. omega arith) (λ e. omega arith) z in
       let e = lowering-state x graph scratch j.0 j.1 in

@@ -14,8 +14,8 @@ use Rattle.xsd_types.specs.State.{State}
 use Rattle.xsd_types.specs.Count.{good, state_of}
 use Rattle.ir_types.specs.Types.{TypeGraph}
 use Rattle.ir_types.specs.Sheet.{graph_fits}
-use Rattle.ir_lower.specs.Lower.{lower, finished_types}
-use Rattle.ir_lower.specs.Call.{Lowered, unchanged, cleared, written, repeated_or_written, refused_or_written, lower_finished, lower_state, lowering}
+use Rattle.ir_lower.specs.Lower.{lower}
+use Rattle.ir_lower.specs.Call.{Lowered, unchanged, cleared, written, repeated_or_written, refused_or_written, lower_finished, lower_state, lowering, scratch_least}
 use Rattle.ir_lower.specs.Repeated.{repeated_row}
 use Rattle.ir_lower.specs.Outcome.{Outcome}
 use Rattle.ir_lower.proofs.Laws.Refusals.{refused-exactly}
@@ -45,22 +45,22 @@ unfolding lowering
 lowering-state x graph scratch h k = rw (h, k)
 
 -- the state's call, branch by branch
-state-short : (s : State) (graph : Sheet) (scratch : List ℕ) → leb (finished_types s.reader.schema) (length scratch) ≡ false → lower_state s graph scratch ≡ unchanged 14 graph scratch
+state-short : (s : State) (graph : Sheet) (scratch : List ℕ) → leb scratch_least (length scratch) ≡ false → lower_state s graph scratch ≡ unchanged 14 graph scratch
 unfolding lower_state
 state-short s graph scratch h = rw h
 
-state-rootless : (s : State) (graph : Sheet) (scratch : List ℕ) → leb (finished_types s.reader.schema) (length scratch) ≡ true → s.reader.root_seen ≡ false
+state-rootless : (s : State) (graph : Sheet) (scratch : List ℕ) → leb scratch_least (length scratch) ≡ true → s.reader.root_seen ≡ false
     → lower_state s graph scratch ≡ cleared 12 0 graph scratch
 unfolding lower_state lower_finished
 state-rootless s graph scratch h k = rw (h, k)
 
-state-lowered : (s : State) (graph : Sheet) (scratch : List ℕ) → leb (finished_types s.reader.schema) (length scratch) ≡ true → s.reader.root_seen ≡ true
+state-lowered : (s : State) (graph : Sheet) (scratch : List ℕ) → leb scratch_least (length scratch) ≡ true → s.reader.root_seen ≡ true
     → lower_state s graph scratch ≡ refused_or_written s.reader.schema (lower s.reader.schema) graph scratch
 unfolding lower_state lower_finished
 state-lowered s graph scratch h k = rw (h, k)
 
 -- 20, and then room decides
-named-outcome : (s : State) (graph : Sheet) (scratch : List ℕ) → finished_types s.reader.schema ≤ length scratch → s.reader.root_seen ≡ true
+named-outcome : (s : State) (graph : Sheet) (scratch : List ℕ) → scratch_least ≤ length scratch → s.reader.root_seen ≡ true
     → (g : TypeGraph) → lower s.reader.schema ≡ some g → (o : Option ℕ) → repeated_row s.reader.schema ≡ o → Outcome s graph scratch (repeated_or_written o g graph scratch)
 unfolding written
 named-outcome s graph scratch h k g e (some row) r = Outcome.repeated h k g e row r refl
@@ -68,15 +68,15 @@ named-outcome s graph scratch h k g e none r =
     ⊎_elim (λ f. rw f (Outcome.fitting h k g e r f refl)) (λ f. rw f (Outcome.tight h k g e r f refl))
     (test-cases (graph_fits (length graph.rows) (length graph.names) g))
 
-lowered-outcome : (s : State) (graph : Sheet) (scratch : List ℕ) → finished_types s.reader.schema ≤ length scratch → s.reader.root_seen ≡ true
+lowered-outcome : (s : State) (graph : Sheet) (scratch : List ℕ) → scratch_least ≤ length scratch → s.reader.root_seen ≡ true
     → (o : Option TypeGraph) → lower s.reader.schema ≡ o → Outcome s graph scratch (refused_or_written s.reader.schema o graph scratch)
 lowered-outcome s graph scratch h k none e = Outcome.unknown h k ((refused-exactly s.reader.schema).0 e) refl
 lowered-outcome s graph scratch h k (some g) e = named-outcome s graph scratch h k g e (repeated_row s.reader.schema) refl
 
 pub outcome : (s : State) (graph : Sheet) (scratch : List ℕ) → Outcome s graph scratch (lower_state s graph scratch)
 outcome s graph scratch =
-    ⊎_elim (λ h. let le = leb-true (finished_types s.reader.schema) (length scratch) h in
+    ⊎_elim (λ h. let le = leb-true scratch_least (length scratch) h in
     ⊎_elim (λ k. rw (state-lowered s graph scratch h k) (lowered-outcome s graph scratch le k (lower s.reader.schema) refl))
     (λ k. Outcome.rootless le k (state-rootless s graph scratch h k)) (test-cases s.reader.root_seen))
-    (λ h. Outcome.short (leb-false (finished_types s.reader.schema) (length scratch) h) (state-short s graph scratch h))
-    (test-cases (leb (finished_types s.reader.schema) (length scratch)))
+    (λ h. Outcome.short (leb-false scratch_least (length scratch) h) (state-short s graph scratch h))
+    (test-cases (leb scratch_least (length scratch)))

@@ -13,14 +13,14 @@ use Rattle.xsd_types.specs.Rows.{items_rows}
 use Rattle.xsd_types.specs.Back.{text0}
 use Rattle.ir_types.specs.Types.{TypeGraph}
 use Rattle.ir_types.specs.Rows.{root_row, rows_of as graph_rows_of}
-use Rattle.ir_lower.specs.Lower.{lower, unknown_row, finished_types}
+use Rattle.ir_lower.specs.Lower.{lower, unknown_row}
 use Rattle.ir_lower.specs.Repeated.{first_repeated, repeated_row}
 use Rattle.ir_lower.proofs.Laws.Types.{lower-namespace, lower-roots}
 use Rattle.xsd_types.specs.Places.{row_at, rows_from}
 use Rattle.ir_rows.specs.Lowered.{lowered_as, lowered_row, root_rows}
 use Rattle.xsd_types.specs.Refused.{refused_place}
 use Rattle.ir_rows.specs.Types.{finished_places, heads_at, graph_row_list}
-use Rattle.ir_rows.proofs.Laws.Items.{type_places-finished, refused_place-items, refused_place-refused, refused_place-lowered, root_rows-items}
+use Rattle.ir_rows.proofs.Laws.Items.{refused_place-items, refused_place-refused, refused_place-lowered, root_rows-items}
 use Rattle.ir_rows.proofs.Laws.Types.{types-rows, types-count, types-heads}
 
 -- row 1 by its tag and its text: what else stands in it is not lowered, order 7's count neither
@@ -34,10 +34,6 @@ pub record Stands (s : State) (rows names : List ℕ) (end : ℕ) : Type 0 where
   pub namespace : lowered_row false (row_at rows names 1) ≡ row 1 (s.reader.schema.target_namespace ∷ []) 0 0 0 ∷ []
 
 module _ {s : State} {rows names : List ℕ} {end : ℕ} (h : Stands s rows names end) where
-  -- as many type heads as finished types
-  pub finished-types : length (finished_places rows names end) ≡ finished_types s.reader.schema
-  finished-types = rw h.finished (type_places-finished 2 s.reader.schema)
-
   -- the first head whose name came before
   pub repeated-heads : first_repeated [] (heads_at rows names end) ≡ repeated_row s.reader.schema
   unfolding repeated_row

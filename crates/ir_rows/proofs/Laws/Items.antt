@@ -1,18 +1,18 @@
--- What lowering's scans make of the rows of finished items: how many types there are, where the first refused one stands, and the elements' rows.
+-- What lowering's scans make of the rows of finished items: the places of the types, where the first refused one stands, and the elements' rows.
 -- Item by item, each a head with its children. Assumes nothing.
 use Rattle.std.specs.Prelude.{if◌then◌else◌}
-use Prim.Native.Nat.{ℕ, suc, ◌+◌, ◌≤◌}
+use Prim.Native.Nat.{ℕ, ◌+◌, ◌≤◌}
 use mathlib.Core.Path.{◌≡◌, refl, sym, ap, ◌∙◌}
 use mathlib.Core.Bool.{Bool, true, false, false≢true}
 use mathlib.Core.List.{List, [], ◌∷◌, ◌++◌, map}
 use mathlib.Core.Option.{some, none}
 use native.Mathlib.Omega.{arith}
 use lib.Dec.{eqb}
-use lib.ListN.{length, length-append}
+use lib.ListN.{length}
 use Rattle.text.specs.Text.{Text, between}
 use Rattle.text.proofs.Laws.Tests.{or-false-left, or-false-right}
 use Rattle.sheet.specs.Rows.{Row, row}
-use Rattle.xsd_types.specs.Types.{ComplexContent, Item, Schema, elements, simple_types, complex_types}
+use Rattle.xsd_types.specs.Types.{ComplexContent, Item, Schema, elements, simple_types}
 use Rattle.xsd_types.specs.State.{started}
 use Rattle.xsd_types.specs.Rows.{facet_row, simple_type_rows, complex_type_rows, item_rows, items_rows}
 use Rattle.xsd_types.specs.Back.{text0, text1}
@@ -22,13 +22,13 @@ use Rattle.xsd_types.proofs.Laws.Items.{group-item}
 use Rattle.xsd_types.proofs.Laws.Refused.{head_first-items, simple-refused}
 use Rattle.ir_types.specs.Types.{TypeGraph}
 use Rattle.ir_types.specs.Rows.{root_row}
-use Rattle.ir_lower.specs.Lower.{any_unknown, root_of, lower, unknown_row, finished_types}
+use Rattle.ir_lower.specs.Lower.{any_unknown, root_of, lower, unknown_row}
 use Rattle.ir_lower.proofs.Laws.Refusals.{refusal, refused-exactly, unknown_row-least}
 use Rattle.ir_rows.specs.Lowered.{lowered_as, lowered_row, root_rows}
-use Rattle.ir_rows.specs.Types.{is_simple, is_complex, places_of, type_places}
+use Rattle.ir_rows.specs.Types.{is_simple, is_complex, places_of}
 use Rattle.ir_rows.proofs.Laws.Groups.{simple-heads, complex-heads, places_of-group, root_rows-group, refused_place-group}
 
--- ---- how many types there are
+-- ---- the places of the types
 
 content-tag : (event : ℕ) (name : Text) (c : ComplexContent) → is_complex (head_tag (complex_type_rows event name (started c))) ≡ true
 unfolding is_complex complex_type_rows started head_tag row between
@@ -77,29 +77,6 @@ module _ (k : ℕ) (i : Item) (more : List Row) where
 
   pub complex-places : places_of is_complex k (item_rows i ++ more) ≡ (if complex_item i then k ∷ places_of is_complex (k + length (item_rows i)) more else places_of is_complex (k + length (item_rows i)) more)
   complex-places = rw (← complex-tag i) (places_of-group is_complex complex-heads k (item_rows i) more (group-item i))
-
-simple-count : (k : ℕ) (is : List Item) → length (places_of is_simple k (items_rows is)) ≡ length (simple_types is)
-unfolding items_rows simple_types simple_item places_of
-simple-count k [] = refl
-simple-count k (Item.element e ∷ is) = rw (simple-places k (Item.element e) (items_rows is)) (simple-count (k + length (item_rows (Item.element e))) is)
-simple-count k (Item.simple_type t ∷ is) = rw (simple-places k (Item.simple_type t) (items_rows is)) (ap suc (simple-count (k + length (item_rows (Item.simple_type t))) is))
-simple-count k (Item.complex_type t ∷ is) = rw (simple-places k (Item.complex_type t) (items_rows is)) (simple-count (k + length (item_rows (Item.complex_type t))) is)
-
-complex-count : (k : ℕ) (is : List Item) → length (places_of is_complex k (items_rows is)) ≡ length (complex_types is)
-unfolding items_rows complex_types complex_item places_of
-complex-count k [] = refl
-complex-count k (Item.element e ∷ is) = rw (complex-places k (Item.element e) (items_rows is)) (complex-count (k + length (item_rows (Item.element e))) is)
-complex-count k (Item.simple_type t ∷ is) = rw (complex-places k (Item.simple_type t) (items_rows is)) (complex-count (k + length (item_rows (Item.simple_type t))) is)
-complex-count k (Item.complex_type t ∷ is) = rw (complex-places k (Item.complex_type t) (items_rows is)) (ap suc (complex-count (k + length (item_rows (Item.complex_type t))) is))
-
--- as many places as there are finished types
-pub type_places-count : (k : ℕ) (is : List Item) → length (type_places k (items_rows is)) ≡ length (simple_types is) + length (complex_types is)
-unfolding type_places
-type_places-count k is = rw (length-append, simple-count k is, complex-count k is)
-
-pub type_places-finished : (k : ℕ) (s : Schema) → length (type_places k (items_rows s.items)) ≡ finished_types s
-unfolding finished_types
-type_places-finished k s = type_places-count k s.items
 
 -- ---- the first refused simple type
 

@@ -1,9 +1,9 @@
 -- The rest of the rows from a place on, as the writing loops meet it. By the rows from a place on. Assumes nothing.
 use Rattle.std.specs.Prelude.{if◌then◌else◌}
 use Prim.Native.Nat.{ℕ, ◌+◌, ◌*◌, ◌≤◌, ◌<◌}
-use mathlib.Core.Path.{◌≡◌, refl}
+use mathlib.Core.Path.{◌≡◌, refl, sym}
 use mathlib.Core.Bool.{Bool, true, false}
-use mathlib.Core.List.{List, [], ◌∷◌, ◌++◌, append-nil}
+use mathlib.Core.List.{List, [], ◌∷◌, ◌++◌, append-nil, append_assoc}
 use lib.Dec.{eqb}
 use lib.ListN.{get_or}
 use Rattle.sheet.specs.Rows.{Row}
@@ -12,8 +12,12 @@ use Rattle.xsd_types.specs.Refused.{is_code_enum}
 use Rattle.rows.specs.declared.part.SheetPart.{SheetPart}
 use Rattle.ir_rows.specs.Lowered.{lowered_row, child_rows, type_rows_of, root_rows}
 use Rattle.ir_rows.specs.Types.{types_rows, graph_row_list}
-use Rattle.ir_rows.specs.Parts.{part_row, part_rows, part_types, part_graph}
-use Rattle.text.proofs.Laws.Tests.{if-cases}
+use Rattle.ir_rows.specs.Parts.{part_row, part_rows, part_places, part_types, part_graph}
+use Rattle.text.proofs.Laws.Tests.{if-cases, bool_cases}
+use Rattle.ir_checks.specs.declared.Kind.{Kind}
+use Rattle.ir_checks.specs.Kinds.{is_kind, kind_places}
+use Rattle.ir_checks.proofs.Laws.Kinds.{kind-hit, kind-on, kind-end, kinds-types}
+use Rattle.ir_write.specs.Kinds.{one_rows, kind_rows}
 use Rattle.xsd_types.proofs.Laws.Places.{row_at-tag, rows_from-cons, rows_from-end}
 
 -- an element, or no element, and those behind it
@@ -68,15 +72,35 @@ module _ (part : SheetPart) (p : ℕ) where
     unfolding type_rows_of
     type-on h t = rw (next h, t)
 
-module _ (part : SheetPart) where
-  -- the type at the first place, and those behind it
-  pub types-on : (p : ℕ) (ps : List ℕ) → part_types part (p ∷ ps) ≡ type_rows_of (part_rows part p) ++ part_types part ps
-  unfolding types_rows
-  types-on p ps = refl
+-- the types of one kind
+module _ (part : SheetPart) (kind : Kind) (p : ℕ) where
+  pub one-hit : is_kind kind (get_or part.rows.now (10 * p) 0) ≡ true → one_rows part kind p ≡ type_rows_of (part_rows part p)
+  unfolding one_rows
+  one-hit e = rw e
 
-  pub types-end : part_types part [] ≡ []
+  pub one_none : is_kind kind (get_or part.rows.now (10 * p) 0) ≡ false → one_rows part kind p ≡ []
+  unfolding one_rows
+  one_none e = rw e
+
+  pub kind_rows-on : p < part.end → kind_rows part kind p ≡ one_rows part kind p ++ kind_rows part kind (p + 1)
+  unfolding kind_rows one_rows types_rows
+  kind_rows-on h =
+      bool_cases (is_kind kind (get_or part.rows.now (10 * p) 0)) (λ e. rw (kind-hit part kind p h e, e)) (λ e. rw (kind-on part kind p h e, e))
+
+  pub kind_rows-end : part.end ≤ p → kind_rows part kind p ≡ []
+  unfolding kind_rows types_rows
+  kind_rows-end h = rw (kind-end part kind p h)
+
+module _ (part : SheetPart) where
+  types-append : (ps qs : List ℕ) → part_types part (ps ++ qs) ≡ part_types part ps ++ part_types part qs
   unfolding types_rows
-  types-end = refl
+  types-append [] qs = refl
+  types-append (p ∷ ps) qs = rw (types-append ps qs) (sym (append_assoc (type_rows_of (part_rows part p)) (part_types part ps) (part_types part qs)))
+
+  -- the simple ones, then the complex ones
+  pub types-kinds : part_types part (part_places part) ≡ kind_rows part Kind.Simple 2 ++ kind_rows part Kind.Complex 2
+  unfolding kind_rows
+  types-kinds = rw (kinds-types part) (types-append (kind_places part Kind.Simple 2) (kind_places part Kind.Complex 2))
 
   -- the namespace, the elements and the types
   pub graph-on : (ps : List ℕ) → part_graph part ps ≡ lowered_row false (part_row part 1) ++ (root_rows (part_rows part 2) ++ part_types part ps)

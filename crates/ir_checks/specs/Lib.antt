@@ -1,0 +1,2 @@
+-- The definitions of the crate `ir_checks`: Kinds has the types of one kind.
+pub mod Kinds
