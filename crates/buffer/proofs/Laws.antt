@@ -4,3 +4,4 @@ pub mod Buffer
 pub mod Zeros
 pub mod Middle
 pub mod Around
+pub mod Shift

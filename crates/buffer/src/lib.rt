@@ -1,4 +1,5 @@
 // Stores into the buffers of a sheet: a text. `replace`: a part replaced. The contracts speak of lists of numbers.
+// Names and place, names and text are arguments: what is written and where, of a buffer that others own.
 #![tactic(auto)]
 
 pub mod replace;

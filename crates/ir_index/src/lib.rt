@@ -1,6 +1,6 @@
 // The first head of a finished type, in lowering's order, whose name came before (order 4: "Lowering refuses when two finished types normalise to the same
 // name"), by a table of any length: a block of heads is entered, those behind it are asked against it, and then comes the next block. Behind the first head that
-// came with a block nothing need be looked at again.
+// came with a block nothing need be looked at again. That the rows are within the limit is a clause: a part is of rows of any length.
 #![tactic(auto)]
 
 ghost use Rattle.std.specs.Prelude.{◌≡◌, ◌-◌, ◌+◌, ◌*◌, ◌≤◌, ◌<◌, [], length};

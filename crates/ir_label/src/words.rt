@@ -1,4 +1,5 @@
 // The word list of the label call (paper 01): where a word starts and ends, and whether there are five.
+// That a place is inside the words is a clause of one step: a type for it would be turned back at once.
 ghost use Rattle.std.specs.Prelude.{◌≡◌, ◌+◌, ◌≤◌, ◌<◌, length, drop};
 ghost use Rattle.ir_types.specs.Label.{words_of, good_words, word_at};
 ghost use Rattle.ir_label.specs.Lines.{line_length};

@@ -1,4 +1,5 @@
-// The heads in an index of names, and what each row leads to by it.
+// The heads in an index of names, and what each row leads to by it. How far the part reaches and how long its rows are is said in clauses: `SheetPart` is of
+// any end, and a type that says more would be made for these three functions alone.
 ghost use Rattle.std.specs.Prelude.{◌≡◌, ◌+◌, ◌≤◌, ◌<◌, length};
 ghost use Rattle.sheet.specs.Limits.{rows_limit};
 ghost use Rattle.ir_reduce.specs.Index.{asked_pair};

@@ -1,5 +1,5 @@
 // What lowering makes of one row of a schema sheet: decided, and written to a graph sheet. Writer and part stand
-// apart, as in `ir_write`.
+// apart, as in `ir_write`. The tag and the numbers of a row are arguments one by one: the recipe is what is made of them.
 #![tactic(auto)]
 
 ghost use Rattle.std.specs.Prelude.{ℕ, ◌/◌, ◌%◌, ◌^◌, ◌≤◌, ◌<◌, ◌≡◌, Bool, true};

@@ -30,7 +30,7 @@ pub struct Table<'a> {
     pub entries: usize,
 }
 
-// A table that heads are entered into.
+// A table that heads are entered into. Beside `Table`, which is copied and lent to every search: this one is lent by `&mut` and has an end.
 #[derive(Drop)]
 pub struct TableWriter<'a> {
     pub numbers: &'a mut [u32],

@@ -115,7 +115,8 @@ fn bytes_below(found: u64) -> usize
     (u64::trailing_zeros(found) / 8) as usize
 }
 
-// To a byte that is not of the run, or to a place from which there is no whole word. No `for` over `as_chunks`: with one the tape took up to two hundredths more instructions.
+// To a byte that is not of the run, or to a place from which there is no whole word. No `for` over `as_chunks`: with one the tape took up to two hundredths more instructions (the bar: the tape
+// is no slower in compare/CALLS.md).
 pub fn skip<R: Run>(text: &[u8], at: usize) -> usize
     ensures { Skips R.is_in text.now at result }
 {

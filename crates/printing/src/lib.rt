@@ -140,7 +140,8 @@ fn too_long(input: &[u8]) -> bool
     text | marks
 }
 
-// What the input is: one with a length too long, one with too few bytes, or a tape with the lengths of its text and its marks.
+// What the input is: one with a length too long, one with too few bytes, or a tape with the lengths of its text and its marks. No Result: each of the three
+// is an input that the program has a line for.
 #[derive(Clone, Copy, PartialEq, Eq)]
 pub enum Input {
     TooLong,

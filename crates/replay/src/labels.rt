@@ -30,7 +30,7 @@ fn put_labels<W: Write>(out: &mut W, graph: &Buffers) -> io::Result<()> {
     put_label(out, graph, graph.rows.len() / ROW)
 }
 
-pub fn put_tape<W: Write>(alloc: Global, out: &mut W, line: &[u8]) -> io::Result<()> {
+pub fn write_labels<W: Write>(alloc: Global, out: &mut W, line: &[u8]) -> io::Result<()> {
     let case = printed::case_of(alloc, line)?;
     case.put_label(out)?;
     let (_, graph) = printing::graph_of(alloc, case.text, &case.numbers)?;

@@ -45,7 +45,7 @@ fn put_names<W: Write>(alloc: Global, out: &mut W, line: &[u8]) -> io::Result<()
 }
 
 // All answers for a line, the line before it at hand.
-pub fn put_leaves<W: Write>(
+pub fn write_leaves<W: Write>(
     alloc: Global,
     out: &mut W,
     before: &[u8],

@@ -21,7 +21,7 @@ fn tags_of(alloc: Global, count: usize) -> Result<Vec<u32>, AllocError> {
 }
 
 // The lengths of the rows, the names, the text and the marks; each is at most one step past its limit.
-pub fn put_lengths<W: Write>(
+pub fn write_lengths<W: Write>(
     alloc: Global,
     out: &mut W,
     task: Task,
@@ -39,5 +39,5 @@ pub fn put_lengths<W: Write>(
         names: wide(mark_at(lengths, 1)),
     };
     let mut sheet = Buffers::filled(alloc, 7, ROWS + ROW, NAMES + 1)?;
-    sheets::put_part(out, asked, &mut sheet, lent)
+    sheets::write_part(out, asked, &mut sheet, lent)
 }

@@ -62,7 +62,7 @@ impl Kept {
                 names: wide(mark_at(asked.numbers, 1)),
             };
         }
-        sheets::put_part(out, asked, &mut self.sheet, self.lent)
+        sheets::write_part(out, asked, &mut self.sheet, self.lent)
     }
 }
 
@@ -73,7 +73,7 @@ fn put_other<W: Write>(out: &mut W, line: &[u8], numbers: &[u32], end: &[u8]) ->
             out.write_all(line)?;
             writeln!(out)
         }
-        _ => records::put_case(
+        _ => records::write_case(
             out,
             lines::before(line, b';'),
             numbers,
@@ -133,7 +133,7 @@ fn put_limit<W: Write>(alloc: Global, out: &mut W, line: &[u8], kept: &mut Kept)
         return put_kept(out, task, &numbers, end, kept);
     }
     match lengths_task(line) {
-        Some(task) => lengths::put_lengths(alloc, out, task, &numbers),
+        Some(task) => lengths::write_lengths(alloc, out, task, &numbers),
         None => put_other(out, line, &numbers, end),
     }
 }
@@ -150,10 +150,10 @@ fn put_line<W: Write>(
     match line {
         [b'n', ..] => {
             let before = lines::behind(previous, b';');
-            leaves::put_leaves(alloc, out, before, lines::behind(line, b';'))
+            leaves::write_leaves(alloc, out, before, lines::behind(line, b';'))
         }
-        [b't' | b'i', ..] => printed::put_printed(alloc, out, line),
-        [b'g', ..] => labels::put_tape(alloc, out, line),
+        [b't' | b'i', ..] => printed::write_printed(alloc, out, line),
+        [b'g', ..] => labels::write_labels(alloc, out, line),
         _ => put_limit(alloc, out, line, kept),
     }
 }
@@ -170,10 +170,16 @@ fn put_lines<W: Write>(alloc: Global, out: &mut W, input: &[u8]) -> io::Result<(
     Ok(())
 }
 
-// The same calls in each main: only the limit and the function called differ. One function would take both, a closure over allocator, writer and input among them, for four calls.
-fn main(rt: HostRuntime) -> io::Result<()> {
-    let input = input::read_input(rt.alloc(), rt.reader(), LONGEST)?;
+// What cannot be read is nothing, and what cannot be written is passed over by main: the program then ends as it does with all read and written. The same calls in each program: only the
+// limit and the function called differ. One function would take both, a closure over allocator, writer and input among them, for four calls.
+fn run(rt: HostRuntime) -> io::Result<()> {
+    let read = input::read_input(rt.alloc(), rt.reader(), LONGEST);
+    let input = read.unwrap_or(Vec::new(rt.alloc()));
     let mut out = BufWriter::new(rt.alloc(), io::writer(&rt))?;
     put_lines(rt.alloc(), &mut out, &input)?;
     out.flush()
+}
+
+fn main(rt: HostRuntime) {
+    let _ = run(rt);
 }

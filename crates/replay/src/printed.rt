@@ -21,13 +21,13 @@ pub struct Case<'a> {
 
 impl Case<'_> {
     // A line of the label and a colon.
-    pub fn put_label<W: Write>(&self, out: &mut W) -> io::Result<()> {
+    pub(crate) fn put_label<W: Write>(&self, out: &mut W) -> io::Result<()> {
         out.write_all(self.label)?;
         writeln!(out, ":")
     }
 }
 
-pub fn case_of(alloc: Global, line: &[u8]) -> Result<Case<'_>, AllocError> {
+pub(crate) fn case_of(alloc: Global, line: &[u8]) -> Result<Case<'_>, AllocError> {
     let rest = lines::behind(line, b';');
     let end = lines::behind(rest, b';');
     let numbers = numbers::collect_numbers(alloc, lines::behind(end, b';'), MARKS)?;
@@ -48,7 +48,7 @@ fn bytes_of(alloc: Global, numbers: &[u32]) -> Result<Vec<u8>, AllocError> {
 }
 
 // A line of either letter: the text of a tape, or nothing where the numbers are the bytes of the input.
-pub fn put_printed<W: Write>(alloc: Global, out: &mut W, line: &[u8]) -> io::Result<()> {
+pub fn write_printed<W: Write>(alloc: Global, out: &mut W, line: &[u8]) -> io::Result<()> {
     let case = case_of(alloc, line)?;
     case.put_label(out)?;
     match line {

@@ -72,7 +72,7 @@ fn put_value<W: Write>(out: &mut W, v: View<'_, '_>, word: &[u8]) -> io::Result<
 }
 
 // The label, and what is read of the marks and the text.
-pub fn put_case<W: Write>(
+pub fn write_case<W: Write>(
     out: &mut W,
     place: &[u8],
     marks: &[u32],

@@ -45,7 +45,7 @@ fn write_number(rows: &mut [u32], numbers: &[u32]) {
 // The lengths of the sheet, and 1 behind the answer of clearing where the sheet is good afterwards, else 0.
 fn put_cleared<W: Write>(out: &mut W, rows: &mut [u32], names: &mut [u8]) -> io::Result<()> {
     write!(out, "{} {}", rows.len(), names.len())?;
-    output::put_answer(out, clear::clear(rows, names, 0))?;
+    output::write_answer(out, clear::clear(rows, names, 0))?;
     let good = u8::from(xsd_good::is_good(rows, names));
     writeln!(out, " {good}")
 }
@@ -61,7 +61,7 @@ fn put_read<W: Write>(
     write!(out, "{} {}", rows.len(), names.len())?;
     write!(out, " {} {}", text.len(), numbers.len())?;
     let _ = clear::clear(rows, names, 0);
-    output::put_answer(out, xsd_read::read(rows, names, text, numbers))?;
+    output::write_answer(out, xsd_read::read(rows, names, text, numbers))?;
     writeln!(out)
 }
 
@@ -78,8 +78,8 @@ fn put_done<W: Write>(
         numbers,
     } = asked;
     match task {
-        Task::Clear => output::put_answer(out, clear::clear(rows, names, mark_at(numbers, 2)))?,
-        Task::Read => output::put_answer(out, xsd_read::read(rows, names, text, numbers))?,
+        Task::Clear => output::write_answer(out, clear::clear(rows, names, mark_at(numbers, 2)))?,
+        Task::Read => output::write_answer(out, xsd_read::read(rows, names, text, numbers))?,
         Task::Write => write_number(rows, numbers),
         Task::ClearOfLengths => return put_cleared(out, rows, names),
         Task::ReadOfLengths => return put_read(out, asked, rows, names),
@@ -92,7 +92,7 @@ fn put_done<W: Write>(
 }
 
 // The same, done to what is lent of the buffers, where they are that long.
-pub fn put_part<W: Write>(
+pub fn write_part<W: Write>(
     out: &mut W,
     asked: Asked<'_>,
     sheet: &mut Buffers,

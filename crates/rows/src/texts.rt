@@ -1,5 +1,5 @@
 // The texts that a row uses: their bytes, and their store into the names. How many of two texts it uses is a number, and no Option for each, since a row that is read
-// back says the number by its tag and its a, and gives the lengths alone.
+// back says the number by its tag and its a, and gives the lengths alone. Names and place, names and text are arguments: what is written and where.
 ghost use Rattle.std.specs.Prelude.{◌≡◌, ◌+◌, ◌≤◌, length};
 ghost use Rattle.std.proofs.Math.Seq.{paste};
 ghost use Rattle.text.specs.Text.{join};

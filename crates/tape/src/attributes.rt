@@ -1,4 +1,5 @@
 // What is seen of a tag on the tape: its word, and the values that are looked up, whose places are found in one walk over its attributes.
+// The view and a place are arguments: what is read, and where.
 ghost use Rattle.std.specs.Prelude.{◌≡◌};
 ghost use Rattle.text.specs.Text.{local_name};
 ghost use Rattle.xsd_parser.specs.Event.{or_empty};
@@ -15,7 +16,8 @@ use crate::words::{Key, key_of, word_of};
 use xsd_parser::words::Word;
 
 // The word of a tag, and where the values of the nine keys stand in the marks of its view, 0 where there is none: of each key that of the first attribute. Callers
-// ask for the values. The places are numbers, since with a slice for each key, which is three words with its Option, reading took 15 in a hundred more instructions.
+// ask for the values. The places are numbers, since with a slice for each key, which is three words with its Option, reading took 15 in a hundred more instructions (the bar:
+// reading is no slower in compare/CALLS.md).
 // Any such value may be asked, so a place may be past the marks, and `value` tests it.
 #[derive(Clone, Copy)]
 pub struct SeenTag<'a, 'b> {

@@ -9,6 +9,7 @@ use rows::numbers::wide;
 use rows::parts::part_of;
 
 // The number at a place of the marks, 0 past the end: no Option, since the definitions have 0 there and every caller asks for the number.
+// Each of this and `text::byte_at` is one line of std's; a function over both would be that line again.
 pub fn mark_at(marks: &[u32], at: usize) -> u32
     ensures { result ≡ get_or marks.now at 0 }
 {

@@ -15,7 +15,8 @@ pub enum Class {
     InValue,
 }
 
-// Whether a code point is a character. The ranges are tests of their own: with all in one `matches!` a text with comments took a thirtieth more instructions.
+// Whether a code point is a character. The ranges are tests of their own: with all in one `matches!` a text with comments took a thirtieth more instructions
+// (the bar: the tape is no slower in compare/CALLS.md).
 #[tactic(auto, unfolding(xml::specs::Classes::is_char, text::specs::Text::between))]
 pub fn is_char(c: u32) -> bool
     ensures { result ≡ is_char c }

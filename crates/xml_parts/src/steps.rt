@@ -9,7 +9,8 @@ ghost use Rattle.xml_parts.specs.Answers.{class_of, moved, matched};
 use crate::classes::{Class, Classes, is_char};
 use plain_bytes::{CommentRun, skip};
 
-// Whether the word stands at a position. By hand: with the library's `starts_with` the tape took 2 to 15 hundredths more instructions.
+// Whether the word stands at a position. By hand: with the library's `starts_with` the tape took 2 to 15 hundredths more instructions (the bar: the tape is
+// no slower in compare/CALLS.md).
 pub fn starts(text: &[u8], at: usize, word: &[u8]) -> bool
     ensures { result ≡ starts_with word.now (drop at text.now) }
 {
@@ -34,7 +35,8 @@ pub fn literal(text: &[u8], at: usize, word: &[u8]) -> Option<usize>
     }
 }
 
-// Behind the bytes of a class that stand at a position. The loop ends in one place: with a `return` from it the tape took a fifth more instructions.
+// Behind the bytes of a class that stand at a position. The loop ends in one place: with a `return` from it the tape took a fifth more instructions (the bar: the tape is no slower in
+// compare/CALLS.md).
 pub fn many(classes: &Classes, text: &[u8], at: usize, class: Class) -> usize
     ensures { behind result (drop result text.now) ≡ many (class_of class) at (drop at text.now) }
 {

@@ -1,5 +1,5 @@
 // References, attribute values and character data. The loops over runs are `while` loops: each turn goes on behind a run of any length.
-// `is_quote` is a clause: a type for the byte would be turned back for each compare.
+// `is_quote`, and that a position is inside the text, are clauses: a type for the byte or the position would be turned back for each compare.
 ghost use Rattle.std.specs.Prelude.{◌≡◌, true, ◌≤◌, ◌<◌, length, drop, unwrap_or};
 ghost use Rattle.xml.specs.Grammar.{digit_of};
 ghost use Rattle.xml.specs.Values.{is_number, is_entity, is_reference, is_plain, value_end, is_quote, value, char_data, is_in_text, is_in_value};

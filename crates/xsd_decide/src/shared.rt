@@ -1,4 +1,5 @@
-// Decisions that several handlers share: the rows of elements and attributes, the base, a content without texts.
+// Decisions that several handlers share: the rows of elements and attributes, the base, a content without texts. The tag and the numbers of a row are
+// arguments one by one: `NewRow` is what is made of them.
 ghost use Rattle.std.specs.Prelude.{◌≡◌, [], Ok};
 ghost use Rattle.xsd_parser.specs.Handlers.{ok};
 ghost use Rattle.xsd_actions.specs.Actions.{Action};

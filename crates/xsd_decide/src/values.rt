@@ -18,7 +18,7 @@ pub struct NameAndType<'a> {
     pub typ: &'a [u8],
 }
 
-// What maxOccurs gives.
+// What maxOccurs gives: a number or the word `unbounded`, as the definition has it. No Option, since the word is a value like any other.
 #[derive(Clone, Copy)]
 pub enum MaxOccurs {
     Bounded(u32),

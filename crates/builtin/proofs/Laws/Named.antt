@@ -38,10 +38,25 @@ no_key word (x ∷ xs) e =
     let rest = or-false-right (eqb (key_of (bytes x.0)) (key_of word)) (contains (key_of word) (keys_of xs)) e in
     rw (other_key word x.0 (eqb-false _ _ first)) (no_key word xs rest)
 
--- each type is that of one of the code's five
-type_of-digit : (t : RustType) → (b : Builtin) × (type_of b ≡ t)
-type_of-digit string = (Builtin.String, refl)
-type_of-digit bool = (Builtin.Bool, refl)
-type_of-digit decimal = (Builtin.Decimal, refl)
-type_of-digit date = (Builtin.Date, refl)
-type_of-digit date_time = (Builtin.DateTime, refl)
+-- the code's value for each type
+abbrev pub builtin_of : RustType → Builtin
+builtin_of string = Builtin.String
+builtin_of bool = Builtin.Bool
+builtin_of decimal = Builtin.Decimal
+builtin_of date = Builtin.Date
+builtin_of date_time = Builtin.DateTime
+
+pub type_of-digit : (t : RustType) → type_of (builtin_of t) ≡ t
+type_of-digit string = refl
+type_of-digit bool = refl
+type_of-digit decimal = refl
+type_of-digit date = refl
+type_of-digit date_time = refl
+
+-- the fifth type is that of every other value
+pub type_of-rest : (b : Builtin) → (b ≡ Builtin.String → ⊥) → (b ≡ Builtin.Bool → ⊥) → (b ≡ Builtin.Decimal → ⊥) → (b ≡ Builtin.Date → ⊥) → type_of b ≡ date_time
+type_of-rest Builtin.String s b d t = absurd (s refl)
+type_of-rest Builtin.Bool s b d t = absurd (b refl)
+type_of-rest Builtin.Decimal s b d t = absurd (d refl)
+type_of-rest Builtin.Date s b d t = absurd (t refl)
+type_of-rest Builtin.DateTime s b d t = refl

@@ -28,8 +28,8 @@ module _ (rows names : List ℕ) (g : good (sheet rows names) ≡ true) (w : wor
   ends = e ∙ good-end rows names g w (as_row0 z) read
 
   -- the rows up to there are theirs, and the count is right for them
-  stands : Stands (state_of (sheet rows names)) rows names end
-  stands = good-stands rows names g w ends
+  finished : Stands (state_of (sheet rows names)) rows names end
+  finished = good-stands rows names g w ends
 
   room : (2 ≤ end) × (10 * end ≤ length rows)
   room = good-room rows names g w ends
@@ -71,7 +71,7 @@ pub returns : goal.returns
 returns c =
     let a = c.args in
     let end = c.finished_end-end.ensures in
-    let there = stands a.rows.now a.names.now c.requires.0 end.words c.row0_at-z.result c.row0_at-z.ensures end.place in
+    let there = finished a.rows.now a.names.now c.requires.0 end.words c.row0_at-z.result c.row0_at-z.ensures end.place in
     let root = good-root a.rows.now a.names.now c.requires.0 end.words (as_row0 c.row0_at-z.result) c.row0_at-z.ensures in
     state-enough _ a.graph_rows.now a.graph_names.now a.scratch.now c.if-scratch-lt-LEAST_SCRATCH.false
     (c.lower_finished.ensures _ (lowers-held _ there root))

@@ -1,8 +1,8 @@
 -- Named in docs/PORT.md. No contract cites them. Assumes nothing.
 use Rattle.std.specs.Prelude.{Some}
 use Prim.Native.Nat.{ℕ, ◌+◌, ◌-◌, ◌*◌, ◌≤◌, ◌<◌}
-use mathlib.Core.Path.{◌≡◌}
-use mathlib.Core.Bool.{Bool, true, false, ◌&&◌}
+use mathlib.Core.Path.{◌≡◌, refl, sym, ap₂, ◌∙◌}
+use mathlib.Core.Bool.{Bool, true, false, ◌&&◌, ◌||◌}
 use mathlib.Core.List.{List}
 use lib.Dec.{eqb, leb}
 use lib.ListN.{length, drop}
@@ -25,6 +25,17 @@ use Rattle.xsd_good.proofs.Laws.Good.{too-short}
 
 pub parts_in : (z : Row0) (r n : ℕ) → parts_fit z.rows_used z.names_used r n ≡ true → (2 ≤ z.rows_used) × (10 * z.rows_used ≤ r) × (z.names_used ≤ n)
 parts_in z r n e = parts-inside z.rows_used z.names_used r n e
+
+-- the used parts that the second test finds lie inside the buffers
+pub inside : (z : Row0) (rows names : ℕ) {u : Bool} → u ≡ parts_fit z.rows_used z.names_used rows names → u ≡ true → (2 ≤ z.rows_used) × (10 * z.rows_used ≤ rows) × (z.names_used ≤ names)
+inside z rows names e h = parts_in z rows names (sym e ∙ h)
+
+-- a test of the tags without a pair, and of those with two, comes out as the definition's does
+pub has-pairs : (tag : ℕ) {p q : Bool} → p ≡ between 6 7 tag → q ≡ between 10 11 tag → p || q ≡ false → between 6 7 tag || between 10 11 tag ≡ false
+has-pairs tag e f h = sym (ap₂ ◌||◌ e f) ∙ h
+
+pub two-pairs : (tag : ℕ) {p q : Bool} → p ≡ between 2 3 tag → q ≡ between 17 20 tag → p || eqb tag 14 || q ≡ between 2 3 tag || eqb tag 14 || between 17 20 tag
+two-pairs tag e f = ap₂ ◌||◌ (ap₂ ◌||◌ e refl) f
 
 pub too_short : (rows names : List ℕ) → length rows < 20 → bare_good (sheet rows names) ≡ false
 too_short rows names h = too-short rows names h

@@ -31,7 +31,7 @@ use Rattle.xsd_progress.specs.declared.open_tags.Arrival.{Arrival}
 use Rattle.xsd_progress.specs.declared.open_tags.Arrived.{Arrived}
 use Rattle.xsd_progress.specs.Change.{EventAfter}
 use Rattle.xsd_act.specs.Ready.{rows_after_all}
-use Rattle.xsd_act.specs.Needs.{Needed}
+use Rattle.xsd_act.specs.Needs.{AllNeeded, Needed}
 use Rattle.xsd_act.specs.Acts.{Done}
 use Rattle.xsd_act.proofs.Laws.Needs.{needed-keep, needed-fits}
 use Rattle.xsd_act.proofs.Laws.Done.{done-keep}
@@ -104,13 +104,19 @@ at_after {w' = w'} {x = x} {s} {r = r} due done y =
 
 -- whether the state after the event has room is whether what is needed has
 pub fits_after : {w : SheetWriter} {p : Progress} {x : Arrival} {s : State} {e : Event} {r : Reader} {need : Used} (n m : ℕ)
-    → Due w p x s e r → Needed w.rows.now w.used p.head (decision (Ok x.decision)) need → m ≤ 65536
+    → Due w p x s e r → AllNeeded w.rows.now w.used p.head (decision (Ok x.decision)) need
     → state_fits n m (counted s x.open_tags r) ≡ fits need.rows need.names n m
 unfolding state_fits rows_used names_used
-fits_after {w} {x = x} {s} n m due y few =
+fits_after {w} {x = x} {s} n m due y =
     let at = due.at in
-    let c = y.needed.counted w.names.now at.z _ _ _ due.action (ready_at at) due.decided due.acted.fitting in
-    ap (λ (rs : List Row). fits (1 + length rs) (length (names_of rs)) n m) (rows-after s x.open_tags due.acted) ∙ sym (needed-fits n m few y ∙ counted-fits n m c)
+    let c = y.counted w.names.now at.z _ _ _ due.action (ready_at at) due.decided due.acted.fitting in
+    ap (λ (rs : List Row). fits (1 + length rs) (length (names_of rs)) n m) (rows-after s x.open_tags due.acted) ∙ sym (counted-fits n m c)
+
+-- so it is with what the code counts, in buffers as the paper has them
+pub fits_counted : {w : SheetWriter} {p : Progress} {x : Arrival} {s : State} {e : Event} {r : Reader} {need : Used} (n m : ℕ)
+    → Due w p x s e r → Needed w.rows.now w.used p.head (decision (Ok x.decision)) need → m ≤ 65536
+    → state_fits n m (counted s x.open_tags r) ≡ fits need.rows need.names n m
+fits_counted n m due y few = fits_after n m due y.needed ∙ sym (needed-fits n m few y)
 
 pub room-refused : (lent : Lengths) (s : State) → state_fits lent.rows lent.names s ≡ false → room_for lent s ≡ refuse 11
 unfolding room_for
@@ -128,7 +134,7 @@ unfolding Ended
 stepped-refused {w} {p} {x} y e =
     record {
       same = same_itself w;
-      ended = λ s ev r due. record { refused = room-refused (lent_to w.rows.now w.names.now) (counted s x.open_tags r) (fits_after (length w.rows.now) (length w.names.now) due y w.few ∙ e); kept = refl };
+      ended = λ s ev r due. record { refused = room-refused (lent_to w.rows.now w.names.now) (counted s x.open_tags r) (fits_counted (length w.rows.now) (length w.names.now) due y w.few ∙ e); kept = refl };
     }
 
 -- what has room is done
@@ -141,7 +147,7 @@ stepped-done {w} {w'} {x = x} y e done after =
       same = done.same;
       ended = λ s ev r due. record {
         s' = counted s x.open_tags r;
-        accepted = room-given (lent_to w.rows.now w.names.now) (counted s x.open_tags r) (fits_after (length w.rows.now) (length w.names.now) due y w.few ∙ e);
+        accepted = room-given (lent_to w.rows.now w.names.now) (counted s x.open_tags r) (fits_counted (length w.rows.now) (length w.names.now) due y w.few ∙ e);
         stands = subst (At (counted s x.open_tags r) w') (sym after.stands) (at_after due done after.arrived);
       };
     }
