@@ -14,3 +14,4 @@ pub mod Table
 pub mod References
 pub mod Back
 pub mod GraphSmall
+pub mod Whole

@@ -7,10 +7,10 @@
 --     tags_of, count the tags of rows, and how many of them pass a test
 --     row0_form, rows_form, names_form    row 0's zeros; the rows behind it, as many as it says; the used pairs
 --     graph_form     all of it
-use Rattle.std.specs.Prelude.{ℕ, suc, ◌+◌, List, [], ◌∷◌, map, Bool, true, false, ◌&&◌, ◌||◌, eqb, leb, take, if◌then◌else◌}
-use Rattle.text.specs.Text.{every, is_text, between}
+use Rattle.std.specs.Prelude.{ℕ, suc, ◌+◌, List, [], ◌∷◌, map, Bool, true, false, ◌&&◌, ◌||◌, eqb, leb, if◌then◌else◌}
+use Rattle.text.specs.Text.{every, is_graph_text, between}
 use Rattle.sheet.specs.Rows.{Ten, Sheet}
-use Rattle.sheet.specs.Form.{is_flag, covers, covered, tens_of, used_parts, zeros_behind}
+use Rattle.sheet.specs.Form.{is_flag, covers, covered, tens_of, used_parts, zeros_behind, texts_pass}
 use Rattle.ir_types.specs.Tags.{namespace_tag, root_tag, struct_tag, enum_tag, newtype_tag, code_enum_tag, value_with_attributes_tag, opaque_tag, field_tag, variant_tag, pattern_tag, min_length_tag, max_length_tag, total_digits_tag, fraction_digits_tag, code_tag, attribute_tag}
 use Rattle.ir_types.specs.Row0.{GraphRow0, graph_row0_in}
 
@@ -87,8 +87,9 @@ rows_form z (n ∷ ts) =
 unfoldable pub names_form : ℕ → List Ten → Bool
 names_form names_used ts = covers used_pairs 0 ts && eqb (covered 0 ts) names_used
 
+-- that all names are bytes below 128 is asked of each used pair, which is the same (`form-whole`)
 unfoldable pub graph_form : Sheet → Bool
 graph_form x =
     let z = graph_row0_in x in
     let ts = tens_of x in
-    used_parts x && row0_form z && rows_form z ts && names_form z.names_used ts && zeros_behind x && is_text (take z.names_used x.names)
+    used_parts x && row0_form z && rows_form z ts && names_form z.names_used ts && zeros_behind x && texts_pass is_graph_text used_pairs x

@@ -4,7 +4,7 @@
 --     Verdict       the number of a pattern; PatternIs: number and place of the call
 use Rattle.std.specs.Prelude.{ℕ, ◌+◌, ◌≤◌, ◌<◌, ◌≡◌, [], ◌∷◌, Bool, true, false, ◌&&◌, ◌||◌, eqb, ltb, length, if◌then◌else◌}
 use Prim.Native.Char.{code}
-use Rattle.text.specs.Text.{Text, is_text}
+use Rattle.text.specs.Text.{Text, is_plain}
 use Rattle.sheet.specs.Limits.{pattern_limit, pattern_opens_limit}
 use Rattle.sheet.specs.Returned.{accepted, bad_length, not_ascii, no_pattern, pattern_aside}
 use Rattle.pattern.specs.Grammar.{Derives, reg_exp}
@@ -32,10 +32,10 @@ is_aside s = aside_pairs s || ltb pattern_opens_limit (count_of (code "(") s)
 -- byte above 127, 25, 24"
 pub data Verdict (s : Text) : ℕ → Type 0 where
   too_long : pattern_limit < length s → Verdict s bad_length
-  high_byte : length s ≤ pattern_limit → is_text s ≡ false → Verdict s not_ascii
-  left_aside : length s ≤ pattern_limit → is_text s ≡ true → is_aside s ≡ true → Verdict s pattern_aside
-  underivable : length s ≤ pattern_limit → is_text s ≡ true → is_aside s ≡ false → (Derives reg_exp s → ⊥) → Verdict s no_pattern
-  derived : length s ≤ pattern_limit → is_text s ≡ true → is_aside s ≡ false → Derives reg_exp s → Verdict s accepted
+  high_byte : length s ≤ pattern_limit → is_plain s ≡ false → Verdict s not_ascii
+  left_aside : length s ≤ pattern_limit → is_plain s ≡ true → is_aside s ≡ true → Verdict s pattern_aside
+  underivable : length s ≤ pattern_limit → is_plain s ≡ true → is_aside s ≡ false → (Derives reg_exp s → ⊥) → Verdict s no_pattern
+  derived : length s ≤ pattern_limit → is_plain s ≡ true → is_aside s ≡ false → Derives reg_exp s → Verdict s accepted
 
 -- the call: its number, and 0 as the place
 pub record PatternIs (s : Text) (number place : ℕ) : Type 0 where

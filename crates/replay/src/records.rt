@@ -37,7 +37,7 @@ fn put_record<W: Write>(out: &mut W, r: Result<Option<TagRecord>, Refusal>) -> i
 fn read_at(v: View<'_, '_>, at: usize) -> Result<Option<TagRecord>, Refusal>
     ensures { RecordAt v.entry.text.now v.entry.marks.now at result }
 {
-    tape::record_at(v, at, text::is_text(v.text))
+    tape::record_at(v, at, text::is_plain(v.text))
 }
 
 // The value that is seen of a tag by a word: the cases ask for two keys.

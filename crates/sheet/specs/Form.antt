@@ -6,10 +6,11 @@
 --     counted       a row with its texts has as many as it uses
 --     rows_used_in, names_used_in    rows used and names used among the ten numbers of row 0
 --     row0_of        row 0 of a sheet as ten numbers; rows_used_of, names_used_of: what it says is used; tens_of: the used rows behind it
+--     texts_pass    each text of the used pairs passes a test
 --     used_parts, zeros_behind    the used parts lie inside the buffers, and behind them all is zero
-use Rattle.std.specs.Prelude.{ℕ, ◌+◌, ◌-◌, ◌*◌, ◌^◌, List, [], ◌∷◌, Bool, true, ◌&&◌, eqb, leb, ltb, length, drop, if◌then◌else◌}
-use Rattle.text.specs.Text.{every}
-use Rattle.sheet.specs.Rows.{Ten, Row, ten, tens, all_zero, Sheet}
+use Rattle.std.specs.Prelude.{ℕ, ◌+◌, ◌-◌, ◌*◌, ◌^◌, List, [], ◌∷◌, map, Bool, true, ◌&&◌, eqb, leb, ltb, length, drop, if◌then◌else◌}
+use Rattle.text.specs.Text.{Text, every}
+use Rattle.sheet.specs.Rows.{Ten, Row, ten, tens, unpack_row, all_zero, Sheet}
 use Rattle.sheet.specs.Limits.{row_numbers}
 use Rattle.sheet.specs.Lengths.{fits}
 
@@ -74,3 +75,7 @@ used_parts x = leb 2 (rows_used_of x) && fits (rows_used_of x) (names_used_of x)
 -- "all past the used parts, are zero"
 unfoldable pub zeros_behind : Sheet → Bool
 zeros_behind x = all_zero (drop (row_numbers * rows_used_of x) x.rows) && all_zero (drop (names_used_of x) x.names)
+
+-- order 12: "each used pair by itself holds such text"
+unfoldable pub texts_pass : (Text → Bool) → (ℕ → ℕ → ℕ) → Sheet → Bool
+texts_pass ok used_pairs x = every (λ (r : Row). every ok r.texts) (map (unpack_row used_pairs x.names) (tens_of x))

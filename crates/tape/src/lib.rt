@@ -10,7 +10,7 @@ pub mod view;
 pub mod words;
 
 ghost use Rattle.std.specs.Prelude.{◌≡◌, true, ◌+◌, ◌*◌, ◌≤◌, length};
-ghost use Rattle.text.specs.Text.{is_text};
+ghost use Rattle.text.specs.Text.{is_plain};
 ghost use Rattle.sheet.specs.Limits.{attributes_limit};
 ghost use Rattle.xsd_parser.specs.Kinds.{close_kind, kind_number};
 ghost use Rattle.xsd_parser.specs.declared.kinds.Kind.{Kind};
@@ -41,7 +41,7 @@ fn tag_at(
     plain: bool,
 ) -> Result<TagRecord, Refusal>
     requires fact { (kind_number kind ≡ close_kind → ⊥) × (count ≤ attributes_limit) × (at + 2 + 2 * pair_count count ≤ length v.marks.now) }
-    requires text_value { plain ≡ true → is_text v.text.now ≡ true }
+    requires text_value { plain ≡ true → is_plain v.text.now ≡ true }
     ensures { TagAnswer v.entry.text.now v.entry.marks.now at (kind_number kind) count result }
 {
     let pairs = at + 2;
@@ -73,11 +73,11 @@ fn closed(next: usize) -> TagRecord
     }
 }
 
-// The record at a place of the marks, none at their end, judged as a whole for 3, then 4, then 5. Where `plain` says that the whole text was judged before,
+// The record at a place of the marks, none at their end, judged as a whole for 3, then 4, then 5. Where `plain` says that all bytes of the text are below 128,
 // no byte is read for 5; that is found at run time, once for all records, so it is an argument. A struct of text, `plain`
 // and what it says would be turned into a view again for each part that is read.
 pub fn record_at(v: View<'_, '_>, at: usize, plain: bool) -> Result<Option<TagRecord>, Refusal>
-    requires { plain ≡ true → is_text v.text.now ≡ true }
+    requires { plain ≡ true → is_plain v.text.now ≡ true }
     ensures { RecordAt v.entry.text.now v.entry.marks.now at result }
 {
     let marks = v.marks;

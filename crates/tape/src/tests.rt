@@ -1,7 +1,7 @@
 // The pairs of a record (paper 01, "Tape") judged for the refusals 4 and 5.
 // A record's pairs stand among the marks of all records, so how many there are is an argument.
 ghost use Rattle.std.specs.Prelude.{◌≡◌, ◌+◌, ◌*◌, ◌≤◌, length, drop, true};
-ghost use Rattle.text.specs.Text.{is_text};
+ghost use Rattle.text.specs.Text.{is_plain};
 ghost use Rattle.xsd_parser.specs.Tape.{pairs_of, all_inside, all_ascii};
 
 use crate::pairs;
@@ -43,11 +43,11 @@ fn bytes_ascii(v: View<'_, '_>, from: usize, n: usize) -> bool
     (0..n).all(|i| text::is_text(pairs::pair_part(v, from + 2 * i)))
 }
 
-// The same; `plain` says that the whole text was judged before, so that none of its bytes is read again. It is known at run time alone, so it is an argument;
+// The same; `plain` says that all bytes of the text are below 128, so that none is read again. It is known at run time alone, so it is an argument;
 // a struct of text, `plain` and what it says would be turned into a view again for each part that is read.
 pub fn pairs_ascii(v: View<'_, '_>, from: usize, n: usize, plain: bool) -> bool
     requires n_in_bounds { from + 2 * n ≤ length v.marks.now }
-    requires text_value { plain ≡ true → is_text v.text.now ≡ true }
+    requires text_value { plain ≡ true → is_plain v.text.now ≡ true }
     ensures { result ≡ all_ascii v.entry.text.now (pairs_of n (drop from v.entry.marks.now)) }
 {
     if plain {

@@ -2,6 +2,7 @@
 pub mod Tests
 pub mod Texts
 pub mod Every
+pub mod Class
 pub mod Local
 pub mod Bits
 pub mod Table

@@ -2,7 +2,8 @@
 --     if b then x else y    x where the test b passes, else y
 --     Text          a text: the list of its bytes
 --     bytes         a quoted text as bytes; `code "A"` is the byte of one quoted character
---     is_text_byte    the bytes that a text may hold; is_text: all bytes of the text are such
+--     is_plain_byte, is_plain    a byte below 128; all bytes of the text are such
+--     is_text, is_graph_text    the texts that a tape and a sheet may hold, and those that a graph may hold: today both are the plain ones
 --     between       the byte is one of a range
 --     is_upper, is_lower, is_digit    the classes of a byte, as Rust's is_uppercase, is_lowercase and is_ascii_digit have them below 128
 --     upper, lower  the upper and the lower form of a letter; every other byte is its own
@@ -31,12 +32,19 @@ unfoldable pub every : {A : Type 0} → (A → Bool) → List A → Bool
 every p [] = true
 every p (b ∷ s) = p b && every p s
 
--- "all names are bytes below 128"
-unfoldable pub is_text_byte : ℕ → Bool
-is_text_byte b = ltb b 128
+unfoldable pub is_plain_byte : ℕ → Bool
+is_plain_byte b = ltb b 128
 
+unfoldable pub is_plain : Text → Bool
+is_plain s = every is_plain_byte s
+
+-- "all names are bytes below 128"
 unfoldable pub is_text : Text → Bool
-is_text s = every is_text_byte s
+is_text s = is_plain s
+
+-- a graph's names are those of a sheet
+unfoldable pub is_graph_text : Text → Bool
+is_graph_text s = is_text s
 
 unfoldable pub between : ℕ → ℕ → ℕ → Bool
 between low high b = leb low b && leb b high

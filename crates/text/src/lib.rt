@@ -5,13 +5,22 @@
 pub mod ascii;
 
 ghost use Rattle.std.specs.Prelude.{◌≡◌, false, drop};
-ghost use Rattle.text.specs.Text.{is_text, contains, first, same, colon, local_name, LocalPart};
+ghost use Rattle.text.specs.Text.{is_plain, is_text, contains, first, same, colon, local_name, LocalPart};
 ghost use Rattle.text.specs.Trim.{is_white_space, trim_start, trim_end, trimmed};
 
+// Whether every byte is below 128.
+pub fn is_plain(s: &[u8]) -> bool
+    ensures { result ≡ is_plain s.now }
+{
+    s.iter().fold(0, |all, b| all | *b) < 128
+}
+
+// Whether a tape or a sheet may hold the text.
+#[tactic(auto, unfolding(crate::specs::Text::is_text))]
 pub fn is_text(s: &[u8]) -> bool
     ensures { result ≡ is_text s.now }
 {
-    s.iter().fold(0, |all, b| all | *b) < 128
+    is_plain(s)
 }
 
 // The slice's method, with its answer in the words of specs/Text.antt, which callers cite.

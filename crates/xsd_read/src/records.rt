@@ -1,6 +1,6 @@
 // The records of a piece of a tape, read into a schema sheet one after the other.
 ghost use Rattle.std.specs.Prelude.{true, ◌≡◌};
-ghost use Rattle.text.specs.Text.{is_text};
+ghost use Rattle.text.specs.Text.{is_plain};
 ghost use Rattle.xsd_progress.specs.Progress.{Standing};
 ghost use Rattle.xsd_read.specs.Records.{stopped_at, RecordsRead};
 
@@ -10,7 +10,6 @@ use rows::writer::SheetWriter;
 use sheet::refusal::Refusal;
 use tape::record_at;
 use tape::view::View;
-use text::is_text;
 use xsd_progress::Progress;
 
 // How far a reading came: the events read or the refusal, and where it stands.
@@ -22,10 +21,10 @@ pub struct ReadTo {
 
 // Whether the whole text is plain, so that no record's bytes are judged for 5 again; not asked where a long text has few marks.
 fn is_plain(text: &[u8], marks: usize) -> bool
-    ensures { result ≡ true → is_text text.now ≡ true }
+    ensures { result ≡ true → is_plain text.now ≡ true }
 {
     if text.len() / 64 <= marks {
-        return is_text(text);
+        return text::is_plain(text);
     }
     false
 }

@@ -9,10 +9,10 @@
 --     names_test, limits, root_test, open_tags_test, nesting_zero, context_test, extension_test    the sentences behind the form; nesting_test: two of them
 --     events_test    order 5's sentence on c
 --     good          all of them
-use Rattle.std.specs.Prelude.{ℕ, ◌+◌, List, [], ◌∷◌, map, Bool, true, false, not, ◌&&◌, ◌||◌, eqb, leb, take, if◌then◌else◌}
+use Rattle.std.specs.Prelude.{ℕ, ◌+◌, List, [], ◌∷◌, map, Bool, true, false, not, ◌&&◌, ◌||◌, eqb, leb, if◌then◌else◌}
 use Rattle.text.specs.Text.{every, is_text, between}
 use Rattle.sheet.specs.Rows.{Ten, Sheet}
-use Rattle.sheet.specs.Form.{is_flag, covers, covered, names_used_of, tens_of, used_parts, zeros_behind}
+use Rattle.sheet.specs.Form.{is_flag, covers, covered, tens_of, used_parts, zeros_behind, texts_pass}
 use Rattle.xsd_types.specs.Tags.{namespace_tag, element_tag, simple_type_tag, min_length_tag, max_length_tag, total_digits_tag, fraction_digits_tag, sequence_tag, simple_content_tag, any_tag, no_content_tag, bound_element_tag, unbounded_element_tag, attribute_tag}
 use Rattle.xsd_types.specs.Contexts.{schema_context, complex_type_context}
 use Rattle.xsd_types.specs.Row0.{Row0, row0_in}
@@ -74,9 +74,9 @@ rows_form (n ∷ ts) =
 unfoldable pub names_form : ℕ → List Ten → Bool
 names_form names_used ts = covers used_pairs 0 ts && eqb (covered 0 ts) names_used
 
--- "all names are bytes below 128"
+-- "all names are bytes below 128", asked of each used pair, which is the same (`good-whole`)
 unfoldable pub names_test : Sheet → Bool
-names_test x = is_text (take (names_used_of x) x.names)
+names_test x = texts_pass is_text used_pairs x
 
 -- "events are at most 1,000,000, open tags at most 255"
 unfoldable pub limits : Row0 → Bool

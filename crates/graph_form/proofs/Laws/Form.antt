@@ -8,13 +8,14 @@ use Prim.Native.Nat.{ℕ, ◌-◌, ◌*◌, ◌<◌}
 use native.Mathlib.Omega.{arith}
 use lib.Dec.{eqb}
 use lib.ListN.{length, take, drop}
-use Rattle.text.specs.Text.{is_text}
+use Rattle.text.specs.Text.{is_plain}
 use Rattle.text.proofs.Laws.Tests.{not-true-false}
 use Rattle.sheet.specs.Rows.{Ten, ten, tens, all_zero}
 use Rattle.sheet.specs.Form.{row0_of, tens_of, used_parts, zeros_behind}
 use Rattle.sheet.specs.Calls.{sheet}
 use Rattle.ir_types.specs.Row0.{graph_row0_from}
 use Rattle.ir_types.specs.Form.{is_type_tag, in_order, tags_of, count, row0_form, rows_form, names_form, graph_form}
+use Rattle.ir_types.proofs.Laws.Whole.{form-whole}
 use Rattle.rows.specs.declared.scan.Scan.{Scan}
 use Rattle.rows.specs.Lengths.{parts_fit}
 use Rattle.rows.specs.Scan.{scanned_sheet}
@@ -39,7 +40,7 @@ abbrev pub zeros : List ℕ → List ℕ → Ten → Bool
 zeros rows names z = all_zero (drop (10 * z.at0) rows) && all_zero (drop z.len0 names)
 
 abbrev pub texts : List ℕ → Ten → Bool
-texts names z = is_text (take z.len0 names)
+texts names z = is_plain (take z.len0 names)
 
 -- the rows behind row 1
 abbrev pub rest : List ℕ → Ten → List Ten
@@ -59,11 +60,11 @@ module _ (rows names : List ℕ) where
       → row0_form (graph_row0_from (ten rows)) && ends (ten rows).len0 (λ (head : ℕ). true) (scanned_sheet graph_tests (ten rows).len0 (ten (drop 10 rows) ∷ rest rows (ten rows)))
       && eqb (ten rows).at1 (count is_root (tags_of (rest rows (ten rows)))) && eqb (ten rows).len1 (count is_type_tag (tags_of (rest rows (ten rows))))
       && zeros rows names (ten rows) && texts names (ten rows) ≡ graph_form (sheet rows names)
-  unfolding graph_form used_parts row0_of zeros_behind tens_of parts_fit rows_form names_form tags_of
+  unfolding used_parts row0_of zeros_behind tens_of parts_fit rows_form names_form tags_of
   in-parts h =
       let z = ten rows in
       let two = (parts-inside z.at0 z.len0 (length rows) (length names) h).0 in
-      rw (sheet-ends graph_tests z.len0 (λ (head : ℕ). true) (ten (drop 10 rows)) (rest rows z), orders 1 (tags (rest rows z)), h, tens-two z.at0 rows two) (search in-turn)
+      rw (form-whole (sheet rows names), sheet-ends graph_tests z.len0 (λ (head : ℕ). true) (ten (drop 10 rows)) (rest rows z), orders 1 (tags (rest rows z)), h, tens-two z.at0 rows two) (search in-turn)
 
   -- of the results that the code's calls give
   module _ (z : Ten) (e : z ≡ ten rows) (h : parts_fit z.at0 z.len0 (length rows) (length names) ≡ true) where

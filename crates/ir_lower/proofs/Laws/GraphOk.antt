@@ -8,9 +8,9 @@ use mathlib.Core.List.{List, [], ◌∷◌, map}
 use mathlib.Core.Option.{Option, some, none}
 use mathlib.Core.Logic.{⊎_elim}
 use lib.Dec.{eqb, ltb}
-use Rattle.text.specs.Text.{Text, every, is_text}
+use Rattle.text.specs.Text.{Text, every, is_text, is_graph_text}
 use Rattle.builtin.specs.Builtin.{RustType, map_builtin}
-use Rattle.names.specs.Names.{normalize_type_name}
+use Rattle.names.specs.Names.{normalize_type_name, xml_to_snake_case, code_to_pascal_case}
 use Rattle.xsd_types.specs.Types.{Element, Facet, SimpleType, MaxOccurs, SequenceElement, ChoiceVariant, Attribute, ComplexContent, ComplexType, Item, Schema, elements, simple_types, complex_types}
 use Rattle.xsd_types.specs.State.{element_ok, facet_ok, max_occurs_ok, sequence_element_ok, choice_variant_ok, attribute_ok, namespace_ok, content_ok, started, item_ok, schema_ok, item_passes}
 use Rattle.ir_types.specs.Types.{TypeDef, TypeGraph}
@@ -21,7 +21,22 @@ use Rattle.ir_lower.specs.Lower.{lower_attribute, lower_content, lower_complex_t
 use Rattle.ir_lower.proofs.Laws.Types.{lower-some}
 use Rattle.text.proofs.Laws.Tests.{and-true-left, and-true-right, keep_left, test-cases, and-true}
 use Rattle.text.proofs.Laws.Every.{every-append-true, every_map, every-both}
+use Rattle.text.proofs.Laws.Class.{text-in-graph}
 use Rattle.names.proofs.Laws.Names.{normalize-text, snake-text, pascal-text}
+
+-- ---- texts of a graph
+
+graph-then : (v : Text) (b c : Bool) → is_text v && b ≡ true → (b ≡ true → c ≡ true) → is_graph_text v && c ≡ true
+graph-then v b c h f = and-true (text-in-graph v (and-true-left (is_text v) b h)) (f (and-true-right (is_text v) b h))
+
+normalize-graph : (s : Text) → is_text s ≡ true → is_graph_text (normalize_type_name s) ≡ true
+normalize-graph s h = text-in-graph (normalize_type_name s) (normalize-text s h)
+
+snake-graph : (s : Text) → is_text s ≡ true → is_graph_text (xml_to_snake_case s) ≡ true
+snake-graph s h = text-in-graph (xml_to_snake_case s) (snake-text s h)
+
+pascal-graph : (s : Text) → is_text s ≡ true → is_graph_text (code_to_pascal_case s) ≡ true
+pascal-graph s h = text-in-graph (code_to_pascal_case s) (pascal-text s h)
 
 -- ---- what needs no conversion
 
@@ -37,11 +52,11 @@ constraints-ok : (fs : List Facet) → every facet_ok fs ≡ true → every cons
 unfolding every constraints facet_ok constraint_ok
 constraints-ok [] h = refl
 constraints-ok (Facet.enumeration v ∷ fs) h = constraints-ok fs (and-true-right (is_text v) (every facet_ok fs) h)
-constraints-ok (Facet.pattern v ∷ fs) h = keep_left (is_text v) (every facet_ok fs) _ h (constraints-ok fs)
+constraints-ok (Facet.pattern v ∷ fs) h = graph-then v (every facet_ok fs) _ h (constraints-ok fs)
 constraints-ok (Facet.min_length n ∷ fs) h = keep_left (ltb n (2 ^ 64)) (every facet_ok fs) _ h (constraints-ok fs)
 constraints-ok (Facet.max_length n ∷ fs) h = keep_left (ltb n (2 ^ 64)) (every facet_ok fs) _ h (constraints-ok fs)
-constraints-ok (Facet.min_inclusive v ∷ fs) h = keep_left (is_text v) (every facet_ok fs) _ h (constraints-ok fs)
-constraints-ok (Facet.max_inclusive v ∷ fs) h = keep_left (is_text v) (every facet_ok fs) _ h (constraints-ok fs)
+constraints-ok (Facet.min_inclusive v ∷ fs) h = graph-then v (every facet_ok fs) _ h (constraints-ok fs)
+constraints-ok (Facet.max_inclusive v ∷ fs) h = graph-then v (every facet_ok fs) _ h (constraints-ok fs)
 constraints-ok (Facet.total_digits n ∷ fs) h = keep_left (ltb n (2 ^ 32)) (every facet_ok fs) _ h (constraints-ok fs)
 constraints-ok (Facet.fraction_digits n ∷ fs) h = keep_left (ltb n (2 ^ 32)) (every facet_ok fs) _ h (constraints-ok fs)
 
@@ -77,7 +92,8 @@ module _ (p : Item → Bool) where
 
 root_ok_lem : (e : Element) → item_fine (Item.element e) ≡ true → root_ok (root_of e) ≡ true
 unfolding item_fine item_passes small_event item_ok element_ok root_ok root_of
-root_ok_lem e h = h
+root_ok_lem e h =
+    keep_left (is_small e.event) (is_text e.name && is_text e.type_name) _ h (λ n. graph-then e.name (is_text e.type_name) _ n (text-in-graph e.type_name))
 
 -- a definition that is there is within its widths
 option_ok : Option TypeDef → Bool
@@ -91,7 +107,7 @@ with-ok (some d) ds h k = and-true h k
 
 resolve-ok : (name : Text) → is_text name ≡ true → ref_ok (resolve_type_ref name) ≡ true
 unfolding resolve_type_ref resolved ref_ok
-resolve-ok name h = elim (map_builtin name) as (λ o. ref_ok (resolved name o) ≡ true) [ none ↦ normalize-text name h | some t ↦ refl ]
+resolve-ok name h = elim (map_builtin name) as (λ o. ref_ok (resolved name o) ≡ true) [ none ↦ normalize-graph name h | some t ↦ refl ]
 
 field-ok : (e : SequenceElement) → sequence_element_ok e ≡ true → field_ok (lower_field e) ≡ true
 unfolding sequence_element_ok field_ok lower_field
@@ -99,26 +115,26 @@ field-ok e h =
     let x = is_text e.name in let y = is_text e.type_name in let m = ltb e.min_occurs (2 ^ 32) in let n = max_occurs_ok e.max_occurs in
     let p : x && y ≡ true = and-true-left (x && y) m (and-true-left (x && y && m) n h) in
     let a : x ≡ true = and-true-left x y p in
-    rw (a, snake-text e.name a, resolve-ok e.type_name (and-true-right x y p)) (cardinality-ok e.min_occurs e.max_occurs (and-true-right (x && y && m) n h))
+    rw (text-in-graph e.name a, snake-graph e.name a, resolve-ok e.type_name (and-true-right x y p)) (cardinality-ok e.min_occurs e.max_occurs (and-true-right (x && y && m) n h))
 
 variant_ok_lem : (v : ChoiceVariant) → choice_variant_ok v ≡ true → variant_ok (lower_variant v) ≡ true
 unfolding choice_variant_ok variant_ok lower_variant
 variant_ok_lem v h =
     let a : is_text v.name ≡ true = and-true-left (is_text v.name) (is_text v.type_name) h in
-    rw a (resolve-ok v.type_name (and-true-right (is_text v.name) (is_text v.type_name) h))
+    rw (text-in-graph v.name a) (resolve-ok v.type_name (and-true-right (is_text v.name) (is_text v.type_name) h))
 
 attribute-ok : (x : Attribute) → attribute_ok x ≡ true → attr_ok (lower_attribute x) ≡ true
 unfolding attribute_ok attr_ok lower_attribute
 attribute-ok x h =
     let a : is_text x.name ≡ true = and-true-left (is_text x.name) (is_text x.type_name) h in
-    rw (a, snake-text x.name a) (resolve-ok x.type_name (and-true-right (is_text x.name) (is_text x.type_name) h))
+    rw (text-in-graph x.name a, snake-graph x.name a) (resolve-ok x.type_name (and-true-right (is_text x.name) (is_text x.type_name) h))
 
 codes-ok : (fs : List Facet) → every facet_ok fs ≡ true → every code_ok (codes fs) ≡ true
 unfolding every codes facet_ok code_ok
 codes-ok [] h = refl
 codes-ok (Facet.enumeration v ∷ fs) h =
     let a : is_text v ≡ true = and-true-left (is_text v) (every facet_ok fs) h in
-    rw (a, pascal-text v a) (codes-ok fs (and-true-right (is_text v) (every facet_ok fs) h))
+    rw (text-in-graph v a, pascal-graph v a) (codes-ok fs (and-true-right (is_text v) (every facet_ok fs) h))
 codes-ok (Facet.pattern v ∷ fs) h = codes-ok fs (and-true-right (is_text v) (every facet_ok fs) h)
 codes-ok (Facet.min_length n ∷ fs) h = codes-ok fs (and-true-right (ltb n (2 ^ 64)) (every facet_ok fs) h)
 codes-ok (Facet.max_length n ∷ fs) h = codes-ok fs (and-true-right (ltb n (2 ^ 64)) (every facet_ok fs) h)
@@ -130,7 +146,7 @@ codes-ok (Facet.fraction_digits n ∷ fs) h = codes-ok fs (and-true-right (ltb n
 newtype-ok : (t : SimpleType) (o : Option RustType) → is_small t.event ≡ true → is_text t.name ≡ true → every facet_ok t.facets ≡ true → option_ok (lower_newtype t o) ≡ true
 unfolding option_ok lower_newtype type_ok
 newtype-ok t none s h k = refl
-newtype-ok t (some inner) s h k = and-true s (and-true (normalize-text t.name h) (constraints-ok t.facets k))
+newtype-ok t (some inner) s h k = and-true s (and-true (normalize-graph t.name h) (constraints-ok t.facets k))
 
 simple-ok : (t : SimpleType) → item_fine (Item.simple_type t) ≡ true → option_ok (lower_simple_type t) ≡ true
 unfolding item_fine item_passes small_event item_ok lower_simple_type option_ok type_ok
@@ -142,7 +158,7 @@ simple-ok t g =
     let k : f ≡ true = and-true-right (n && b) f h in
     elim (all_enums t.facets)
     as (λ c. option_ok (if c then some (TypeDef.code_enum t.event (normalize_type_name t.name) (codes t.facets)) else lower_newtype t (map_builtin t.base)) ≡ true)
-    [ true ↦ and-true s (and-true (normalize-text t.name a) (codes-ok t.facets k)) | false ↦ newtype-ok t (map_builtin t.base) s a k ]
+    [ true ↦ and-true s (and-true (normalize-graph t.name a) (codes-ok t.facets k)) | false ↦ newtype-ok t (map_builtin t.base) s a k ]
 
 simple-definitions-ok : (ts : List SimpleType) → every (λ (t : SimpleType). item_fine (Item.simple_type t)) ts ≡ true → every type_ok (simple_definitions ts) ≡ true
 unfolding every simple_definitions
@@ -151,7 +167,7 @@ simple-definitions-ok (t ∷ ts) h =
     let p = item_fine (Item.simple_type t) in let more = every (λ (u : SimpleType). item_fine (Item.simple_type u)) ts in
     with-ok (lower_simple_type t) (simple_definitions ts) (simple-ok t (and-true-left p more h)) (simple-definitions-ok ts (and-true-right p more h))
 
-content-ok : (event : ℕ) (n : Text) (c : ComplexContent) → is_small event ≡ true → is_text n ≡ true → content_ok (started c) ≡ true → type_ok (lower_content event n c) ≡ true
+content-ok : (event : ℕ) (n : Text) (c : ComplexContent) → is_small event ≡ true → is_graph_text n ≡ true → content_ok (started c) ≡ true → type_ok (lower_content event n c) ≡ true
 unfolding type_ok lower_content content_ok started namespace_ok
 content-ok event n (ComplexContent.sequence es) s h k = and-true s (and-true h (every_map sequence_element_ok field_ok lower_field field-ok es k))
 content-ok event n (ComplexContent.choice vs) s h k = and-true s (and-true h (every_map choice_variant_ok variant_ok lower_variant variant_ok_lem vs k))
@@ -159,14 +175,14 @@ content-ok event n (ComplexContent.simple_content base xs) s h k =
     and-true s (and-true (and-true h (resolve-ok base (and-true-left (is_text base) (every attribute_ok xs) k)))
     (every_map attribute_ok attr_ok lower_attribute attribute-ok xs (and-true-right (is_text base) (every attribute_ok xs) k)))
 content-ok event n (ComplexContent.any none) s h k = and-true s h
-content-ok event n (ComplexContent.any (some ns)) s h k = and-true s (and-true h k)
+content-ok event n (ComplexContent.any (some ns)) s h k = and-true s (and-true h (text-in-graph ns k))
 
 complex-ok : (t : ComplexType) → item_fine (Item.complex_type t) ≡ true → type_ok (lower_complex_type t) ≡ true
 unfolding item_fine item_passes small_event item_ok lower_complex_type
 complex-ok t g =
     let n = is_text t.name in let c = content_ok (started t.content) in
     let h = and-true-right (is_small t.event) (n && c) g in
-    content-ok t.event (normalize_type_name t.name) t.content (and-true-left (is_small t.event) (n && c) g) (normalize-text t.name (and-true-left n c h)) (and-true-right n c h)
+    content-ok t.event (normalize_type_name t.name) t.content (and-true-left (is_small t.event) (n && c) g) (normalize-graph t.name (and-true-left n c h)) (and-true-right n c h)
 
 finished-ok : (s : Schema) → every item_fine s.items ≡ true → every type_ok (finished_definitions s) ≡ true
 unfolding finished_definitions
@@ -182,7 +198,7 @@ lower-ok s g h w e =
     ≡ true = every-both (item_passes small_event) item_ok item_fine (λ i x y. and-true x y) s.items w
     (and-true-right (is_text s.target_namespace) (every item_ok s.items) h) in
     let p = lower-some s g e in
-    let a : is_text g.namespace ≡ true = rw (← p.1) (and-true-left (is_text s.target_namespace) (every item_ok s.items) h) in
+    let a : is_graph_text g.namespace ≡ true = rw (← p.1) (text-in-graph s.target_namespace (and-true-left (is_text s.target_namespace) (every item_ok s.items) h)) in
     let b : every root_ok g.root_elements
     ≡ true = rw (← p.1) (every_map (λ (x : Element). item_fine (Item.element x)) root_ok root_of root_ok_lem (elements s.items) (elements-each item_fine s.items k)) in
     let c : every type_ok g.types ≡ true = rw (← p.1) (finished-ok s k) in

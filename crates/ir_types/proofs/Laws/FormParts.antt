@@ -6,13 +6,13 @@ use mathlib.Core.List.{List, [], ◌∷◌}
 use Prim.Native.Nat.{ℕ, ◌+◌, ◌*◌, ◌≤◌}
 use native.Mathlib.Omega.{arith}
 use lib.Dec.{eqb, leb}
-use lib.ListN.{length, take}
+use lib.ListN.{length}
 use borrow.Author.Tests.{eqb-true, leb-true, le-leb}
-use Rattle.text.specs.Text.{every, is_text, between}
+use Rattle.text.specs.Text.{every, is_graph_text, between}
 use Rattle.text.proofs.Laws.Tests.{two, three, six, and-true, and-true-left, and-true-right}
 use Rattle.text.proofs.Laws.Every.{every-weaken}
 use Rattle.sheet.specs.Rows.{Ten, Sheet}
-use Rattle.sheet.specs.Form.{is_flag, covers, covered, rows_used_of, names_used_of, tens_of, used_parts, zeros_behind}
+use Rattle.sheet.specs.Form.{is_flag, covers, covered, rows_used_of, names_used_of, tens_of, used_parts, zeros_behind, texts_pass}
 use Rattle.sheet.specs.Lengths.{fits}
 use Rattle.sheet.proofs.Laws.Unpacks.{few}
 use Rattle.ir_types.specs.Tags.{root_tag}
@@ -24,13 +24,13 @@ pub record Parts (x : Sheet) : Type 0 where
   pub rows : rows_form (graph_row0_in x) (tens_of x) ≡ true
   pub names : names_form (names_used_of x) (tens_of x) ≡ true
   pub zeros : zeros_behind x ≡ true
-  pub text : is_text (take (names_used_of x) x.names) ≡ true
+  pub text : texts_pass is_graph_text used_pairs x ≡ true
 
 pub parts : (x : Sheet) → graph_form x ≡ true → Parts x
 unfolding graph_form
 parts x h =
     let z = graph_row0_in x in
-    let w = six (used_parts x) (row0_form z) (rows_form z (tens_of x)) (names_form z.names_used (tens_of x)) (zeros_behind x) (is_text (take z.names_used x.names)) h in
+    let w = six (used_parts x) (row0_form z) (rows_form z (tens_of x)) (names_form z.names_used (tens_of x)) (zeros_behind x) (texts_pass is_graph_text used_pairs x) h in
     record { used = w.0; rows = w.2; names = w.3; zeros = w.4; text = w.5 }
 
 -- row 1 and the rows behind it

@@ -5,7 +5,7 @@ use mathlib.Core.Path.{◌≡◌, refl, ap}
 use mathlib.Core.Bool.{true, ◌&&◌}
 use mathlib.Core.List.{List, [], ◌∷◌, ◌++◌, map}
 use lib.ListN.{length}
-use Rattle.text.specs.Text.{every, is_text, between}
+use Rattle.text.specs.Text.{every, is_graph_text, between}
 use Rattle.sheet.specs.Rows.{Row, row, pack, names_of, sheet_of_rows}
 use Rattle.sheet.specs.Form.{tens_of, counted}
 use Rattle.sheet.specs.Lengths.{fits}
@@ -61,39 +61,39 @@ behind g = map root_row g.root_elements ++ types_rows g.types
 pub behind-ok : (g : TypeGraph) → graph_ok g ≡ true → every row_ok (behind g) ≡ true
 unfolding graph_ok
 behind-ok g h =
-    let a = is_text g.namespace in let b = every root_ok g.root_elements in let c = every type_ok g.types in
+    let a = is_graph_text g.namespace in let b = every root_ok g.root_elements in let c = every type_ok g.types in
     every-append-true row_ok (map root_row g.root_elements) (types_rows g.types)
     (every_map root_ok row_ok root_row root_ok_lem g.root_elements (and-true-right a b (and-true-left (a && b) c h)))
     (types-ok g.types (and-true-right (a && b) c h))
 
-namespace-text : (g : TypeGraph) → graph_ok g ≡ true → is_text g.namespace ≡ true
+namespace-text : (g : TypeGraph) → graph_ok g ≡ true → is_graph_text g.namespace ≡ true
 unfolding graph_ok
 namespace-text g h =
-    let a = is_text g.namespace in let b = every root_ok g.root_elements in let c = every type_ok g.types in
+    let a = is_graph_text g.namespace in let b = every root_ok g.root_elements in let c = every type_ok g.types in
     and-true-left a b (and-true-left (a && b) c h)
 
 -- what an allowed row keeps
 ok-uses : (q : Row) → row_ok q ≡ true → counted used_pairs q ≡ true
 unfolding row_ok
 ok-uses q h =
-    let u = counted used_pairs q in let f = row_form q in let s = row_small q in let t = every is_text q.texts in
+    let u = counted used_pairs q in let f = row_form q in let s = row_small q in let t = every is_graph_text q.texts in
     and-true-left u f (and-true-left (u && f) s (and-true-left (u && f && s) t h))
 
 ok-form : (q : Row) → row_ok q ≡ true → row_form q ≡ true
 unfolding row_ok
 ok-form q h =
-    let u = counted used_pairs q in let f = row_form q in let s = row_small q in let t = every is_text q.texts in
+    let u = counted used_pairs q in let f = row_form q in let s = row_small q in let t = every is_graph_text q.texts in
     and-true-right u f (and-true-left (u && f) s (and-true-left (u && f && s) t h))
 
 pub ok-small : (q : Row) → row_ok q ≡ true → row_small q ≡ true
 unfolding row_ok
 ok-small q h =
-    let u = counted used_pairs q in let f = row_form q in let s = row_small q in let t = every is_text q.texts in
+    let u = counted used_pairs q in let f = row_form q in let s = row_small q in let t = every is_graph_text q.texts in
     and-true-right (u && f) s (and-true-left (u && f && s) t h)
 
 ok-texts : (q : Row) → row_ok q ≡ true → text_row q ≡ true
 unfolding row_ok text_row
-ok-texts q h = and-true-right (counted used_pairs q && row_form q && row_small q) (every is_text q.texts) h
+ok-texts q h = and-true-right (counted used_pairs q && row_form q && row_small q) (every is_graph_text q.texts) h
 
 pub rows-use : (g : TypeGraph) → graph_ok g ≡ true → every (counted used_pairs) (rows_of g) ≡ true
 unfolding rows_of every counted used_pairs between row
@@ -102,7 +102,7 @@ rows-use g h = every-weaken row_ok (counted used_pairs) ok-uses (behind g) (behi
 rows-texts : (g : TypeGraph) → graph_ok g ≡ true → every text_row (rows_of g) ≡ true
 unfolding rows_of every row text_row
 rows-texts g h =
-    and-true {a = every is_text (g.namespace ∷ [])} (rw (namespace-text g h)) (every-weaken row_ok text_row ok-texts (behind g) (behind-ok g h))
+    and-true {a = every is_graph_text (g.namespace ∷ [])} (rw (namespace-text g h)) (every-weaken row_ok text_row ok-texts (behind g) (behind-ok g h))
 
 graph-allowed : (g : TypeGraph) → graph_ok g ≡ true → Allowed (rows_of g)
 unfolding rows_of row

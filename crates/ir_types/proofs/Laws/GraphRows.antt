@@ -8,7 +8,7 @@ use mathlib.Core.Option.{some, none}
 use native.Mathlib.Omega.{arith}
 use lib.Dec.{eqb, leb, ltb}
 use borrow.Author.Tests.{ltb-true, lt-ltb, leb-true, le-leb}
-use Rattle.text.specs.Text.{Text, every, is_text, between}
+use Rattle.text.specs.Text.{Text, every, is_graph_text, between}
 use Rattle.builtin.specs.Builtin.{RustType, rust_type_number}
 use Rattle.sheet.specs.Rows.{Row, row, bit}
 use Rattle.sheet.specs.Form.{is_flag, counted}
@@ -19,7 +19,7 @@ use Rattle.ir_types.specs.Ok.{ref_ok, cardinality_ok, field_ok, variant_ok, cons
 use Rattle.text.proofs.Laws.Tests.{two, three, and-true-left, and-true-right, and-true}
 use Rattle.text.proofs.Laws.Every.{every-append-true, every_map}
 
-row-ok : (r : Row) → counted used_pairs r ≡ true → row_form r ≡ true → row_small r ≡ true → every is_text r.texts ≡ true → row_ok r ≡ true
+row-ok : (r : Row) → counted used_pairs r ≡ true → row_form r ≡ true → row_small r ≡ true → every is_graph_text r.texts ≡ true → row_ok r ≡ true
 unfolding row_ok
 row-ok r u f s t = rw (u, f, s, t)
 
@@ -29,20 +29,20 @@ small n h = lt-ltb n (2 ^ 32) h
 
 -- ---- references
 
-texts-of-reference : (t : TypeRef) → ref_ok t ≡ true → every is_text (ref_text t) ≡ true
+texts-of-reference : (t : TypeRef) → ref_ok t ≡ true → every is_graph_text (ref_text t) ≡ true
 unfolding ref_ok ref_text every
 texts-of-reference (TypeRef.named n) h = rw h
 texts-of-reference (TypeRef.builtin r) h = refl
 
-three-texts : (x y : Text) (t : TypeRef) → is_text x ≡ true → is_text y ≡ true → ref_ok t ≡ true → every is_text (x ∷ y ∷ ref_text t) ≡ true
+three-texts : (x y : Text) (t : TypeRef) → is_graph_text x ≡ true → is_graph_text y ≡ true → ref_ok t ≡ true → every is_graph_text (x ∷ y ∷ ref_text t) ≡ true
 unfolding every
 three-texts x y t h k r = rw (h, k, texts-of-reference t r)
 
-two-texts : (x y : Text) → is_text x ≡ true → is_text y ≡ true → every is_text (x ∷ y ∷ []) ≡ true
+two-texts : (x y : Text) → is_graph_text x ≡ true → is_graph_text y ≡ true → every is_graph_text (x ∷ y ∷ []) ≡ true
 unfolding every
 two-texts x y h k = rw (h, k)
 
-one-text : (x : Text) → is_text x ≡ true → every is_text (x ∷ []) ≡ true
+one-text : (x : Text) → is_graph_text x ≡ true → every is_graph_text (x ∷ []) ≡ true
 unfolding every
 one-text x h = rw h
 
@@ -98,12 +98,12 @@ unfolding row_small row
 reference-row-small tag b c x y t h k = rw (h, reference-width t) k
 
 reference-row-ok : (tag b c : ℕ) (x y : Text) (t : TypeRef) → used_pairs tag (ref_a t) ≡ (if eqb (ref_a t) 0 then 3 else 2) → row_form (row tag (x ∷ y ∷ ref_text t) (ref_a t) b c) ≡ true
-    → is_small tag ≡ true → is_small b && is_small c ≡ true → is_text x && is_text y && ref_ok t ≡ true → row_ok (row tag (x ∷ y ∷ ref_text t) (ref_a t) b c) ≡ true
+    → is_small tag ≡ true → is_small b && is_small c ≡ true → is_graph_text x && is_graph_text y && ref_ok t ≡ true → row_ok (row tag (x ∷ y ∷ ref_text t) (ref_a t) b c) ≡ true
 unfolding row
 reference-row-ok tag b c x y t u f s w h =
-    let q : is_text x && is_text y ≡ true = and-true-left (is_text x && is_text y) (ref_ok t) h in
+    let q : is_graph_text x && is_graph_text y ≡ true = and-true-left (is_graph_text x && is_graph_text y) (ref_ok t) h in
     row-ok _ (reference-uses tag b c x y t u) f (reference-row-small tag b c x y t s w)
-    (three-texts x y t (and-true-left (is_text x) (is_text y) q) (and-true-right (is_text x) (is_text y) q) (and-true-right (is_text x && is_text y) (ref_ok t) h))
+    (three-texts x y t (and-true-left (is_graph_text x) (is_graph_text y) q) (and-true-right (is_graph_text x) (is_graph_text y) q) (and-true-right (is_graph_text x && is_graph_text y) (ref_ok t) h))
 
 field-form : (f : FieldDef) → cardinality_ok f.cardinality ≡ true → row_form (field_row f) ≡ true
 unfolding row_form field_row row form_a form_b between
@@ -112,7 +112,7 @@ field-form f h = rw (reference-small f.type_ref, cardinality-b f.cardinality) (c
 field-ok : (f : FieldDef) → field_ok f ≡ true → row_ok (field_row f) ≡ true
 unfolding field_ok field_row used_pairs between
 field-ok f h =
-    let t = is_text f.xml_name && is_text f.rust_name && ref_ok f.type_ref in
+    let t = is_graph_text f.xml_name && is_graph_text f.rust_name && ref_ok f.type_ref in
     let c : cardinality_ok f.cardinality ≡ true = and-true-right t (cardinality_ok f.cardinality) h in
     reference-row-ok 9 (cardinality_b f.cardinality) (cardinality_c f.cardinality) f.xml_name f.rust_name f.type_ref refl
     (field-form f c) (small 9 (omega arith)) (cardinality-width f.cardinality c) (and-true-left t (cardinality_ok f.cardinality) h)
@@ -158,18 +158,18 @@ constraint-ok (Constraint.fraction_digits n) h = rw (digits-small n h)
 
 code_ok_lem : (v : CodeValue) → code_ok v ≡ true → row_ok (code_row v) ≡ true
 unfolding code_ok code_row row row_ok counted used_pairs between row_form form_a form_b form_c row_small is_small
-code_ok_lem v h = two-texts v.xml_value v.rust_name (and-true-left (is_text v.xml_value) (is_text v.rust_name) h) (and-true-right (is_text v.xml_value) (is_text v.rust_name) h)
+code_ok_lem v h = two-texts v.xml_value v.rust_name (and-true-left (is_graph_text v.xml_value) (is_graph_text v.rust_name) h) (and-true-right (is_graph_text v.xml_value) (is_graph_text v.rust_name) h)
 
 pub root_ok_lem : (e : RootElement) → root_ok e ≡ true → row_ok (root_row e) ≡ true
 unfolding root_ok root_row row row_ok counted used_pairs between row_form form_a form_b form_c row_small is_small
 root_ok_lem e h =
-    let w = two (is_small e.event) (is_text e.xml_name && is_text e.type_name) h in
-    let t = two (is_text e.xml_name) (is_text e.type_name) w.1 in
+    let w = two (is_small e.event) (is_graph_text e.xml_name && is_graph_text e.type_name) h in
+    let t = two (is_graph_text e.xml_name) (is_graph_text e.type_name) w.1 in
     and-true w.0 (two-texts e.xml_name e.type_name t.0 t.1)
 
 -- ---- rows of types
 
-newtype-head : (event : ℕ) (n : Text) (i : RustType) → is_small event ≡ true → is_text n ≡ true → row_ok (row 5 (n ∷ []) (rust_type_number i) 0 event) ≡ true
+newtype-head : (event : ℕ) (n : Text) (i : RustType) → is_small event ≡ true → is_graph_text n ≡ true → row_ok (row 5 (n ∷ []) (rust_type_number i) 0 event) ≡ true
 unfolding row_ok row counted used_pairs between row_form form_a form_b form_c row_small is_small
 newtype-head event n RustType.string s h = and-true s (one-text n h)
 newtype-head event n RustType.bool s h = and-true s (one-text n h)
@@ -177,7 +177,7 @@ newtype-head event n RustType.decimal s h = and-true s (one-text n h)
 newtype-head event n RustType.date s h = and-true s (one-text n h)
 newtype-head event n RustType.date_time s h = and-true s (one-text n h)
 
-value-head : (event : ℕ) (n : Text) (v : TypeRef) → is_small event ≡ true → is_text n ≡ true → ref_ok v ≡ true → row_ok (row 7 (n ∷ ref_text v) (ref_a v) 0 event) ≡ true
+value-head : (event : ℕ) (n : Text) (v : TypeRef) → is_small event ≡ true → is_graph_text n ≡ true → ref_ok v ≡ true → row_ok (row 7 (n ∷ ref_text v) (ref_a v) 0 event) ≡ true
 unfolding row_ok row counted used_pairs between row_form form_a form_b form_c ref_a ref_text ref_ok row_small is_small
 value-head event n (TypeRef.named t) s h k = and-true s (two-texts n t h k)
 value-head event n (TypeRef.builtin RustType.string) s h k = and-true s (one-text n h)
@@ -188,7 +188,7 @@ value-head event n (TypeRef.builtin RustType.date_time) s h k = and-true s (one-
 
 -- a head of one text whose a is unused
 plain-head : (tag event : ℕ) (n : Text) → (let r = row tag (n ∷ []) 0 0 event in counted used_pairs r && row_form r ≡ true) → is_small tag ≡ true → is_small event ≡ true
-    → is_text n ≡ true → row_ok (row tag (n ∷ []) 0 0 event) ≡ true
+    → is_graph_text n ≡ true → row_ok (row tag (n ∷ []) 0 0 event) ≡ true
 unfolding row_ok row_small row
 plain-head tag event n h t s k = and-true (and-true h (rw (t, small 0 (omega arith), s))) (one-text n k)
 
@@ -199,25 +199,25 @@ unfolding every
 children-ok head p f g xs h k = and-true h (every_map p row_ok f g xs k)
 
 plain-children : {A : Type 0} (tag event : ℕ) (n : Text) (p : A → Bool) (f : A → Row) → ((x : A) → p x ≡ true → row_ok (f x) ≡ true) → (xs : List A)
-    → (let r = row tag (n ∷ []) 0 0 event in counted used_pairs r && row_form r ≡ true) → is_small tag ≡ true → is_small event && (is_text n && every p xs) ≡ true
+    → (let r = row tag (n ∷ []) 0 0 event in counted used_pairs r && row_form r ≡ true) → is_small tag ≡ true → is_small event && (is_graph_text n && every p xs) ≡ true
     → every row_ok (row tag (n ∷ []) 0 0 event ∷ map f xs) ≡ true
 plain-children tag event n p f g xs k t h =
-    let w = two (is_small event) (is_text n && every p xs) h in
-    let v = two (is_text n) (every p xs) w.1 in
+    let w = two (is_small event) (is_graph_text n && every p xs) h in
+    let v = two (is_graph_text n) (every p xs) w.1 in
     children-ok _ p f g xs (plain-head tag event n k t w.0 v.0) v.1
 
-newtype-rows : (event : ℕ) (n : Text) (i : RustType) (cs : List Constraint) → is_small event && (is_text n && every constraint_ok cs) ≡ true
+newtype-rows : (event : ℕ) (n : Text) (i : RustType) (cs : List Constraint) → is_small event && (is_graph_text n && every constraint_ok cs) ≡ true
     → every row_ok (row 5 (n ∷ []) (rust_type_number i) 0 event ∷ map constraint_row cs) ≡ true
 newtype-rows event n i cs h =
-    let w = two (is_small event) (is_text n && every constraint_ok cs) h in
-    let v = two (is_text n) (every constraint_ok cs) w.1 in
+    let w = two (is_small event) (is_graph_text n && every constraint_ok cs) h in
+    let v = two (is_graph_text n) (every constraint_ok cs) w.1 in
     children-ok _ constraint_ok constraint_row constraint-ok cs (newtype-head event n i w.0 v.0) v.1
 
-value-rows : (event : ℕ) (n : Text) (v : TypeRef) (xs : List AttrDef) → is_small event && (is_text n && ref_ok v && every attr_ok xs) ≡ true
+value-rows : (event : ℕ) (n : Text) (v : TypeRef) (xs : List AttrDef) → is_small event && (is_graph_text n && ref_ok v && every attr_ok xs) ≡ true
     → every row_ok (row 7 (n ∷ ref_text v) (ref_a v) 0 event ∷ map attr_row xs) ≡ true
 value-rows event n v xs h =
-    let w = two (is_small event) (is_text n && ref_ok v && every attr_ok xs) h in
-    let t = three (is_text n) (ref_ok v) (every attr_ok xs) w.1 in
+    let w = two (is_small event) (is_graph_text n && ref_ok v && every attr_ok xs) h in
+    let t = three (is_graph_text n) (ref_ok v) (every attr_ok xs) w.1 in
     children-ok _ attr_ok attr_row attr-ok xs (value-head event n v w.0 t.0 t.1) t.2
 
 pub type-ok : (d : TypeDef) → type_ok d ≡ true → every row_ok (type_rows d) ≡ true
@@ -228,11 +228,11 @@ type-ok (TypeDef.newtype event n i cs) h = newtype-rows event n i cs h
 type-ok (TypeDef.code_enum event n cs) h = plain-children 6 event n code_ok code_row code_ok_lem cs refl refl h
 type-ok (TypeDef.value_with_attr event n v xs) h = value-rows event n v xs h
 type-ok (TypeDef.opaque event n none) h =
-    let w = two (is_small event) (is_text n) h in
+    let w = two (is_small event) (is_graph_text n) h in
     and-true (and-true w.0 (one-text n w.1)) refl
 type-ok (TypeDef.opaque event n (some ns)) h =
-    let w = two (is_small event) (is_text n && is_text ns) h in
-    let t = two (is_text n) (is_text ns) w.1 in
+    let w = two (is_small event) (is_graph_text n && is_graph_text ns) h in
+    let t = two (is_graph_text n) (is_graph_text ns) w.1 in
     and-true (and-true w.0 (two-texts n ns t.0 t.1)) refl
 
 pub types-ok : (ds : List TypeDef) → every type_ok ds ≡ true → every row_ok (types_rows ds) ≡ true

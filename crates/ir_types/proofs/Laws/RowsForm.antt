@@ -1,32 +1,31 @@
 -- The form of a graph sheet speaks of its rows with their texts, and not of where the texts stand in the names: what is read from a sheet in the form are rows that
 -- are allowed, and the sheet of rows that are allowed, where it has room for them, is in the form. Assumes nothing.
 use Prim.Native.Nat.{ℕ, ◌+◌, ◌-◌, ◌*◌, ◌≤◌}
-use mathlib.Core.Path.{◌≡◌, refl, sym, ap, ◌∙◌}
+use mathlib.Core.Path.{◌≡◌, refl, ap, ◌∙◌}
 use mathlib.Core.Bool.{Bool, true}
 use mathlib.Core.List.{List, [], ◌∷◌, map}
 use native.Mathlib.Omega.{arith}
 use lib.Dec.{leb}
-use lib.ListN.{length, take, drop}
-use lib.Seq.{take_at}
+use lib.ListN.{length, take}
 use borrow.Author.Tests.{leb-true, le-leb, eq-eqb}
-use Rattle.text.specs.Text.{every, is_text, between, join}
+use Rattle.text.specs.Text.{every, is_graph_text, between, join}
 use Rattle.text.proofs.Laws.Tests.{two, and-true}
 use Rattle.text.proofs.Laws.Every.{every-head, every-tail, every_map}
 use Rattle.sheet.specs.Rows.{Ten, Row, Sheet, numbers, pack_row, pack, names_of, unpack_row, sheet_of_rows}
-use Rattle.sheet.specs.Form.{row0_of, tens_of, rows_used_of, names_used_of, used_parts, zeros_behind, covered, counted}
+use Rattle.sheet.specs.Form.{row0_of, tens_of, used_parts, zeros_behind, texts_pass, counted}
 use Rattle.sheet.specs.Lengths.{fits}
 use Rattle.sheet.proofs.Laws.Numbers.{take-filled}
-use Rattle.sheet.proofs.Laws.Packs.{covers-pack, covered-pack, is_text-names_of}
+use Rattle.sheet.proofs.Laws.Packs.{covers-pack, covered-pack}
 use Rattle.sheet.proofs.Laws.Unpacks.{few, counted-unpack}
-use Rattle.sheet.proofs.Laws.Sheets.{first-ten, tens-behind, numbers-used, length-rows, length-names, zeros-rows, zeros-names, used-names, rows-read, names-read, length-read}
+use Rattle.sheet.proofs.Laws.Sheets.{first-ten, tens-behind, numbers-used, length-rows, length-names, zeros-rows, zeros-names, used-names, rows-read}
 use Rattle.ir_types.specs.Row0.{GraphRow0, graph_row0_of, graph_row0_ten, graph_row0_in}
 use Rattle.ir_types.specs.Form.{used_pairs, is_type_tag, ten_form, in_order, count, tags_of, row0_form, rows_form, names_form, graph_form}
 use Rattle.ir_types.specs.Ok.{row_form}
 use Rattle.ir_types.proofs.Laws.GraphOrder.{tag_of, is_root, tags-packed}
-use Rattle.ir_types.proofs.Laws.FormParts.{Parts, parts, Behind, behind, few-behind, names-room, pairs-cover, names-end}
+use Rattle.ir_types.proofs.Laws.FormParts.{Parts, parts, Behind, behind, few-behind}
 
 unfoldable pub text_row : Row → Bool
-text_row r = every is_text r.texts
+text_row r = every is_graph_text r.texts
 
 -- row 1 and the rows behind it, as the form allows them
 pub record Allowed (rs : List Row) : Type 0 where
@@ -114,9 +113,9 @@ module _ (rs : List Row) (r n : ℕ) where
       unfolding names_form
       names-form = and-true (covers-pack used_pairs 0 rs w.uses) (eq-eqb _ _ (covered-pack used_pairs 0 rs w.uses ∙ omega arith))
 
-      names-text : is_text (take (length (names_of rs)) (rows_sheet rs r n).names) ≡ true
-      unfolding text_row
-      names-text = rw names-used (is_text-names_of rs ∙ w.texts)
+      names-text : texts_pass is_graph_text used_pairs (rows_sheet rs r n) ≡ true
+      unfolding texts_pass text_row
+      names-text = ap (every text_row) (rows-back w.uses) ∙ w.texts
 
       pub rows-form : graph_form (rows_sheet rs r n) ≡ true
       unfolding graph_form row0_form
@@ -139,16 +138,8 @@ module _ (x : Sheet) (p : Parts x) (b : Behind (tens_of x)) where
   few-pairs : every (few used_pairs) (tens_of x) ≡ true
   few-pairs = few-behind (tens_of x) b
 
-  pub names-taken : take (names_used_of x) x.names ≡ names_of (rows_read x)
-  unfolding tens_of
-  names-taken =
-      let u = rows_used_of x - 1 in
-      let long : length (names_of (rows_read x)) ≡ names_used_of x = length-read used_pairs x u few-pairs (pairs-cover x p) (rw (names-end x p) (names-room x p)) ∙ names-end x p in
-      ap (λ (l : List ℕ). take (names_used_of x) l) (sym (names-read used_pairs x u few-pairs (pairs-cover x p)))
-      ∙ take_at (names_of (rows_read x)) (drop (covered 0 (tens_of x)) x.names) (names_used_of x) long
-
   allowed-of : Allowed (rows_read x)
-  unfolding unpack_row text_row
+  unfolding unpack_row texts_pass text_row
   allowed-of =
       record {
         first = unpack_row used_pairs x.names b.first;
@@ -161,7 +152,7 @@ module _ (x : Sheet) (p : Parts x) (b : Behind (tens_of x)) where
         formed = every_map ten_form row_form (unpack_row used_pairs x.names) (row-formed x.names) b.body b.formed;
         ordered = rw (tags-read x.names b.body) b.ordered;
         uses = every_map (few used_pairs) (counted used_pairs) (unpack_row used_pairs x.names) (counted-unpack used_pairs x.names) (tens_of x) few-pairs;
-        texts = sym (is_text-names_of (rows_read x)) ∙ ap is_text (sym names-taken) ∙ p.text;
+        texts = p.text;
       }
 
 pub rows-allowed : (x : Sheet) → graph_form x ≡ true → Allowed (rows_read x)

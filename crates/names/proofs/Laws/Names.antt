@@ -10,9 +10,10 @@ use native.Mathlib.Omega.{arith}
 use lib.Dec.{eqb}
 use lib.ListN.{length}
 use borrow.Author.Tests.{eqb-false, ne_eqb, lt-leb, not-true}
-use Rattle.text.specs.Text.{Text, between, is_upper, is_lower, upper, lower, contains, in_front, split, join, first, every, is_text_byte, is_text}
-use Rattle.text.proofs.Laws.Tests.{and-true-left, and-true-right, if-cases, if-in, and-true, or-false-left, or-false-right}
-use Rattle.text.proofs.Laws.Texts.{between-low, between-high, between-above, lower-of-other, upper-text, lower-text}
+use Rattle.text.specs.Text.{Text, between, is_upper, is_lower, upper, lower, contains, in_front, split, join, first, every, is_text}
+use Rattle.text.proofs.Laws.Tests.{and-true-left, and-true-right, if-cases, if-in, and-true, two, or-false-left, or-false-right}
+use Rattle.text.proofs.Laws.Texts.{between-low, between-high, between-above, lower-of-other}
+use Rattle.text.proofs.Laws.Class.{texts-append, text-behind, text-cons, upper-text, lower-text}
 use Rattle.names.specs.Names.{capital, normalize_type_name, starts_word, snake_from, xml_to_snake_case, code_to_pascal_case}
 use Rattle.names.specs.Scans.{cased_byte, segments}
 use Rattle.names.proofs.Laws.Scans.{word-not-upper}
@@ -101,23 +102,22 @@ unfolding xml_to_snake_case
 snake-length s = snake_from-length 0 s
 
 -- a text's conversion is a text
-pub cased-text : (up lowers : Bool) (b : ℕ) → is_text_byte b ≡ true → is_text_byte (cased_byte up lowers b) ≡ true
+pub cased-text : (up lowers : Bool) (b : ℕ) → is_text (b ∷ []) ≡ true → is_text (cased_byte up lowers b ∷ []) ≡ true
 unfolding cased_byte
 cased-text true lowers b e = upper-text b e
 cased-text false true b e = lower-text b e
 cased-text false false b e = e
 
 pub segments-text : (c : ℕ) (lowers up : Bool) (s : Text) → is_text s ≡ true → is_text (segments c lowers up s) ≡ true
-unfolding segments is_text every
-segments-text c lowers up [] e = refl
+unfolding segments
+segments-text c lowers up [] e = e
 segments-text c lowers up (b ∷ s) e =
-    let h = and-true-left (is_text_byte b) (is_text s) e in
-    let k = and-true-right (is_text_byte b) (is_text s) e in
+    let (h, k) = two (is_text (b ∷ [])) (is_text s) (sym (text-cons b s) ∙ e) in
     if-cases
     (λ r. is_text r ≡ true)
     (eqb b c)
     (λ w. segments-text c lowers true s k)
-    (λ w. and-true (cased-text up lowers b h) (segments-text c lowers false s k))
+    (λ w. texts-append (cased_byte up lowers b ∷ []) (segments c lowers false s) (cased-text up lowers b h) (segments-text c lowers false s k))
 
 pub normalize-text : (s : Text) → is_text s ≡ true → is_text (normalize_type_name s) ≡ true
 normalize-text s e = rw segments-normalize at (segments-text (code "_") false (contains (code "_") s) s e)
@@ -126,11 +126,12 @@ pub pascal-text : (s : Text) → is_text s ≡ true → is_text (code_to_pascal_
 pascal-text s e = rw segments-pascal at (segments-text (code "-") true true s e)
 
 pub snake_from-text : (prev : ℕ) (s : Text) → is_text s ≡ true → is_text (snake_from prev s) ≡ true
-unfolding snake_from is_text every is_text_byte
-snake_from-text prev [] e = refl
+unfolding snake_from
+snake_from-text prev [] e = e
 snake_from-text prev (c ∷ s) e =
-    let rest = and-true (lower-text c (and-true-left (is_text_byte c) (is_text s) e)) (snake_from-text c s (and-true-right (is_text_byte c) (is_text s) e)) in
-    if-cases (λ r. is_text r ≡ true) (starts_word prev c (first s)) (λ w. rest) (λ w. rest)
+    let (h, k) = two (is_text (c ∷ [])) (is_text s) (sym (text-cons c s) ∙ e) in
+    let rest = texts-append (lower c ∷ []) (snake_from c s) (lower-text c h) (snake_from-text c s k) in
+    if-cases (λ r. is_text r ≡ true) (starts_word prev c (first s)) (λ w. text-behind (code "_") (lower c ∷ snake_from c s) refl ∙ rest) (λ w. rest)
 
 pub snake-text : (s : Text) → is_text s ≡ true → is_text (xml_to_snake_case s) ≡ true
 unfolding xml_to_snake_case

@@ -3,7 +3,7 @@
 use mathlib.Core.Logic.{⊎_elim}
 use native.Mathlib.Numerals.{add-one}
 use native.Mathlib.Omega.{arith}
-use Rattle.names.proofs.Laws.Writing.{writing_start, writing-length, writing-as, writing_more, writing-end, writing-full}
+use Rattle.names.proofs.Laws.Writing.{writing-length, writing-as, writing_more, writing-end, writing-full}
 use Rattle.names.proofs.Laws.Scans.{segments-passed, segments-kept, segments-end}
 use Rattle.names.proofs.put_segments.Goals as goal
 

@@ -14,21 +14,21 @@ judged-true s j e = rw e at j
 judged-false : (s : Text) {r : Bool} → Judged s r → r ≡ false → Derives reg_exp s → ⊥
 judged-false s j e = rw e at j
 
-pub returns-then-not-is_text : goal.returns-then-not-is_text
-returns-then-not-is_text c = high_byte (omega arith) (sym c.is_text.ensures ∙ c.if-not-is_text.true)
+pub returns-then-not-is_plain : goal.returns-then-not-is_plain
+returns-then-not-is_plain c = high_byte (omega arith) (sym c.is_plain.ensures ∙ c.if-not-is_plain.true)
 
 pub returns-then-is_aside : goal.returns-then-is_aside
-returns-then-is_aside c = left_aside (omega arith) (sym c.is_text.ensures ∙ c.if-not-is_text.false) (sym c.is_aside.ensures ∙ c.if-is_aside.true)
+returns-then-is_aside c = left_aside (omega arith) (sym c.is_plain.ensures ∙ c.if-not-is_plain.false) (sym c.is_aside.ensures ∙ c.if-is_aside.true)
 
 pub returns-then-is_expression : goal.returns-then-is_expression
 returns-then-is_expression c =
-    derived (omega arith) (sym c.is_text.ensures ∙ c.if-not-is_text.false)
+    derived (omega arith) (sym c.is_plain.ensures ∙ c.if-not-is_plain.false)
     (sym c.is_aside.ensures ∙ c.if-is_aside.false)
     (judged-true _ c.is_expression.ensures c.if-is_expression.true)
 
 pub returns-else-is_expression : goal.returns-else-is_expression
 returns-else-is_expression c =
-    underivable (omega arith) (sym c.is_text.ensures ∙ c.if-not-is_text.false)
+    underivable (omega arith) (sym c.is_plain.ensures ∙ c.if-not-is_plain.false)
     (sym c.is_aside.ensures ∙ c.if-is_aside.false)
     (judged-false _ c.is_expression.ensures c.if-is_expression.false)
 

@@ -1,7 +1,7 @@
 -- From rows to numbers and names, and back: rows whose texts are as many as their tag and a say come back from their numbers and names,
 -- and their pairs cover the names. Assumes nothing.
 use mathlib.Core.Path.{◌≡◌, refl, sym, ap, ◌∙◌}
-use mathlib.Core.Bool.{true, ◌&&◌}
+use mathlib.Core.Bool.{Bool, true, ◌&&◌}
 use mathlib.Core.List.{List, [], ◌∷◌, ◌++◌, map, append_assoc}
 use Prim.Native.Nat.{ℕ, ◌+◌, ◌≤◌}
 use native.Mathlib.Omega.{arith}
@@ -10,11 +10,12 @@ use lib.Dec.{eqb, leb}
 use lib.ListN.{length, take, drop, length-append}
 use lib.Seq.{drop_at, take_at, drop-drop}
 use borrow.Author.Tests.{eqb-true, leb-true, eq-eqb}
-use Rattle.text.specs.Text.{Text, every, is_text, is_text_byte, join}
+use Rattle.text.specs.Text.{Text, every, is_plain, is_text, join}
 use Rattle.sheet.specs.Rows.{Row, Pairs, pairs, pack_row, pack, names_of, text_at, unpack_row}
 use Rattle.sheet.specs.Form.{counted, pair_form, row_covers, end_of, covers, covered}
 use Rattle.text.proofs.Laws.Tests.{and-true-left, and-true-right, and-true}
-use Rattle.text.proofs.Laws.Every.{every-head, every-tail, every_append, is_text-join}
+use Rattle.text.proofs.Laws.Every.{every-head, every-tail}
+use Rattle.text.proofs.Laws.Class.{plain-append, each-plain, text-is-plain}
 
 pub counted-used : (used : ℕ → ℕ → ℕ) (r : Row) → counted used r ≡ true → used r.tag r.a ≡ length r.texts
 unfolding counted
@@ -117,10 +118,15 @@ unfolding pack
 length-pack k [] = refl
 length-pack k (r ∷ rs) = rw (length-pack (k + length (join r.texts)) rs)
 
+-- the texts of rows are plain where their names are plain as a whole; `ok` is a test of texts that asks the same
+pub plain-rows : (ok : Text → Bool) → ((s : Text) → ok s ≡ is_plain s) → (rs : List Row) → every (λ (r : Row). every ok r.texts) rs ≡ is_plain (names_of rs)
+unfolding names_of every join
+plain-rows ok same [] = each-plain ok same []
+plain-rows ok same (r ∷ rs) = rw (each-plain ok same r.texts, plain-rows ok same rs) (sym (plain-append (join r.texts) (names_of rs)))
+
+-- while each text is plain
 pub is_text-names_of : (rs : List Row) → is_text (names_of rs) ≡ every (λ (r : Row). every is_text r.texts) rs
-unfolding names_of every is_text
-is_text-names_of [] = refl
-is_text-names_of (r ∷ rs) = every_append is_text_byte (join r.texts) (names_of rs) ∙ rw (is_text-join r.texts, is_text-names_of rs)
+is_text-names_of rs = text-is-plain (names_of rs) ∙ sym (plain-rows is_text text-is-plain rs)
 
 -- names of two lists of rows, one behind the other
 pub names_of-append : (rs ts : List Row) → names_of (rs ++ ts) ≡ names_of rs ++ names_of ts

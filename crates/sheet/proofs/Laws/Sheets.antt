@@ -1,15 +1,16 @@
 -- The two buffers of a sheet: what stands in the buffers made of rows, and that a sheet is made of the rows read from it. Assumes nothing.
 use mathlib.Core.Path.{◌≡◌, refl, sym, ap, ◌∙◌}
-use mathlib.Core.Bool.{true}
+use mathlib.Core.Bool.{Bool, true}
 use mathlib.Core.List.{List, ◌∷◌, ◌++◌, map}
 use Prim.Native.Nat.{ℕ, suc, ◌+◌, ◌-◌, ◌*◌, ◌≤◌}
 use native.Mathlib.Omega.{arith}
+use lib.Seq.{take_at}
 use lib.ListN.{length, take, drop, replicate, length-append, length-drop}
-use Rattle.text.specs.Text.{every}
+use Rattle.text.specs.Text.{Text, every, is_plain}
 use Rattle.sheet.specs.Rows.{Ten, Row, Sheet, ten, tens, numbers, pack, names_of, unpack_row, filled, all_zero, sheet_of_rows}
-use Rattle.sheet.specs.Form.{covers, covered, counted}
+use Rattle.sheet.specs.Form.{covers, covered, counted, rows_used_of, names_used_of, tens_of, texts_pass}
 use Rattle.sheet.proofs.Laws.Numbers.{tens-numbers, length-numbers, numbers-tens, length-filled, take-filled, zeros-filled, filled-back}
-use Rattle.sheet.proofs.Laws.Packs.{rows_back, length-pack}
+use Rattle.sheet.proofs.Laws.Packs.{rows_back, length-pack, plain-rows}
 use Rattle.sheet.proofs.Laws.Unpacks.{few, rows-again, names-again}
 
 module _ (z : Ten) (rs : List Row) (r n : ℕ) where
@@ -57,6 +58,11 @@ module _ (used : ℕ → ℕ → ℕ) (x : Sheet) (u : ℕ) (few-pairs : every (
       → length (names_of (map (unpack_row used x.names) (tens u (drop 10 x.rows)))) ≡ covered 0 (tens u (drop 10 x.rows))
   length-read h = omega (arith, simp (length-append, length-drop) at (ap length names-read))
 
+  pub names-taken : covered 0 (tens u (drop 10 x.rows)) ≤ length x.names → take (covered 0 (tens u (drop 10 x.rows))) x.names ≡ names_of (map (unpack_row used x.names) (tens u (drop 10 x.rows)))
+  names-taken h =
+      let k = covered 0 (tens u (drop 10 x.rows)) in
+      ap (take k) (sym names-read) ∙ take_at (names_of (map (unpack_row used x.names) (tens u (drop 10 x.rows)))) (drop k x.names) k (length-read h)
+
   pub rows_whole : 10 * (1 + u) ≤ length x.rows → all_zero (drop (10 * (1 + u)) x.rows) ≡ true → filled (length x.rows) (numbers (ten x.rows ∷ tens u (drop 10 x.rows))) ≡ x.rows
   unfolding tens
   rows_whole fit zero-rows =
@@ -72,3 +78,11 @@ module _ (used : ℕ → ℕ → ℕ) (x : Sheet) (u : ℕ) (few-pairs : every (
       let rows = ap (λ (l : List Ten). filled (length x.rows) (numbers (ten x.rows ∷ l))) (rows-again used x.names 0 ts few-pairs cover fits) ∙ rows_whole fit zero-rows in
       let names = filled-back x.names (names_of (map (unpack_row used x.names) ts)) (drop (covered 0 ts) x.names) names-read zero-names in
       λ i. record { rows = rows i; names = names i }
+
+-- where the pairs of a sheet cover its names, each text is plain where the used names are plain as a whole; `ok` is a test of texts that asks the same
+pub texts-plain : (ok : Text → Bool) → ((s : Text) → ok s ≡ is_plain s) → (used : ℕ → ℕ → ℕ) (x : Sheet) → every (few used) (tens_of x) ≡ true → covers used 0 (tens_of x) ≡ true
+    → covered 0 (tens_of x) ≡ names_used_of x → names_used_of x ≤ length x.names → texts_pass ok used x ≡ is_plain (take (names_used_of x) x.names)
+unfolding texts_pass tens_of
+texts-plain ok same used x f c e h =
+    let k = rows_used_of x - 1 in
+    plain-rows ok same (map (unpack_row used x.names) (tens k (drop 10 x.rows))) ∙ ap is_plain (sym (rw (← e) (names-taken used x k f c (rw e h))))

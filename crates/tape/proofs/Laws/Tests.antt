@@ -3,17 +3,16 @@
 use Rattle.std.specs.List.{list_all, range_with_len}
 use mathlib.Core.Path.{◌≡◌, refl, ap}
 use mathlib.Core.Bool.{Bool, true, false, ◌&&◌}
-use mathlib.Core.List.{List, [], ◌∷◌}
+use mathlib.Core.List.{List}
 use Prim.Native.Nat.{ℕ, zero, suc, ◌+◌, ◌-◌, ◌*◌, ◌≤◌, ◌<◌}
 use native.Mathlib.Nat.{add-zero, not-suc-le-zero}
 use native.Mathlib.Omega.{arith}
 use lib.Dec.{leb}
 use lib.ListN.{length, get_or, drop}
 use borrow.Author.Tests.{leb-true, le-leb, lt-leb}
-use Rattle.text.specs.Text.{Text, every, is_text_byte, is_text}
-use Rattle.text.proofs.Laws.Tests.{and-true-left, and-true-right, and-true}
-use Rattle.text.proofs.Laws.Every.{every_take, every_drop}
-use Rattle.xsd_parser.specs.Tape.{Pair, pairs_of, pair_text, all_inside, all_ascii}
+use Rattle.text.specs.Text.{Text, every, is_text}
+use Rattle.text.proofs.Laws.Tests.{and-true-left, and-true-right}
+use Rattle.xsd_parser.specs.Tape.{pairs_of, pair_text, all_inside, all_ascii}
 use Rattle.tape.specs.Pairs.{pair_at, PairsInside}
 use Rattle.tape.proofs.Laws.Pairs.{pairs-step, pairs-left}
 
@@ -47,17 +46,6 @@ ascii-all text marks from (suc n) i h =
     let next : from + 2 * i + 2 ≡ from + 2 * (i + 1) = omega arith in
     rw (pairs-step marks (from + 2 * i) n (omega arith), next)
     (ap (λ (b : Bool). is_text (pair_text text (pair_at marks (from + 2 * i))) && b) (ascii-all text marks from n (i + 1) (omega arith)))
-
--- a part of a text is a text
-pair-ascii : (text : Text) (p : Pair) → is_text text ≡ true → is_text (pair_text text p) ≡ true
-unfolding is_text pair_text
-pair-ascii text p e = every_take is_text_byte p.size (drop p.offset text) (every_drop is_text_byte p.offset text e)
-
--- so 5 is refused for no pair of a text that was judged as a whole
-pub ascii-whole : (text : Text) → is_text text ≡ true → (ps : List Pair) → all_ascii text ps ≡ true
-unfolding all_ascii every
-ascii-whole text e [] = refl
-ascii-whole text e (p ∷ ps) = and-true (pair-ascii text p e) (ascii-whole text e ps)
 
 -- what pairs that were judged inside say one by one
 inside-head : (limit end : ℕ) (marks : List ℕ) (from n : ℕ) → from + 2 ≤ length marks → all_inside limit end (pairs_of (suc n) (drop from marks)) ≡ true

@@ -3,12 +3,13 @@ use Rattle.text.proofs.Laws.Table.{cut_inside}
 use Rattle.xsd_parser.specs.Words.{found}
 use Rattle.xsd_parser.specs.Event.{or_empty}
 use Rattle.xsd_parser.specs.Tape.{pair_count}
+use Rattle.xsd_parser.proofs.Laws.EventTexts.{ascii-whole}
 use Rattle.tape.specs.Pairs.{pair_at}
 use Rattle.tape.specs.Marks.{event_marks}
 use Rattle.tape.specs.Lookup.{value_of, value_at, value_under, kept_first}
 use Rattle.tape.proofs.Laws.Pairs.{pair-text, pair-past}
 use Rattle.tape.proofs.Laws.Words.{key-place}
-use Rattle.tape.proofs.Laws.Tests.{ascii-whole, inside-early, inside_past, inside_on, inside-end}
+use Rattle.tape.proofs.Laws.Tests.{inside-early, inside_past, inside_on, inside-end}
 use Rattle.tape.proofs.Laws.Form.{form-many, form-close, form-tag, form-none, kind-least, kind-most, kind-tag}
 
 unfoldable pub opened : Unit {0}

@@ -1,4 +1,4 @@
--- Laws of `every`, of texts put together and of ranges (specs/Text.antt). Assumes nothing.
+-- Laws of `every` and of ranges (specs/Text.antt). Assumes nothing.
 use mathlib.Core.Path.{◌≡◌, refl, sym, ap, ◌∙◌}
 use mathlib.Core.Logic.{◌⊎◌, inl, inr, ⊎_elim}
 use mathlib.Core.Bool.{Bool, true, false, ◌&&◌, and_assoc}
@@ -8,7 +8,7 @@ use native.Mathlib.Omega.{arith}
 use lib.Dec.{eqb, leb}
 use lib.ListN.{length, get_or, take, drop, take-append-drop}
 use borrow.Author.Tests.{le-leb, eqb-true, eqb-false}
-use Rattle.text.specs.Text.{Text, every, is_text, is_text_byte, between, join}
+use Rattle.text.specs.Text.{every, between}
 use Rattle.text.proofs.Laws.Tests.{and-true-left, and-true-right, and-true, test-cases}
 use Rattle.text.proofs.Laws.Texts.{between-low, between-high}
 
@@ -72,11 +72,6 @@ unfolding every
 every-both p q r step [] e f = refl
 every-both p q r step (x ∷ xs) e f =
     and-true (step x (every-head p x xs e) (every-head q x xs f)) (every-both p q r step xs (every-tail p x xs e) (every-tail q x xs f))
-
-pub is_text-join : (ts : List Text) → is_text (join ts) ≡ every is_text ts
-unfolding is_text every join
-is_text-join [] = refl
-is_text-join (t ∷ ts) = every_append is_text_byte t (join ts) ∙ rw (is_text-join ts)
 
 -- a number of a range is its first or one of the rest
 between_split : (low high b : ℕ) → between low high b ≡ true → (b ≡ low) ⊎ (between (suc low) high b ≡ true)

@@ -1,5 +1,5 @@
 -- What the library's words say of texts in the words of specs/Text.antt: `==` of slices is `same`, `contains` of a slice is `contains`, `all` is `every`,
--- `to_ascii_lowercase` is `lower`, and the bits of all bytes together decide `is_text`. Assumes nothing.
+-- `to_ascii_lowercase` is `lower`, and the bits of all bytes together decide `is_plain`. Assumes nothing.
 use Rattle.std.proofs.Common.{◌≡◌, ◌≢◌, ℕ, zero, suc, ◌+◌, ◌<◌, ◌≤◌, Bool, true, false, ◌&&◌, ◌||◌, List, [], ◌∷◌, length, get_or, take, drop, nat_eq, nat_lt, bit_or, refl, sym, ap, ◌∙◌, arith, add-one, length-drop, take-append-drop}
 use Rattle.std.specs.Char.{to_ascii_lowercase}
 use Rattle.std.specs.List.{list_all, list_any, fold}
@@ -10,7 +10,7 @@ use Rattle.std.proofs.lemmas.List.Recursion.{and_from_places, or_from_places}
 use lib.Seq.{take-suc}
 use mathlib.Core.Bool.{and_assoc, and-true}
 use borrow.Author.Tests.{ltb-true, ltb-false, lt-leb, le-leb}
-use Rattle.text.specs.Text.{Text, between, lower, every, is_text, is_text_byte, contains, same, colon, local_name}
+use Rattle.text.specs.Text.{Text, between, lower, every, is_plain, is_plain_byte, contains, same, colon, local_name}
 use Rattle.text.specs.Trim.{is_white_space, trim_start, trim_end}
 use Rattle.text.proofs.Laws.Bits.{or-small}
 use Rattle.text.proofs.Laws.Every.{every-head, every-tail}
@@ -50,10 +50,10 @@ lower_is b =
     (λ u. let h = ltb-false b 91 u in rw (t, u, le-leb 65 b (ltb-false b 65 t), lt-leb b 90 (omega arith))))
 
 -- the bits of all bytes, put to those of a first number
-pub text_fold : (a : ℕ) (s : Text) → nat_lt (fold bit_or a s) 128 ≡ nat_lt a 128 && is_text s
-unfolding is_text every is_text_byte
-text_fold a [] = sym (and-true _)
-text_fold a (b ∷ s) = text_fold (bit_or a b) s ∙ ap (λ (r : Bool). r && is_text s) (or-small a b) ∙ and_assoc (nat_lt a 128) (nat_lt b 128) (is_text s)
+pub plain_fold : (a : ℕ) (s : Text) → nat_lt (fold bit_or a s) 128 ≡ nat_lt a 128 && is_plain s
+unfolding is_plain every is_plain_byte
+plain_fold a [] = sym (and-true _)
+plain_fold a (b ∷ s) = plain_fold (bit_or a b) s ∙ ap (λ (r : Bool). r && is_plain s) (or-small a b) ∙ and_assoc (nat_lt a 128) (nat_lt b 128) (is_plain s)
 
 -- a byte that stands at no place from i on
 pub contains-none : (c : ℕ) (s : Text) (i : ℕ) → ((k : ℕ) → i ≤ k → k < length s → get_or s k 0 ≢ c) → contains c (drop i s) ≡ false

@@ -71,6 +71,15 @@ eleven a b c d e f g h i j k w =
     let u = six a b c d e f v.0 in
     (u.0, u.1, u.2, u.3, u.4, u.5, v.1, v.2, v.3, v.4, v.5)
 
+-- the last of six tests, where the first, the third and the fourth hold
+pub sixth-under : (a b c d e : Bool) {p q : Bool} → (a ≡ true → c ≡ true → d ≡ true → p ≡ q) → a && b && c && d && e && p ≡ a && b && c && d && e && q
+sixth-under false b c d e h = refl
+sixth-under true false c d e h = refl
+sixth-under true true false d e h = refl
+sixth-under true true true false e h = refl
+sixth-under true true true true false h = refl
+sixth-under true true true true true h = h refl refl refl
+
 pub or_left : {a : Bool} (b : Bool) → a ≡ true → a || b ≡ true
 or_left b p = rw p
 

@@ -10,7 +10,7 @@ use lib.ListN.{length, get_or, take, drop, drop_of_length-le}
 use lib.Seq.{drop-cons, drop-nil, take-nil}
 use borrow.Author.Tests.{leb-true, lt-leb, le-leb, eqb-true, eq-eqb, ne_eqb, ltb-true, lt-ltb}
 use Rattle.text.proofs.Laws.Tests.{and-true-left, and-true-right, not-true-false, if-cases}
-use Rattle.text.specs.Text.{Text, between, is_upper, is_lower, upper, lower, is_text_byte, first, same, after_last}
+use Rattle.text.specs.Text.{Text, between, is_upper, is_lower, upper, lower, is_plain_byte, first, same, after_last}
 
 pub between-low : (low high b : ℕ) → between low high b ≡ true → low ≤ b
 unfolding between
@@ -91,15 +91,15 @@ pub same-cons-differ : (b c : ℕ) (s t : Text) → (b ≡ c → ⊥) → same (
 unfolding same
 same-cons-differ b c s t h = rw (ne_eqb b c h)
 
-pub upper-text : (b : ℕ) → is_text_byte b ≡ true → is_text_byte (upper b) ≡ true
-unfolding upper is_text_byte
-upper-text b e =
+pub upper-plain : (b : ℕ) → is_plain_byte b ≡ true → is_plain_byte (upper b) ≡ true
+unfolding upper is_plain_byte
+upper-plain b e =
     let h : b < 128 = ltb-true b 128 e in
-    if-cases (λ r. is_text_byte r ≡ true) (is_lower b) (λ l. lt-ltb (b - 32) 128 (omega arith)) (λ l. e)
+    if-cases (λ r. is_plain_byte r ≡ true) (is_lower b) (λ l. lt-ltb (b - 32) 128 (omega arith)) (λ l. e)
 
-pub lower-text : (b : ℕ) → is_text_byte b ≡ true → is_text_byte (lower b) ≡ true
-unfolding lower is_text_byte
-lower-text b e = if-cases (λ r. is_text_byte r ≡ true) (is_upper b) (λ u. lt-ltb (b + 32) 128 (omega (arith, between-high 65 90 b u))) (λ u. e)
+pub lower-plain : (b : ℕ) → is_plain_byte b ≡ true → is_plain_byte (lower b) ≡ true
+unfolding lower is_plain_byte
+lower-plain b e = if-cases (λ r. is_plain_byte r ≡ true) (is_upper b) (λ u. lt-ltb (b + 32) 128 (omega (arith, between-high 65 90 b u))) (λ u. e)
 
 -- a part past the end
 pub part-past : (s : Text) (offset size : ℕ) → length s ≤ offset → take size (drop offset s) ≡ []

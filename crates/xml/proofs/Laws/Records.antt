@@ -1,7 +1,7 @@
 -- The tape of a well-formed text is read as its events: its pairs lie inside the text and rise, all bytes are below 128, and each record has its numbers.
 -- Assumes nothing.
 use Prim.Native.Nat.{ℕ, zero, suc, ◌+◌, ◌*◌, ◌≤◌}
-use mathlib.Core.Path.{◌≡◌, refl, ap, ◌∙◌}
+use mathlib.Core.Path.{◌≡◌, refl, sym, ap, ◌∙◌}
 use mathlib.Core.List.{List, [], ◌∷◌, ◌++◌}
 use mathlib.Core.Bool.{true}
 use native.Mathlib.Omega.{arith}
@@ -9,10 +9,11 @@ use lib.Dec.{leb}
 use lib.ListN.{length, drop, length-append}
 use lib.Seq.{drop_at}
 use borrow.Author.Tests.{le-leb, ne_eqb}
-use Rattle.text.specs.Text.{Text, every, is_text, is_text_byte, between}
+use Rattle.text.specs.Text.{Text, every, is_text, between}
 use Rattle.text.proofs.Laws.Tests.{and-true, two}
-use Rattle.text.proofs.Laws.Every.{every_take, every_drop}
+use Rattle.text.proofs.Laws.Class.{text-is-plain}
 use Rattle.xsd_parser.specs.Tape.{Pair, pairs_of, pair_text, pair_count, form_test, all_inside, all_ascii, tag_record, record1, next, event, Judged, records_from, records}
+use Rattle.xsd_parser.proofs.Laws.EventTexts.{ascii-whole}
 use Rattle.xsd_parser.proofs.Laws.Records.{records-none, records-next}
 use Rattle.xml.specs.Tape.{AttributePairs, TapeEvent, attribute_marks, event_marks, tape_marks}
 use Rattle.xml.specs.Document.{well_formed, document}
@@ -64,9 +65,7 @@ inside-tag text name xs h p =
 
 -- 5: the bytes
 pub all_ascii_lem : (text : Text) (ps : List Pair) → is_text text ≡ true → all_ascii text ps ≡ true
-unfolding all_ascii every is_text pair_text
-all_ascii_lem text [] t = refl
-all_ascii_lem text (p ∷ ps) t = and-true (every_take is_text_byte p.size (drop p.offset text) (every_drop is_text_byte p.offset text t)) (all_ascii_lem text ps t)
+all_ascii_lem text ps t = ascii-whole text (sym (text-is-plain text) ∙ t) ps
 
 -- a record
 pub record-tag : (text : Text) (kind : ℕ) (name : Pair) (xs : List AttributePairs) (rest : List ℕ) → is_text text ≡ true → leb (length xs) 32 ≡ true → EventAt text (TapeEvent.tag kind name xs)

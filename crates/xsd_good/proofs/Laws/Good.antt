@@ -8,13 +8,14 @@ use native.Mathlib.Omega.{arith}
 use lib.Dec.{eqb}
 use lib.ListN.{length, take, drop}
 use Rattle.std.specs.Prelude.{None, Some}
-use Rattle.text.specs.Text.{is_text, between}
+use Rattle.text.specs.Text.{is_plain, between}
 use Rattle.text.proofs.Laws.Tests.{not-true-false}
 use Rattle.sheet.specs.Rows.{Ten, ten, tens, all_zero}
 use Rattle.sheet.specs.Calls.{sheet}
 use Rattle.sheet.specs.Form.{row0_of, tens_of, used_parts, zeros_behind}
 use Rattle.xsd_types.specs.Row0.{Row0, row0_from}
-use Rattle.xsd_types.specs.Good.{row0_form, rows_form, names_form, names_test, limits, root_test, nesting_test, context_test, extension_test, head_of, events_test, bare_good}
+use Rattle.xsd_types.specs.Good.{row0_form, rows_form, names_form, limits, root_test, nesting_test, context_test, extension_test, head_of, events_test, bare_good}
+use Rattle.xsd_types.proofs.Laws.Whole.{good-whole}
 use Rattle.rows.specs.declared.scan.Scan.{Scan}
 use Rattle.rows.specs.Lengths.{parts_fit}
 use Rattle.rows.specs.Scan.{scanned_sheet}
@@ -29,7 +30,7 @@ abbrev pub zeros : List ℕ → List ℕ → Row0 → Bool
 zeros rows names z = all_zero (drop (10 * z.rows_used) rows) && all_zero (drop z.names_used names)
 
 abbrev pub texts : List ℕ → Row0 → Bool
-texts names z = is_text (take z.names_used names)
+texts names z = is_plain (take z.names_used names)
 
 -- all that is asked behind the pass over the rows, of the last head that the pass found
 abbrev pub behind : List ℕ → List ℕ → Row0 → ℕ → Bool
@@ -61,8 +62,8 @@ module _ (rows names : List ℕ) where
   good-inside : parts_fit (ten rows).at0 (ten rows).len0 (length rows) (length names) ≡ true
       → row0_form (row0_from (ten rows)) && (rows_form (tens_of (sheet rows names))
       && (names_form (ten rows).len0 (tens_of (sheet rows names)) && behind rows names (row0_from (ten rows)) (head_of (tens_of (sheet rows names))))) ≡ bare_good (sheet rows names)
-  unfolding bare_good used_parts row0_of parts_fit zeros_behind names_test tens_of
-  good-inside h = rw h (simp and_assoc)
+  unfolding used_parts row0_of parts_fit zeros_behind tens_of
+  good-inside h = rw (good-whole (sheet rows names), h) (simp and_assoc)
 
   good-scanned : parts_fit (ten rows).at0 (ten rows).len0 (length rows) (length names) ≡ true
       → row0_form (row0_from (ten rows)) && ends (ten rows).len0 (behind rows names (row0_from (ten rows))) (scanned_sheet schema_tests (ten rows).len0 (tens_of (sheet rows names)))

@@ -19,6 +19,7 @@ use Rattle.number.proofs.Laws.Numbers.{number_bound}
 use Rattle.xsd_parser.proofs.Laws.SeenTexts.{SeenText, or-empty-text}
 use Rattle.xsd_parser.proofs.Laws.Outcomes.{Gives, value, Any, Kept, gives-if, gives-and_then, gives-parsed}
 use Rattle.text.proofs.Laws.Tests.{and-true, two, if-keeps}
+use Rattle.text.proofs.Laws.Class.{empty-text}
 use Rattle.text.proofs.Laws.Every.{every-one-more}
 
 -- a number read is within its width
@@ -93,11 +94,11 @@ extension-kept t (ComplexContentBuilder.simple_content base xs flag) e h =
 extension-kept t (ComplexContentBuilder.any n) e h = h
 
 pub content_started-kept : (t : Seen) (c : ComplexContentBuilder) → content_ok c ≡ true → content_ok (content_started t c) ≡ true
-unfolding content_started content_ok every is_text
+unfolding content_started content_ok every
 content_started-kept t c h =
     if-keeps content_ok (tag_is t Word.Sequence) (λ a. refl) λ a.
     if-keeps content_ok (tag_is t Word.Choice) (λ b. refl) λ b.
-    if-keeps content_ok (tag_is t Word.SimpleContent) (λ d. refl) λ d. h
+    if-keeps content_ok (tag_is t Word.SimpleContent) (λ d. rw empty-text) λ d. h
 
 pub content_at_two-kept : (t : Seen) (c : ComplexContentBuilder) → SeenText t → content_ok c ≡ true → Kept content_ok (content_at_two t c)
 unfolding content_at_two

@@ -5,13 +5,20 @@ use mathlib.Core.List.{List, [], ◌∷◌}
 use Prim.Native.Nat.{ℕ, zero, suc, ◌*◌}
 use lib.Dec.{eqb}
 use lib.ListN.{length, drop}
-use Rattle.text.specs.Text.{Text, every, is_text}
+use Rattle.text.specs.Text.{Text, every, is_plain, is_text}
 use Rattle.xsd_parser.specs.Event.{Event}
 use Rattle.xsd_parser.specs.EventText.{attr_ok, tag_ok, event_ok, judged_ok}
 use Rattle.xsd_parser.specs.Tape.{Pair, pair_text, all_inside, all_ascii, attrs_of, tag_of, Recorded, finished, bad, next, event_of, form_test, pair_count, pairs_of}
 use Rattle.xsd_parser.specs.Tape.{tag_record, record1, records_from, records}
 use Rattle.xsd_parser.proofs.Laws.Records.{record-cases, records-finished, records-bad, records-next}
 use Rattle.text.proofs.Laws.Tests.{and-true, two, if-keeps}
+use Rattle.text.proofs.Laws.Class.{empty-text, plain-part-text}
+
+-- 5 is refused for no pair of a plain text
+pub ascii-whole : (text : Text) → is_plain text ≡ true → (ps : List Pair) → all_ascii text ps ≡ true
+unfolding all_ascii every pair_text
+ascii-whole text e [] = refl
+ascii-whole text e (p ∷ ps) = and-true (plain-part-text p.offset p.size text e) (ascii-whole text e ps)
 
 -- the texts under pairs that are judged
 pub attrs-text : (text : Text) (ps : List Pair) → all_ascii text ps ≡ true → every attr_ok (attrs_of text ps) ≡ true
@@ -24,8 +31,8 @@ attrs-text text (k ∷ v ∷ ps) e =
     and-true (and-true p.0 q.0) (attrs-text text ps q.1)
 
 pub tag-text : (text : Text) (ps : List Pair) → all_ascii text ps ≡ true → tag_ok (tag_of text ps) ≡ true
-unfolding all_ascii tag_of tag_ok every is_text
-tag-text text [] e = refl
+unfolding all_ascii tag_of tag_ok every
+tag-text text [] e = rw empty-text
 tag-text text (n ∷ ps) e =
     let p = two (is_text (pair_text text n)) (all_ascii text ps) e in
     and-true p.0 (attrs-text text ps p.1)

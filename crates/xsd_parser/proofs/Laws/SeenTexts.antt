@@ -11,6 +11,7 @@ use Rattle.xsd_parser.specs.Event.{Attr, Tag, lookup, attr_value, or_empty}
 use Rattle.xsd_parser.specs.Seen.{Seen, seen}
 use Rattle.xsd_parser.specs.EventText.{attr_ok, tag_ok}
 use Rattle.text.proofs.Laws.Tests.{two, if-keeps}
+use Rattle.text.proofs.Laws.Class.{empty-text}
 
 pub lookup-text : (xs : List Attr) (word : String) → every attr_ok xs ≡ true → namespace_ok (lookup xs word) ≡ true
 unfolding lookup every attr_ok namespace_ok
@@ -26,8 +27,8 @@ unfolding attr_value tag_ok
 value-text t word e = lookup-text t.attributes word (two (is_text t.name) (every attr_ok t.attributes) e).1
 
 pub or-empty-text : (o : Option Text) → namespace_ok o ≡ true → is_text (or_empty o) ≡ true
-unfolding namespace_ok or_empty is_text every
-or-empty-text none e = refl
+unfolding namespace_ok or_empty
+or-empty-text none e = empty-text
 or-empty-text (some v) e = e
 
 pub record SeenText (t : Seen) : Type 0 where

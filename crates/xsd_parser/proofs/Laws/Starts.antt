@@ -18,6 +18,7 @@ use Rattle.xsd_parser.proofs.Laws.Outcomes.{Gives, value, Any, gives-if, gives-a
 use Rattle.xsd_parser.proofs.Laws.Contents.{start_in_complex-kept}
 use Rattle.xsd_parser.proofs.Laws.Readers.{ReaderOk, root-seen, seen-root, context-set, item-added, SimpleOk, simple-parts, simple-whole, ComplexOk}
 use Rattle.xsd_parser.proofs.Laws.Readers.{complex-parts, complex-whole, schema-parts, schema-whole, schema-first, one-tag-more}
+use Rattle.text.proofs.Laws.Class.{empty-text}
 use Rattle.text.proofs.Laws.Tests.{and-true, two, if-either}
 
 -- the namespace set anew
@@ -57,8 +58,8 @@ module _ (by_standard : Bool) where
 
   -- a type opened in the schema has nesting 0, and the schema and the type are open
   pub open_simple-kept : (m : ℕ) (name : Text) (n : ℕ) → 1 ≤ n → is_text name ≡ true → context_ok by_standard (open_simple_type m name) (suc n) ≡ true
-  unfolding open_simple_type every is_text
-  open_simple-kept m name n h e = simple-whole by_standard _ (suc n) (record { tags = omega arith; name = e; base = refl; facets = refl })
+  unfolding open_simple_type every
+  open_simple-kept m name n h e = simple-whole by_standard _ (suc n) (record { tags = omega arith; name = e; base = empty-text; facets = refl })
 
   pub open_complex-kept : (m : ℕ) (name : Text) (n : ℕ) → 1 ≤ n → is_text name ≡ true → context_ok by_standard (open_complex_type m name) (suc n) ≡ true
   unfolding open_complex_type content_ok

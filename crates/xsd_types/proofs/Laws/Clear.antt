@@ -1,11 +1,12 @@
 -- A cleared sheet is good and holds the first state, by its choice. Assumes nothing.
-use mathlib.Core.Path.{◌≡◌, refl}
+use mathlib.Core.Path.{◌≡◌}
 use mathlib.Core.Bool.{Bool, true, ◌&&◌}
 use Prim.Native.Nat.{ℕ, ◌%◌}
 use lib.Dec.{eqb, leb, leb-zero}
 use lib.ListN.{length}
-use Rattle.text.specs.Text.{every, is_text, join}
+use Rattle.text.specs.Text.{every, join}
 use Rattle.text.proofs.Laws.Tests.{four, and-true-left, and-true}
+use Rattle.text.proofs.Laws.Class.{empty-text}
 use Rattle.sheet.specs.Rows.{Sheet, names_of, row}
 use Rattle.sheet.specs.Lengths.{sheet_lengths, fits}
 use Rattle.xsd_types.specs.State.{first_state, schema_ok, context_ok, is_no_context, is_empty, root_ok, counters_ok, open_passes, heads_pass, events_ok, proper}
@@ -16,8 +17,8 @@ use Rattle.xsd_types.specs.Clear.{clear}
 use Rattle.xsd_types.proofs.Laws.Count.{good-sheet_of, state_of-sheet_of}
 
 pub first-proper : (by_standard : Bool) → proper (first_state by_standard) ≡ true
-unfolding first_state proper counters_ok events_ok heads_pass open_passes root_ok context_ok schema_ok is_no_context is_empty is_text every
-first-proper b = refl
+unfolding first_state proper counters_ok events_ok heads_pass open_passes root_ok context_ok schema_ok is_no_context is_empty every
+first-proper b = rw empty-text
 
 pub first_fits : (by_standard : Bool) (r n : ℕ) → sheet_lengths r n ≡ true → state_fits r n (first_state by_standard) ≡ true
 unfolding sheet_lengths state_fits fits first_state rows_used names_used rows_of items_rows context_rows namespace_row row names_of join

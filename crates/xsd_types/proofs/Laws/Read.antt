@@ -6,14 +6,12 @@ use Prim.Native.Nat.{ℕ, ◌+◌, ◌-◌, ◌*◌, ◌^◌}
 use native.Mathlib.Omega.{arith}
 use lib.Dec.{eqb, ltb}
 use lib.ListN.{length, take, drop, length-map}
-use lib.Seq.{take_at}
-use Rattle.text.specs.Text.{Text, every, is_text, between}
+use Rattle.text.specs.Text.{Text, every, between}
 use Rattle.sheet.specs.Rows.{Ten, Row, Sheet, row, names_of, text_at, unpack_row, sheet_of_rows}
-use Rattle.sheet.specs.Form.{covered, counted, row0_of, rows_used_of, names_used_of, tens_of, words}
+use Rattle.sheet.specs.Form.{counted, row0_of, rows_used_of, names_used_of, tens_of, texts_pass, words}
 use Rattle.sheet.proofs.Laws.Numbers.{every-tens, length-tens}
-use Rattle.sheet.proofs.Laws.Packs.{is_text-names_of}
 use Rattle.sheet.proofs.Laws.Unpacks.{few, counted-unpack}
-use Rattle.sheet.proofs.Laws.Sheets.{names-read, length-read, sheet-read}
+use Rattle.sheet.proofs.Laws.Sheets.{length-read, sheet-read}
 use Rattle.xsd_types.specs.Rows.{namespace_row, namespace_a, items_rows}
 use Rattle.xsd_types.specs.Row0.{row0_in}
 use Rattle.xsd_types.specs.Good.{used_pairs, is_child, in_order, is_head, head_after, last_head, ten_form, names_test, extension_test, head_of}
@@ -58,13 +56,8 @@ module _ (x : Sheet) (p : Parts x) where
   names-length = length-read used_pairs x (rows_used_of x - 1) few-pairs (pairs-cover x p) (rw (names-end x p) (names-room x p)) ∙ names-end x p
 
   pub names-text : every text_row (rows_in x) ≡ true
-  unfolding names_test rows_in tens_of text_row
-  names-text =
-      let rest = drop (covered 0 (tens_of x)) x.names in
-      let taken : take (names_used_of x) x.names
-      ≡ names_of (rows_in x) = ap (λ (l : List ℕ). take (names_used_of x) l) (sym (names-read used_pairs x (rows_used_of x - 1) few-pairs (pairs-cover x p)))
-      ∙ take_at (names_of (rows_in x)) rest (names_used_of x) names-length in
-      sym (is_text-names_of (rows_in x)) ∙ ap is_text (sym taken) ∙ p.text
+  unfolding names_test texts_pass rows_in text_row
+  names-text = p.text
 
   pub sheet-again : sheet_of_rows (row0_of x) (rows_in x) (length x.rows) (length x.names) ≡ x
   unfolding rows_in tens_of row0_of

@@ -7,7 +7,7 @@ use native.Mathlib.Omega.{arith}
 use lib.Dec.{eqb}
 use lib.ListN.{length, get_or}
 use borrow.Author.Tests.{eqb-true}
-use Rattle.text.specs.Text.{Text, every, is_text, between}
+use Rattle.text.specs.Text.{Text, is_text, between}
 use Rattle.text.proofs.Laws.Tests.{four}
 use Rattle.sheet.specs.Rows.{Row, row}
 use Rattle.sheet.specs.Form.{is_flag}
@@ -16,6 +16,7 @@ use Rattle.xsd_types.specs.Good.{used_pairs, row_form, is_head}
 use Rattle.xsd_types.specs.Back.{text0, text1}
 use Rattle.xsd_types.proofs.Laws.Sound.{formed_row, text_row, sound_row, sound-formed, sound-counted, sound-text}
 use Rattle.text.proofs.Laws.Every.{every-get_d}
+use Rattle.text.proofs.Laws.Class.{empty-text}
 
 -- the parts of a row's form
 module _ (tag a b c : ℕ) (e : row_form tag a b c ≡ true) where
@@ -45,8 +46,8 @@ two-texts (t ∷ u ∷ []) e = refl
 two-texts (t ∷ u ∷ v ∷ ts) e = absurd (omega arith)
 
 pub text-get_d : (r : Row) (i : ℕ) → sound_row r ≡ true → is_text (get_or r.texts i []) ≡ true
-unfolding text_row is_text every
-text-get_d r i e = every-get_d is_text [] refl r.texts i (sound-text r e)
+unfolding text_row
+text-get_d r i e = every-get_d is_text [] empty-text r.texts i (sound-text r e)
 
 -- of a disjunction whose other parts fail the first part holds
 pub first_holds : (x p q r s y : Bool) → x || p || q || r || (s && y) ≡ true → p || q || r || s ≡ false → x ≡ true

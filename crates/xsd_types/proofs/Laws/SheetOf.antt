@@ -1,5 +1,5 @@
 -- The sheet of a proper state that has room is good and gives the state back. Assumes nothing.
-use mathlib.Core.Path.{◌≡◌, refl, ◌∙◌}
+use mathlib.Core.Path.{◌≡◌, refl, ap, ◌∙◌}
 use mathlib.Core.Bool.{true}
 use mathlib.Core.List.{[], ◌∷◌, ◌++◌}
 use Prim.Native.Nat.{ℕ, ◌+◌, ◌-◌, ◌*◌, ◌≤◌}
@@ -10,8 +10,8 @@ use borrow.Author.Tests.{leb-true, le-leb, eq-eqb}
 use Rattle.text.specs.Text.{between, join, every}
 use Rattle.sheet.specs.Rows.{row, pack_row, pack, names_of}
 use Rattle.sheet.specs.Lengths.{fits}
-use Rattle.sheet.proofs.Laws.Packs.{covers-pack, covered-pack, is_text-names_of}
-use Rattle.sheet.proofs.Laws.Sheets.{first-ten, tens-behind, length-rows, length-names, zeros-rows, zeros-names, used-names, rows-read}
+use Rattle.sheet.proofs.Laws.Packs.{covers-pack, covered-pack}
+use Rattle.sheet.proofs.Laws.Sheets.{first-ten, tens-behind, length-rows, length-names, zeros-rows, zeros-names, rows-read}
 use Rattle.xsd_types.specs.State.{State, root_ok, counters_ok, event_number_ok, heads_pass, events_ok, proper}
 use Rattle.xsd_types.specs.Rows.{namespace_row, namespace_a, items_rows, context_rows, rows_of, rows_used, names_used, row0}
 use Rattle.xsd_types.specs.Row0.{row0_ten, row0_in}
@@ -28,7 +28,7 @@ use Rattle.xsd_types.proofs.Laws.Events.{event_row, events-pack, body-events}
 use Rattle.xsd_types.proofs.Laws.Made.{tags-pack, form-pack, order-body, test-context, test-extension, test-nesting, test-root, small-context, flag-bit, flag-context}
 use Rattle.text.proofs.Laws.Tests.{and-true-left, and-true-right, and-true}
 use Rattle.text.proofs.Laws.Every.{every-weaken}
-use Rattle.sheet.specs.Form.{row0_of, rows_used_of, names_used_of, tens_of, used_parts, zeros_behind}
+use Rattle.sheet.specs.Form.{row0_of, rows_used_of, names_used_of, tens_of, used_parts, zeros_behind, texts_pass}
 
 module _ (s : State) (r n : ℕ) where
   pub row0-made : row0_of (bare_sheet_of s r n) ≡ row0_ten (row0 s)
@@ -94,8 +94,8 @@ module _ (s : State) (r n : ℕ) (ok : proper s ≡ true) (fit : state_fits r n 
   made-zeros = rw (row0-made s r n) (and-true (zeros-rows (row0_ten (row0 s)) (rows_of s) r n) (zeros-names (row0_ten (row0 s)) (rows_of s) r n))
 
   pub made-text : names_test (bare_sheet_of s r n) ≡ true
-  unfolding names_test bare_sheet_of row0 names_used text_row
-  made-text = rw (row0-made s r n, used-names (row0_ten (row0 s)) (rows_of s) r n, is_text-names_of (rows_of s)) (text-rows s ok)
+  unfolding names_test texts_pass rows_in text_row
+  made-text = ap (every text_row) (rows_made s r n ok) ∙ text-rows s ok
 
   pub made-limits : limits (row0_in (bare_sheet_of s r n)) ≡ true
   unfolding limits row0 counters_ok

@@ -1,15 +1,16 @@
 -- Markup whose names, keys and values may be written: what a document, its bytes and its tape ask of it, in one test. Assumes nothing.
---     name_fine, value_fine    a name or a value that may be written, of bytes below 128
+--     name_fine, value_fine    a name or a value that may be written, and is a text
 --     attr_fine, tag_fine, markup_fine    the same of an attribute, a tag, markup; no key twice, and at most 32 attributes
 use Prim.Native.Nat.{ℕ, suc, ◌+◌}
-use mathlib.Core.Path.{◌≡◌, refl, ap}
+use mathlib.Core.Path.{◌≡◌, refl, ap, ◌∙◌}
 use mathlib.Core.Bool.{Bool, true, ◌&&◌}
 use mathlib.Core.List.{List, [], ◌∷◌, ◌++◌}
-use lib.Dec.{leb, eqb}
+use lib.Dec.{leb, ltb, eqb}
 use lib.ListN.{length}
-use Rattle.text.specs.Text.{Text, bytes, every, is_text, is_text_byte, contains}
+use Rattle.text.specs.Text.{Text, bytes, every, is_text, contains}
 use Rattle.text.proofs.Laws.Tests.{and-true, and-true-left, and-true-right, two, four, if-keeps}
-use Rattle.text.proofs.Laws.Every.{every-head, every-tail, every-append-true, every-weaken}
+use Rattle.text.proofs.Laws.Every.{every-head, every-tail, every-weaken}
+use Rattle.text.proofs.Laws.Class.{empty-text, texts-append, text-behind}
 use Rattle.xsd_parser.specs.Event.{Attr, Tag}
 use Rattle.xml.specs.Accepted.{few_attributes}
 use Rattle.xml.specs.Written.{is_name_text, quote_of, attribute_ok, new_keys, written_attributes, tag_end, written_tag, attribute_places}
@@ -57,45 +58,50 @@ markup-ok (ends n) h = and-true-left (is_name_text n) (is_text n) h
 pub markups-ok : (ms : List Markup) → every markup_fine ms ≡ true → every markup_ok ms ≡ true
 markups-ok ms h = every-weaken markup_fine markup_ok markup-ok ms h
 
--- ---- its bytes are below 128
+-- ---- it is a text
 
-quote-text : (v : Text) → is_text_byte (quote_of v) ≡ true
-unfolding quote_of is_text_byte
-quote-text v = if-keeps is_text_byte (contains 34 v) (λ e. refl) (λ e. refl)
+quote-plain : (v : Text) → ltb (quote_of v) 128 ≡ true
+unfolding quote_of
+quote-plain v = if-keeps (λ b. ltb b 128) (contains 34 v) (λ e. refl) (λ e. refl)
 
 attributes-text : (xs : List Attr) → every attr_fine xs ≡ true → is_text (written_attributes xs) ≡ true
-unfolding is_text every written_attributes attr_fine name_fine value_fine is_text_byte
-attributes-text [] h = refl
+unfolding written_attributes attr_fine name_fine value_fine
+attributes-text [] h = empty-text
 attributes-text (x ∷ xs) h =
     let (k, v) = two (name_fine x.key) (value_fine x.value) (every-head attr_fine x xs h) in
     let q = quote_of x.value in
-    let w = and-true (quote-text x.value) (attributes-text xs (every-tail attr_fine x xs h)) in
-    let u = every-append-true is_text_byte x.value (q ∷ written_attributes xs) (and-true-right (holds x.value) (is_text x.value) v) w in
-    every-append-true is_text_byte x.key (61 ∷ q ∷ (x.value ++ (q ∷ written_attributes xs))) (and-true-right (is_name_text x.key) (is_text x.key) k) (and-true (quote-text x.value) u)
+    let rest = written_attributes xs in
+    let w = text-behind q rest (quote-plain x.value) ∙ attributes-text xs (every-tail attr_fine x xs h) in
+    let u = texts-append x.value (q ∷ rest) (and-true-right (holds x.value) (is_text x.value) v) w in
+    let e = text-behind 61 (q ∷ (x.value ++ (q ∷ rest))) refl ∙ (text-behind q (x.value ++ (q ∷ rest)) (quote-plain x.value) ∙ u) in
+    text-behind 32 (x.key ++ (61 ∷ q ∷ (x.value ++ (q ∷ rest)))) refl
+    ∙ texts-append x.key (61 ∷ q ∷ (x.value ++ (q ∷ rest))) (and-true-right (is_name_text x.key) (is_text x.key) k) e
 
 end-text : (kind : ℕ) → is_text (tag_end kind) ≡ true
-unfolding tag_end is_text every is_text_byte bytes
-end-text kind = if-keeps is_text (eqb kind 1) (λ e. refl) (λ e. refl)
+unfolding tag_end bytes
+end-text kind = if-keeps is_text (eqb kind 1) (λ e. text-behind 62 [] refl ∙ empty-text) (λ e. text-behind 47 (62 ∷ []) refl ∙ (text-behind 62 [] refl ∙ empty-text))
 
 tag-text : (kind : ℕ) (t : Tag) → tag_fine t ≡ true → is_text (written_tag kind t) ≡ true
-unfolding tag_fine name_fine written_tag is_text every is_text_byte
+unfolding tag_fine name_fine written_tag
 tag-text kind t h =
     let (n, a, k, l) = four (name_fine t.name) (every attr_fine t.attributes) (new_keys [] t.attributes) (leb (length t.attributes) 32) h in
     let w = written_attributes t.attributes in
-    every-append-true is_text_byte t.name (w ++ tag_end kind) (and-true-right (is_name_text t.name) (is_text t.name) n)
-    (every-append-true is_text_byte w (tag_end kind) (attributes-text t.attributes a) (end-text kind))
+    text-behind 60 (t.name ++ (w ++ tag_end kind)) refl
+    ∙ texts-append t.name (w ++ tag_end kind) (and-true-right (is_name_text t.name) (is_text t.name) n) (texts-append w (tag_end kind) (attributes-text t.attributes a) (end-text kind))
 
 markup-text : (m : Markup) → markup_fine m ≡ true → is_text (markup_text m) ≡ true
-unfolding markup_fine name_fine markup_text is_text every is_text_byte
+unfolding markup_fine name_fine markup_text
 markup-text (starts t) h = tag-text 1 t h
 markup-text (empties t) h = tag-text 2 t h
-markup-text (ends n) h = every-append-true is_text_byte n (62 ∷ []) (and-true-right (is_name_text n) (is_text n) h) refl
+markup-text (ends n) h =
+    text-behind 60 (47 ∷ (n ++ (62 ∷ []))) refl
+    ∙ (text-behind 47 (n ++ (62 ∷ [])) refl ∙ texts-append n (62 ∷ []) (and-true-right (is_name_text n) (is_text n) h) (text-behind 62 [] refl ∙ empty-text))
 
 pub markups-text : (ms : List Markup) → every markup_fine ms ≡ true → is_text (markups_text ms) ≡ true
-unfolding is_text every markups_text
-markups-text [] h = refl
+unfolding markups_text
+markups-text [] h = empty-text
 markups-text (m ∷ ms) h =
-    every-append-true is_text_byte (markup_text m) (markups_text ms) (markup-text m (every-head markup_fine m ms h)) (markups-text ms (every-tail markup_fine m ms h))
+    texts-append (markup_text m) (markups_text ms) (markup-text m (every-head markup_fine m ms h)) (markups-text ms (every-tail markup_fine m ms h))
 
 -- ---- no tag has more than 32 attributes
 

@@ -12,7 +12,9 @@ use mathlib.Core.Option.{some, none}
 use lib.Dec.{leb, ltb, lit<}
 use lib.ListN.{length}
 use borrow.Author.Tests.{ltb-true, le-leb, lt-ltb, ne_eqb}
-use Rattle.text.specs.Text.{Text, bytes, first, every, is_text, is_text_byte, is_digit, between, contains, same}
+use Rattle.text.specs.Text.{Text, bytes, every, is_text, is_digit, between, contains}
+use Rattle.text.specs.Unfold.{computes}
+use Rattle.text.proofs.Laws.Class.{empty-text, text-behind}
 use Rattle.text.proofs.Laws.Tests.{and-true, and-true-left, and-true-right, two, three, four, bool_cases}
 use Rattle.text.proofs.Laws.Every.{every-head, every-tail, every_append, every-append-true}
 use Rattle.number.specs.Number.{is_numeral}
@@ -58,11 +60,10 @@ digits-no-quote (b ∷ s) h =
     rw (ne_eqb b 34 (λ e. omega arith), digits-no-quote s (every-tail is_digit b s h))
 
 digits-text : (s : Text) → every is_digit s ≡ true → is_text s ≡ true
-unfolding is_text every is_text_byte
-digits-text [] h = refl
+digits-text [] h = empty-text
 digits-text (b ∷ s) h =
     let (low, high) = digit-within b (every-head is_digit b s h) in
-    and-true (lt-ltb b 128 (omega arith)) (digits-text s (every-tail is_digit b s h))
+    text-behind b s (lt-ltb b 128 (omega arith)) ∙ digits-text s (every-tail is_digit b s h)
 
 digits-fine : (s : Text) → every is_digit s ≡ true → value_fine s ≡ true
 unfolding value_fine holds quote_of
@@ -104,7 +105,7 @@ around-fine word xs ms t h =
 
 -- quoted words compute
 unfoldable words : Unit {0}
-unfolding name_fine is_name_text is_name_start is_name is_letter between every is_text is_text_byte first bytes prefixed attr new_keys is_among same
+unfolding computes name_fine is_name_text is_name_start is_name is_letter prefixed attr new_keys is_among
 words = tt
 
 one-fine : (word key : String) (v : Text) → name_fine (prefixed word) ≡ true → name_fine (bytes key) ≡ true → value_fine v ≡ true → tag_fine (tag_of word (attr key v ∷ [])) ≡ true

@@ -3,4 +3,4 @@ use mathlib.Core.Path.{sym, ◌∙◌}
 use Rattle.replay.proofs.records.read_at.Goals as goal
 
 pub record_at-requires : goal.record_at-requires
-record_at-requires c = λ plain. sym c.is_text.ensures ∙ plain
+record_at-requires c = λ plain. sym c.is_plain.ensures ∙ plain

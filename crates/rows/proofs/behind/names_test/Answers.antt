@@ -4,7 +4,7 @@ use native.Mathlib.Omega.{arith}
 use lib.Seq.{length-take-le}
 use Rattle.rows.proofs.behind.names_test.Goals as goal
 
-pub slice_bounds-is_text-end : goal.slice_bounds-is_text-end
-slice_bounds-is_text-end c =
+pub slice_bounds-is_plain-end : goal.slice_bounds-is_plain-end
+slice_bounds-is_plain-end c =
     let a = c.args in
     sym (length-take-le _ a.names.now (omega arith))
