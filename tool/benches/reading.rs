@@ -1,6 +1,7 @@
 //! Reading, not in the gate: `cargo bench --bench reading -- pain.001.001.09.xsd` in this folder (with the flags of source.sh, which cargo is given again).
 //!
-//! The bindings of the schema are made and built, and a message of 1 MB is read by them: against the events of quick-xml alone, processor time, medians.
+//! The bindings of the schema are made and built, and a message of 1 MB is read by them: against the events of quick-xml alone, and by xsdata where that is
+//! installed (PYTHON names the interpreter that has it); processor time, medians.
 
 use std::error::Error;
 use std::fmt::Write;
@@ -56,10 +57,30 @@ fn measured(file: &str, folder: &Path) -> Result<(), Box<dyn Error>> {
         .args(["run", "--quiet", "--release"])
         .args(sources())
         .arg("--")
-        .arg(message);
+        .arg(&message);
     cargo
         .current_dir(&made)
         .env("CARGO_TARGET_DIR", folder.join("target"))
+        .status()?;
+    by_xsdata(&fs::canonicalize(file)?, folder, &message)
+}
+
+/// The classes that xsdata makes of the schema read the message.
+fn by_xsdata(schema: &Path, folder: &Path, message: &Path) -> Result<(), Box<dyn Error>> {
+    let mut xsdata = Command::new("xsdata");
+    xsdata
+        .args(["generate", "--package", "made"])
+        .arg(schema)
+        .current_dir(folder);
+    if !xsdata.output().is_ok_and(|output| output.status.success()) {
+        println!("xsdata is not installed with its generator");
+        return Ok(());
+    }
+    let script = Path::new(env!("CARGO_MANIFEST_DIR")).join("tests/data/bindings/reading.py");
+    let python = std::env::var_os("PYTHON").unwrap_or_else(|| "python3".into());
+    Command::new(python)
+        .arg(script)
+        .args([folder, message])
         .status()?;
     Ok(())
 }
@@ -75,7 +96,8 @@ fn text() -> String {
 
 /// The crates at hand in the place of the registry.
 fn sources() -> Vec<String> {
-    let vendor: PathBuf = Path::new(env!("CARGO_MANIFEST_DIR")).join("../../shared/vendor");
+    let beside = Path::new(env!("CARGO_MANIFEST_DIR")).join("../../shared/vendor");
+    let vendor = std::env::var_os("LUBIKSAN_VENDOR").map_or(beside, PathBuf::from);
     let Ok(vendor) = fs::canonicalize(vendor) else {
         return Vec::new();
     };

@@ -10,7 +10,7 @@ use std::path::{Path, PathBuf};
 use std::process::{Command, Stdio};
 
 use common::messages::{Messages, Mode};
-use common::{lubiksan, schemas, Folder};
+use common::{cases, lubiksan, schemas, Folder, Random};
 use quick_xml::events::Event;
 use quick_xml::Reader;
 
@@ -20,7 +20,7 @@ fn data(name: &str) -> PathBuf {
         .join(name)
 }
 
-/// The schemas that bindings are made of: those of ISO 20022 at hand and two of the tests, but those that are refused for their names.
+/// The schemas that bindings are made of: those of ISO 20022 at hand and some of the tests, but those that are refused for their names.
 fn taken() -> Vec<PathBuf> {
     let mut files = schemas();
     files.retain(|file| {
@@ -29,6 +29,7 @@ fn taken() -> Vec<PathBuf> {
     files.push(data("bindings/constructs.xsd"));
     files.push(data("payment.xsd"));
     files.push(data("account.xsd"));
+    files.push(data("bindings/names.xsd"));
     files
 }
 
@@ -102,13 +103,15 @@ fn made(folder: &Folder, files: &[PathBuf]) -> PathBuf {
         .replace("            // MODULES\n", &arms);
     fs::create_dir_all(made.join("src/bin")).unwrap();
     fs::write(made.join("src/bin/driver.rs"), driver).unwrap();
+    let one = module_of(&data("bindings/constructs.xsd"), &[]).out + "\nfn main() {}\n";
+    fs::write(made.join("src/bin/one.rs"), one).unwrap();
     kept(&made)
 }
 
 /// The crate in a folder that stays, where only what changed is written: cargo builds nothing anew that is as it was.
 fn kept(made: &Path) -> PathBuf {
     let kept = Path::new(env!("CARGO_TARGET_TMPDIR")).join("messages");
-    for folder in ["", "src", "src/bin"] {
+    for folder in ["", "src", "src/support", "src/bin"] {
         fs::create_dir_all(kept.join(folder)).unwrap();
         for entry in fs::read_dir(made.join(folder)).unwrap() {
             let entry = entry.unwrap();
@@ -311,6 +314,7 @@ fn messages_go_through_the_bindings_and_back() {
     let told = driven(&told.collect::<Vec<_>>());
     tells_what_is_wrong(&folder);
     keeps_any_content(&folder);
+    reads_as_quick_xml_does(&folder, &files, &sent);
     let mut broken = 0;
     for (schema, sent) in files.iter().zip(&sent) {
         // What `--lossy` leaves out is not in these messages, and an envelope without it is not valid.
@@ -358,7 +362,7 @@ const HEAD: &str = "<Document xmlns=\"urn:example:constructs\"><Hdr><CreDtTm>202
 const PARTY: &str = "<Prt><Nm>a</Nm></Prt>";
 
 /// Messages of constructs.xsd, without the root, `PP` for two parties, and what is told of each.
-const TOLD: [(&str, &str); 17] = [
+const TOLD: [(&str, &str); 31] = [
     ("PP", "good"),
     ("<Prt><Nm>a</Nm></Prt>", "fault 1 of Prt, at least 2"),
     ("PPPPPP", "fault 6 of Prt, at most 4"),
@@ -400,6 +404,41 @@ const TOLD: [(&str, &str); 17] = [
         "unread \"maybe\" is neither true nor false",
     ),
     ("PP<Yr>1900</Yr>", "fault Yr: 1900 is not more than 1900"),
+    ("PP<Id>a<!-- c -->b<![CDATA[<c>]]>&lt;&#33;</Id>", "good"),
+    ("PP<Nothing/>\n<Id/>", "good"),
+    (
+        "<Prt><Nm>a</Nm></Prt><Foo/><Prt><Nm>a</Nm></Prt>",
+        "unread duplicate field `Prt`",
+    ),
+    ("PP<Id>1</Id><Id>2</Id>", "unread duplicate field `Id`"),
+    (
+        "PP<Id>a<b/></Id>",
+        "unread unexpected `Event::Start(\"b\")`",
+    ),
+    ("PP<Five>1</Five>", "unread missing field `@Ccy`"),
+    ("PP<Prt/>", "unread missing field `$value`"),
+    (
+        "PP<Prt><Nm>a</Nm><Agt/></Prt>",
+        "unread duplicate field `$value`",
+    ),
+    (
+        "PP<Prt><Foo/></Prt>",
+        "unread unknown variant `Foo`, expected one of `Nm`, `Agt`, `Prxy`, `Pttrn`",
+    ),
+    ("PPstray<Id>a</Id>", "checked a text is not expected here"),
+    (
+        "<Prt><Nm>a</Nm></Prt><Prt><Agt> &amp; </Agt></Prt>",
+        "checked Prt.Agt: a text is not expected here",
+    ),
+    (
+        "PP<Prt>stray<Nm>a</Nm></Prt>",
+        "unread a text stands where one of some elements is expected",
+    ),
+    ("PP<Id>&#32;</Id>\n<!-- c -->", "good"),
+    (
+        "PP<Id>&nbsp;</Id>",
+        "unread the entity \"nbsp\" is not known",
+    ),
 ];
 
 /// What is wrong is told with the path to it.
@@ -421,6 +460,18 @@ fn tells_what_is_wrong(folder: &Folder) {
         "constructs".to_owned(),
         folder.put("other.xml", format!("{other}</Document>")),
     ));
+    let deep = format!(
+        "{}<Agt><Othr><Of>{}<Nm>a</Nm>{}</Of></Othr></Agt>",
+        "PP<Prt>",
+        "<Prxy>".repeat(250),
+        "</Prxy>".repeat(250)
+    );
+    let deep = format!(
+        "{}{}</Prt></Document>",
+        HEAD.replace("MORE", ""),
+        deep.replace("PP", &PARTY.repeat(2))
+    );
+    files.push(("constructs".to_owned(), folder.put("deep.xml", deep)));
     let code = HEAD.replace("MORE", "<Cd>x&amp;y</Cd><Cd>ZZ</Cd>");
     files.push((
         "constructs".to_owned(),
@@ -432,6 +483,10 @@ fn tells_what_is_wrong(folder: &Folder) {
     }
     assert!(told[&folder.path("other.xml")]
         .starts_with("unread the root element is \"Document\" of the namespace"));
+    assert_eq!(
+        told[&folder.path("deep.xml")],
+        "unread more than 255 elements stand inside one another"
+    );
     assert_eq!(
         told[&folder.path("code.xml")],
         "unread \"ZZ\" is no code of Codes"
@@ -457,6 +512,103 @@ fn keeps_any_content(folder: &Folder) {
         let written = fs::read_to_string(file.with_extension("xml.out")).unwrap();
         assert_eq!(written, message(inside));
     }
+}
+
+/// What is put into messages that are damaged.
+const DAMAGE: [&str; 22] = [
+    "<!-- c -->",
+    "<?pi x?>",
+    "<![CDATA[x]]>",
+    "<![CDATA[ ]]>",
+    "&amp;",
+    "&#65;",
+    "&#x20;",
+    "&bad;",
+    "&",
+    "x",
+    " ",
+    "\n",
+    "<Foo/>",
+    "<Foo><Bar a='1'>b</Bar><Foo/></Foo>",
+    "<n:Foo xmlns:n='urn:n'/>",
+    " xmlns:xml='urn:n'",
+    " a='1'",
+    " a='1' a='2'",
+    " a",
+    "<",
+    ">",
+    "</Foo>",
+];
+
+/// A message with some damage: something put in, a part left out or doubled.
+fn damaged(text: &str, random: &mut Random) -> String {
+    let mut text = text.to_owned();
+    for _ in 0..1 + random.below(2) {
+        let places: Vec<usize> = text
+            .char_indices()
+            .map(|(at, _)| at)
+            .filter(|&at| random.below(4) > 0 || text[at..].starts_with('<'))
+            .collect();
+        let mut place = || places[random.below(places.len())];
+        let (one, other) = (place(), place());
+        // Mostly beside a tag.
+        let tag = text[one..]
+            .find(['<', '>'])
+            .map_or(one, |behind| one + behind);
+        let end = text[tag..]
+            .find('>')
+            .map_or(text.len(), |behind| tag + behind + 1);
+        match random.below(6) {
+            0 => text.insert_str(one, DAMAGE[random.below(DAMAGE.len())]),
+            1 | 2 => text.insert_str(tag, DAMAGE[random.below(DAMAGE.len())]),
+            3 => drop(text.drain(tag..end)),
+            4 => {
+                let doubled = text[tag..end].to_owned();
+                text.insert_str(tag, &doubled);
+            }
+            _ => {
+                let from = one.min(other);
+                let most = text[from..].char_indices().nth(30);
+                let most = most.map_or(text.len(), |(at, _)| from + at);
+                drop(text.drain(from..most.min(one.max(other))));
+            }
+        }
+    }
+    text
+}
+
+/// Damaged messages are taken and refused as by the reader of quick-xml, with equal values.
+fn reads_as_quick_xml_does(folder: &Folder, files: &[PathBuf], sent: &[Vec<Sent>]) {
+    let mut random = Random(20022);
+    let mut given = Vec::new();
+    for (schema, sent) in files.iter().zip(sent) {
+        let texts: Vec<String> = sent
+            .iter()
+            .take(4)
+            .map(|one| fs::read_to_string(&one.file).unwrap())
+            .collect();
+        for number in 0..cases(150) {
+            let text = damaged(&texts[number % texts.len()], &mut random);
+            let file = folder.put(&format!("damaged-{}.xml", given.len()), text);
+            given.push((module(schema), file));
+        }
+    }
+    let told = driven(&given);
+    let mut refused = 0;
+    for (_, file) in &given {
+        let words = &told[file];
+        assert!(
+            !words.starts_with("read otherwise") && words != "differs",
+            "{words}: {}",
+            fs::read_to_string(file).unwrap()
+        );
+        refused += usize::from(words.starts_with("unread"));
+    }
+    assert!(
+        refused > given.len() / 10 && refused < given.len(),
+        "{refused} of {}",
+        given.len()
+    );
 }
 
 /// The text that `bindings --module` prints.
@@ -519,7 +671,9 @@ fn a_circle_is_broken_once() {
     let out = module_of(&data("bindings/constructs.xsd"), &[]).out;
     let boxes: Vec<&str> = out
         .lines()
-        .filter(|line| line.contains("::boxed::Box<") && !line.contains("impl"))
+        .filter(|line| {
+            line.contains("::boxed::Box<") && !line.contains("Box<::std::primitive::str>")
+        })
         .map(str::trim)
         .collect();
     assert_eq!(
@@ -528,6 +682,30 @@ fn a_circle_is_broken_once() {
             "Prxy(::std::boxed::Box<Party>),",
             "pub of: ::std::option::Option<::std::boxed::Box<Party>>,"
         ]
+    );
+}
+
+#[test]
+fn a_type_that_must_stand_inside_itself_is_refused() {
+    let folder = Folder::new();
+    let text = "<xs:schema xmlns:xs=\"http://www.w3.org/2001/XMLSchema\">\n<xs:element name=\"D\" type=\"T\"/>\n\
+         <xs:complexType name=\"T\"><xs:sequence><xs:element name=\"U\" type=\"U\"/></xs:sequence></xs:complexType>\n\
+         <xs:complexType name=\"U\"><xs:choice>LEAF<xs:element name=\"T\" type=\"T\"/></xs:choice></xs:complexType>\n</xs:schema>";
+    let file = folder.put("endless.xsd", text.replace("LEAF", ""));
+    let ran = module_of(&file, &[]);
+    assert_eq!(ran.status, Some(1));
+    let place = format!(
+        "{}:3:1: type \"T\" must stand inside itself",
+        file.display()
+    );
+    assert!(ran.err.starts_with(&place), "{}", ran.err);
+    let ran = module_of(&file, &["--lossy"]);
+    assert_eq!(ran.status, Some(0));
+    assert!(ran.out.contains("pub type T = super::support::AnyContent;"));
+    let leaf = "<xs:element name=\"N\" type=\"xs:string\"/>";
+    assert_eq!(
+        module_of(&folder.put("ends.xsd", text.replace("LEAF", leaf)), &[]).status,
+        Some(0)
     );
 }
 

@@ -386,6 +386,24 @@ impl<'d> Maker<'d> {
         }
     }
 
+    /// A type that must hold another value of itself, and so has none.
+    fn refuse_endless(&mut self, types: &mut [Type]) {
+        let starts = super::reach::starts(types);
+        let endless = |found: &&mut Type| !starts.contains_key(&found.rust);
+        for found in types.iter_mut().filter(endless) {
+            let is_it = |node: &&&Node<'_>| {
+                node.name() == "complexType" && node.attribute("name") == Some(&found.xml)
+            };
+            let at = self.nodes.values().filter(is_it).map(|node| node.at());
+            let words = format!(
+                "type {} must stand inside itself, and so has no value",
+                quoted(&found.xml)
+            );
+            self.refuse(at.min().unwrap_or_default(), &words);
+            found.kind = Kind::Any;
+        }
+    }
+
     fn finished(
         mut self,
         graph: &Graph<'_>,
@@ -393,6 +411,7 @@ impl<'d> Maker<'d> {
         roots: Vec<Root>,
         mut types: Vec<Type>,
     ) -> Result<Schema, Failure> {
+        self.refuse_endless(&mut types);
         let lines = |places: &mut Vec<(usize, String)>| -> Vec<String> {
             places.sort();
             places.dedup();

@@ -15,6 +15,12 @@ use crate::source::Source;
 
 const SUPPORT: &str = include_str!("support.rs");
 
+/// The modules inside it.
+const INNER: [(&str, &str); 2] = [
+    ("place", include_str!("support/place.rs")),
+    ("reader", include_str!("support/reader.rs")),
+];
+
 /// The schemas so far.
 #[derive(Default)]
 pub struct Modules {
@@ -80,6 +86,10 @@ pub fn crate_of(modules: &Modules, folder: &Path) -> Vec<(PathBuf, String)> {
         (PathBuf::from("src/lib.rs"), library(modules)),
         (PathBuf::from("src/support.rs"), SUPPORT.to_owned()),
     ];
+    for (name, source) in INNER {
+        let path = PathBuf::from(format!("src/support/{name}.rs"));
+        files.push((path, source.to_owned()));
+    }
     for schema in &modules.schemas {
         let name = format!("src/{}.rs", schema.name.trim_start_matches("r#"));
         files.push((PathBuf::from(name), write::module(schema)));
@@ -90,15 +100,27 @@ pub fn crate_of(modules: &Modules, folder: &Path) -> Vec<(PathBuf, String)> {
 /// One file with a module for each schema.
 pub fn module_of(modules: &Modules) -> String {
     let mut out = format!("{}\n{}", head(modules), "#![allow(dead_code)]\n\n");
-    put_inside(&mut out, "support", SUPPORT);
+    put_inside(&mut out, "pub mod support", &support_in_one());
     for schema in &modules.schemas {
-        put_inside(&mut out, &schema.name, &write::module(schema));
+        let head = format!("pub mod {}", schema.name);
+        put_inside(&mut out, &head, &write::module(schema));
     }
     out
 }
 
-fn put_inside(out: &mut String, name: &str, source: &str) {
-    let _ = writeln!(out, "pub mod {name} {{");
+/// The shared module with those inside it.
+fn support_in_one() -> String {
+    let mut out = SUPPORT.to_owned();
+    for (name, source) in INNER {
+        let mut inner = String::new();
+        put_inside(&mut inner, &format!("mod {name}"), source);
+        out = out.replace(&format!("mod {name};\n"), &inner);
+    }
+    out
+}
+
+fn put_inside(out: &mut String, head: &str, source: &str) {
+    let _ = writeln!(out, "{head} {{");
     for line in source.lines() {
         match line.is_empty() {
             true => out.push('\n'),
@@ -156,7 +178,7 @@ rust-version = \"1.82\"
 publish = false
 
 [dependencies]
-quick-xml = {{ version = \"0.38\", features = [\"serialize\"] }}
+quick-xml = {{ version = \"0.38.4\", features = [\"serialize\"] }}
 regex = \"1.7\"
 serde = {{ version = \"1.0\", features = [\"derive\"] }}
 "

@@ -44,6 +44,35 @@ pub fn break_circles(types: &mut [Type]) {
     }
 }
 
+/// The types that have a value, of a choice with the number of the variant of its smallest one. The others hold another value of themselves each time.
+pub fn starts(types: &[Type]) -> HashMap<String, usize> {
+    let known: BTreeSet<&str> = types.iter().map(|found| found.rust.as_str()).collect();
+    let mut starts: HashMap<String, usize> = HashMap::new();
+    loop {
+        let before = starts.len();
+        for found in types {
+            let has = |field: &Field| {
+                !known.contains(field.holds.as_str()) || starts.contains_key(&field.holds)
+            };
+            let start = match &found.kind {
+                _ if starts.contains_key(&found.rust) => None,
+                Kind::Choice(variants) => variants.iter().position(has),
+                Kind::Struct(fields, _) => {
+                    let mut required = fields.iter().filter(|field| field.many == Many::One);
+                    required.all(has).then_some(0)
+                }
+                _ => Some(0),
+            };
+            if let Some(start) = start {
+                starts.insert(found.rust.clone(), start);
+            }
+        }
+        if starts.len() == before {
+            return starts;
+        }
+    }
+}
+
 #[derive(Clone, Copy, PartialEq, Eq)]
 enum State {
     New,

@@ -105,7 +105,7 @@ fn tell(command: &Command, file: &Path, made: &Made) -> Result<(), Failure> {
 
 /// Writes the files of a crate below a folder.
 fn written(folder: &Path, files: Vec<(PathBuf, String)>) -> Result<(), Failure> {
-    let inner = folder.join("src");
+    let inner = folder.join("src/support");
     fs::create_dir_all(&inner).map_err(|error| Failure::output(&inner, &error))?;
     for (path, text) in files {
         write_output(Some(&folder.join(path)), text.as_bytes())?;

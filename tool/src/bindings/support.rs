@@ -7,13 +7,18 @@ use std::fmt;
 use std::str::FromStr;
 use std::sync::OnceLock;
 
-use quick_xml::events::Event;
+use quick_xml::events::{BytesStart, Event};
 use quick_xml::name::ResolveResult;
 use quick_xml::{DeError, NsReader, Reader, SeError};
 use regex::Regex;
 use serde::de::{self, DeserializeOwned, Deserializer, MapAccess, Visitor};
 use serde::ser::{SerializeMap, Serializer};
 use serde::{Deserialize, Serialize};
+
+mod place;
+mod reader;
+
+pub use place::{fill_choice, fill_struct, inside, put, read, Fields, Place, Variants};
 
 /// A root element.
 #[derive(Clone, Copy, Debug, PartialEq, Eq)]
@@ -69,7 +74,7 @@ impl Root {
     /// [`ReadError::Root`] or [`ReadError::Xml`].
     pub fn read<T: DeserializeOwned>(&self, text: &str) -> Result<T, ReadError> {
         self.is_root_of(text)?;
-        quick_xml::de::from_str(text).map_err(ReadError::Xml)
+        reader::read(text).map_err(ReadError::Xml)
     }
 
     /// Reads a message and checks it: every value, how often each element is there, and that nothing else is there.
@@ -869,6 +874,17 @@ impl Check for AnyContent {
     fn check(&self, _: &Path<'_>, _: &mut Vec<Fault>) {}
 }
 
+impl Place for AnyContent {
+    fn start() -> AnyContent {
+        AnyContent::default()
+    }
+
+    fn fill<'de, D: Deserializer<'de>>(&mut self, from: D) -> Result<(), D::Error> {
+        *self = AnyContent::deserialize(from)?;
+        Ok(())
+    }
+}
+
 impl<'de> Deserialize<'de> for AnyContent {
     fn deserialize<D: Deserializer<'de>>(from: D) -> Result<AnyContent, D::Error> {
         struct Parts;
@@ -908,35 +924,28 @@ impl Serialize for AnyContent {
     }
 }
 
-/// The first tag of a message that is another one when the message is written again: something that the schema does not have, or in another order.
+/// The first tag or text of a message that is not there when the message is written again: something that the schema does not have, or in another order.
 fn other_tags(read: &str, written: &str) -> Option<Fault> {
-    let (mut read, mut written) = (Reader::from_str(read), Reader::from_str(written));
+    let (mut read, mut written) = (Tags::of(read), Tags::of(written));
     let mut open: Vec<String> = Vec::new();
     loop {
-        let (found, expected) = (next_tag(&mut read), next_tag(&mut written));
+        let (found, expected) = (read.next(), written.next());
         let path = || open.iter().skip(1).cloned().collect::<Vec<_>>().join(".");
+        let fault = |words: String| Some(Fault { path: path(), words });
         match (found, expected) {
             (None, None) => return None,
             (Some(found), expected) if Some(&found) == expected.as_ref() => match found {
                 Tag::Start(name, _) => open.push(name),
                 Tag::End => drop(open.pop()),
+                Tag::Text => {}
             },
-            (Some(Tag::Start(name, attributes)), expected) => {
-                let same = matches!(&expected, Some(Tag::Start(other, _)) if *other == name);
-                let words = match same {
-                    true => format!("{name} has other attributes: {}", attributes.join(", ")),
-                    false => format!("{name} is not expected here"),
-                };
-                return Some(Fault { path: path(), words });
+            (Some(Tag::Text), _) => return fault("a text is not expected here".to_owned()),
+            (Some(Tag::Start(name, keys)), Some(Tag::Start(other, _))) if name == other => {
+                return fault(format!("{name} has other attributes: {}", keys.join(", ")));
             }
-            (_, Some(Tag::Start(name, _))) => {
-                let words = format!("{name} is expected here");
-                return Some(Fault { path: path(), words });
-            }
-            _ => {
-                let words = "the tags are other ones when it is written again".to_owned();
-                return Some(Fault { path: path(), words });
-            }
+            (Some(Tag::Start(name, _)), _) => return fault(format!("{name} is not expected here")),
+            (_, Some(Tag::Start(name, _))) => return fault(format!("{name} is expected here")),
+            _ => return fault("the tags are other ones when it is written again".to_owned()),
         }
     }
 }
@@ -946,27 +955,59 @@ enum Tag {
     /// The local name and the names of the attributes, but those of namespaces.
     Start(String, Vec<String>),
     End,
+    /// Any text but white space.
+    Text,
 }
 
-/// The next tag; an empty one is a start and, at the next call, an end.
-fn next_tag(reader: &mut Reader<&[u8]>) -> Option<Tag> {
-    reader.config_mut().expand_empty_elements = true;
-    loop {
-        match reader.read_event().ok()? {
-            Event::Start(tag) => {
-                let name = String::from_utf8_lossy(tag.local_name().into_inner()).into_owned();
-                let mut keys: Vec<String> = tag
-                    .attributes()
-                    .flatten()
-                    .map(|attribute| String::from_utf8_lossy(attribute.key.into_inner()).into_owned())
-                    .filter(|key| !key.starts_with("xmlns") && !key.starts_with("xsi:"))
-                    .collect();
-                keys.sort();
-                return Some(Tag::Start(name, keys));
+/// The tags of a message, and where there is text between them.
+struct Tags<'t> {
+    reader: Reader<&'t [u8]>,
+    /// The text up to the next tag was told.
+    told: bool,
+}
+
+impl Tags<'_> {
+    fn of(text: &str) -> Tags<'_> {
+        let mut reader = Reader::from_str(text);
+        reader.config_mut().expand_empty_elements = true;
+        Tags { reader, told: false }
+    }
+
+    /// The next tag, or the text before it.
+    fn next(&mut self) -> Option<Tag> {
+        loop {
+            let is_text = match self.reader.read_event().ok()? {
+                Event::Start(tag) => {
+                    self.told = false;
+                    return Some(Tag::Start(local(tag.local_name().into_inner()), keys(&tag)));
+                }
+                Event::End(_) => {
+                    self.told = false;
+                    return Some(Tag::End);
+                }
+                Event::Eof => return None,
+                Event::Text(text) => !text.iter().all(u8::is_ascii_whitespace),
+                Event::CData(text) => !text.iter().all(u8::is_ascii_whitespace),
+                Event::GeneralRef(name) => !matches!(name.resolve_char_ref(), Ok(Some(c)) if is_space(c)),
+                _ => false,
+            };
+            if is_text && !self.told {
+                self.told = true;
+                return Some(Tag::Text);
             }
-            Event::End(_) => return Some(Tag::End),
-            Event::Eof => return None,
-            _ => {}
         }
     }
+}
+
+fn local(name: &[u8]) -> String {
+    String::from_utf8_lossy(name).into_owned()
+}
+
+/// The names of the attributes, but those of namespaces.
+fn keys(tag: &BytesStart<'_>) -> Vec<String> {
+    let attributes = tag.attributes().flatten();
+    let mut keys: Vec<String> = attributes.map(|attribute| local(attribute.key.into_inner())).collect();
+    keys.retain(|key| !key.starts_with("xmlns") && !key.starts_with("xsi:"));
+    keys.sort();
+    keys
 }

@@ -6,6 +6,7 @@ use super::bases::{base, Space};
 use super::model::{
     Check, Code, Field, Group, Kind, Many, Occurs, Part, Root, Rules, Schema, Type,
 };
+use super::reach::starts;
 use crate::failure::escaped;
 
 /// The type of a text.
@@ -14,14 +15,17 @@ pub const STRING: &str = "::std::string::String";
 const SUPPORT: &str = "super::support";
 
 /// The derived traits of a struct or choice.
-const DERIVED: &str =
-    "#[derive(Clone, Debug, PartialEq, ::serde::Deserialize, ::serde::Serialize)]";
+const DERIVED: &str = "#[derive(Clone, Debug, PartialEq, ::serde::Serialize)]";
+
+const RESULT: &str = "::std::result::Result";
 
 /// The source of a schema's module.
 pub fn module(schema: &Schema) -> String {
     let mut out = head(schema);
+    let starts = starts(&schema.types);
     for found in &schema.types {
-        put_type(&mut out, schema, found);
+        let start = starts.get(&found.rust).copied().unwrap_or_default();
+        put_type(&mut out, schema, found, start);
     }
     for root in &schema.roots {
         put_root(&mut out, schema, root);
@@ -106,7 +110,8 @@ fn put_docs(out: &mut String, indent: &str, docs: &[String]) {
     }
 }
 
-fn put_type(out: &mut String, schema: &Schema, found: &Type) {
+/// A type; `start` is the number of the variant that stands there before a choice is read.
+fn put_type(out: &mut String, schema: &Schema, found: &Type, start: usize) {
     let place = match found.line {
         Some(line) => format!("{}:{line}", schema.file),
         None => "a built-in type".to_owned(),
@@ -121,7 +126,7 @@ fn put_type(out: &mut String, schema: &Schema, found: &Type) {
     let name = found.rust.as_str();
     match &found.kind {
         Kind::Struct(fields, group) => put_struct(out, schema, (name, fields), group),
-        Kind::Choice(variants) => put_choice(out, schema, name, variants),
+        Kind::Choice(variants) => put_choice(out, schema, (name, variants), start),
         Kind::Codes(codes) => put_codes(out, name, codes),
         Kind::Text(rules) => put_text(out, name, rules),
         Kind::Boolean => put_boolean(out, name),
@@ -177,8 +182,12 @@ fn serde_of(field: &Field, mark: &str) -> String {
     let name = format!("{:?}", format!("{mark}{}", field.xml));
     match field.many {
         Many::One => format!("#[serde(rename = {name})]"),
-        Many::Maybe => format!("#[serde(rename = {name}, default, skip_serializing_if = \"::std::option::Option::is_none\")]"),
-        Many::List => format!("#[serde(rename = {name}, default, skip_serializing_if = \"::std::vec::Vec::is_empty\")]"),
+        Many::Maybe => format!(
+            "#[serde(rename = {name}, skip_serializing_if = \"::std::option::Option::is_none\")]"
+        ),
+        Many::List => format!(
+            "#[serde(rename = {name}, skip_serializing_if = \"::std::vec::Vec::is_empty\")]"
+        ),
     }
 }
 
@@ -207,6 +216,8 @@ fn put_struct(out: &mut String, schema: &Schema, (name, fields): (&str, &[Field]
         .iter()
         .for_each(|field| put_field(out, schema, field, ""));
     out.push_str("}\n");
+    let entries: Vec<Entry<'_>> = fields.iter().map(|field| Entry::of(field, "")).collect();
+    put_read(out, name, &entries);
     let mut lines = String::new();
     for field in fields {
         let _ = writeln!(lines, "        {}", checked_field(field, ""));
@@ -228,6 +239,107 @@ fn put_struct(out: &mut String, schema: &Schema, (name, fields): (&str, &[Field]
         );
     }
     put_check(out, name, &lines);
+}
+
+/// A field as it is read.
+struct Entry<'f> {
+    /// With the mark of an attribute or text.
+    name: String,
+    rust: &'f str,
+    required: bool,
+}
+
+impl<'f> Entry<'f> {
+    fn of(field: &'f Field, mark: &str) -> Entry<'f> {
+        Entry {
+            name: format!("{mark}{}", field.xml),
+            rust: &field.rust,
+            required: field.many == Many::One,
+        }
+    }
+}
+
+/// A struct is read field by field, each in its place.
+fn put_read(out: &mut String, name: &str, entries: &[Entry<'_>]) {
+    let names: Vec<String> = entries
+        .iter()
+        .map(|entry| format!("{:?}", entry.name))
+        .collect();
+    let required: Vec<String> = (0..)
+        .zip(entries)
+        .filter(|(_, entry)| entry.required)
+        .map(|(number, _): (usize, _)| number.to_string())
+        .collect();
+    let put = |entry: &Entry<'_>| format!("{SUPPORT}::put(&mut self.{}, from)", entry.rust);
+    let arms = arms("field", entries.iter().map(put).collect());
+    let (field, from, body) = match arms {
+        Some(Arms::One(body)) => ("_", "from", body),
+        Some(Arms::Many(body)) => ("field", "from", body),
+        None => ("_", "_", format!("        {RESULT}::Ok(())\n")),
+    };
+    let _ = writeln!(
+        out,
+        "\nimpl {SUPPORT}::Fields for {name} {{
+    const NAMES: &'static [&'static ::std::primitive::str] = &[{}];
+    const REQUIRED: &'static [::std::primitive::usize] = &[{}];
+
+    fn put<'de, A: ::serde::de::MapAccess<'de>>(&mut self, {field}: ::std::primitive::usize, {from}: &mut A) -> {RESULT}<(), A::Error> {{
+{body}    }}
+}}",
+        names.join(", "),
+        required.join(", ")
+    );
+    let start: String = entries
+        .iter()
+        .map(|entry| format!("            {}: {SUPPORT}::Place::start(),\n", entry.rust))
+        .collect();
+    let start = match start.is_empty() {
+        true => "        Self {}\n".to_owned(),
+        false => format!("        Self {{\n{start}        }}\n"),
+    };
+    let fill = format!("{SUPPORT}::fill_struct(self, from)");
+    put_place(out, name, &start, &fill);
+}
+
+/// What is done by a number.
+enum Arms {
+    One(String),
+    Many(String),
+}
+
+/// The arms of a match, the last one for what is left; none where there is nothing to do.
+fn arms(by: &str, mut done: Vec<String>) -> Option<Arms> {
+    let last = done.pop()?;
+    if done.is_empty() {
+        return Some(Arms::One(format!("        {last}\n")));
+    }
+    let mut body = format!("        match {by} {{\n");
+    for (number, done) in done.iter().enumerate() {
+        let _ = writeln!(body, "            {number} => {done},");
+    }
+    let _ = writeln!(body, "            _ => {last},\n        }}");
+    Some(Arms::Many(body))
+}
+
+/// What stands in the place of a type at first, and how it is read; serde reads by this too.
+fn put_place(out: &mut String, name: &str, start: &str, fill: &str) {
+    let _ = writeln!(
+        out,
+        "\nimpl {SUPPORT}::Place for {name} {{
+    fn start() -> Self {{
+{start}    }}
+
+    fn fill<'de, D: ::serde::Deserializer<'de>>(&mut self, from: D) -> {RESULT}<(), D::Error> {{
+        {fill}
+    }}
+}}
+
+impl<'de> ::serde::Deserialize<'de> for {name} {{
+    fn deserialize<D: ::serde::Deserializer<'de>>(from: D) -> {RESULT}<Self, D::Error> {{
+        {SUPPORT}::read(from)
+    }}
+}}"
+    );
 }
 
 fn checked_field(field: &Field, mark: &str) -> String {
@@ -307,7 +419,7 @@ fn put_validate(out: &mut String, name: &str) {
     );
 }
 
-fn put_choice(out: &mut String, schema: &Schema, name: &str, variants: &[Field]) {
+fn put_choice(out: &mut String, schema: &Schema, (name, variants): (&str, &[Field]), start: usize) {
     let _ = writeln!(
         out,
         "{DERIVED}\n#[serde(remote = \"Self\")]\npub enum {name} {{"
@@ -338,27 +450,47 @@ fn put_choice(out: &mut String, schema: &Schema, name: &str, variants: &[Field])
     }
     out.push_str("}\n");
     lines.push_str("        }\n");
+    put_variants(out, name, variants, start);
     put_inside(out, name);
     put_check(out, name, &lines);
 }
 
-/// The variant stands inside the element of its type.
+/// A choice is read as the element inside.
+fn put_variants(out: &mut String, name: &str, variants: &[Field], start: usize) {
+    let names: Vec<String> = variants
+        .iter()
+        .map(|variant| format!("{:?}", variant.xml))
+        .collect();
+    let read = |variant: &Field| format!("{SUPPORT}::inside(from).map(Self::{})", variant.rust);
+    let (number, body) = match arms("number", variants.iter().map(read).collect()) {
+        Some(Arms::Many(body)) => ("number", body),
+        Some(Arms::One(body)) => ("_", body),
+        None => return,
+    };
+    let _ = writeln!(
+        out,
+        "\nimpl {SUPPORT}::Variants for {name} {{
+    const NAMES: &'static [&'static ::std::primitive::str] = &[{}];
+
+    fn variant<'de, A: ::serde::de::VariantAccess<'de>>({number}: ::std::primitive::usize, from: A) -> {RESULT}<Self, A::Error> {{
+{body}    }}
+}}",
+        names.join(", ")
+    );
+    let first = variants
+        .get(start)
+        .map_or("", |variant| variant.rust.as_str());
+    let start = format!("        Self::{first}({SUPPORT}::Place::start())\n");
+    let fill = format!("{SUPPORT}::fill_choice(self, from)");
+    put_place(out, name, &start, &fill);
+}
+
+/// The variant is written inside the element of its type.
 fn put_inside(out: &mut String, name: &str) {
     let _ = writeln!(
         out,
-        "\nimpl<'de> ::serde::Deserialize<'de> for {name} {{
-    fn deserialize<D: ::serde::Deserializer<'de>>(from: D) -> ::std::result::Result<{name}, D::Error> {{
-        #[derive(::serde::Deserialize)]
-        struct Inside {{
-            #[serde(rename = \"$value\", with = \"{name}\")]
-            value: {name},
-        }}
-        <Inside as ::serde::Deserialize>::deserialize(from).map(|inside| inside.value)
-    }}
-}}
-
-impl ::serde::Serialize for {name} {{
-    fn serialize<S: ::serde::Serializer>(&self, to: S) -> ::std::result::Result<S::Ok, S::Error> {{
+        "\nimpl ::serde::Serialize for {name} {{
+    fn serialize<S: ::serde::Serializer>(&self, to: S) -> {RESULT}<S::Ok, S::Error> {{
         #[derive(::serde::Serialize)]
         struct Inside<'a> {{
             #[serde(rename = \"$value\", serialize_with = \"{name}::serialize\")]
@@ -402,10 +534,11 @@ impl {name} {{
 }}",
         count = codes.len()
     );
-    put_code_traits(out, name);
+    let first = codes.first().map_or("", |code| code.rust.as_str());
+    put_code_traits(out, name, first);
 }
 
-fn put_code_traits(out: &mut String, name: &str) {
+fn put_code_traits(out: &mut String, name: &str, first: &str) {
     let _ = writeln!(
         out,
         "
@@ -424,7 +557,7 @@ impl {SUPPORT}::Check for {name} {{
         shown = name.trim_start_matches("r#")
     );
     put_display(out, name);
-    put_parsed(out, name, "to.serialize_str(self.as_str())");
+    put_parsed(out, name, &format!("Self::{first}"));
 }
 
 fn put_display(out: &mut String, name: &str) {
@@ -439,20 +572,16 @@ impl ::std::fmt::Display for {name} {{
     );
 }
 
-/// Read from its text, written as `written` says.
-fn put_parsed(out: &mut String, name: &str, written: &str) {
+/// Read from its text, in the place of `start`, and written as a text.
+fn put_parsed(out: &mut String, name: &str, start: &str) {
+    let fill = format!("*self = {SUPPORT}::parsed(from)?;\n        {RESULT}::Ok(())");
+    put_place(out, name, &format!("        {start}\n"), &fill);
     let _ = writeln!(
         out,
         "
-impl<'de> ::serde::Deserialize<'de> for {name} {{
-    fn deserialize<D: ::serde::Deserializer<'de>>(from: D) -> ::std::result::Result<{name}, D::Error> {{
-        {SUPPORT}::parsed(from)
-    }}
-}}
-
 impl ::serde::Serialize for {name} {{
-    fn serialize<S: ::serde::Serializer>(&self, to: S) -> ::std::result::Result<S::Ok, S::Error> {{
-        {written}
+    fn serialize<S: ::serde::Serializer>(&self, to: S) -> {RESULT}<S::Ok, S::Error> {{
+        to.serialize_str(self.as_str())
     }}
 }}"
     );
@@ -490,16 +619,16 @@ impl {SUPPORT}::Check for {name} {{
 }}"
     );
     put_display(out, name);
-    put_parsed(out, name, "to.serialize_str(self.as_str())");
+    put_parsed(out, name, "Self(false)");
 }
 
 fn put_text(out: &mut String, name: &str, rules: &Rules) {
     put_text_docs(out, rules);
     let _ = writeln!(
         out,
-        "#[derive(Clone, Debug, PartialEq, Eq, Hash, PartialOrd, Ord, ::serde::Deserialize, ::serde::Serialize)]
+        "#[derive(Clone, Debug, PartialEq, Eq, Hash, PartialOrd, Ord, ::serde::Serialize)]
 #[serde(transparent)]
-pub struct {name}({STRING});
+pub struct {name}(::std::boxed::Box<::std::primitive::str>);
 
 impl {name} {{
     /// The text, checked.
@@ -510,7 +639,7 @@ impl {name} {{
     pub fn new(text: impl ::std::convert::Into<{STRING}>) -> ::std::result::Result<{name}, {SUPPORT}::Fault> {{
         let text = text.into();
         {name}::rules().checked(&text)?;
-        ::std::result::Result::Ok({name}(text))
+        ::std::result::Result::Ok({name}(text.into_boxed_str()))
     }}
 
     /// The text.
@@ -520,7 +649,7 @@ impl {name} {{
 
     /// The text, taken out.
     pub fn into_string(self) -> {STRING} {{
-        self.0
+        self.0.into_string()
     }}
 
     fn rules() -> &'static {SUPPORT}::Rules {{
@@ -603,10 +732,12 @@ impl {SUPPORT}::Check for {name} {{
 impl ::std::default::Default for {name} {{
     /// The empty text, unchecked: that of an element without text.
     fn default() -> {name} {{
-        {name}({STRING}::new())
+        {name}(::std::default::Default::default())
     }}
 }}"
     );
+    let fill = format!("{SUPPORT}::Place::fill(&mut self.0, from)");
+    put_place(out, name, "        Self::default()\n", &fill);
     put_display(out, name);
 }
 
@@ -624,12 +755,21 @@ fn put_value(
         .types
         .iter()
         .any(|found| found.rust == text.holds && !matches!(found.kind, Kind::Text(_)));
-    let default = if of_codes { "" } else { ", default" };
     let _ = writeln!(
         out,
-        "    /// The text inside.\n    #[serde(rename = \"$text\"{default})]\n    pub {}: {},\n}}",
+        "    /// The text inside.\n    #[serde(rename = \"$text\")]\n    pub {}: {},\n}}",
         text.rust, text.holds
     );
+    let mut entries: Vec<Entry<'_>> = attributes
+        .iter()
+        .map(|field| Entry::of(field, "@"))
+        .collect();
+    entries.push(Entry {
+        name: "$text".to_owned(),
+        rust: &text.rust,
+        required: of_codes,
+    });
+    put_read(out, name, &entries);
     let mut lines = String::new();
     for field in attributes {
         let _ = writeln!(lines, "        {}", checked_field(field, "@"));
