@@ -6,7 +6,7 @@ use crate::definitions::readings::damage_one;
 use crate::definitions::sheets::random_state;
 use crate::grapher;
 use crate::paper::label::label;
-use crate::paper::lowering::lowering;
+use crate::paper::lowering::{lowering, SCRATCH_LEAST};
 use crate::paper::sheet::{names_used, rows_used, Lent, Sheet};
 use crate::random::Random;
 use crate::tally::Tally;
@@ -64,7 +64,7 @@ fn random_graph(random: &mut Random) -> Sheet {
         rows: vec![0; 300],
         names: vec![0; 300],
     };
-    lowering(&sheet, &graph, &[0; 20]).graph
+    lowering(&sheet, &graph, &[0; SCRATCH_LEAST]).graph
 }
 
 /// One number changed, the rows or the names cut short, or nothing but one number of each row changed.
