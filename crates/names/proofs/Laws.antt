@@ -2,6 +2,7 @@
 pub mod Writing
 pub mod Scans
 pub mod Names
+pub mod Bytes
 pub mod Examples
 pub mod Words
 pub mod Spelled

@@ -6,7 +6,7 @@ use Rattle.std.specs.Prelude.{Bool, false, if◌then◌else◌}
 use Prim.Native.Char.{code}
 use Rattle.text.specs.Text.{Text}
 use Rattle.names.specs.Names.{normalize_type_name}
-use Rattle.names.specs.Scans.{segments}
+use Rattle.names.specs.Scans.{byte_segments}
 use Rattle.names.specs.declared.same.Spelled.{Spelled}
 use Rattle.names.specs.declared.same.SpelledBytes.{SpelledBytes}
 
@@ -14,7 +14,7 @@ unfoldable pub spelled : Bool → Text → Text
 spelled normalised name = if normalised then normalize_type_name name else name
 
 unfoldable pub spelled_from : Bool → Bool → Text → Text
-spelled_from normalised up s = if normalised then segments (code "_") false up s else s
+spelled_from normalised up s = if normalised then byte_segments (code "_") false up s else s
 
 abbrev pub spelled_text : Spelled → Text
 spelled_text s = spelled s.normalised s.name.now

@@ -8,7 +8,7 @@ pub mod snake;
 ghost use Rattle.std.specs.Prelude.{◌≡◌, true};
 ghost use Rattle.names.specs.Names.{normalize_type_name, code_to_pascal_case};
 ghost use Rattle.names.specs.Answers.{Put};
-ghost use Rattle.names.specs.Scans.{cased_byte, segments};
+ghost use Rattle.names.specs.Scans.{cased_byte, byte_segments};
 
 use text::ascii::{to_lower, to_upper};
 use text::has_byte;
@@ -26,7 +26,7 @@ pub fn cased(b: u8, up: bool, lowers: bool) -> u8
 
 // The segments of s between separators, put together, each with its first letter in the upper form.
 fn put_segments(s: &[u8], separator: u8, lowers: bool, out: &mut [u8]) -> Option<usize>
-    ensures { Put (segments separator lowers true s.now) out.old result out.new }
+    ensures { Put (byte_segments separator lowers true s.now) out.old result out.new }
 {
     let mut up = true;
     let mut n = 0;

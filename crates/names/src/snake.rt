@@ -1,14 +1,15 @@
 // The name conversion of 001 (lower.rs) that gives a field's name, written into a lent part.
 ghost use Rattle.std.specs.Prelude.{◌≡◌};
-ghost use Rattle.names.specs.Names.{xml_to_snake_case, starts_word};
+ghost use Rattle.names.specs.Names.{xml_to_snake_case};
 ghost use Rattle.names.specs.Answers.{Put};
+ghost use Rattle.names.specs.Scans.{byte_starts};
 
 use text::ascii::{is_lower, is_upper, to_lower};
 use text::byte_at;
 
 // Whether an underscore stands before c, which follows prev and precedes next.
 fn starts_word(prev: u8, c: u8, next: u8) -> bool
-    ensures { result ≡ starts_word prev c next }
+    ensures { result ≡ byte_starts prev c next }
 {
     if !is_upper(c) {
         return false;

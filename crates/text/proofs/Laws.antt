@@ -3,6 +3,7 @@ pub mod Tests
 pub mod Texts
 pub mod Every
 pub mod Class
+pub mod Characters
 pub mod Local
 pub mod Bits
 pub mod Table

@@ -1,4 +1,5 @@
 -- The definitions of the crate `text`, those below before those above. The head of each file says what it holds.
 pub mod Text
+pub mod Characters
 pub mod Trim
 pub mod Unfold

@@ -1,33 +1,35 @@
 -- Values of the conversions, by computation. Assumes nothing.
 use mathlib.Core.Path.{◌≡◌, refl}
-use Rattle.text.specs.Text.{bytes, between, upper, lower, contains, in_front, split, join, first}
-use Rattle.names.specs.Names.{capital, normalize_type_name, starts_word, snake_from, xml_to_snake_case, code_to_pascal_case}
+use Rattle.text.specs.Text.{bytes}
+use Rattle.text.specs.Unfold.{computes}
+use Rattle.names.specs.Unfold.{computes as name_words}
+use Rattle.names.specs.Names.{normalize_type_name, xml_to_snake_case, code_to_pascal_case}
 
 pub normalize-segments : normalize_type_name (bytes "party_id_x") ≡ bytes "PartyIdX"
-unfolding bytes between upper contains in_front split join capital normalize_type_name
+unfolding computes name_words
 normalize-segments = refl
 
 pub normalize-whole : normalize_type_name (bytes "partyId") ≡ bytes "partyId"
-unfolding bytes between upper contains capital normalize_type_name
+unfolding computes name_words
 normalize-whole = refl
 
 pub snake-words : xml_to_snake_case (bytes "XMLHeadNm") ≡ bytes "xml_head_nm"
-unfolding bytes between lower first starts_word snake_from xml_to_snake_case
+unfolding computes name_words
 snake-words = refl
 
 pub snake-capitals : xml_to_snake_case (bytes "BICFI") ≡ bytes "bicfi"
-unfolding bytes between lower first starts_word snake_from xml_to_snake_case
+unfolding computes name_words
 snake-capitals = refl
 
 pub snake-digit : xml_to_snake_case (bytes "Dt2Nm") ≡ bytes "dt2nm"
-unfolding bytes between lower first starts_word snake_from xml_to_snake_case
+unfolding computes name_words
 snake-digit = refl
 
 -- a second time the capitals inside a word go down, so code_to_pascal_case changes what it gave
 pub pascal-once : code_to_pascal_case (bytes "TEST-VALUE") ≡ bytes "TestValue"
-unfolding bytes between upper lower in_front split join capital code_to_pascal_case
+unfolding computes name_words
 pascal-once = refl
 
 pub pascal-twice : code_to_pascal_case (code_to_pascal_case (bytes "TEST-VALUE")) ≡ bytes "Testvalue"
-unfolding bytes between upper lower in_front split join capital code_to_pascal_case
+unfolding computes name_words
 pascal-twice = refl

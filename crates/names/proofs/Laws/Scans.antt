@@ -7,8 +7,7 @@ use lib.ListN.{length, drop, get_or, drop_of_length-le}
 use lib.Seq.{drop-cons}
 use borrow.Author.Tests.{eq-eqb, ne_eqb}
 use Rattle.text.specs.Text.{Text, is_upper, upper, lower}
-use Rattle.names.specs.Names.{starts_word}
-use Rattle.names.specs.Scans.{cased_byte, segments}
+use Rattle.names.specs.Scans.{cased_byte, byte_segments, byte_starts}
 
 pub cased-up : (up lowers : Bool) (b : ℕ) → up ≡ true → cased_byte up lowers b ≡ upper b
 unfolding cased_byte
@@ -23,20 +22,20 @@ unfolding cased_byte
 cased-same up lowers b e f = rw (e, f)
 
 -- the separator at place i is passed and the next byte is the first of its segment; any other byte goes in
-pub segments-passed : (c : ℕ) (lowers up : Bool) (s : Text) (i : ℕ) → i < length s → get_or s i 0 ≡ c → segments c lowers up (drop i s) ≡ segments c lowers true (drop (suc i) s)
-unfolding segments
-segments-passed c lowers up s i h e = rw (drop-cons s i 0 h, eq-eqb (get_or s i 0) c e)
+pub bytes-passed : (c : ℕ) (lowers up : Bool) (s : Text) (i : ℕ) → i < length s → get_or s i 0 ≡ c → byte_segments c lowers up (drop i s) ≡ byte_segments c lowers true (drop (suc i) s)
+unfolding byte_segments
+bytes-passed c lowers up s i h e = rw (drop-cons s i 0 h, eq-eqb (get_or s i 0) c e)
 
-pub segments-kept : (c : ℕ) (lowers up : Bool) (s : Text) (i : ℕ) → i < length s → (get_or s i 0 ≡ c → ⊥)
-    → segments c lowers up (drop i s) ≡ cased_byte up lowers (get_or s i 0) ∷ segments c lowers false (drop (suc i) s)
-unfolding segments
-segments-kept c lowers up s i h e = rw (drop-cons s i 0 h, ne_eqb (get_or s i 0) c e)
+pub bytes-kept : (c : ℕ) (lowers up : Bool) (s : Text) (i : ℕ) → i < length s → (get_or s i 0 ≡ c → ⊥)
+    → byte_segments c lowers up (drop i s) ≡ cased_byte up lowers (get_or s i 0) ∷ byte_segments c lowers false (drop (suc i) s)
+unfolding byte_segments
+bytes-kept c lowers up s i h e = rw (drop-cons s i 0 h, ne_eqb (get_or s i 0) c e)
 
-pub segments-end : (c : ℕ) (lowers up : Bool) (s : Text) (i : ℕ) → length s ≤ i → segments c lowers up (drop i s) ≡ []
-unfolding segments
-segments-end c lowers up s i h = rw (drop_of_length-le s h)
+pub bytes-end : (c : ℕ) (lowers up : Bool) (s : Text) (i : ℕ) → length s ≤ i → byte_segments c lowers up (drop i s) ≡ []
+unfolding byte_segments
+bytes-end c lowers up s i h = rw (drop_of_length-le s h)
 
 -- no word starts at a byte that is no upper letter
-pub word-not-upper : (prev c next : ℕ) → is_upper c ≡ false → starts_word prev c next ≡ false
-unfolding starts_word
-word-not-upper prev c next e = rw e
+pub byte-not-upper : (prev c next : ℕ) → is_upper c ≡ false → byte_starts prev c next ≡ false
+unfolding byte_starts
+byte-not-upper prev c next e = rw e

@@ -4,7 +4,7 @@ use mathlib.Core.Logic.{⊎_elim}
 use native.Mathlib.Numerals.{add-one}
 use native.Mathlib.Omega.{arith}
 use Rattle.names.proofs.Laws.Writing.{writing-length, writing-as, writing_more, writing-end, writing-full}
-use Rattle.names.proofs.Laws.Scans.{segments-passed, segments-kept, segments-end}
+use Rattle.names.proofs.Laws.Scans.{bytes-passed, bytes-kept, bytes-end}
 use Rattle.names.proofs.put_segments.Goals as goal
 
 pub returns-then-out-n : goal.returns-then-out-n
@@ -12,7 +12,7 @@ returns-then-out-n c =
     let a = c.args in
     let w = c.loop-b.invariant in
     writing-full
-    (writing-as w (segments-kept a.separator a.lowers c.loop-b.up a.s.now c.loop-b.b-index (omega arith) c.if-b-separator.false))
+    (writing-as w (bytes-kept a.separator a.lowers c.loop-b.up a.s.now c.loop-b.b-index (omega arith) c.if-b-separator.false))
     (omega (arith, writing-length w))
 
 pub loop-b-preserved : goal.loop-b-preserved
@@ -22,13 +22,13 @@ loop-b-preserved c =
     let i = c.loop-b.b-index in
     let w = c.loop-b.invariant in
     ⊎_elim
-    (λ v. rw (v.out-is, v.up-is, v.n-is, add-one i) (writing-as w (segments-passed a.separator a.lowers up a.s.now i (omega arith) v.if-b-separator.true)))
+    (λ v. rw (v.out-is, v.up-is, v.n-is, add-one i) (writing-as w (bytes-passed a.separator a.lowers up a.s.now i (omega arith) v.if-b-separator.true)))
     (λ v. rw (v.out-is, v.up-is, v.n-is, v.cased.ensures, add-one i)
-    (writing_more (writing-as w (segments-kept a.separator a.lowers up a.s.now i (omega arith) v.if-b-separator.false)) (omega (arith, writing-length w))))
+    (writing_more (writing-as w (bytes-kept a.separator a.lowers up a.s.now i (omega arith) v.if-b-separator.false)) (omega (arith, writing-length w))))
     c.if-b-separator.branch-raw
 
 pub returns : goal.returns
 returns c =
     let a = c.args in
     writing-end
-    (writing-as c.loop-b.invariant (segments-end a.separator a.lowers c.loop-b.up a.s.now c.loop-b.b-index (omega arith)))
+    (writing-as c.loop-b.invariant (bytes-end a.separator a.lowers c.loop-b.up a.s.now c.loop-b.b-index (omega arith)))

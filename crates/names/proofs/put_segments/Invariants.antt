@@ -2,9 +2,9 @@
 -- still to be written. Assumes nothing.
 use mathlib.Core.Bool.{true}
 use lib.ListN.{drop}
-use Rattle.names.specs.Scans.{segments}
+use Rattle.names.specs.Scans.{byte_segments}
 use Rattle.names.proofs.Laws.Writing.{Writing}
 use Rattle.names.proofs.put_segments.Given as goal
 
 abbrev pub invariant-loop-b : goal.invariant-loop-b
-invariant-loop-b l = Writing (segments l.separator l.lowers true l.s) l.initial.out l.n l.out (segments l.separator l.lowers l.up (drop l.b-index l.s))
+invariant-loop-b l = Writing (byte_segments l.separator l.lowers true l.s) l.initial.out l.n l.out (byte_segments l.separator l.lowers l.up (drop l.b-index l.s))

@@ -1,13 +1,13 @@
 -- `names::snake::starts_word` meets its contract: each test is one of the definition's. Assumes nothing.
 use mathlib.Core.Path.{sym, ◌∙◌}
-use Rattle.names.proofs.Laws.Scans.{word-not-upper}
+use Rattle.names.proofs.Laws.Scans.{byte-not-upper}
 use Rattle.names.proofs.Laws.Words.{word-after-lower, word-after-upper, word-after-other}
 use Rattle.names.proofs.snake.starts_word.Goals as goal
 
 pub returns-then-not-is_upper : goal.returns-then-not-is_upper
 returns-then-not-is_upper c =
     let a = c.args in
-    sym (word-not-upper a.prev a.c a.next (sym c.is_upper.ensures ∙ c.if-not-is_upper.true))
+    sym (byte-not-upper a.prev a.c a.next (sym c.is_upper.ensures ∙ c.if-not-is_upper.true))
 
 pub returns-then-is_lower : goal.returns-then-is_lower
 returns-then-is_lower c =

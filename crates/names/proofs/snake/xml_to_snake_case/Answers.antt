@@ -8,8 +8,9 @@ use native.Mathlib.Numerals.{add-one}
 use native.Mathlib.Omega.{arith}
 use lib.ListN.{drop, get_or}
 use Rattle.text.specs.Text.{lower, first}
-use Rattle.names.specs.Names.{starts_word, snake_from, xml_to_snake_case}
-use Rattle.names.proofs.Laws.Writing.{Writing, writing_start, writing-length, writing-as, writing_more, writing-end, writing-full}
+use Rattle.names.specs.Scans.{byte_starts, byte_snake}
+use Rattle.names.proofs.Laws.Writing.{Writing, writing_start, writing-length, writing-as, writing_more, writing-end, writing-full, put_as}
+use Rattle.names.proofs.Laws.Bytes.{bytes-snake}
 use Rattle.names.proofs.Laws.Words.{snake-marked, snake-plain, snake-end}
 use Rattle.names.proofs.snake.xml_to_snake_case.Tie as tie
 use Rattle.names.proofs.snake.xml_to_snake_case.Lts as lts
@@ -21,7 +22,7 @@ starts :
     (c : lts.After-starts_word tie.the-claims reads.Pre reads.Post goal.the-invariant-loop-i goal.the-decreases-loop-i) →
     let name = c.args.name.now in
     let i = c.loop-i.i in
-    starts_word c.loop-i.prev (get_or name i 0) (first (drop (suc i) name)) ≡ c.starts_word.result
+    byte_starts c.loop-i.prev (get_or name i 0) (first (drop (suc i) name)) ≡ c.starts_word.result
 starts c = rw (← add-one c.loop-i.i, ← c.byte_at.ensures) (sym c.starts_word.ensures)
 
 -- behind the branch: with or without an underscore, the letter is next
@@ -29,7 +30,7 @@ marked :
     (c : lts.Joined1 tie.the-claims reads.Pre reads.Post goal.the-invariant-loop-i goal.the-decreases-loop-i) →
     let a = c.args in
     let b = get_or a.name.now c.loop-i.i 0 in
-    Writing (xml_to_snake_case a.name.now) a.out.now c.if-starts_word.len c.if-starts_word.out (lower b ∷ snake_from b (drop (suc c.loop-i.i) a.name.now))
+    Writing (byte_snake 0 a.name.now) a.out.now c.if-starts_word.len c.if-starts_word.out (lower b ∷ byte_snake b (drop (suc c.loop-i.i) a.name.now))
 marked c =
     let name = c.args.name.now in
     let i = c.loop-i.i in
@@ -40,7 +41,6 @@ marked c =
     c.if-starts_word.branch-raw
 
 pub loop-i-init : goal.loop-i-init
-unfolding xml_to_snake_case
 loop-i-init c = writing_start _ _
 
 pub returns-then-out-len : goal.returns-then-out-len
@@ -48,10 +48,12 @@ returns-then-out-len c =
     let name = c.args.name.now in
     let i = c.loop-i.i in
     let w = c.loop-i.invariant in
-    writing-full (writing-as w (snake-marked c.loop-i.prev name i (omega arith) (starts c.before.before.before ∙ c.if-starts_word.true))) (omega (arith, writing-length w))
+    let marks = starts c.before.before.before ∙ c.if-starts_word.true in
+    put_as (writing-full (writing-as w (snake-marked c.loop-i.prev name i (omega arith) marks)) (omega (arith, writing-length w))) (bytes-snake name)
 
 pub returns-then-out-len-2 : goal.returns-then-out-len-2
-returns-then-out-len-2 c = writing-full (marked c.before.before) (omega (arith, writing-length (marked c.before.before)))
+returns-then-out-len-2 c =
+    put_as (writing-full (marked c.before.before) (omega (arith, writing-length (marked c.before.before)))) (bytes-snake c.args.name.now)
 
 pub loop-i-preserved : goal.loop-i-preserved
 loop-i-preserved c =
@@ -61,4 +63,4 @@ loop-i-preserved c =
 pub returns : goal.returns
 returns c =
     let a = c.args in
-    writing-end (writing-as c.loop-i.invariant (snake-end c.loop-i.prev a.name.now c.loop-i.i (omega arith)))
+    put_as (writing-end (writing-as c.loop-i.invariant (snake-end c.loop-i.prev a.name.now c.loop-i.i (omega arith)))) (bytes-snake a.name.now)
