@@ -114,7 +114,7 @@ use Rattle.columns.specs.Columns.{columns_of, rows_of as rows_of_columns}
 use Rattle.columns.proofs.Laws.Calls.{rows_back, columns-back}
 use Rattle.runs.specs.Runs.{Call, Answered, GoodStart, Ran, run}
 use Rattle.runs.specs.Trace.{Trace}
-use Rattle.runs.specs.Cuts.{Job, jobs_done, jobs_judged, CutInto, CutAlike}
+use Rattle.runs.specs.Cuts.{Job, jobs_done, jobs_judged, jobs_of, CutInto, CutAlike}
 use Rattle.runs.specs.Joined.{joined, accepted_events, after_records}
 use Rattle.runs.specs.Notes.{AlikeCalls, meets_none, AlikeRuns, sheets_of, sheets_made}
 use Rattle.runs.proofs.NoTwo.{NoneTwo, no-two}
@@ -122,6 +122,7 @@ use Rattle.runs.proofs.Runs.{runs}
 use Rattle.runs.proofs.Joined.{last-joined, made-joined}
 use Rattle.runs.proofs.Converted.{converted-run}
 use Rattle.runs.proofs.Carried.{carried-run}
+use Rattle.runs.proofs.Again.{cut-self, cut-again}
 use Rattle.runs.proofs.Cuts.{cut-run, cut-made, cut-joined}
 use Rattle.runs.proofs.Choices.{run-choice}
 use Rattle.runs.proofs.Both.{cleared-runs}
@@ -209,7 +210,7 @@ claim-number = read_state-place
 
 -- "where no reading meets 1, a tape may be cut between any events over the same text: up to its first refused event the sheet is the same, and that
 -- event has the same refusal and the same number in the run". "Past it the cut counts, since it decides what is dropped": any number of tapes, each of any
--- length and in any number of pieces, any lowerings between them, end as the tapes read whole; by the definition, and for the calls made
+-- length and in any number of pieces, any calls between them that pass by (lowerings, readings that meet 1), end as the tapes read whole; by the definition, and for the calls made
 pub claim-cut : (x : Sheet) (jobs : List Job) (calls : List Call) → GoodStart x → CutInto (lengths_of x) (state_of x) jobs calls
     → CutAlike (lengths_of x) (jobs_done (lengths_of x) (state_of x) jobs) (run x calls)
 claim-cut x jobs calls g = cut-run x jobs calls g.lengths g.is_good
@@ -222,6 +223,13 @@ claim-cut-made w g = cut-made w g.lengths g.is_good
 pub claim-joined-cut : (x : Sheet) (jobs : List Job) (calls : List Call) → GoodStart x → CutInto (lengths_of x) (state_of x) jobs calls
     → joined x calls ≡ jobs_judged (lengths_of x) (state_of x) jobs
 claim-joined-cut x jobs calls g = cut-joined x jobs calls g.lengths g.is_good
+
+-- calls cut elsewhere may be cut again: any calls do the jobs that they are as they stand, and calls that do these do the jobs that the first calls did
+pub claim-cut-self : (lent : Lengths) (s : State) (calls : List Call) → CutInto lent s (jobs_of calls) calls
+claim-cut-self = cut-self
+
+pub claim-cut-again : {lent : Lengths} {s : State} {jobs : List Job} {calls again : List Call} → CutInto lent s jobs calls → CutInto lent s (jobs_of calls) again → CutInto lent s jobs again
+claim-cut-again = cut-again
 
 -- order 2, "The number leaf takes both from now on, a minus only before zeros": a text accepted before keeps its value. What is accepted is white space around
 -- a text accepted before or around minus zeros, or such a text alone, at every width; what is new is `-` before zeros and white space around either

@@ -1,15 +1,17 @@
 -- Calls that do jobs, each tape in pieces, end as the jobs do: a piece behind an accepted one is read from the state reached and the places add up, what stands
--- behind a refused one is dropped by the tape whole too, and lowerings keep what is held. Assumes nothing.
+-- behind a refused one is dropped by the tape whole too, and calls that pass by keep what is held. Assumes nothing.
 --     ran_on front r    the run r with these answers in front
 use Prim.Native.Nat.{ℕ, suc, ◌+◌, ◌≤◌}
 use mathlib.Core.Path.{◌≡◌, refl, sym, ap, ◌∙◌}
-use mathlib.Core.Bool.{true, false, false≢true}
+use mathlib.Core.Bool.{true, false, not}
 use mathlib.Core.List.{List, [], ◌∷◌, ◌++◌, append_assoc, append-nil}
 use mathlib.Core.Option.{none}
 use native.Mathlib.Omega.{arith}
 use lib.ListN.{length}
 use lib.Seq.{take_all, take-append-add, take-append-le}
+use borrow.Author.Tests.{not-true}
 use Rattle.text.specs.Text.{Text, every, between}
+use Rattle.text.proofs.Laws.Tests.{two}
 use Rattle.sheet.specs.Rows.{Sheet}
 use Rattle.sheet.specs.Form.{words}
 use Rattle.sheet.specs.Lengths.{tape_lengths, Lengths, lengths_of, good_lengths}
@@ -24,7 +26,7 @@ use Rattle.xsd_parser.proofs.Laws.Cut.{cut-records, cut-accepted, zero-accepted,
 use Rattle.xsd_parser.proofs.Laws.CutRefused.{cut-refused, whole-records}
 use Rattle.runs.specs.Runs.{Call, Answered, number_in_run, Held, sheet_held, Stepped, refused_with, held_after, read_held, Ran, answered_first, run_calls, run}
 use Rattle.runs.specs.Joined.{judged_in, judged_held, joined_from, joined}
-use Rattle.runs.specs.Cuts.{Job, ended_first, tape_answer, jobs_done, jobs_judged, is_lowering, held_behind, Pieces, CutInto, is_lowered, PiecesAnswer, Gathered, CutAlike}
+use Rattle.runs.specs.Cuts.{Job, ended_first, tape_answer, jobs_done, jobs_judged, passes_by, held_behind, Pieces, CutInto, is_lowered, PassedBy, PiecesAnswer, Gathered, CutAlike}
 use Rattle.runs.specs.Trace.{Trace}
 use Rattle.runs.proofs.Joined.{hold-good}
 use Rattle.runs.proofs.Runs.{runs}
@@ -32,7 +34,7 @@ use Rattle.runs.proofs.Runs.{runs}
 abbrev ran_on : List Answered → Ran → Ran
 ran_on front r = record { answers = front ++ r.answers; last = r.last }
 
--- ---- calls behind calls, and lowerings
+-- ---- calls behind calls
 
 run_calls-append : (a b : List Call) (h : Held) → run_calls (a ++ b) h ≡ ran_on (run_calls a h).answers (run_calls b (held_behind a h))
 unfolding run_calls answered_first held_behind
@@ -55,24 +57,6 @@ joined_from-append (Call.reading text marks ∷ a) b h =
     ap (λ (js : List Judged). judged_held h text marks ++ js) (joined_from-append a b (read_held h text marks).held) ∙ sym (append_assoc (judged_held h text marks) _ _)
 joined_from-append (Call.lowering graph scratch ∷ a) b h = joined_from-append a b h
 
-lowerings-held : (calls : List Call) (h : Held) → every is_lowering calls ≡ true → held_behind calls h ≡ h
-unfolding every is_lowering held_behind
-lowerings-held [] h e = refl
-lowerings-held (Call.reading text marks ∷ calls) h e = absurd (false≢true e)
-lowerings-held (Call.lowering graph scratch ∷ calls) h e = lowerings-held calls h e
-
-lowerings-answer : (calls : List Call) (h : Held) → every is_lowering calls ≡ true → every is_lowered (run_calls calls h).answers ≡ true
-unfolding every is_lowering is_lowered run_calls answered_first
-lowerings-answer [] h e = refl
-lowerings-answer (Call.reading text marks ∷ calls) h e = absurd (false≢true e)
-lowerings-answer (Call.lowering graph scratch ∷ calls) h e = lowerings-answer calls h e
-
-lowerings-joined : (calls : List Call) (h : Held) → every is_lowering calls ≡ true → joined_from calls h ≡ []
-unfolding every is_lowering joined_from
-lowerings-joined [] h e = refl
-lowerings-joined (Call.reading text marks ∷ calls) h e = absurd (false≢true e)
-lowerings-joined (Call.lowering graph scratch ∷ calls) h e = lowerings-joined calls h e
-
 -- ---- one reading on a state
 
 read_held_lem : (lent : Lengths) (s : State) (text : Text) (marks : List ℕ) → tape_lengths (length text) (length marks) ≡ true
@@ -84,6 +68,35 @@ read-long : (lent : Lengths) (s : State) (text : Text) (marks : List ℕ) → ta
     → read_held (Held.holding lent s) text marks ≡ refused_with 1 (Held.holding lent s)
 unfolding read_held
 read-long lent s text marks t = rw t
+
+-- ---- calls that pass by
+
+passing-held : (lent : Lengths) (s : State) (calls : List Call) → every passes_by calls ≡ true → held_behind calls (Held.holding lent s) ≡ Held.holding lent s
+unfolding every passes_by held_behind refused_with
+passing-held lent s [] e = refl
+passing-held lent s (Call.reading text marks ∷ calls) e =
+    let both = two (not (tape_lengths (length text) (length marks))) (every passes_by calls) e in
+    rw (read-long lent s text marks (not-true (tape_lengths (length text) (length marks)) both.0)) (passing-held lent s calls both.1)
+passing-held lent s (Call.lowering graph scratch ∷ calls) e = passing-held lent s calls e
+
+passing-answers : (lent : Lengths) (s : State) (calls : List Call) → every passes_by calls ≡ true → PassedBy (run_calls calls (Held.holding lent s)).answers
+unfolding every passes_by is_lowered run_calls answered_first refused_with
+passing-answers lent s [] e = PassedBy.none
+passing-answers lent s (Call.reading text marks ∷ calls) e =
+    let both = two (not (tape_lengths (length text) (length marks))) (every passes_by calls) e in
+    rw (read-long lent s text marks (not-true (tape_lengths (length text) (length marks)) both.0)) (PassedBy.too_long (passing-answers lent s calls both.1))
+passing-answers lent s (Call.lowering graph scratch ∷ calls) e = PassedBy.lowering refl (passing-answers lent s calls e)
+
+passing-joined : (lent : Lengths) (s : State) (calls : List Call) → every passes_by calls ≡ true → joined_from calls (Held.holding lent s) ≡ []
+unfolding every passes_by joined_from judged_held refused_with
+passing-joined lent s [] e = refl
+passing-joined lent s (Call.reading text marks ∷ calls) e =
+    let both = two (not (tape_lengths (length text) (length marks))) (every passes_by calls) e in
+    let long : tape_lengths (length text) (length marks) ≡ false = not-true (tape_lengths (length text) (length marks)) both.0 in
+    rw (read-long lent s text marks long, long) (passing-joined lent s calls both.1)
+passing-joined lent s (Call.lowering graph scratch ∷ calls) e = passing-joined lent s calls e
+
+-- ---- one reading on a state that takes its marks
 
 held_behind-read : (lent : Lengths) (s : State) (text : Text) (marks : List ℕ) (calls : List Call) → tape_lengths (length text) (length marks) ≡ true
     → held_behind (Call.reading text marks ∷ calls) (Held.holding lent s) ≡ held_behind calls (Held.holding lent (read_state lent s text marks).state)
@@ -148,33 +161,33 @@ module _ (lent : Lengths) (text : Text) (s : State) (m₁ m₂ : List ℕ) (z : 
         read_held_lem lent s text m₁ t
         ∙ ap (λ (n : ℕ). held_after lent s (record { answer = record { number = n; place = r₁.answer.place }; state = r₁.state })) z
 
-    module _ (lowerings calls : List Call) (o : every is_lowering lowerings ≡ true) where
-      lowered-held : held_behind (lowerings ++ calls) (Held.holding lent r₁.state) ≡ held_behind calls (Held.holding lent r₁.state)
-      lowered-held = held_behind-append lowerings calls (Held.holding lent r₁.state) ∙ rw (lowerings-held lowerings (Held.holding lent r₁.state) o)
+    module _ (between calls : List Call) (o : every passes_by between ≡ true) where
+      passed-held : held_behind (between ++ calls) (Held.holding lent r₁.state) ≡ held_behind calls (Held.holding lent r₁.state)
+      passed-held = held_behind-append between calls (Held.holding lent r₁.state) ∙ rw (passing-held lent r₁.state between o)
 
-      lowered-ran : (run_calls (lowerings ++ calls) (Held.holding lent r₁.state)).answers
-          ≡ (run_calls lowerings (Held.holding lent r₁.state)).answers ++ (run_calls calls (Held.holding lent r₁.state)).answers
-      lowered-ran =
-          ap (λ (r : Ran). r.answers) (run_calls-append lowerings calls (Held.holding lent r₁.state))
-          ∙ rw (lowerings-held lowerings (Held.holding lent r₁.state) o)
+      passed-ran : (run_calls (between ++ calls) (Held.holding lent r₁.state)).answers
+          ≡ (run_calls between (Held.holding lent r₁.state)).answers ++ (run_calls calls (Held.holding lent r₁.state)).answers
+      passed-ran =
+          ap (λ (r : Ran). r.answers) (run_calls-append between calls (Held.holding lent r₁.state))
+          ∙ rw (passing-held lent r₁.state between o)
 
-      lowered-joined : joined_from (lowerings ++ calls) (Held.holding lent r₁.state) ≡ joined_from calls (Held.holding lent r₁.state)
-      lowered-joined =
-          joined_from-append lowerings calls (Held.holding lent r₁.state)
-          ∙ rw (lowerings-joined lowerings (Held.holding lent r₁.state) o, lowerings-held lowerings (Held.holding lent r₁.state) o)
+      passed-joined : joined_from (between ++ calls) (Held.holding lent r₁.state) ≡ joined_from calls (Held.holding lent r₁.state)
+      passed-joined =
+          joined_from-append between calls (Held.holding lent r₁.state)
+          ∙ rw (passing-joined lent r₁.state between o, passing-held lent r₁.state between o)
 
       next-answers : PiecesAnswer r₂.answer.number (number_in_run r₁.state.events r₂.answer) r₂.answer.place (run_calls calls (Held.holding lent r₁.state)).answers
           → PiecesAnswer r₂.answer.number (number_in_run r₁.state.events r₂.answer) (r₁.answer.place + r₂.answer.place)
-          (run_calls (Call.reading text m₁ ∷ (lowerings ++ calls)) (Held.holding lent s)).answers
+          (run_calls (Call.reading text m₁ ∷ (between ++ calls)) (Held.holding lent s)).answers
       unfolding run_calls answered_first
-      next-answers a = rw (first-held, lowered-ran) (PiecesAnswer.onward _ _ _ _ (lowerings-answer lowerings (Held.holding lent r₁.state) o) a)
+      next-answers a = rw (first-held, passed-ran) (PiecesAnswer.onward _ _ _ _ (passing-answers lent r₁.state between o) a)
 
-      next-leaves : Leaves lent text r₁.state m₂ calls r₂ → Leaves lent text s (m₁ ++ m₂) (Call.reading text m₁ ∷ (lowerings ++ calls)) (read_state lent s text (m₁ ++ m₂))
+      next-leaves : Leaves lent text r₁.state m₂ calls r₂ → Leaves lent text s (m₁ ++ m₂) (Call.reading text m₁ ∷ (between ++ calls)) (read_state lent s text (m₁ ++ m₂))
       next-leaves rest =
           record {
             answers = rw (cut-accepted lent s text m₁ m₂ z, number_same) (next-answers rest.answers);
-            held = rw (cut-accepted lent s text m₁ m₂ z) (held_behind-read lent s text m₁ (lowerings ++ calls) t ∙ lowered-held ∙ rest.held);
-            events = joined_from-read lent s text m₁ (lowerings ++ calls) t ∙ rw (lowered-joined, rest.events, judged-cut);
+            held = rw (cut-accepted lent s text m₁ m₂ z) (held_behind-read lent s text m₁ (between ++ calls) t ∙ passed-held ∙ rest.held);
+            events = joined_from-read lent s text m₁ (between ++ calls) t ∙ rw (passed-joined, rest.events, judged-cut);
           }
 
 -- ---- a piece that is refused

@@ -4,13 +4,16 @@
 --     Ended             what jobs end with: an answer for each, and the state
 --     jobs_done          the jobs in order, each tape read whole, with no word of pieces or of a tape's length
 --     jobs_judged        the records of the tapes that are judged, in order
---     is_lowering        the call is a lowering; held_behind: what a run holds behind calls
---     Pieces            calls that read a tape in pieces, any lowerings between them
+--     jobs_of            the jobs that calls do as they stand: a reading that meets 1 does none
+--     passes_by          the call reads nothing: a lowering, or a reading that meets 1; held_behind: what a run holds behind calls
+--     Pieces            calls that read a tape in pieces, any calls between them that pass by
 --     CutInto           calls that do the jobs, each tape in pieces; a reading that meets 1 may stand anywhere
+--     met_one            the answer of a reading that meets 1
+--     PassedBy          the answers of calls that pass by
 --     PiecesAnswer      the answers of a tape's pieces, where the tape whole has this number, place and number in the run
 --     Gathered          the answers of calls, where those of the jobs are these
 --     CutAlike          a run of calls ends as the jobs do
-use Rattle.std.specs.Prelude.{ℕ, ◌+◌, ◌≡◌, Bool, true, false, List, [], ◌∷◌, ◌++◌, length}
+use Rattle.std.specs.Prelude.{ℕ, ◌+◌, ◌≡◌, Bool, true, false, not, List, [], ◌∷◌, ◌++◌, length, if◌then◌else◌}
 use Rattle.std.proofs.Math.Option.{Option}
 use Rattle.text.specs.Text.{Text, every}
 use Rattle.sheet.specs.Rows.{Sheet}
@@ -50,21 +53,26 @@ jobs_judged lent s [] = []
 jobs_judged lent s (Job.tape text marks ∷ jobs) = judged_in lent s text marks ++ jobs_judged lent (read_state lent s text marks).state jobs
 jobs_judged lent s (Job.lowering graph scratch ∷ jobs) = jobs_judged lent s jobs
 
-unfoldable pub is_lowering : Call → Bool
-is_lowering (Call.reading text marks) = false
-is_lowering (Call.lowering graph scratch) = true
+unfoldable pub jobs_of : List Call → List Job
+jobs_of [] = []
+jobs_of (Call.reading text marks ∷ calls) = if tape_lengths (length text) (length marks) then Job.tape text marks ∷ jobs_of calls else jobs_of calls
+jobs_of (Call.lowering graph scratch ∷ calls) = Job.lowering graph scratch ∷ jobs_of calls
+
+unfoldable pub passes_by : Call → Bool
+passes_by (Call.reading text marks) = not (tape_lengths (length text) (length marks))
+passes_by (Call.lowering graph scratch) = true
 
 unfoldable pub held_behind : List Call → Held → Held
 held_behind [] h = h
 held_behind (Call.reading text marks ∷ calls) h = held_behind calls (read_held h text marks).held
 held_behind (Call.lowering graph scratch ∷ calls) h = held_behind calls h
 
--- from the state s: the last piece; a piece that is accepted, lowerings, and the rest in pieces; a piece up to an event's end that is refused, and nothing of
--- the rest
+-- from the state s: the last piece; a piece that is accepted, calls that pass by, and the rest in pieces; a piece up to an event's end that is refused, and
+-- nothing of the rest
 pub data Pieces (lent : Lengths) (text : Text) : State → List ℕ → List Call → Type 0 where
   last : {s : State} {marks : List ℕ} → tape_lengths (length text) (length marks) ≡ true → Pieces lent text s marks (Call.reading text marks ∷ [])
-  onward : {s : State} (m₁ m₂ : List ℕ) (lowerings calls : List Call) → tape_lengths (length text) (length m₁) ≡ true → (read_state lent s text m₁).answer.number ≡ accepted
-      → every is_lowering lowerings ≡ true → Pieces lent text (read_state lent s text m₁).state m₂ calls → Pieces lent text s (m₁ ++ m₂) (Call.reading text m₁ ∷ (lowerings ++ calls))
+  onward : {s : State} (m₁ m₂ : List ℕ) (between calls : List Call) → tape_lengths (length text) (length m₁) ≡ true → (read_state lent s text m₁).answer.number ≡ accepted
+      → every passes_by between ≡ true → Pieces lent text (read_state lent s text m₁).state m₂ calls → Pieces lent text s (m₁ ++ m₂) (Call.reading text m₁ ∷ (between ++ calls))
   dropped : {s : State} (m₁ m₂ : List ℕ) → tape_lengths (length text) (length m₁) ≡ true → whole_records text m₁ ≡ true → ((read_state lent s text m₁).answer.number ≡ accepted → ⊥)
       → Pieces lent text s (m₁ ++ m₂) (Call.reading text m₁ ∷ [])
 
@@ -81,18 +89,26 @@ unfoldable pub is_lowered : Answered → Bool
 is_lowered (Answered.read_as a n) = false
 is_lowered (Answered.lowered_as l) = true
 
+abbrev pub met_one : Answered
+met_one = Answered.read_as (record { number = bad_length; place = 0 }) Option.none
+
+pub data PassedBy : List Answered → Type 0 where
+  none : PassedBy []
+  lowering : {a : Answered} {answers : List Answered} → is_lowered a ≡ true → PassedBy answers → PassedBy (a ∷ answers)
+  too_long : {answers : List Answered} → PassedBy answers → PassedBy (met_one ∷ answers)
+
 -- all pieces but the last one are accepted, and the places add up
 pub data PiecesAnswer (number : ℕ) (in_run : Option ℕ) : ℕ → List Answered → Type 0 where
   last : {place : ℕ} → PiecesAnswer number in_run place (Answered.read_as (record { number = number; place = place }) in_run ∷ [])
-  onward : (place₁ place₂ : ℕ) (lowered answers : List Answered) → every is_lowered lowered ≡ true → PiecesAnswer number in_run place₂ answers
-      → PiecesAnswer number in_run (place₁ + place₂) (Answered.read_as (record { number = accepted; place = place₁ }) Option.none ∷ (lowered ++ answers))
+  onward : (place₁ place₂ : ℕ) (between answers : List Answered) → PassedBy between → PiecesAnswer number in_run place₂ answers
+      → PiecesAnswer number in_run (place₁ + place₂) (Answered.read_as (record { number = accepted; place = place₁ }) Option.none ∷ (between ++ answers))
 
 pub data Gathered : List Answered → List Answered → Type 0 where
   done : Gathered [] []
   tape : {a : Answer} {in_run : Option ℕ} (pieces : List Answered) {jobs : List Answered} (calls : List Answered) → PiecesAnswer a.number in_run a.place pieces → Gathered jobs calls
       → Gathered (Answered.read_as a in_run ∷ jobs) (pieces ++ calls)
   lowering : {a : Answered} {jobs calls : List Answered} → is_lowered a ≡ true → Gathered jobs calls → Gathered (a ∷ jobs) (a ∷ calls)
-  too_long : {jobs calls : List Answered} → Gathered jobs calls → Gathered jobs (Answered.read_as (record { number = bad_length; place = 0 }) Option.none ∷ calls)
+  too_long : {jobs calls : List Answered} → Gathered jobs calls → Gathered jobs (met_one ∷ calls)
 
 pub record CutAlike (lent : Lengths) (jobs : Ended) (calls : Ran) : Type 0 where
   pub answers : Gathered jobs.answers calls.answers

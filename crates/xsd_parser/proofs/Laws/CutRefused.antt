@@ -152,3 +152,43 @@ whole-front (suc f) (suc g) text m₁ m₂ h k w =
 pub whole-records : (text : Text) (m₁ m₂ : List ℕ) → whole_records text m₁ ≡ true → (js : List Judged) × (records text (m₁ ++ m₂) ≡ records text m₁ ++ js)
 unfolding records whole_records Front
 whole-records text m₁ m₂ w = whole-front (length m₁) (length (m₁ ++ m₂)) text m₁ m₂ (omega arith) (rw (length-append m₁ m₂) (omega arith)) w
+
+-- ---- marks that are whole, from a place behind some events
+
+-- what is whole under a fuel that reaches the end is whole under any
+pub whole-fuel : (f g : ℕ) (text : Text) (marks : List ℕ) → length marks ≤ f → whole_from f text marks ≡ true → whole_from g text marks ≡ true
+unfolding whole_from cut_short record1
+whole-fuel f zero text marks h w = refl
+whole-fuel zero (suc g) text marks h w = rw (none-of-length marks h)
+whole-fuel (suc f) (suc g) text marks h w =
+    record-cases text marks
+    (λ q. rw (finished-empty text marks q))
+    (λ k q. rw (whole-first f text marks w, q))
+    (λ e rest q.
+    let l = next-shorter text marks e rest q in
+    rw (whole-first f text marks w, q) (whole-fuel f g text rest (omega arith) (whole-rest f text marks e rest q w)))
+
+whole-behind-none : (g : ℕ) (text : Text) (m₁ m₂ : List ℕ) → m₁ ≡ [] → length m₁ + length m₂ ≤ g → whole_from g text (m₁ ++ m₂) ≡ true → whole_from (length m₂) text m₂ ≡ true
+whole-behind-none g text m₁ m₂ z k w =
+    let shorter : length m₂ ≤ g = omega (arith, k) in
+    let rest : whole_from g text m₂ ≡ true = rw z at w in
+    whole-fuel g (length m₂) text m₂ shorter rest
+
+whole-behind_from : (f g : ℕ) (text : Text) (m₁ m₂ : List ℕ) → length m₁ ≤ f → length m₁ + length m₂ ≤ g → all_events (records_from f text m₁) ≡ true
+    → whole_from g text (m₁ ++ m₂) ≡ true → whole_from (length m₂) text m₂ ≡ true
+whole-behind_from zero g text m₁ m₂ h k a w = whole-behind-none g text m₁ m₂ (none-of-length m₁ h) k w
+whole-behind_from (suc f) zero text m₁ m₂ h k a w = whole-behind-none zero text m₁ m₂ (none-of-length m₁ (omega arith)) k w
+whole-behind_from (suc f) (suc g) text m₁ m₂ h k a w =
+    record-cases text m₁
+    (λ q. whole-behind-none (suc g) text m₁ m₂ (finished-empty text m₁ q) k w)
+    (λ j q. absurd (events-not-bad f text m₁ j q a))
+    (λ e rest q.
+    let l = next-shorter text m₁ e rest q in
+    whole-behind_from f g text rest m₂ (omega arith) (omega arith) (events-rest f text m₁ e rest q a)
+    (whole-rest g text (m₁ ++ m₂) e (rest ++ m₂) (next-longer text m₁ m₂ e rest q) w))
+
+-- where whole marks begin with records that are all events, those behind them are whole
+pub whole-behind : (text : Text) (m₁ m₂ : List ℕ) → all_events (records text m₁) ≡ true → whole_records text (m₁ ++ m₂) ≡ true → whole_records text m₂ ≡ true
+unfolding records whole_records
+whole-behind text m₁ m₂ a w =
+    whole-behind_from (length m₁) (length (m₁ ++ m₂)) text m₁ m₂ (omega arith) (rw (length-append m₁ m₂) (omega arith)) a w
