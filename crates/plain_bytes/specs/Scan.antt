@@ -1,5 +1,6 @@
 -- What a run of bytes is, and what passing over one means.
---     is_text_run, is_value_run, is_comment_run    the bytes that text, an attribute's value and a comment hold with nothing to look at
+--     is_text_run, is_value_run, is_comment_run, is_section_run
+--              the bytes that text, an attribute's value, a comment and a section hold with nothing to look at
 --     Skips    every byte from one place of a text up to another is inside the text and of the class
 use Rattle.std.specs.Prelude.{ℕ, ◌≤◌, ◌<◌, ◌≡◌, List, Bool, true, ◌&&◌, ◌||◌, not, eqb, ltb, leb, length, get_or}
 use Rattle.text.specs.Text.{between}
@@ -19,6 +20,10 @@ is_value_run b = between 40 127 b && not (eqb b 60)
 -- a plain byte that is no `-`
 unfoldable pub is_comment_run : ℕ → Bool
 is_comment_run b = is_plain b && not (eqb b 45)
+
+-- a plain byte that is no `]`
+unfoldable pub is_section_run : ℕ → Bool
+is_section_run b = is_plain b && not (eqb b 93)
 
 -- from the place `at` up to the place r of s there are only bytes of s that pass the test
 pub record Skips (p : ℕ → Bool) (s : List ℕ) (at r : ℕ) : Type 0 where

@@ -44,3 +44,7 @@ value_stops u x = stops u (bit_and (x + 88 * u) (others 60 u x))
 -- the same of a comment's run
 unfoldable pub comment_stops : ℕ → ℕ → ℕ
 comment_stops u x = stops u (bit_and (others 45 u x) (plains u x))
+
+-- the same of a section's
+unfoldable pub section_stops : ℕ → ℕ → ℕ
+section_stops u x = stops u (bit_and (others 93 u x) (plains u x))

@@ -4,9 +4,9 @@
 
 ghost use Rattle.std.specs.Prelude.{ℕ, Bool, ◌≡◌, ◌+◌, ◌*◌, ◌/◌, ◌^◌, ◌≤◌, ◌<◌, length};
 ghost use Rattle.std.specs.Int.Count.{count_trailing_zeros};
-ghost use Rattle.plain_bytes.specs.Scan.{is_text_run, is_value_run, is_comment_run, Skips};
-ghost use Rattle.plain_bytes.specs.Words.{WordAt, ones, others, plains, stops, text_stops, value_stops, comment_stops};
-ghost use Rattle.plain_bytes.specs.Laws.Finds.{Finds, text-finds, value-finds, comment-finds};
+ghost use Rattle.plain_bytes.specs.Scan.{is_text_run, is_value_run, is_comment_run, is_section_run, Skips};
+ghost use Rattle.plain_bytes.specs.Words.{WordAt, ones, others, plains, stops, text_stops, value_stops, comment_stops, section_stops};
+ghost use Rattle.plain_bytes.specs.Laws.Finds.{Finds, text-finds, value-finds, comment-finds, section-finds};
 
 // The same byte eight times: 1, and bit 7 alone.
 const ONES: u64 = 0x0101010101010101;
@@ -105,6 +105,22 @@ impl Run for CommentRun {
     #[tactic(auto, unfolding(crate::specs::Words::comment_stops))]
     fn stops(x: u64) -> u64 {
         stops(others(x, 45) & plains(x))
+    }
+}
+
+// The same of a section.
+pub struct SectionRun;
+
+impl Run for SectionRun {
+    ghost is_in = { is_section_run };
+
+    ghost stops_of = { section_stops };
+
+    ghost finds = { section-finds };
+
+    #[tactic(auto, unfolding(crate::specs::Words::section_stops))]
+    fn stops(x: u64) -> u64 {
+        stops(others(x, 93) & plains(x))
     }
 }
 

@@ -1,5 +1,5 @@
 // The printing program's work (paper 01, "Specimens"): a tape is cleared, read and lowered, and what came of it is printed.
-// Allocator and writer are arguments of their own, as in replay.
+// What prints has its buffers on the stack: it asks for no memory, so that it fails where the writer does, and to standard output not at all.
 #![tactic(auto)]
 
 ghost use Rattle.std.specs.Prelude.{◌≡◌, ◌+◌, ◌<◌, ◌≤◌, length, take, drop, MatchOption, OnOk, IfOk, replicate};
@@ -12,8 +12,10 @@ ghost use Rattle.printing.specs.Print.{answer_text, lowered_text, made_text, Wor
 
 use program::buffers::Buffers;
 use program::print;
+use program::stdout::Stdout;
 use rows::answers::{Answer, told};
 use rows::numbers::wide;
+use sheet::limits::MARKS;
 use std::alloc::{AllocError, Global};
 use std::io;
 use std::io::Write;
@@ -62,23 +64,23 @@ fn put_answer<W: Write>(out: &mut W, word: &str, answer: Answer) -> io::Result<(
 }
 
 // The answer of lowering, and the graph where it is lowered.
-fn put_lowered<W: Write>(out: &mut W, lowered: Answer, graph: &Buffers) -> io::Result<()>
-    ensures { OnOk result (Appends (W.contents out.old) (W.contents out.new) (lowered_text lowered (sheet graph.now.rows.items graph.now.names.items))) }
+fn put_lowered<W: Write>(out: &mut W, lowered: Answer, rows: &[u32], names: &[u8]) -> io::Result<()>
+    ensures { OnOk result (Appends (W.contents out.old) (W.contents out.new) (lowered_text lowered (sheet rows.now names.now))) }
 {
     put_answer(out, "lower", lowered)?;
     match lowered {
-        Ok(_) => print::write_sheet(out, &graph.rows, &graph.names),
+        Ok(_) => print::write_sheet(out, rows, names),
         Err(_) => Ok(()),
     }
 }
 
 // The two answers and the graph. A refusal prints its line and stops.
-fn put_made<W: Write>(out: &mut W, made: Made, graph: &Buffers) -> io::Result<()>
-    ensures { OnOk result (Appends (W.contents out.old) (W.contents out.new) (made_text made.read made.lowered (sheet graph.now.rows.items graph.now.names.items))) }
+fn put_made<W: Write>(out: &mut W, made: Made, rows: &[u32], names: &[u8]) -> io::Result<()>
+    ensures { OnOk result (Appends (W.contents out.old) (W.contents out.new) (made_text made.read made.lowered (sheet rows.now names.now))) }
 {
     put_answer(out, "read", made.read)?;
     match made.read {
-        Ok(_) => put_lowered(out, made.lowered, graph),
+        Ok(_) => put_lowered(out, made.lowered, rows, names),
         Err(_) => Ok(()),
     }
 }
@@ -110,16 +112,29 @@ pub fn graph_of(alloc: Global, text: &[u8], marks: &[u32]) -> Result<(Made, Buff
 }
 
 // Prints what comes of a tape.
-pub fn write_tape<W: Write>(
-    alloc: Global,
-    out: &mut W,
-    text: &[u8],
-    marks: &[u32],
-) -> io::Result<()>
+pub fn write_tape<W: Write>(out: &mut W, text: &[u8], marks: &[u32]) -> io::Result<()>
     ensures { OnOk result (TapePrinted text.now marks.now (W.contents out.old) (W.contents out.new)) }
 {
-    let (made, graph) = graph_of(alloc, text, marks)?;
-    put_made(out, made, &graph)
+    let mut rows = [0; ROWS];
+    let mut names = [0; NAMES];
+    let mut graph_rows = [0; ROWS];
+    let mut graph_names = [0; NAMES];
+    let mut scratch = [0; SCRATCH];
+    let made = work(
+        &mut rows,
+        &mut names,
+        text,
+        marks,
+        &mut graph_rows,
+        &mut graph_names,
+        &mut scratch,
+    );
+    put_made(out, made, &graph_rows, &graph_names)
+}
+
+// The same to standard output.
+pub fn put_tape(text: &[u8], marks: &[u32]) {
+    let _ = write_tape(&mut Stdout, text, marks);
 }
 
 // The number of four bytes from a place on, the first of them the lowest, where all four are there.
@@ -173,45 +188,44 @@ fn input_of(input: &[u8]) -> Input
     }
 }
 
-// The numbers of so many times four bytes, the first of each four the lowest. A count, since what is read may be longer than the marks.
-#[tactic(auto, unfolding(crate::specs::Print::numbers_of))]
-fn numbers_of(alloc: Global, bytes: &[u8], count: usize) -> Result<Vec<u32>, AllocError>
-    ensures { IfOk result (λ numbers. numbers.items ≡ numbers_of count bytes.now) }
+// The numbers of so many times four bytes, the first of each four the lowest, read into the space. A count, since what is read may be longer than the marks.
+fn numbers_of<'a>(bytes: &[u8], count: usize, space: &'a mut [u32]) -> &'a [u32]
+    requires { count ≤ length space.old }
+    ensures { result.now ≡ numbers_of count bytes.now }
 {
     let (fours, _) = bytes.as_chunks();
-    fours
-        .iter()
-        .take(count)
-        .map(|four| u32::from_le_bytes(*four))
-        .collect(alloc)
+    let count = fours.len().min(count);
+    for at in 0..count {
+        space[at] = u32::from_le_bytes(fours[at]);
+    }
+    &space[..count]
 }
 
 // The text and the marks of so many bytes and numbers behind the header.
-fn put_behind<W: Write>(
-    alloc: Global,
-    out: &mut W,
-    input: &[u8],
-    text: usize,
-    marks: usize,
-) -> io::Result<()>
-    requires { 8 + text ≤ length input.now }
+fn put_behind<W: Write>(out: &mut W, input: &[u8], text: usize, marks: usize) -> io::Result<()>
+    requires { (8 + text ≤ length input.now) × (marks ≤ 16384) }
     ensures { OnOk result (TapePrinted (take text (drop 8 input.now)) (numbers_of marks (drop text (drop 8 input.now))) (W.contents out.old) (W.contents out.new)) }
 {
     let (_, behind) = input.split_at(8);
     let (text, numbers) = behind.split_at(text);
-    let marks = numbers_of(alloc, numbers, marks)?;
-    write_tape(alloc, out, text, &marks)
+    let mut space = [0; MARKS];
+    write_tape(out, text, numbers_of(numbers, marks, &mut space))
 }
 
 // Prints what the program prints for its input.
-pub fn write_input<W: Write>(alloc: Global, out: &mut W, input: &[u8]) -> io::Result<()>
+pub fn write_input<W: Write>(out: &mut W, input: &[u8]) -> io::Result<()>
     ensures { OnOk result (InputPrinted input.now (W.contents out.old) (W.contents out.new)) }
 {
     match input_of(input) {
         Input::TooLong => writeln!(out, "read 1 0"),
         Input::Short => writeln!(out, "short"),
-        Input::Tape(text, marks) => put_behind(alloc, out, input, text, marks),
+        Input::Tape(text, marks) => put_behind(out, input, text, marks),
     }
+}
+
+// The same to standard output.
+pub fn put_input(input: &[u8]) {
+    let _ = write_input(&mut Stdout, input);
 }
 
 #[cfg(test)]

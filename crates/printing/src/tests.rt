@@ -15,11 +15,11 @@ fn calls_succeed(rt: HostRuntime) -> Result<(), Fail> {
     assert!(rt; made.read.is_ok() & made.lowered.is_ok());
     assert_eq!(rt; graph.rows.get(1).copied(), Some(3));
     let mut out = Vec::new(rt.alloc());
-    write_tape(rt.alloc(), &mut out, TEXT, &MARKS)?;
+    write_tape(&mut out, TEXT, &MARKS)?;
     assert_eq!(rt; out.as_slice(), PRINTED);
     let mut out = Vec::new(rt.alloc());
-    write_input(rt.alloc(), &mut out, b"")?;
-    write_input(rt.alloc(), &mut out, b"\0\0\0\0\0\0\0\0")?;
+    write_input(&mut out, b"")?;
+    write_input(&mut out, b"\0\0\0\0\0\0\0\0")?;
     assert_eq!(rt; out.as_slice(), b"short\nread 0 0\nlower 12 0\n".as_slice());
     Ok(())
 }

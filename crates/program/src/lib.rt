@@ -6,5 +6,10 @@ pub mod input;
 pub mod lines;
 pub mod numbers;
 pub mod print;
+pub mod run;
+pub mod stdout;
 #[cfg(test)]
 mod tests;
+
+// The file of standard output.
+pub const STDOUT_FILENO: i32 = 1;

@@ -4,6 +4,7 @@ ghost use Rattle.std.specs.Io.KnownBytes.{Appends};
 ghost use Rattle.sheet.specs.Calls.{sheet};
 ghost use Rattle.program.specs.Print.{gap, numbers_text, rows_text, used_names, names_text, sheet_text};
 
+use crate::stdout::Stdout;
 use rows::numbers::wide;
 use sheet::limits::ROW;
 use std::io;
@@ -58,4 +59,9 @@ pub fn write_sheet<W: Write>(out: &mut W, rows: &[u32], names: &[u8]) -> io::Res
 {
     put_rows(out, rows, wide(mark_at(rows, 1)))?;
     put_names(out, names, wide(mark_at(rows, 2)))
+}
+
+// The same to standard output.
+pub fn put_sheet(rows: &[u32], names: &[u8]) {
+    let _ = write_sheet(&mut Stdout, rows, names);
 }

@@ -52,7 +52,7 @@ pub fn write_printed<W: Write>(alloc: Global, out: &mut W, line: &[u8]) -> io::R
     let case = case_of(alloc, line)?;
     case.put_label(out)?;
     match line {
-        [b't', ..] => printing::write_tape(alloc, out, case.text, &case.numbers),
-        _ => printing::write_input(alloc, out, &bytes_of(alloc, &case.numbers)?),
+        [b't', ..] => printing::write_tape(out, case.text, &case.numbers),
+        _ => printing::write_input(out, &bytes_of(alloc, &case.numbers)?),
     }
 }

@@ -19,9 +19,10 @@ fn put_event<W: Write>(out: &mut W, t: TagRecord) -> io::Result<()> {
         pairs,
         next,
     } = t;
-    match kind {
-        Kind::Close => write!(out, "close {next}"),
-        _ => write!(out, "tag {} {count} {pairs} {next}", kind as u32),
+    if kind == Kind::Close as u32 {
+        write!(out, "close {next}")
+    } else {
+        write!(out, "tag {kind} {count} {pairs} {next}")
     }
 }
 
@@ -53,13 +54,11 @@ fn value_under<'a>(seen: SeenTag<'a, '_>, word: &[u8]) -> Option<&'a [u8]> {
 fn tag_value<'a>(v: View<'a, '_>, t: TagRecord, word: &[u8]) -> Option<&'a [u8]>
     requires { EventPlaced v.text.now v.marks.now 0 t }
 {
-    match t.kind {
-        Kind::Start | Kind::Empty => {
-            let own = event_marks(v.marks, t.pairs, t.count);
-            value_under(in_view(v.text, own, t.count), word)
-        }
-        Kind::Close => None,
+    if t.kind == Kind::Close as u32 {
+        return None;
     }
+    let own = event_marks(v.marks, t.pairs, t.count);
+    value_under(in_view(v.text, own, t.count), word)
 }
 
 // The same in the first record, where it is a tag that is not refused.

@@ -4,10 +4,10 @@
 
 use builtin::Builtin;
 use names::snake;
-use program::{input, lines};
+use program::{lines, run};
 use std::alloc::Global;
 use std::io;
-use std::io::{BufWriter, Write};
+use std::io::Write;
 
 // How much of the input is read, and the room for a name that is written.
 const LONGEST: u64 = 4096;
@@ -88,16 +88,7 @@ fn put_lines<W: Write>(alloc: Global, out: &mut W, input: &[u8]) -> io::Result<(
     Ok(())
 }
 
-// What cannot be read is nothing, and what cannot be written is passed over by main: the program then ends as it does with all read and written. The same calls in each program: only the
-// limit and the function called differ. One function would take both, a closure over allocator, writer and input among them, for four calls.
-fn run(rt: HostRuntime) -> io::Result<()> {
-    let read = input::read_input(rt.alloc(), rt.reader(), LONGEST);
-    let input = read.unwrap_or(Vec::new(rt.alloc()));
-    let mut out = BufWriter::new(rt.alloc(), io::writer(&rt))?;
-    put_lines(rt.alloc(), &mut out, &input)?;
-    out.flush()
-}
-
+// What cannot be written is passed over: the program ends as it does where all is written.
 fn main(rt: HostRuntime) {
-    let _ = run(rt);
+    let _ = run::on_input(rt.alloc(), rt.reader(), LONGEST, io::writer(&rt), put_lines);
 }

@@ -13,7 +13,7 @@ use Rattle.sheet.specs.Limits.{attributes_limit}
 use Rattle.sheet.specs.declared.refusal.Refusal.{Refusal}
 use Rattle.sheet.specs.Returned.{refusal_number}
 use Rattle.xsd_parser.specs.Event.{Event}
-use Rattle.xsd_parser.specs.Kinds.{close_kind, kind_number}
+use Rattle.xsd_parser.specs.Kinds.{close_kind}
 use Rattle.xsd_parser.specs.Tape.{Recorded, record1, tag_record, pairs_of, pair_count, event_of}
 use Rattle.tape.specs.Pairs.{TagInside, tag_at}
 use Rattle.tape.specs.declared.TagRecord.{TagRecord}
@@ -21,9 +21,9 @@ use Rattle.tape.specs.declared.TagRecord.{TagRecord}
 -- "Kind 1 start, 2 empty, 3 close; a close is just `3 0`."
 unfoldable pub record_event : Text → List ℕ → TagRecord → Event
 record_event text marks t =
-    if eqb (kind_number t.kind) close_kind
+    if eqb t.kind close_kind
     then Event.close
-    else event_of (kind_number t.kind) (tag_at text marks t.pairs t.count)
+    else event_of t.kind (tag_at text marks t.pairs t.count)
 
 unfoldable pub recorded : Text → List ℕ → Result (Option TagRecord) Refusal → Recorded
 recorded text marks (Ok None) = Recorded.finished
@@ -38,7 +38,7 @@ pub record TagPlaced (text : Text) (marks : List ℕ) (t : TagRecord) : Type 0 w
 pub record EventPlaced (text : Text) (marks : List ℕ) (at : ℕ) (t : TagRecord) : Type 0 where
   pub later : at < t.next
   pub within : t.next ≤ length marks
-  pub tag : (kind_number t.kind ≡ close_kind → ⊥) → TagPlaced text marks t
+  pub tag : (t.kind ≡ close_kind → ⊥) → TagPlaced text marks t
 
 unfoldable pub IsPlaced : Text → List ℕ → ℕ → Result (Option TagRecord) Refusal → Type 0
 IsPlaced text marks at (Ok None) = Unit

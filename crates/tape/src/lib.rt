@@ -12,8 +12,7 @@ pub mod words;
 ghost use Rattle.std.specs.Prelude.{◌≡◌, true, ◌+◌, ◌*◌, ◌≤◌, length};
 ghost use Rattle.text.specs.Text.{is_plain};
 ghost use Rattle.sheet.specs.Limits.{attributes_limit};
-ghost use Rattle.xsd_parser.specs.Kinds.{close_kind, kind_number};
-ghost use Rattle.xsd_parser.specs.declared.kinds.Kind.{Kind};
+ghost use Rattle.xsd_parser.specs.Kinds.{close_kind};
 ghost use Rattle.xsd_parser.specs.Tape.{pair_count};
 ghost use Rattle.tape.specs.Answers.{RecordAt, TagAnswer};
 
@@ -23,10 +22,10 @@ use sheet::refusal::Refusal;
 use xsd_parser::kinds::Kind;
 
 // An accepted record: its kind, its number of attributes, of which a close has none, where its pairs start in the marks (the first is the
-// name's) and where the next record starts.
+// name's) and where the next record starts. The kind is a number, as the marks hold it: `on_event` of xsd_read takes any.
 #[derive(Clone, Copy)]
 pub struct TagRecord {
-    pub kind: Kind,
+    pub kind: u32,
     pub count: usize,
     pub pairs: usize,
     pub next: usize,
@@ -36,13 +35,13 @@ pub struct TagRecord {
 fn tag_at(
     v: View<'_, '_>,
     at: usize,
-    kind: Kind,
+    kind: u32,
     count: usize,
     plain: bool,
 ) -> Result<TagRecord, Refusal>
-    requires fact { (kind_number kind ≡ close_kind → ⊥) × (count ≤ attributes_limit) × (at + 2 + 2 * pair_count count ≤ length v.marks.now) }
+    requires fact { (kind ≡ close_kind → ⊥) × (count ≤ attributes_limit) × (at + 2 + 2 * pair_count count ≤ length v.marks.now) }
     requires text_value { plain ≡ true → is_plain v.text.now ≡ true }
-    ensures { TagAnswer v.entry.text.now v.entry.marks.now at (kind_number kind) count result }
+    ensures { TagAnswer v.entry.text.now v.entry.marks.now at kind count result }
 {
     let pairs = at + 2;
     let n = 1 + 2 * count;
@@ -63,10 +62,10 @@ fn tag_at(
 
 // The record of a close before a place of the marks.
 fn closed(next: usize) -> TagRecord
-    ensures { result ≡ record { kind = Kind.Close; count = 0; pairs = next; next = next } }
+    ensures { result ≡ record { kind = close_kind; count = 0; pairs = next; next = next } }
 {
     TagRecord {
-        kind: Kind::Close,
+        kind: Kind::Close as u32,
         count: 0,
         pairs: next,
         next,
@@ -88,17 +87,14 @@ pub fn record_at(v: View<'_, '_>, at: usize, plain: bool) -> Result<Option<TagRe
     if left < 2 {
         return Err(Refusal::BadRecord);
     }
+    let kind = marks[at];
     let count = wide(marks[at + 1]);
-    if !form::has_form(marks[at], count, left - 2) {
+    if !form::has_form(kind, count, left - 2) {
         return Err(Refusal::BadRecord);
     }
-    // Turned again: `has_form` says whether, and not which kind.
-    let kind = Kind::try_from(marks[at])?;
-    match kind {
-        Kind::Start | Kind::Empty => {
-            let tag = tag_at(v, at, kind, count, plain)?;
-            Ok(Some(tag))
-        }
-        Kind::Close => Ok(Some(closed(at + 2))),
+    if kind == Kind::Close as u32 {
+        return Ok(Some(closed(at + 2)));
     }
+    let tag = tag_at(v, at, kind, count, plain)?;
+    Ok(Some(tag))
 }

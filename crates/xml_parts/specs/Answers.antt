@@ -5,10 +5,11 @@
 --     stopped        what a value's last byte, or the end of a text without one, says of where the value ends; held: of whether it may stand whole between quotes
 --     matched        a name that is the name at another place
 --     body_of        the step of a `Body`
-use Rattle.std.specs.Prelude.{ℕ, ◌+◌, ◌/◌, ◌%◌, ◌^◌, List, [], ◌∷◌, Bool, false, Option, Some, None, length, drop, eqb, ltb, leb, if◌then◌else◌}
+--     Before        bytes that may be passed over before a word
+use Rattle.std.specs.Prelude.{ℕ, ◌+◌, ◌/◌, ◌%◌, ◌^◌, ◌<◌, ◌≡◌, List, [], ◌∷◌, Bool, true, false, Option, Some, None, length, get_or, drop, eqb, ltb, leb, if◌then◌else◌}
 use Rattle.text.specs.Text.{Text, is_digit, same}
 use Rattle.text.specs.Trim.{is_white_space}
-use Rattle.xml.specs.Classes.{is_letter, is_name_start, is_name, is_encoding}
+use Rattle.xml.specs.Classes.{is_char, is_letter, is_name_start, is_name, is_encoding}
 use Rattle.xml.specs.Steps.{Step, bad, behind, name, name_of}
 use Rattle.xml.specs.Values.{is_in_text, is_in_value}
 use Rattle.xml.specs.Prolog.{version_number, encoding_name, yes_or_no}
@@ -60,3 +61,9 @@ abbrev pub body_of : Body → ℕ → Text → Step
 body_of Body.Version = version_number
 body_of Body.Encoding = encoding_name
 body_of Body.Standalone = yes_or_no
+
+-- bytes that may be passed over before a word: characters, none of which begins it
+pub record Before (p : ℕ → Bool) (word : Text) : Type 0 where
+  pub some : 0 < length word
+  pub chars : (b : ℕ) → p b ≡ true → is_char b ≡ true
+  pub others : (b : ℕ) → p b ≡ true → eqb b (get_or word 0 0) ≡ false

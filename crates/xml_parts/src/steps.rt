@@ -1,13 +1,13 @@
 // Steps over a text: words, runs of a class, names, and the marked parts that give no event.
-ghost use Rattle.std.specs.Prelude.{◌≡◌, length, drop, is_some, IfSome};
+ghost use Rattle.std.specs.Prelude.{◌≡◌, ◌≤◌, length, drop, is_some, IfSome};
 ghost use Rattle.xml.specs.Classes.{is_name};
 ghost use Rattle.text.specs.Text.{bytes, same};
 ghost use Rattle.xml.specs.Steps.{behind, starts_with, literal, many, one_then, spaces, name, name_of, until, comment, target, instruction_end, instruction, section};
 ghost use Rattle.xml.specs.Grammar.{is_xml};
-ghost use Rattle.xml_parts.specs.Answers.{class_of, moved, matched};
+ghost use Rattle.xml_parts.specs.Answers.{Before, class_of, moved, matched};
 
 use crate::classes::{Class, Classes, is_char};
-use plain_bytes::{CommentRun, skip};
+use plain_bytes::{CommentRun, Run, SectionRun, skip};
 
 // Whether the word stands at a position. By hand: with the library's `starts_with` the tape took 2 to 15 hundredths more instructions (the bar: the tape is
 // no slower in compare/CALLS.md).
@@ -73,11 +73,31 @@ pub fn one_then(
     Some(many(classes, text, at + 1, class))
 }
 
-#[tactic(auto, unfolding(xml::specs::Steps::name))]
+// Behind the characters of a name that stand at a position, eight at a time with one test of the length. A `while`, as in `plain_bytes::skip`. Inlined: a call for
+// each name took as many instructions as the eight save.
+#[inline(always)]
+fn name_end(classes: &Classes, text: &[u8], at: usize) -> usize
+    requires { at ≤ length text.now }
+    ensures { behind result (drop result text.now) ≡ many is_name at (drop at text.now) }
+{
+    let mut i = at;
+    while 8 <= text.len() - i {
+        match text[i..i + 8].iter().position(|b| !classes.is_name(*b)) {
+            Some(k) => return i + k,
+            None => i += 8,
+        }
+    }
+    many(classes, text, i, Class::Name)
+}
+
+#[inline(always)]
 pub fn name(classes: &Classes, text: &[u8], at: usize) -> Option<usize>
     ensures { moved text.now result ≡ name at (drop at text.now) }
 {
-    one_then(classes, text, at, Class::NameStart, Class::Name)
+    if !classes.in_class(Class::NameStart, *text.get(at)?) {
+        return None;
+    }
+    Some(name_end(classes, text, at + 1))
 }
 
 // Behind the name at `a`, where the name at `b` is the same.
@@ -128,11 +148,22 @@ pub fn until(text: &[u8], at: usize, word: &[u8]) -> Option<usize>
     None
 }
 
-// Behind the first `--`, over the bytes before it eight at a time as far as they need no look.
-fn comment_text(text: &[u8], at: usize) -> Option<usize>
-    ensures { moved text.now result ≡ until (bytes "--") at (drop at text.now) }
+// The same over the bytes of a run, which neither begin the word nor need a look, eight at a time. A `while`: each turn goes on behind a run of any length.
+fn until_over<R: Run>(text: &[u8], at: usize, word: &[u8]) -> Option<usize>
+    requires { Before R.is_in word.now }
+    ensures { moved text.now result ≡ until word.now at (drop at text.now) }
 {
-    until(text, skip::<CommentRun>(text, at), b"--")
+    let mut i = skip::<R>(text, at);
+    while i < text.len() {
+        if starts(text, i, word) {
+            return Some(i + word.len());
+        }
+        if !is_char(text[i] as u32) {
+            return None;
+        }
+        i = skip::<R>(text, i + 1);
+    }
+    None
 }
 
 #[tactic(auto, unfolding(xml::specs::Steps::comment, text::specs::Text::bytes))]
@@ -140,7 +171,7 @@ pub fn comment(text: &[u8], at: usize) -> Option<usize>
     ensures { moved text.now result ≡ comment at (drop at text.now) }
 {
     let inside = literal(text, at, b"<!--")?;
-    let end = comment_text(text, inside)?;
+    let end = until_over::<CommentRun>(text, inside, b"--")?;
     literal(text, end, b">")
 }
 
@@ -186,7 +217,7 @@ pub fn section(text: &[u8], at: usize) -> Option<usize>
     ensures { moved text.now result ≡ section at (drop at text.now) }
 {
     let inside = literal(text, at, b"<![CDATA[")?;
-    until(text, inside, b"]]>")
+    until_over::<SectionRun>(text, inside, b"]]>")
 }
 
 // Behind the name at a position, where it is the name at another one.

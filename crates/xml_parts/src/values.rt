@@ -85,7 +85,9 @@ pub fn value_run(classes: &Classes, text: &[u8], at: usize) -> usize
     many(classes, text, skip::<ValueRun>(text, at), Class::InValue)
 }
 
-// The place of the quote that ends a value, or the end of a text without one.
+// The place of the quote that ends a value, or the end of a text without one. Inlined: called from `value_end` and `is_value`, it made the tape a tenth longer in
+// the whole library.
+#[inline(always)]
 fn value_stop(classes: &Classes, text: &[u8], at: usize, quote: u8) -> Option<usize>
     requires { is_quote quote ≡ true }
     ensures ends { stopped text.now result ≡ value_end quote at (drop at text.now) }

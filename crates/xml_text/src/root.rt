@@ -6,7 +6,7 @@ ghost use Rattle.xml.specs.Steps.{starts_with};
 ghost use Rattle.xml.specs.Tags.{tag};
 ghost use Rattle.xml_text.specs.Answers.{next_piece, PieceIn, names_up_to, GoesOn, IsRoot};
 
-use crate::marks::put;
+use crate::marks::put_two;
 use crate::onward::Onward;
 use crate::tags::tag;
 use xml_parts::classes::Classes;
@@ -94,8 +94,7 @@ fn close_tag(
     let top = slots[here.count - 1] as usize;
     let end = matched_name(classes, text, start, top)?;
     let behind = literal(text, spaces(classes, text, end), b">")?;
-    put(marks, here.used, Kind::Close as u32);
-    put(marks, here.used + 1, 0);
+    put_two(marks, here.used, Kind::Close as u32, 0);
     Some(Onward {
         count: here.count - 1,
         used: here.used + 2,

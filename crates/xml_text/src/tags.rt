@@ -7,7 +7,7 @@ ghost use Rattle.xml.specs.Tags.{attribute, part_of, attribute_from, attributes,
 ghost use Rattle.xml.specs.Grammar.{is_among};
 ghost use Rattle.xml_text.specs.Answers.{next_part, PartIn, names_up_to, EndsTag, IsTag};
 
-use crate::marks::{put, put_pair};
+use crate::marks::{put_pair, put_two};
 use xml_parts::classes::Classes;
 use xml_parts::prolog::eq;
 use xml_parts::steps::{literal, name, same_name, spaces, starts};
@@ -153,8 +153,7 @@ pub fn tag(
     let start = literal(text, at, b"<")?;
     let end = name(classes, text, start)?;
     let last = attributes(classes, text, end, keys, marks, used + 4)?;
-    put(marks, used, last.kind as u32);
-    put(marks, used + 1, last.count as u32);
+    put_two(marks, used, last.kind as u32, last.count as u32);
     put_pair(marks, used + 2, start, end);
     Some(WholeTag {
         kind: last.kind,

@@ -5,22 +5,25 @@
 pub mod needs;
 pub mod put;
 
-ghost use Rattle.std.specs.Prelude.{Ok};
 ghost use Rattle.xsd_actions.specs.Answers.{decision};
 ghost use Rattle.xsd_act.specs.Acts.{ActRoom, Done};
 
 use crate::put::{add_row, open_type, put_content};
 use rows::writer::SheetWriter;
+use sheet::refusal::Refusal;
 use xsd_actions::Decision;
 use xsd_replace::spot::replace_text;
 use xsd_types::tags;
 
 // Does what was decided to the sheet. The target namespace is the first text of row 1, the base the second of the head; a simple type that is opened has a
-// base that is still empty.
-pub fn act(sheet: &mut SheetWriter, head: usize, d: Decision)
-    requires { ActRoom sheet.old head (decision (Ok d)) }
-    ensures { Done sheet.old head (decision (Ok d.entry)) sheet.new }
+// base that is still empty. A refusal can be handed on too, as to `needed` (docs/DECISIONS.md, 196).
+pub fn act(sheet: &mut SheetWriter, head: usize, d: Result<Decision, Refusal>)
+    requires { ActRoom sheet.old head (decision d) }
+    ensures { Done sheet.old head (decision d.entry) sheet.new }
 {
+    let Ok(d) = d else {
+        return;
+    };
     match d {
         Decision::Keep => {}
         Decision::Root(namespace) => replace_text(sheet, 1, 0, namespace),

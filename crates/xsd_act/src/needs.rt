@@ -1,6 +1,6 @@
 // How many rows and bytes of names a schema sheet uses after a decision is done to it, so that the
 // caller asks for room before anything is stored.
-ghost use Rattle.std.specs.Prelude.{◌≡◌, ◌^◌, ◌≤◌, ◌<◌, length, Ok};
+ghost use Rattle.std.specs.Prelude.{◌≡◌, ◌^◌, ◌≤◌, ◌<◌, length};
 ghost use Rattle.text.specs.Text.{join};
 ghost use Rattle.sheet.specs.Limits.{names_limit};
 ghost use Rattle.xsd_parser.specs.Handlers.{ok};
@@ -11,6 +11,7 @@ ghost use Rattle.xsd_act.specs.Ready.{ReadyFor};
 ghost use Rattle.xsd_act.specs.Needs.{Small, RowNeeded, HeadSeen, HeadNeeded, TextSeen, TextNeeded, Needed};
 
 use rows::numbers::Used;
+use sheet::refusal::Refusal;
 use xsd_actions::{Decision, NewContent, NewRow};
 use xsd_replace::head::name_end;
 use xsd_replace::spot::text_length;
@@ -39,7 +40,10 @@ fn needed_row(used: Used, n: NewRow) -> Used
     requires { used.rows ≤ 4096 }
     ensures { RowNeeded used (length (join (new_row n.entry).texts)) result }
 {
-    with_row(used, n.first.len() + bytes_of(n.second))
+    match n.first {
+        Some(first) => with_row(used, first.len() + bytes_of(n.second)),
+        None => with_row(used, 0),
+    }
 }
 
 // What is used after the open type's content is replaced: its head is the last row, the name kept.
@@ -68,12 +72,15 @@ fn needed_text(rows: &[u32], used: Used, place: usize, pair: usize, new: &[u8]) 
     }
 }
 
-// How many rows and bytes of names are used after what was decided is done.
-pub fn needed(rows: &[u32], used: Used, head: usize, d: Decision) -> Used
-    requires ready { (a : Action) → decision (Ok d) ≡ ok a → ReadyFor rows.now used head a }
+// How many rows and bytes of names are used after what was decided is done. A refusal can be asked about too (docs/DECISIONS.md, 196).
+pub fn needed(rows: &[u32], used: Used, head: usize, d: Result<Decision, Refusal>) -> Used
+    requires ready { (a : Action) → decision d ≡ ok a → ReadyFor rows.now used head a }
     requires small { Small used }
-    ensures { Needed rows.now used head (decision (Ok d.entry)) result }
+    ensures { Needed rows.now used head (decision d.entry) result }
 {
+    let Ok(d) = d else {
+        return used;
+    };
     match d {
         Decision::Keep => used,
         Decision::Root(namespace) => needed_text(rows, used, 1, 0, namespace),

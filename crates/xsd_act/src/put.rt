@@ -39,7 +39,10 @@ pub fn add_row(sheet: &mut SheetWriter, n: NewRow)
         b: n.b,
         c: n.c,
     };
-    sheet.append(numbers, n.first, n.second);
+    match n.first {
+        Some(first) => sheet.append(numbers, first, n.second),
+        None => sheet.append_pairs(numbers, b"", b"", 0),
+    }
 }
 
 // Replaces the open type's content by another one. The event's number stays that of the name.

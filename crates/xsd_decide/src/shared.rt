@@ -39,7 +39,7 @@ fn typed_row<'a>(p: NameAndType<'a>, tag: u32, a: u32, b: u32, c: u32) -> Decisi
 {
     Decision::Add(NewRow {
         tag,
-        first: p.name,
+        first: Some(p.name),
         second: Some(p.typ),
         a,
         b,

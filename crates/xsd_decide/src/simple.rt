@@ -32,7 +32,7 @@ fn text_row<'a>(tag: u32, value: &'a [u8]) -> Decision<'a>
 {
     Decision::Add(NewRow {
         tag,
-        first: value,
+        first: Some(value),
         second: None,
         a: 0,
         b: 0,

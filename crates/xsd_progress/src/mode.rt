@@ -19,27 +19,27 @@ use xsd_types::contexts;
 
 // Only a start enters the schema; a type that is opened is the context. `start` is passed, as in the definition: one arm of four asks for it.
 #[tactic(auto, unfolding(xsd_actions::specs::Actions::context_after))]
-fn context_after(start: bool, d: Decision, context: u32) -> u32
+fn context_after(start: bool, d: Result<Decision, Refusal>, context: u32) -> u32
     ensures { result ≡ context_after start (action_of d.entry) context }
 {
     match d {
-        Decision::Root(_) if start => contexts::SCHEMA,
-        Decision::OpenSimple(_) => contexts::SIMPLE_TYPE,
-        Decision::OpenComplex(_) => contexts::COMPLEX_TYPE,
+        Ok(Decision::Root(_)) if start => contexts::SCHEMA,
+        Ok(Decision::OpenSimple(_)) => contexts::SIMPLE_TYPE,
+        Ok(Decision::OpenComplex(_)) => contexts::COMPLEX_TYPE,
         _ => context,
     }
 }
 
 // Whether the decision opens a type.
 #[tactic(auto, unfolding(xsd_actions::specs::Actions::opens_type))]
-fn opens_type(d: Decision) -> bool
+fn opens_type(d: Result<Decision, Refusal>) -> bool
     ensures { result ≡ opens_type (action_of d.entry) }
 {
-    matches!(d, Decision::OpenSimple(_) | Decision::OpenComplex(_))
+    matches!(d, Ok(Decision::OpenSimple(_) | Decision::OpenComplex(_)))
 }
 
 // A start raises the nesting where a type was open before it, and by the standard in the schema too, unless it opens a type there.
-fn raises(by_standard: bool, d: Decision, context: u32) -> bool
+fn raises(by_standard: bool, d: Result<Decision, Refusal>, context: u32) -> bool
     ensures { result ≡ raises by_standard (action_of d.entry) context }
 {
     (contexts::SIMPLE_TYPE <= context)
@@ -56,28 +56,28 @@ fn nesting_after(raised: bool, nesting: u32) -> u32
 
 // Whether the root was seen, after a start or an empty tag.
 #[tactic(auto, unfolding(xsd_actions::specs::Actions::root_after))]
-pub fn root_after(d: Decision, seen: bool) -> bool
+pub fn root_after(d: Result<Decision, Refusal>, seen: bool) -> bool
     ensures { result ≡ root_after (action_of d.entry) seen }
 {
-    seen | matches!(d, Decision::Root(_))
+    seen | matches!(d, Ok(Decision::Root(_)))
 }
 
 // Another content starts without the flag; the base of simple content sets it.
 #[tactic(auto, unfolding(xsd_actions::specs::Actions::flag_after))]
-fn flag_after(d: Decision, context: u32, flag: bool) -> bool
+fn flag_after(d: Result<Decision, Refusal>, context: u32, flag: bool) -> bool
     ensures { result ≡ flag_after (action_of d.entry) context flag }
 {
     match d {
-        Decision::Content(_) => false,
-        Decision::Base(_) => context == contexts::COMPLEX_TYPE,
+        Ok(Decision::Content(_)) => false,
+        Ok(Decision::Base(_)) => context == contexts::COMPLEX_TYPE,
         _ => flag,
     }
 }
 
 // The mode after a start (start is true) or an empty tag. One function, as in the definition: two would be equal but for the nesting and one arm of the context.
-pub fn tag_mode(by_standard: bool, start: bool, d: Decision, m: Mode) -> Mode
+pub fn tag_mode(by_standard: bool, start: bool, d: Result<Decision, Refusal>, m: Mode) -> Mode
     requires { m.nesting ≤ open_tags_limit }
-    ensures { (a : Action) → decision (Ok d.entry) ≡ ok a → result ≡ tag_mode by_standard start a m }
+    ensures { (a : Action) → decision d.entry ≡ ok a → result ≡ tag_mode by_standard start a m }
 {
     let raised = start & raises(by_standard, d, m.context);
     Mode {

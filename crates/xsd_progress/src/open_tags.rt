@@ -4,7 +4,8 @@ ghost use Rattle.sheet.specs.Limits.{open_tags_limit};
 ghost use Rattle.xsd_parser.specs.Kinds.{kind_number};
 ghost use Rattle.xsd_progress.specs.Change.{mode_with, ModeAfter, Changed, SeenAfter, EventAfter};
 
-use crate::mode::{close_mode, root_after, tag_mode};
+use crate::mode::{close_mode, kind_of, root_after, tag_mode};
+use sheet::refusal::Refusal;
 use xsd_actions::{Decision, Mode};
 use xsd_parser::kinds::Kind;
 
@@ -18,11 +19,11 @@ pub struct OpenTags {
     pub extension: bool,
 }
 
-// An event that is counted and decided: its kind, what was decided, the open tags after it, and the sheet's choice.
+// An event that is counted and decided: its kind, what was decided, the open tags after it, and the sheet's choice. The kind is any number, as the tape has it (`kind_of`).
 #[derive(Clone, Copy)]
 pub struct Arrival<'a> {
-    pub kind: Kind,
-    pub decision: Decision<'a>,
+    pub kind: u32,
+    pub decision: Result<Decision<'a>, Refusal>,
     pub open_tags: u32,
     pub by_standard: bool,
 }
@@ -35,7 +36,7 @@ pub struct Arrived {
 }
 
 // The mode after an event of a kind.
-fn mode_after(by_standard: bool, kind: Kind, d: Decision, m: Mode) -> Mode
+fn mode_after(by_standard: bool, kind: Kind, d: Result<Decision, Refusal>, m: Mode) -> Mode
     requires { m.nesting ≤ open_tags_limit }
     ensures { ModeAfter by_standard (kind_number kind) d.entry m result }
 {
@@ -63,7 +64,8 @@ pub fn change(r: &mut OpenTags, a: Arrival)
     requires { r.old.nesting ≤ open_tags_limit }
     ensures { Changed a.entry r.old r.new }
 {
-    let m = mode_after(a.by_standard, a.kind, a.decision, mode_of(*r, false));
+    let kind = kind_of(a.kind);
+    let m = mode_after(a.by_standard, kind, a.decision, mode_of(*r, false));
     *r = OpenTags {
         context: m.context,
         nesting: m.nesting,
@@ -73,7 +75,7 @@ pub fn change(r: &mut OpenTags, a: Arrival)
 }
 
 // Whether the root was seen, after an event of a kind.
-fn seen_after(kind: Kind, d: Decision, seen: bool) -> bool
+fn seen_after(kind: Kind, d: Result<Decision, Refusal>, seen: bool) -> bool
     ensures { SeenAfter (kind_number kind) d.entry seen result }
 {
     match kind {
@@ -94,7 +96,7 @@ pub fn event_after(a: Arrival, m: Mode, open_tags: u32) -> Arrived
         extension: m.extension,
     };
     change(&mut r, a);
-    let seen = seen_after(a.kind, a.decision, m.root_seen);
+    let seen = seen_after(kind_of(a.kind), a.decision, m.root_seen);
     Arrived {
         mode: mode_of(r, seen),
         open_tags: r.open_tags,

@@ -15,7 +15,6 @@ use Rattle.sheet.specs.Limits.{rows_limit}
 use Rattle.xsd_types.specs.Contexts.{simple_type_context}
 use Rattle.xsd_types.specs.State.{Reader, State, proper}
 use Rattle.xsd_parser.specs.Event.{Tag, Event}
-use Rattle.xsd_parser.specs.Kinds.{kind_number}
 use Rattle.xsd_parser.specs.Handlers.{Outcome, ok, refuse}
 use Rattle.xsd_parser.specs.Step.{counted, room_for}
 use Rattle.rows.specs.declared.writer.SheetWriter.{SheetWriter}
@@ -44,9 +43,9 @@ pub record StandsAfter (p : Progress) (x : Arrival) (head : ℕ) (p' : Progress)
 pub record Due (w : SheetWriter) (p : Progress) (x : Arrival) (s : State) (e : Event) (r : Reader) : Type 0 where
   pub at : At s w p
   pub tag : Tag
-  pub event_is : e ≡ event_as (kind_number x.kind) tag
+  pub event_is : e ≡ event_as x.kind tag
   pub action : Action
-  pub decided : decision (Ok x.decision) ≡ ok action
+  pub decided : decision x.decision ≡ ok action
   pub choice : x.by_standard ≡ s.by_standard
   pub acted : Acted s.by_standard e s.reader action r
   pub proper_after : proper (counted s x.open_tags r) ≡ true

@@ -24,6 +24,7 @@ fn head_after(p: Progress, rows_used: usize) -> usize
 }
 
 // Where the reading stands after an event: the record is changed and the event counted.
+#[inline(always)]
 fn stands_after(p: Progress, a: Arrival, head: usize) -> Progress
     requires { (p.mode.nesting ≤ open_tags_limit) × (p.events ≤ events_limit) }
     ensures { StandsAfter p a.entry head result }
@@ -44,15 +45,15 @@ pub fn carry_out(sheet: &mut SheetWriter, p: Progress, a: Arrival) -> Result<Pro
     requires { DueRoom sheet.old p a }
     ensures { Stepped sheet.old p a.entry result sheet.new }
 {
-    let d = a.decision;
     let head = head_after(p, sheet.used.rows);
-    if let Decision::Keep = d {
-        return Ok(stands_after(p, a, head));
+    let after = stands_after(p, a, head);
+    if let Ok(Decision::Keep) = a.decision {
+        return Ok(after);
     }
-    let need = needs::needed(sheet.as_rows(), sheet.used, p.head, d);
+    let need = needs::needed(sheet.as_rows(), sheet.used, p.head, a.decision);
     if !has_room(need, sheet.rows.len(), sheet.names.len()) {
         return Err(Refusal::NoRoom);
     }
-    xsd_act::act(sheet, p.head, d);
-    Ok(stands_after(p, a, head))
+    xsd_act::act(sheet, p.head, a.decision);
+    Ok(after)
 }

@@ -1,7 +1,7 @@
 // One event on a schema sheet, its refusals in the paper's order.
 ghost use Rattle.std.specs.Prelude.{◌≡◌};
 ghost use Rattle.xsd_parser.specs.Seen.{seen};
-ghost use Rattle.xsd_parser.specs.Kinds.{close_kind, kind_number};
+ghost use Rattle.xsd_parser.specs.Kinds.{close_kind};
 ghost use Rattle.tape.specs.Pairs.{TagInside, tag_at};
 ghost use Rattle.tape.specs.Lookup.{seen_at};
 ghost use Rattle.tape.specs.Answers.{record_event};
@@ -20,7 +20,7 @@ use xsd_actions::{Decision, Mode};
 use xsd_parser::kinds::Kind;
 use xsd_progress::Progress;
 use xsd_progress::head::head_tag;
-use xsd_progress::mode::tags_of;
+use xsd_progress::mode::tags_after;
 use xsd_progress::open_tags::Arrival;
 
 // What is seen of a record's tag, by its own marks.
@@ -39,13 +39,17 @@ fn decide_event<'a>(
     head: u32,
     event: u32,
 ) -> Result<Decision<'a>, Refusal>
-    requires { (kind_number t.kind ≡ close_kind → ⊥) → TagInside v.text.now v.marks.now t.pairs t.count }
+    requires { (t.kind ≡ close_kind → ⊥) → TagInside v.text.now v.marks.now t.pairs t.count }
     ensures { decision result ≡ decided event (record_event v.entry.text.now v.entry.marks.now t) m head }
 {
-    match t.kind {
-        Kind::Start => xsd_decide::on_start(&seen_of(v, t), m, head, event),
-        Kind::Empty => xsd_decide::on_empty(&seen_of(v, t), m, head, event),
-        Kind::Close => Ok(xsd_decide::on_close(m, head)),
+    if t.kind == Kind::Close as u32 {
+        return Ok(xsd_decide::on_close(m, head));
+    }
+    let seen = seen_of(v, t);
+    if t.kind == Kind::Start as u32 {
+        xsd_decide::on_start(&seen, m, head, event)
+    } else {
+        xsd_decide::on_empty(&seen, m, head, event)
     }
 }
 
@@ -57,19 +61,18 @@ pub fn on_event(
     p: Progress,
 ) -> Result<Progress, Refusal>
     requires event_room { EventRoom sheet.old p (record_event v.text.now v.marks.now t) }
-    requires tag_inside { (kind_number t.kind ≡ close_kind → ⊥) → TagInside v.text.now v.marks.now t.pairs t.count }
+    requires tag_inside { (t.kind ≡ close_kind → ⊥) → TagInside v.text.now v.marks.now t.pairs t.count }
     ensures { EventTaken sheet.old p (record_event v.entry.text.now v.entry.marks.now t) result sheet.new }
 {
     if limits::EVENTS <= p.events {
         return Err(Refusal::TooManyEvents);
     }
-    let kind = t.kind;
-    let open_tags = tags_of(kind, p.open_tags)?;
+    let open_tags = tags_after(t.kind, p.open_tags)?;
     let head = head_tag(sheet.as_rows(), p.mode.context, p.head);
     let decision = decide_event(v, t, p.mode, head, p.events)?;
     let a = Arrival {
-        kind,
-        decision,
+        kind: t.kind,
+        decision: Ok(decision),
         open_tags,
         by_standard: p.by_standard,
     };

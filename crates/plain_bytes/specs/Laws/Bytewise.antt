@@ -6,7 +6,7 @@ use mathlib.Core.Path.{◌≡◌, refl, ap₂, ◌∙◌}
 use native.Mathlib.Omega.{arith}
 use lib.Dec.{lit<}
 use lib.Bits.{bit_and, bit_or, bit_xor, and_block, or_block, xor_block, and_lt, or_lt, xor_lt}
-use Rattle.plain_bytes.specs.Words.{word_of, ones, others, plains, stops, text_stops, value_stops, comment_stops}
+use Rattle.plain_bytes.specs.Words.{word_of, ones, others, plains, stops, text_stops, value_stops, comment_stops, section_stops}
 use Rattle.plain_bytes.specs.Laws.Words.{Below, op-word, add-word, spread}
 
 pub record Bytewise (F : ℕ → ℕ → ℕ) : Type 0 where
@@ -68,3 +68,7 @@ value-by = stops-by (both (plus 88 (lit< tt)) (others_by 60 (lit< tt)))
 pub comment-by : Bytewise comment_stops
 unfolding comment_stops
 comment-by = stops-by (both (others_by 45 (lit< tt)) plains-by)
+
+pub section-by : Bytewise section_stops
+unfolding section_stops
+section-by = stops-by (both (others_by 93 (lit< tt)) plains-by)

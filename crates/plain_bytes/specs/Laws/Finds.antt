@@ -7,9 +7,9 @@ use borrow.Author.Tests.{eq-eqb}
 use lib.Dec.{eqb}
 use Rattle.text.specs.Text.{between}
 use Rattle.text.proofs.Laws.Table.{passes, at}
-use Rattle.plain_bytes.specs.Scan.{is_text_run, is_value_run, is_comment_run}
-use Rattle.plain_bytes.specs.Words.{others, plains, stops, text_stops, value_stops, comment_stops}
-use Rattle.plain_bytes.specs.Laws.Bytewise.{Bytewise, text-by, value-by, comment-by}
+use Rattle.plain_bytes.specs.Scan.{is_text_run, is_value_run, is_comment_run, is_section_run}
+use Rattle.plain_bytes.specs.Words.{others, plains, stops, text_stops, value_stops, comment_stops, section_stops}
+use Rattle.plain_bytes.specs.Laws.Bytewise.{Bytewise, text-by, value-by, comment-by, section-by}
 
 -- where f is 0 the test p passes
 abbrev pub zero_then : (ℕ → ℕ) → (ℕ → Bool) → ℕ → Bool
@@ -34,3 +34,7 @@ value-finds = record { bytewise = value-by; sound = refl }
 pub comment-finds : Finds comment_stops is_comment_run
 unfolding comment_stops others plains stops is_comment_run between
 comment-finds = record { bytewise = comment-by; sound = refl }
+
+pub section-finds : Finds section_stops is_section_run
+unfolding section_stops others plains stops is_section_run between
+section-finds = record { bytewise = section-by; sound = refl }

@@ -1,4 +1,4 @@
--- What the input is, by the tests that lead to it, and that a tape lies inside it. Assumes nothing.
+-- What the input is, by the tests that lead to it, and that a tape lies inside it and has no more marks than there may be. Assumes nothing.
 use Rattle.std.specs.Prelude.{Option, Some, None, MatchOption}
 use Prim.Native.Nat.{ℕ, ◌+◌, ◌*◌, ◌≤◌, ◌<◌}
 use mathlib.Core.Path.{◌≡◌}
@@ -7,8 +7,8 @@ use mathlib.Core.List.{List}
 use native.Mathlib.Omega.{arith}
 use lib.Dec.{leb, ltb}
 use lib.ListN.{length}
-use borrow.Author.Tests.{leb-true, le-leb, lt-leb}
-use Rattle.text.proofs.Laws.Tests.{and-true-right, if-cases}
+use borrow.Author.Tests.{leb-true, ltb-false, le-leb, lt-leb}
+use Rattle.text.proofs.Laws.Tests.{and-true-left, and-true-right, or-false-right, if-cases}
 use Rattle.printing.specs.Input.{number_at, too_long, input_of}
 use Rattle.printing.specs.declared.Input.{Input}
 
@@ -41,4 +41,18 @@ tape-inside s t m =
     (λ l. if-cases (λ (i : Input). Input.Tape t m ≡ i → 8 + t ≤ length s) (leb 8 (length s) && leb (8 + number_at 0 s + 4 * number_at 4 s) (length s))
     (λ h e. let k : t ≡ number_at 0 s = cc in omega
     (arith, leb-true (8 + number_at 0 s + 4 * number_at 4 s) (length s) (and-true-right (leb 8 (length s)) (leb (8 + number_at 0 s + 4 * number_at 4 s) (length s)) h)))
+    (λ h e. let z : ◌≡◌ {A = ℕ} 0 1 = cc in omega arith))
+
+-- of the two tests that the header is read by, the second one
+pub few-marks : (s : List ℕ) → too_long s ≡ false → leb 8 (length s) ≡ true → number_at 4 s ≤ 16384
+unfolding too_long
+few-marks s l h = ltb-false 16384 (number_at 4 s) (rw h at (or-false-right (leb 4 (length s) && ltb 65536 (number_at 0 s)) (leb 8 (length s) && ltb 16384 (number_at 4 s)) l))
+
+pub tape-few : (s : List ℕ) (t m : ℕ) → Input.Tape t m ≡ input_of s → m ≤ 16384
+unfolding input_of
+tape-few s t m =
+    if-cases (λ (i : Input). Input.Tape t m ≡ i → m ≤ 16384) (too_long s) (λ l e. let z : ◌≡◌ {A = ℕ} 0 1 = cc in omega arith)
+    (λ l. if-cases (λ (i : Input). Input.Tape t m ≡ i → m ≤ 16384) (leb 8 (length s) && leb (8 + number_at 0 s + 4 * number_at 4 s) (length s))
+    (λ h e. let k : m ≡ number_at 4 s = cc in omega
+    (arith, few-marks s l (and-true-left (leb 8 (length s)) (leb (8 + number_at 0 s + 4 * number_at 4 s) (length s)) h)))
     (λ h e. let z : ◌≡◌ {A = ℕ} 0 1 = cc in omega arith))

@@ -7,7 +7,7 @@ use Rattle.printing.proofs.put_lowered.Goals as goal
 
 pub returns-in-Ok : goal.returns-in-Ok
 unfolding lowered_text
-returns-in-Ok g c = written-last _ _ _ _ _ _ _ c.in_ok-put_answer.ensures c.write_sheet.ensures (rw (c.in-Ok.is, c.deref.ensures.value, c.deref-in-Ok.ensures.value) refl)
+returns-in-Ok g c = written-last _ _ _ _ _ _ _ c.in_ok-put_answer.ensures c.write_sheet.ensures (rw c.in-Ok.is refl)
 
 pub returns-in-Err : goal.returns-in-Err
 unfolding lowered_text

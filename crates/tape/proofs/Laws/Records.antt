@@ -10,7 +10,6 @@ use lib.Seq.{drop-cons, drop-drop}
 use borrow.Author.Tests.{eq-eqb, ne_eqb}
 use Rattle.text.specs.Text.{Text}
 use Rattle.xsd_parser.specs.Event.{Event}
-use Rattle.xsd_parser.specs.Kinds.{kind_number}
 use Rattle.xsd_parser.specs.Tape.{Pair, Recorded, pairs_of, pair_count, all_inside, all_ascii, tag_of, event_of, form_test, tag_record, record1}
 use Rattle.tape.specs.Pairs.{tag_at}
 use Rattle.tape.proofs.Laws.Pairs.{drop-two}
@@ -60,7 +59,7 @@ module _ (text : Text) (kind : ℕ) (ps : List Pair) (rest : List ℕ) where
   tag-good i a = rw (i, a)
 
 -- a record that is no close stands for its tag's event
-pub record-event : (text : Text) (marks : List ℕ) (t : TagRecord) → (kind_number t.kind ≡ 3 → ⊥)
-    → recorded text marks (Ok (Some t)) ≡ Recorded.next (event_of (kind_number t.kind) (tag_at text marks t.pairs t.count)) (drop t.next marks)
+pub record-event : (text : Text) (marks : List ℕ) (t : TagRecord) → (t.kind ≡ 3 → ⊥)
+    → recorded text marks (Ok (Some t)) ≡ Recorded.next (event_of t.kind (tag_at text marks t.pairs t.count)) (drop t.next marks)
 unfolding recorded record_event
-record-event text marks t n = rw (ne_eqb (kind_number t.kind) 3 n)
+record-event text marks t n = rw (ne_eqb t.kind 3 n)

@@ -3,7 +3,6 @@ use Prim.Native.Nat.{◌+◌}
 use mathlib.Core.Path.{refl, sym, ◌∙◌}
 use native.Mathlib.Omega.{arith}
 use lib.ListN.{drop}
-use Rattle.xsd_parser.specs.Kinds.{kind_number}
 use Rattle.xsd_parser.specs.Tape.{pairs_of, pair_count}
 use Rattle.tape.specs.Pairs.{tag_at}
 use Rattle.tape.specs.Answers.{recorded, IsPlaced}
@@ -20,7 +19,7 @@ unfolding recorded IsPlaced pair_count
 returns-then-not-pairs_inside c =
     let a = c.args in
     let ps = pairs_of (pair_count a.count) (drop (a.at + 2) a.v.marks.now) in
-    record { judged = sym (tag-outside a.v.text.now (kind_number a.kind) ps _ (sym c.pairs_inside.ensures ∙ c.if-not-pairs_inside.true)); places = tt }
+    record { judged = sym (tag-outside a.v.text.now a.kind ps _ (sym c.pairs_inside.ensures ∙ c.if-not-pairs_inside.true)); places = tt }
 
 pub pairs_ascii-requires : goal.pairs_ascii-requires
 unfolding pair_count
@@ -32,7 +31,7 @@ returns-then-not-pairs_ascii c =
     let a = c.args in
     let ps = pairs_of (pair_count a.count) (drop (a.at + 2) a.v.marks.now) in
     let inside = sym c.pairs_inside.ensures ∙ c.if-not-pairs_inside.false in
-    record { judged = sym (tag-high a.v.text.now (kind_number a.kind) ps _ inside (sym c.pairs_ascii.ensures ∙ c.if-not-pairs_ascii.true)); places = tt }
+    record { judged = sym (tag-high a.v.text.now a.kind ps _ inside (sym c.pairs_ascii.ensures ∙ c.if-not-pairs_ascii.true)); places = tt }
 
 pub returns : goal.returns
 unfolding recorded IsPlaced pair_count tag_at
@@ -43,7 +42,7 @@ returns c =
     let inside = sym c.pairs_inside.ensures ∙ c.if-not-pairs_inside.false in
     let ascii = sym c.pairs_ascii.ensures ∙ c.if-not-pairs_ascii.false in
     record {
-      judged = record-event a.v.text.now a.v.marks.now _ form.0 ∙ sym (tag-good a.v.text.now (kind_number a.kind) ps _ inside ascii);
+      judged = record-event a.v.text.now a.v.marks.now _ form.0 ∙ sym (tag-good a.v.text.now a.kind ps _ inside ascii);
       places = record {
         later = omega arith;
         within = form.2;

@@ -3,20 +3,21 @@
 use Prim.Native.Nat.{ℕ, ◌<◌}
 use denote.Enum.Declared.{tag_of}
 use mathlib.Core.Path.{◌≡◌, refl, sym}
-use mathlib.Core.Bool.{Bool, true, false, not, ◌&&◌, false≢true}
+use mathlib.Core.List.{◌∷◌}
+use mathlib.Core.Bool.{Bool, true, false, not, ◌&&◌}
 use lib.Dec.{eqb, ltb, leb}
 use native.Mathlib.Omega.{arith}
 use lib.ListN.{get_or}
-use borrow.Author.Tests.{not-true, ltb-true, leb-true, eq-eqb}
-use Rattle.text.specs.Text.{between}
+use borrow.Author.Tests.{not-true, ltb-true, leb-true}
+use Rattle.text.specs.Text.{Text, between}
 use Rattle.text.specs.Trim.{is_white_space}
 use Rattle.text.proofs.Laws.Table.{passes, at}
 use Rattle.text.proofs.Laws.Tests.{and-true-left, and-true-right}
 use Rattle.xml.proofs.Laws.Grammar.Basics.{class-in}
-use Rattle.plain_bytes.specs.Scan.{is_text_run, is_value_run, is_comment_run}
+use Rattle.plain_bytes.specs.Scan.{is_text_run, is_value_run, is_comment_run, is_section_run}
 use Rattle.xml.specs.Classes.{is_char, is_letter, is_name_start, is_name, is_encoding}
 use Rattle.xml.specs.Values.{is_quote, is_in_text, is_in_value}
-use Rattle.xml_parts.specs.Answers.{class_of, class_table, has_bit}
+use Rattle.xml_parts.specs.Answers.{Before, class_of, class_table, has_bit}
 use Rattle.xml_parts.specs.contracts.classes.Class.{the_type}
 use Rattle.xml_parts.specs.declared.classes.Class.{Class}
 
@@ -59,11 +60,21 @@ pub run-in-value : (b : ℕ) → is_value_run b ≡ true → is_in_value b ≡ t
 unfolding is_value_run is_in_value is_char is_quote between
 run-in-value b e = class-in is_value_run is_in_value refl b (omega (arith, leb-true b 127 (and-true-right (leb 40 b) (leb b 127) (and-true-left (between 40 127 b) (not (eqb b 60)) e)))) e
 
-pub comment-run : (b : ℕ) → is_comment_run b ≡ true → (is_char b ≡ true) × (b ≡ 45 → ⊥)
+-- the bytes that are passed over before the word that ends a comment or a section
+before : (p : ℕ → Bool) (w : ℕ) (word : Text) → ((b : ℕ) → p b ≡ true → is_char b && not (eqb b w) ≡ true) → Before p (w ∷ word)
+before p w word h = record {
+  some = omega arith;
+  chars = λ b e. and-true-left (is_char b) (not (eqb b w)) (h b e);
+  others = λ b e. not-true (eqb b w) (and-true-right (is_char b) (not (eqb b w)) (h b e));
+}
+
+pub comment-run : (rest : Text) → Before is_comment_run (45 ∷ rest)
 unfolding is_comment_run is_char between
-comment-run b e =
-    let t = class-in is_comment_run (λ (k : ℕ). is_char k && not (eqb k 45)) refl b (plain-small b _ (and-true-left _ _ e)) e in
-    (and-true-left _ _ t, λ h. false≢true (rw (eq-eqb b 45 h) at (and-true-right (is_char b) (not (eqb b 45)) t)))
+comment-run rest = before is_comment_run 45 rest (λ b e. class-in is_comment_run (λ (k : ℕ). is_char k && not (eqb k 45)) refl b (plain-small b _ (and-true-left _ _ e)) e)
+
+pub section-run : (rest : Text) → Before is_section_run (93 ∷ rest)
+unfolding is_section_run is_char between
+section-run rest = before is_section_run 93 rest (λ b e. class-in is_section_run (λ (k : ℕ). is_char k && not (eqb k 93)) refl b (plain-small b _ (and-true-left _ _ e)) e)
 
 pub return-in-text : is_in_text 13 ≡ true
 unfolding is_in_text is_char between

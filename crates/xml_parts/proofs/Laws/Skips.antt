@@ -1,14 +1,15 @@
 -- Bytes that are passed over eight at a time change nothing that goes on byte by byte (plain_bytes, specs/Scan.antt). Assumes nothing.
 use Prim.Native.Nat.{ℕ, zero, suc, ◌+◌, ◌-◌, ◌≤◌, ◌<◌}
 use mathlib.Core.Path.{◌≡◌, sym, ap, ◌∙◌}
-use mathlib.Core.List.{◌∷◌}
-use mathlib.Core.Bool.{Bool, true}
+use mathlib.Core.Bool.{Bool, true, false≢true}
 use native.Mathlib.Omega.{arith}
-use lib.ListN.{length, get_or, drop}
+use borrow.Author.Tests.{eq-eqb}
+use lib.ListN.{length, get_or, take, drop}
+use Rattle.std.proofs.lemmas.List.{get_or-take, get_or-drop}
 use Rattle.text.specs.Text.{Text}
 use Rattle.plain_bytes.specs.Scan.{Skips}
-use Rattle.xml.specs.Classes.{is_char}
 use Rattle.xml.specs.Steps.{many, until}
+use Rattle.xml_parts.specs.Answers.{Before}
 use Rattle.xml.proofs.Laws.Steps.{many-on, until-on, starts-differ}
 
 -- what stands the same at each place up to another stands the same there
@@ -26,7 +27,18 @@ module _ {q : ℕ → Bool} {s : Text} {at r : ℕ} (u : Skips q s at r) where
   pub many-over : (p : ℕ → Bool) → ((b : ℕ) → q b ≡ true → p b ≡ true) → many p r (drop r s) ≡ many p at (drop at s)
   many-over p h = over-all (λ (k : ℕ). many p k (drop k s)) (λ k i e. many-on p s k k i (h (get_or s k 0) e))
 
-  pub until-over : (w : ℕ) (word : Text) → ((b : ℕ) → q b ≡ true → (is_char b ≡ true) × (b ≡ w → ⊥)) → until (w ∷ word) r (drop r s) ≡ until (w ∷ word) at (drop at s)
-  until-over w word h =
-      over-all (λ (k : ℕ). until (w ∷ word) k (drop k s))
-      (λ k i e. let c = h (get_or s k 0) e in until-on (w ∷ word) s k k i (starts-differ (w ∷ word) s 0 k (omega arith) i c.1) c.0)
+  pub until-over : (word : Text) → Before q word → until word r (drop r s) ≡ until word at (drop at s)
+  until-over word h =
+      over-all (λ (k : ℕ). until word k (drop k s))
+      (λ k i e. let d = h.others (get_or s k 0) e in
+      until-on word s k k i (starts-differ word s 0 k h.some i (λ t. false≢true (sym d ∙ eq-eqb _ _ t))) (h.chars (get_or s k 0) e))
+
+-- the first bytes of a part are of a class
+pub part-skips : (q : ℕ → Bool) (s : Text) (i n m : ℕ) → i + n ≤ length s → m ≤ n → ((k : ℕ) → k < m → q (get_or (take n (drop i s)) k 0) ≡ true) → Skips q s i (i + m)
+part-skips q s i n m fits l h = record {
+  from = omega arith;
+  all = λ k a b.
+      let e : i + (k - i) ≡ k = omega arith in
+      let f = get_or-take n (drop i s) (k - i) 0 (omega arith) ∙ get_or-drop i s (k - i) 0 in
+      (omega arith, ap (λ (j : ℕ). q (get_or s j 0)) (sym e) ∙ ap q (sym f) ∙ h (k - i) (omega arith));
+}

@@ -6,7 +6,7 @@ use lib.ListN.{get_or}
 use Rattle.text.specs.Text.{Text}
 use Rattle.sheet.specs.Rows.{Row, row}
 use Rattle.xsd_types.specs.Rows.{namespace_row}
-use Rattle.xsd_parser.specs.Handlers.{ok}
+use Rattle.xsd_parser.specs.Handlers.{ok, refuse}
 use Rattle.rows.specs.declared.writer.SheetWriter.{SheetWriter}
 use Rattle.rows.specs.declared.numbers.RowNumbers.{RowNumbers}
 use Rattle.rows.specs.Writer.{SameBuffers, Held}
@@ -18,7 +18,7 @@ use Rattle.xsd_actions.specs.Actions.{Action, namespace_after, rows_after, Fitti
 use Rattle.xsd_act.specs.Ready.{Ready, rows_after_all}
 use Rattle.xsd_act.proofs.Laws.Ready.{ready-root, ready-head, ready-event, ready-base}
 use Rattle.xsd_act.proofs.Laws.After.{after-content, after-base, after-root}
-use Rattle.xsd_act.proofs.Laws.Needs.{ok-back}
+use Rattle.xsd_act.proofs.Laws.Needs.{ok-back, refuse-ok}
 use Rattle.xsd_act.specs.Acts.{Done}
 
 module _ {w : SheetWriter} {head : ℕ} {w' : SheetWriter} where
@@ -58,6 +58,9 @@ module _ {w : SheetWriter} {head : ℕ} {w' : SheetWriter} where
       (h.holds z (namespace_row namespace ∷ done) k.name (ready-head g k)))
 
 -- nothing is stored
+pub done-refuse : {w : SheetWriter} {head n : ℕ} → Done w head (refuse n) w
+done-refuse {w} = record { same = same_itself w; holds = λ z namespace done last a h o k. absurd (refuse-ok o) }
+
 pub done-keep : {w : SheetWriter} {head : ℕ} → Done w head (ok Action.keep) w
 unfolding rows_after_all namespace_after rows_after
 done-keep {w} = done_ok Action.keep (same_itself w) (λ z namespace done last g k. g.holds)

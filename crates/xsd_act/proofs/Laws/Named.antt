@@ -1,5 +1,6 @@
 -- Named in docs/PORT.md. No contract cites them. Assumes nothing.
-use Rattle.std.specs.Prelude.{if◌then◌else◌}
+use Rattle.std.specs.Prelude.{if◌then◌else◌, Some}
+use Rattle.std.specs.Borrow.{Bor}
 use Prim.Native.Nat.{ℕ, zero, suc, ◌+◌, ◌≤◌}
 use mathlib.Core.Path.{◌≡◌, ap}
 use mathlib.Core.Bool.{Bool, true, false}
@@ -43,6 +44,6 @@ content_pairs-bound true = (omega arith, omega arith)
 content_pairs-bound false = (omega arith, omega arith)
 
 -- the bytes of a new row's texts
-pub new_row-bytes : (n : NewRow) → length (join (new_row n).texts) ≡ length n.first.now + length (join (listed n.second))
+pub new_row-bytes : (n : NewRow) {first : Bor Text} → n.first ≡ Some first → length (join (new_row n).texts) ≡ length first.now + length (join (listed n.second))
 unfolding new_row row join
-new_row-bytes n = length-append n.first.now (join (listed n.second))
+new_row-bytes n {first} e = rw e (length-append first.now (join (listed n.second)))

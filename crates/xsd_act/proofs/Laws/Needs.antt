@@ -12,7 +12,7 @@ use Rattle.text.proofs.Laws.Tests.{bool_cases}
 use Rattle.sheet.specs.Rows.{Row, row, names_of}
 use Rattle.sheet.specs.Lengths.{fits}
 use Rattle.xsd_types.specs.Rows.{namespace_row}
-use Rattle.xsd_parser.specs.Handlers.{Outcome, ok}
+use Rattle.xsd_parser.specs.Handlers.{Outcome, ok, refuse}
 use Rattle.rows.specs.declared.numbers.Used.{Used}
 use Rattle.xsd_actions.specs.Actions.{Action, namespace_after, rows_after, Fitting}
 use Rattle.xsd_act.specs.Ready.{Ready, rows_after_all}
@@ -22,6 +22,10 @@ use Rattle.xsd_act.proofs.Laws.After.{after-content, after-base, after-root, cou
 
 pub ok-back : {a b : Action} → ok a ≡ ok b → a ≡ b
 ok-back e = cc
+
+-- a refusal is no action
+pub refuse-ok : {n : ℕ} {a : Action} → refuse n ≡ ok a → ⊥
+refuse-ok e = cc
 
 -- a cap above a bound does not change what is within it
 leb-capped : (x m : ℕ) → m ≤ 65536 → leb (min x 18446744073709551615) m ≡ leb x m
@@ -87,6 +91,16 @@ module _ {rows : List ℕ} {used : Used} {head : ℕ} {r : Used} where
   needed-keep small e =
       needed-ok Action.keep (omega (arith, ap (λ (u : Used). u.rows) e, small)) (omega (arith, ap (λ (u : Used). u.names) e, small)) (λ names z namespace done last h k.
       subst (λ (u : Used). Counted u (namespace_row namespace ∷ (done ++ last))) (sym e) (record { rows = h.holds.rows_used; names = h.holds.names_used }))
+
+  -- a refusal needs nothing
+  pub needed-refuse : {n : ℕ} → Small used → r ≡ used → Needed rows used head (refuse n) r
+  needed-refuse small e =
+      let held : min r.names 18446744073709551615 ≡ r.names = omega (arith, ap (λ (u : Used). u.names) e, small) in
+      record {
+        all = r;
+        is = λ i. record { rows = r.rows; names = sym held i };
+        needed = record { few = omega (arith, ap (λ (u : Used). u.rows) e, small); counted = λ names z namespace done last a h o k. absurd (refuse-ok o) };
+      }
 
   -- what is needed has room in buffers as the paper has them where the whole sum has
   pub needed-fits : {o : Outcome Action} (n m : ℕ) → m ≤ 65536 → (h : Needed rows used head o r) → fits r.rows r.names n m ≡ fits h.all.rows h.all.names n m

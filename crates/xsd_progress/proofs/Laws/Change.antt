@@ -1,12 +1,12 @@
 -- The record after an event, by the kind of the event. Laws of specs/Change.antt. No contract cites them. Assumes nothing.
-use Rattle.std.specs.Prelude.{Ok}
+use Rattle.std.specs.Prelude.{Result}
 use Prim.Native.Nat.{ℕ}
 use mathlib.Core.Path.{◌≡◌, refl, sym, ap, ap₂, ◌∙◌}
 use mathlib.Core.Bool.{Bool, true, false}
 use borrow.Author.Tests.{eqb-true, eqb-false}
 use lib.Dec.{eqb, leb}
+use Rattle.sheet.specs.declared.refusal.Refusal.{Refusal}
 use Rattle.xsd_parser.specs.Event.{Tag, Event}
-use Rattle.xsd_parser.specs.Kinds.{kind_number}
 use Rattle.xsd_parser.specs.Handlers.{ok}
 use Rattle.xsd_actions.specs.declared.Decision.{Decision}
 use Rattle.xsd_actions.specs.declared.Mode.{Mode}
@@ -31,12 +31,21 @@ unfolding mode_after
 after_tag s kind t a m true e k = rw (as-start kind t (eqb-true kind 1 e))
 after_tag s kind t a m false e k = rw (as-empty kind t (eqb-false kind 1 e) k)
 
-pub mode-close : {by_standard : Bool} {kind : ℕ} {d : Decision} {m m' : Mode} → kind ≡ 3 → m' ≡ close_mode m → ModeAfter by_standard kind d m m'
+pub mode-close : {by_standard : Bool} {kind : ℕ} {d : Result Decision Refusal} {m m' : Mode} → kind ≡ 3 → m' ≡ close_mode m → ModeAfter by_standard kind d m m'
 mode-close {by_standard} {kind} {d} {m} {m'} k f = record { is = λ t a q. f ∙ sym (after-close by_standard kind t a m k) }
 
-pub mode-tag : {by_standard : Bool} {kind : ℕ} {d : Decision} {m m' : Mode} → (kind ≡ 3 → ⊥)
-    → ((a : Action) → decision (Ok d) ≡ ok a → m' ≡ tag_mode by_standard (eqb kind 1) a m) → ModeAfter by_standard kind d m m'
+pub mode-tag : {by_standard : Bool} {kind : ℕ} {d : Result Decision Refusal} {m m' : Mode} → (kind ≡ 3 → ⊥)
+    → ((a : Action) → decision d ≡ ok a → m' ≡ tag_mode by_standard (eqb kind 1) a m) → ModeAfter by_standard kind d m m'
 mode-tag {by_standard} {kind} {d} {m} {m'} k f = record { is = λ t a q. f a q ∙ sym (after_tag by_standard kind t a m (eqb kind 1) refl k) }
+
+-- another number for the same event
+pub mode-as : {by_standard : Bool} {kind number : ℕ} {d : Result Decision Refusal} {m m' : Mode} → ((t : Tag) → event_as kind t ≡ event_as number t)
+    → ModeAfter by_standard kind d m m' → ModeAfter by_standard number d m m'
+mode-as {by_standard} {m = m} f g = record { is = λ t a q. g.is t a q ∙ ap (λ (e : Event). mode_after by_standard e a m) (f t) }
+
+pub seen-as : {kind number : ℕ} {d : Result Decision Refusal} {seen seen' : Bool} → ((t : Tag) → event_as kind t ≡ event_as number t)
+    → SeenAfter kind d seen seen' → SeenAfter number d seen seen'
+seen-as f g = record { is = λ t a q b m s. g.is t a q b m s ∙ ap (λ (e : Event). (mode_after b e a m).root_seen) (f t) }
 
 -- root seen stands beside the other three: it changes none of them
 abbrev beside : Mode → Mode → Mode
@@ -56,13 +65,13 @@ mode-beside s (Event.start t) a o seen = refl
 mode-beside s (Event.empty t) a o seen = refl
 mode-beside s Event.close a o seen = close-beside o seen (leb o.context 1) (eqb o.nesting 0) refl refl
 
-pub changed : {x : Arrival} {o : OpenTags} {m : Mode} → ModeAfter x.by_standard (kind_number x.kind) x.decision (mode_with false o) m
+pub changed : {x : Arrival} {o : OpenTags} {m : Mode} → ModeAfter x.by_standard x.kind x.decision (mode_with false o) m
     → Changed x o (record { context = m.context; nesting = m.nesting; open_tags = x.open_tags; extension = m.extension })
 unfolding mode_with
 changed {x} {o} {m} g =
     record {
       opened = refl;
-      mode_is = λ seen t a q. let e = event_as (kind_number x.kind) t in ap (beside (mode_after x.by_standard e a (mode_with seen o))) (g.is t a q)
+      mode_is = λ seen t a q. let e = event_as x.kind t in ap (beside (mode_after x.by_standard e a (mode_with seen o))) (g.is t a q)
           ∙ mode-beside x.by_standard e a o seen;
     }
 
@@ -73,11 +82,11 @@ close-seen m true true e f = rw (f, e)
 close-seen m false true e f = rw (f, e)
 close-seen m b false e f = rw f
 
-pub seen-close : {kind : ℕ} {d : Decision} {seen : Bool} → kind ≡ 3 → SeenAfter kind d seen seen
+pub seen-close : {kind : ℕ} {d : Result Decision Refusal} {seen : Bool} → kind ≡ 3 → SeenAfter kind d seen seen
 seen-close {kind} {d} {seen} k =
     record { is = λ t a q b m s. sym s ∙ close-seen m (leb m.context 1) (eqb m.nesting 0) refl refl ∙ sym (ap (λ (x : Mode). x.root_seen) (after-close b kind t a m k)) }
 
-pub seen-tag : {kind : ℕ} {d : Decision} {seen seen' : Bool} → (kind ≡ 3 → ⊥) → seen' ≡ root_after (action_of d) seen → SeenAfter kind d seen seen'
+pub seen-tag : {kind : ℕ} {d : Result Decision Refusal} {seen seen' : Bool} → (kind ≡ 3 → ⊥) → seen' ≡ root_after (action_of d) seen → SeenAfter kind d seen seen'
 unfolding tag_mode
 seen-tag {kind} {d} {seen} {seen'} k f =
     record {
@@ -88,7 +97,7 @@ seen-tag {kind} {d} {seen} {seen'} k f =
 -- the record and root seen together
 pub event-after : {x : Arrival} {m : Mode} {n : ℕ} {next : OpenTags} {seen : Bool} {m' : Mode}
     → Changed x (record { context = m.context; nesting = m.nesting; open_tags = n; extension = m.extension }) next
-    → SeenAfter (kind_number x.kind) x.decision m.root_seen seen → m' ≡ mode_with seen next
+    → SeenAfter x.kind x.decision m.root_seen seen → m' ≡ mode_with seen next
     → EventAfter x m (record { mode = m'; open_tags = next.open_tags })
 unfolding mode_with
 event-after {x} {m} {n} {next} {seen} {m'} c s f =

@@ -1,9 +1,10 @@
 -- A decision that says an action leads to the mode that the action leads to, and a close that is no refusal takes one tag away. Assumes nothing.
-use Rattle.std.specs.Prelude.{Ok}
+use Rattle.std.specs.Prelude.{Result, Ok, Err}
 use mathlib.Core.Path.{◌≡◌, refl, sym, ap, ◌∙◌}
 use mathlib.Core.Bool.{Bool, ◌&&◌}
 use Prim.Native.Nat.{ℕ, zero, suc, ◌-◌}
 use native.Mathlib.Numerals.{sub-one}
+use Rattle.sheet.specs.declared.refusal.Refusal.{Refusal}
 use Rattle.xsd_parser.specs.Handlers.{Outcome, ok}
 use Rattle.xsd_parser.specs.Step.{closed}
 use Rattle.xsd_actions.specs.declared.Decision.{Decision}
@@ -20,7 +21,7 @@ mode-parts by_standard start a m e r n g h =
     let f = n ∙ ap (λ (b : Bool). nesting_of (start && b) m.nesting) r in
     λ i. record { context = e i; nesting = f i; root_seen = g i; extension = h i }
 
-pub decision-action : (d : Decision) → decision (Ok d) ≡ ok (action_of d)
+pub decision-action : (d : Decision) → decision (Ok d) ≡ ok (action_of (Ok d))
 unfolding decision
 decision-action Decision.Keep = refl
 decision-action (Decision.Root v) = refl
@@ -33,8 +34,10 @@ decision-action (Decision.Content n) = refl
 decision-action (Decision.Base v) = refl
 
 -- a decision says one action
-pub action-said : (d : Decision) (a : Action) → decision (Ok d) ≡ ok a → action_of d ≡ a
-action-said d a e = let same : ◌≡◌ {A = Outcome Action} (ok (action_of d)) (ok a) = sym (decision-action d) ∙ e in cc
+pub action-said : (d : Result Decision Refusal) (a : Action) → decision d ≡ ok a → action_of d ≡ a
+unfolding decision
+action-said (Ok d) a e = let same : ◌≡◌ {A = Outcome Action} (ok (action_of (Ok d))) (ok a) = sym (decision-action d) ∙ e in cc
+action-said (Err r) a e = absurd cc
 
 pub closed-more : (n : ℕ) → (n ≡ 0 → ⊥) → closed n ≡ ok (n - 1)
 unfolding closed

@@ -87,7 +87,7 @@ mode-due {p = p} {x} {s} {e} due y =
 
 -- the sheet after the action holds the state after the event
 pub at_after : {w w' : SheetWriter} {p : Progress} {x : Arrival} {s : State} {e : Event} {r : Reader} {after : Arrived}
-    → Due w p x s e r → Done w p.head (decision (Ok x.decision)) w' → EventAfter x p.mode after → At (counted s x.open_tags r) w' (stands_at p after (head_after p w.used.rows))
+    → Due w p x s e r → Done w p.head (decision x.decision) w' → EventAfter x p.mode after → At (counted s x.open_tags r) w' (stands_at p after (head_after p w.used.rows))
 unfolding counted
 at_after {w' = w'} {x = x} {s} {r = r} due done y =
     let at = due.at in
@@ -104,7 +104,7 @@ at_after {w' = w'} {x = x} {s} {r = r} due done y =
 
 -- whether the state after the event has room is whether what is needed has
 pub fits_after : {w : SheetWriter} {p : Progress} {x : Arrival} {s : State} {e : Event} {r : Reader} {need : Used} (n m : ℕ)
-    → Due w p x s e r → AllNeeded w.rows.now w.used p.head (decision (Ok x.decision)) need
+    → Due w p x s e r → AllNeeded w.rows.now w.used p.head (decision x.decision) need
     → state_fits n m (counted s x.open_tags r) ≡ fits need.rows need.names n m
 unfolding state_fits rows_used names_used
 fits_after {w} {x = x} {s} n m due y =
@@ -114,7 +114,7 @@ fits_after {w} {x = x} {s} n m due y =
 
 -- so it is with what the code counts, in buffers as the paper has them
 pub fits_counted : {w : SheetWriter} {p : Progress} {x : Arrival} {s : State} {e : Event} {r : Reader} {need : Used} (n m : ℕ)
-    → Due w p x s e r → Needed w.rows.now w.used p.head (decision (Ok x.decision)) need → m ≤ 65536
+    → Due w p x s e r → Needed w.rows.now w.used p.head (decision x.decision) need → m ≤ 65536
     → state_fits n m (counted s x.open_tags r) ≡ fits need.rows need.names n m
 fits_counted n m due y few = fits_after n m due y.needed ∙ sym (needed-fits n m few y)
 
@@ -128,7 +128,7 @@ room-given lent s e = rw e
 
 -- what has no room is refused with 11
 pub stepped-refused : {w : SheetWriter} {p : Progress} {x : Arrival} {need : Used}
-    → Needed w.rows.now w.used p.head (decision (Ok x.decision)) need → fits need.rows need.names (length w.rows.now) (length w.names.now) ≡ false
+    → Needed w.rows.now w.used p.head (decision x.decision) need → fits need.rows need.names (length w.rows.now) (length w.names.now) ≡ false
     → Stepped w p x (Err Refusal.NoRoom) w
 unfolding Ended
 stepped-refused {w} {p} {x} y e =
@@ -139,8 +139,8 @@ stepped-refused {w} {p} {x} y e =
 
 -- what has room is done
 pub stepped-done : {w w' : SheetWriter} {p p' : Progress} {x : Arrival} {need : Used}
-    → Needed w.rows.now w.used p.head (decision (Ok x.decision)) need → fits need.rows need.names (length w.rows.now) (length w.names.now) ≡ true
-    → Done w p.head (decision (Ok x.decision)) w' → StandsAfter p x (head_after p w.used.rows) p' → Stepped w p x (Ok p') w'
+    → Needed w.rows.now w.used p.head (decision x.decision) need → fits need.rows need.names (length w.rows.now) (length w.names.now) ≡ true
+    → Done w p.head (decision x.decision) w' → StandsAfter p x (head_after p w.used.rows) p' → Stepped w p x (Ok p') w'
 unfolding Ended
 stepped-done {w} {w'} {x = x} y e done after =
     record {
@@ -153,9 +153,9 @@ stepped-done {w} {w'} {x = x} y e done after =
     }
 
 -- a sheet that is kept needs what it uses, which has room
-pub stepped_kept : {w : SheetWriter} {p p' : Progress} {x : Arrival} → DueRoom w p x → x.decision ≡ Decision.Keep
+pub stepped_kept : {w : SheetWriter} {p p' : Progress} {x : Arrival} {d : Decision} → DueRoom w p x → x.decision ≡ Ok d → d ≡ Decision.Keep
     → StandsAfter p x (head_after p w.used.rows) p' → Stepped w p x (Ok p') w
 unfolding decision
-stepped_kept {x = x} q e after =
-    let kept : decision (Ok x.decision) ≡ ok Action.keep = ap (λ (d : Decision). decision (Ok d)) e in
+stepped_kept {x = x} q o e after =
+    let kept : decision x.decision ≡ ok Action.keep = ap decision (o ∙ ap Ok e) in
     stepped-done (rw kept (needed-keep (due-small q) refl)) (used-fits q.due.at) (rw kept done-keep) after

@@ -22,7 +22,7 @@ use Rattle.rows.specs.Writer.{SameBuffers}
 use Rattle.rows.proofs.Laws.Writer.{same_itself, same-then}
 use Rattle.xsd_types.specs.State.{State}
 use Rattle.xsd_parser.specs.EventText.{event_ok}
-use Rattle.xsd_parser.specs.Kinds.{close_kind, kind_number}
+use Rattle.xsd_parser.specs.Kinds.{close_kind}
 use Rattle.xsd_parser.specs.Tape.{next, record1}
 use Rattle.xsd_parser.specs.Step.{step}
 use Rattle.xsd_parser.specs.Read.{Reading, read_state}
@@ -121,7 +121,7 @@ pub record Followed (text : Text) (marks : List ℕ) (at : ℕ) (t : TagRecord) 
   pub is : record1 text (drop at marks) ≡ next (record_event text marks t) (drop t.next marks)
   pub later : at < t.next
   pub within : t.next ≤ length marks
-  pub inside : (kind_number t.kind ≡ close_kind → ⊥) → TagInside text marks t.pairs t.count
+  pub inside : (t.kind ≡ close_kind → ⊥) → TagInside text marks t.pairs t.count
 
 pub followed : {text : Text} {marks : List ℕ} {at : ℕ} {r : Result (Option TagRecord) Refusal} {o : Option TagRecord} (t : TagRecord) → RecordAt text marks at r → r ≡ Ok o → o ≡ Some t → Followed text marks at t
 unfolding recorded IsPlaced

@@ -1,5 +1,4 @@
 -- The sheet of a state is one that what was decided for an event can be done to. Assumes nothing.
-use Rattle.std.specs.Prelude.{Ok}
 use Prim.Native.Nat.{◌*◌, ◌≤◌}
 use mathlib.Core.Path.{◌≡◌, sym, ap, subst, ◌∙◌}
 use mathlib.Core.Bool.{true}
@@ -42,7 +41,7 @@ pub ready_at : {s : State} {w : SheetWriter} {p : Progress} → (at : At s w p)
 unfolding rows_of
 ready_at {s} at = record { holds = at.holds; here = λ r kids e. at.head (open-number s.reader.context r kids e); paired = paired-rows s }
 
-pub ready_for : {w : SheetWriter} {p : Progress} {x : Arrival} → DueRoom w p x → (a : Action) → decision (Ok x.decision) ≡ ok a → ReadyFor w.rows.now w.used p.head a
+pub ready_for : {w : SheetWriter} {p : Progress} {x : Arrival} → DueRoom w p x → (a : Action) → decision x.decision ≡ ok a → ReadyFor w.rows.now w.used p.head a
 ready_for {w} q a e =
     let due = q.due in
     let last = context_rows q.s.reader.context in

@@ -5,7 +5,7 @@ use mathlib.Core.Bool.{true}
 use mathlib.Core.List.{List}
 use native.Mathlib.Omega.{arith}
 use borrow.Author.Tests.{lt-ltb, le-ltb}
-use Rattle.std.specs.Prelude.{Result, Ok, Err}
+use Rattle.std.specs.Prelude.{Result, Err}
 use Rattle.sheet.specs.declared.refusal.Refusal.{Refusal}
 use Rattle.sheet.specs.Returned.{refusal_number}
 use Rattle.sheet.specs.Limits.{events_limit}
@@ -13,7 +13,6 @@ use Rattle.sheet.specs.Lengths.{Lengths}
 use Rattle.rows.specs.declared.writer.SheetWriter.{SheetWriter}
 use Rattle.rows.proofs.Laws.Writer.{same_itself}
 use Rattle.xsd_types.specs.State.{State}
-use Rattle.xsd_parser.specs.Kinds.{kind_number}
 use Rattle.xsd_parser.specs.Event.{Tag, Event}
 use Rattle.xsd_parser.specs.EventText.{event_ok}
 use Rattle.xsd_parser.specs.Handlers.{Outcome, ok, refuse, ◌and_then◌}
@@ -23,8 +22,6 @@ use Rattle.xsd_parser.proofs.Laws.Numbers.{numbers-kept}
 use Rattle.xsd_actions.specs.Actions.{Action}
 use Rattle.xsd_actions.specs.Answers.{decision}
 use Rattle.xsd_progress.specs.Answers.{event_as}
-use Rattle.xsd_progress.specs.Modes.{action_of}
-use Rattle.xsd_progress.proofs.Laws.Modes.{decision-action}
 use Rattle.xsd_progress.specs.declared.open_tags.Arrival.{Arrival}
 use Rattle.xsd_progress.specs.declared.Progress.{Progress}
 use Rattle.xsd_progress.specs.Progress.{At, lent_to}
@@ -64,9 +61,11 @@ pub record Arrives (rows : List ℕ) (p : Progress) (e : Event) (x : Arrival) : 
   pub more : p.events < events_limit
   pub tagged : tags_after e p.open_tags ≡ ok x.open_tags
   pub tag : Tag
-  pub event_is : e ≡ event_as (kind_number x.kind) tag
+  pub event_is : e ≡ event_as x.kind tag
   pub choice : x.by_standard ≡ p.by_standard
-  pub told : Told rows p e (Ok x.decision)
+  pub told : Told rows p e x.decision
+  pub action : Action
+  pub said : decision x.decision ≡ ok action
 
 arrives-on : {w : SheetWriter} {p : Progress} {e : Event} {x : Arrival} {s : State} → Arrives w.rows.now p e x → At s w p
     → step (lent_to w.rows.now w.names.now) s e ≡ (handled s.by_standard s.events e s.reader and_then (λ r. room_for (lent_to w.rows.now w.names.now) (counted s x.open_tags r)))
@@ -81,7 +80,7 @@ taken-decided {e = e} n r more tagged told =
 
 -- every other event is due
 pub due-at : {w : SheetWriter} {p : Progress} {e : Event} {x : Arrival} {s : State} {a : Action}
-    → Arrives w.rows.now p e x → decision (Ok x.decision) ≡ ok a → At s w p → event_ok e ≡ true → (done : Handled s.by_standard s.events e s.reader a) → Due w p x s e done.r'
+    → Arrives w.rows.now p e x → decision x.decision ≡ ok a → At s w p → event_ok e ≡ true → (done : Handled s.by_standard s.events e s.reader a) → Due w p x s e done.r'
 due-at {e = e} {x = x} {s = s} {a = a} y q at k done =
     let o = proper-parts s at.proper in
     let tagged = ap (tags_after e) (sym at.tags) ∙ y.tagged in
@@ -102,9 +101,8 @@ due-at {e = e} {x = x} {s = s} {a = a} y q at k done =
 pub due-room : {w : SheetWriter} {p : Progress} {e : Event} {x : Arrival} → EventRoom w p e → Arrives w.rows.now p e x → DueRoom w p x
 due-room {e = e} {x = x} room y =
     let st = room.standing in
-    let said = decision-action x.decision in
-    let done = told-accepted (action_of x.decision) y.told st.at said in
-    record { s = st.s; e = e; r = done.r'; due = due-at y said st.at room.texts done; few = st.few }
+    let done = told-accepted y.action y.told st.at y.said in
+    record { s = st.s; e = e; r = done.r'; due = due-at y y.said st.at room.texts done; few = st.few }
 
 pub taken-done : {w w' : SheetWriter} {p : Progress} {e : Event} {x : Arrival} {y : Result Progress Refusal} → Arrives w.rows.now p e x → Stepped w p x y w' → EventTaken w p e y w'
 unfolding ◌and_then◌
@@ -112,7 +110,6 @@ taken-done {w} {w'} {e = e} {x = x} {y = y} arrived step =
     record {
       same = step.same;
       ended = λ s at k.
-          let said = decision-action x.decision in
-          let done = told-accepted (action_of x.decision) arrived.told at said in
-          subst (λ (z : Outcome State). Ended z w w' y) (sym (arrives-on arrived at)) (rw done.handles (step.ended s e done.r' (due-at arrived said at k done)));
+          let done = told-accepted arrived.action arrived.told at arrived.said in
+          subst (λ (z : Outcome State). Ended z w w' y) (sym (arrives-on arrived at)) (rw done.handles (step.ended s e done.r' (due-at arrived arrived.said at k done)));
     }

@@ -1,10 +1,9 @@
 -- `xml_text::root::close_tag` meets its contract: the steps one behind the other, each inside the text; the name is held against that of the last slot.
 -- Assumes nothing.
 use native.Mathlib.Omega.{arith}
-use Prim.Native.Nat.{ℕ, ◌+◌, ◌-◌}
-use mathlib.Core.Path.{refl, sym, ap, ◌∙◌}
-use mathlib.Core.List.{List, [], ◌∷◌}
-use lib.ListN.{set}
+use Prim.Native.Nat.{◌-◌}
+use mathlib.Core.Path.{refl, sym, ◌∙◌}
+use mathlib.Core.List.{[], ◌∷◌}
 use Rattle.text.specs.Text.{bytes}
 use Rattle.xml.specs.Tape.{TapeEvent}
 use Rattle.xml.proofs.Laws.Root.{close-bad, close_of, closing-of, close-size}
@@ -49,7 +48,7 @@ returns c =
       rw (close_of a.here.at _ _ _ _ (sym c.in_ok-start.ensures) (closing-of _ _ m.1 c.spaces.ensures (sym c.in_ok-behind.ensures)))
           (close-same text a.slots.now a.here.count (a.here.count - 1) _ _ _ (omega (arith, c.requires)) m.0),
       omega (arith, close-size),
-      c.put-2.ensures ∙ ap (λ (k : List ℕ). set k (a.here.used + 1) 0) c.put.ensures ∙ put-close a.marks.now a.here.used,
+      c.put_two.ensures ∙ put-close a.marks.now a.here.used,
       omega (arith, i),
       i.1,
     )

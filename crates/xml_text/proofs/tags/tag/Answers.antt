@@ -64,8 +64,8 @@ returns c =
       tag-found a.at _ (sym c.in_ok-start.ensures) (sym c.in_ok-end.ensures) e.1,
       omega (arith, size, e.2),
       c.put_pair.ensures
-          ∙ ap (λ (m : List ℕ). set (set m (used + 2) start) (used + 2 + 1) (end - start)) c.put-2.ensures
-          ∙ ap (λ (m : List ℕ). set (set (set m (used + 1) count) (used + 2) start) (used + 2 + 1) (end - start)) (c.put.ensures ∙ ap (set c.attributes.new.marks used) (numbered c.in_ok-last.last.kind))
+          ∙ ap (λ (m : List ℕ). set (set m (used + 2) start) (used + 2 + 1) (end - start)) c.put_two.ensures
+          ∙ ap (λ (m : List ℕ). set (set (set m (used + 1) count) (used + 2) start) (used + 2 + 1) (end - start)) (ap (set c.attributes.new.marks used) (numbered c.in_ok-last.last.kind))
           ∙ ap (λ (m : List ℕ). set (set (set (set m used kind) (used + 1) count) (used + 2) start) (used + 2 + 1) (end - start)) e.3
           ∙ put-tag a.marks.now used kind count start (end - start) (attribute_marks xs)
           ∙ ap (λ (k : ℕ). sets a.marks.now used (kind ∷ k ∷ start ∷ (end - start) ∷ attribute_marks xs)) e.2,

@@ -7,11 +7,11 @@ use Rattle.xsd_read.proofs.Laws.Ready.{ready_at, ready_for, due-small, due-count
 use Rattle.xsd_read.proofs.Laws.After.{stepped-refused, stepped-done, stepped_kept}
 use Rattle.xsd_read.proofs.carry.carry_out.Goals as goal
 
-pub stands_after-requires : goal.stands_after-requires
-stands_after-requires c = due-counters c.requires
+pub stands_after-after-requires : goal.stands_after-after-requires
+stands_after-after-requires c = due-counters c.requires
 
-pub returns-in-Keep : goal.returns-in-Keep
-returns-in-Keep c = stepped_kept c.requires c.in-Keep.is (rw (← c.head_after-head.ensures) c.stands_after.ensures)
+pub returns-in-Ok-Keep : goal.returns-in-Ok-Keep
+returns-in-Ok-Keep c = stepped_kept c.requires c.in-Ok-Keep.is (rw c.in-Ok-Keep.is at c.in-Ok-Keep.field-0-is) (rw (← c.head_after-head.ensures) c.stands_after-after.ensures)
 
 pub needed-need-requires : goal.needed-need-requires
 needed-need-requires c = rw c.as_rows.ensures (record { ready = ready_for c.requires; small = due-small c.requires })
@@ -27,10 +27,7 @@ act-requires c =
     let q = c.requires in
     act-room (rw c.as_rows.ensures at c.needed-need.ensures) (ready_at q.due.at) q.due.decided q.due.acted.fitting (sym c.has_room.ensures ∙ c.if-not-has_room.false)
 
-pub stands_after-requires-2 : goal.stands_after-requires-2
-stands_after-requires-2 c = due-counters c.requires
-
 pub returns : goal.returns
 returns c =
     stepped-done (rw c.as_rows.ensures at c.needed-need.ensures) (sym c.has_room.ensures ∙ c.if-not-has_room.false)
-    c.act.ensures (rw (← c.head_after-head.ensures) c.stands_after-2.ensures)
+    c.act.ensures (rw (← c.head_after-head.ensures) c.stands_after-after.ensures)
