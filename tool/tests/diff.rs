@@ -326,6 +326,76 @@ fn a_type_that_is_only_renamed_breaks_nothing() {
 }
 
 #[test]
+fn relative_paths_are_equal_wherever_the_files_stand() {
+    let (one, other) = (Folder::new(), Folder::new());
+    let text =
+        fs::read(Path::new(env!("CARGO_MANIFEST_DIR")).join("tests/data/account.xsd")).unwrap();
+    let placed = |folder: &Folder| {
+        fs::create_dir_all(folder.path("sheets")).unwrap();
+        let file = folder.put("account.xsd", &text);
+        let sheet = folder.path("sheets/account.sheet");
+        let ran = lubiksan([
+            "read".as_ref(),
+            file.as_os_str(),
+            "--sheet".as_ref(),
+            sheet.as_os_str(),
+        ]);
+        assert_eq!(ran.status, Some(0));
+        (file, sheet)
+    };
+    let (one, other) = (placed(&one), placed(&other));
+    for format in ["text", "json", "html"] {
+        let of = |file: &Path| {
+            let args = [
+                "graph",
+                file.to_str().unwrap(),
+                "--format",
+                format,
+                "--relative",
+            ];
+            lubiksan(args).out
+        };
+        let (file, sheet) = (of(&one.0), of(&one.1));
+        assert_eq!((&file, &sheet), (&of(&other.0), &of(&other.1)));
+        assert!(
+            file.contains("account.xsd") && sheet.contains("../account.xsd"),
+            "{format}"
+        );
+        let folder = one.0.parent().unwrap().to_str().unwrap();
+        assert!(
+            !file.contains(folder) && !sheet.contains(folder),
+            "{format}"
+        );
+        assert_eq!(file, sheet.replace("../account.xsd", "account.xsd"));
+    }
+    let given = one.0.to_str().unwrap();
+    let both = lubiksan(["graph", given, "--relative", "--no-places"]);
+    assert_eq!(both.status, Some(2));
+    let changed = String::from_utf8(text.clone()).unwrap();
+    let changed = changed.replacen("minOccurs=\"0\"", "minOccurs=\"1\"", 1);
+    let folder = Folder::new();
+    let new = folder.put("new.xsd", changed);
+    let ran = lubiksan(["diff", given, new.to_str().unwrap(), "--relative"]);
+    let line = ran.out.lines().next().unwrap();
+    assert!(
+        line.contains(" (account.xsd:") && line.contains(", new.xsd:"),
+        "{}",
+        ran.out
+    );
+    let ran = lubiksan([
+        "diff",
+        given,
+        new.to_str().unwrap(),
+        "--relative",
+        "--format",
+        "json",
+    ]);
+    assert!(
+        ran.out.contains("\"old\": \"account.xsd\"") && ran.out.contains("\"new\": \"new.xsd\"")
+    );
+}
+
+#[test]
 fn graphs_without_places_can_be_compared() {
     let folder = Folder::new();
     let file = Path::new(env!("CARGO_MANIFEST_DIR")).join("tests/data/account.xsd");

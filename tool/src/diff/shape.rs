@@ -1,6 +1,7 @@
 //! What `diff` compares of a schema: its roots and types, each with its place.
 
 use std::collections::BTreeMap;
+use std::path::{Path, PathBuf};
 
 use lubiksan::names::{map_builtin, normalize_type_name};
 use lubiksan::{Cardinality, Facet, Graph, TypeDef, TypeRef};
@@ -11,8 +12,8 @@ use crate::identifier::spelled;
 /// A schema.
 #[derive(Debug, Default)]
 pub struct Shape {
-    /// The file as it was given.
-    pub file: String,
+    /// The file as it was given, or its path from another file.
+    pub path: PathBuf,
     pub namespace: String,
     pub roots: Vec<Piece>,
     /// The types by their Rust names.
@@ -93,7 +94,7 @@ impl std::fmt::Display for Groups {
 
 impl Shape {
     /// The shape of a schema whose tags are at hand.
-    pub fn of_schema(file: String, schema: &Schema) -> Shape {
+    pub fn of_schema(file: &Path, schema: &Schema) -> Shape {
         let roots = schema.roots.iter().map(|root| Piece {
             xml: root.xml.clone(),
             holds: root.holds.clone(),
@@ -103,7 +104,7 @@ impl Shape {
         });
         let types = schema.types.iter().filter(|found| found.line.is_some());
         Shape {
-            file,
+            path: file.to_owned(),
             namespace: schema.namespace.clone(),
             roots: roots.collect(),
             types: types
@@ -113,7 +114,7 @@ impl Shape {
     }
 
     /// The shape of a graph alone.
-    pub fn of_graph(file: String, graph: &Graph<'_>) -> Shape {
+    pub fn of_graph(file: &Path, graph: &Graph<'_>) -> Shape {
         let roots = graph.roots().map(|root| Piece {
             xml: root.xml_name.to_owned(),
             holds: named(root.type_name),
@@ -122,7 +123,7 @@ impl Shape {
             line: None,
         });
         Shape {
-            file,
+            path: file.to_owned(),
             namespace: graph.namespace().to_owned(),
             roots: roots.collect(),
             types: graph
