@@ -31,7 +31,7 @@ fn put_column(rows: &[u32], height: usize, c: usize, out: &mut [u32])
     }
 }
 
-// "ten columns, one after the other"
+// "ten columns, one after the other". It differs from `put_rows` in the count and the step, which one function would be handed.
 fn put_columns(rows: &[u32], height: usize, out: &mut [u32])
     requires { Sized rows.now out.old height }
     ensures { out.new ≡ columns_of rows.now }

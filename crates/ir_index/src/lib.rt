@@ -200,6 +200,7 @@ pub fn first_repeated(part: &SheetPart<'_>, numbers: &mut [u32]) -> Option<usize
         limit: 2 * (part.end - 2),
         found: None,
     };
+    // A `while`: its steps are blocks of any length.
     while search.from < search.limit {
         search = search_block(part, numbers, search);
     }

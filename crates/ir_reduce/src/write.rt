@@ -99,7 +99,7 @@ pub fn put_kept(writer: &mut GraphWriter, part: &SheetPart, marks: &[u8]) -> Opt
     Some(())
 }
 
-// How many of the rows that are kept have a tag from low to high.
+// How many of the rows that are kept have a tag from low to high. No `filter` with `count`: whether a row is kept goes by the row before it.
 pub fn count_kept(part: &SheetPart, marks: &[u8], low: u32, high: u32) -> usize
     requires { (part.now.end ≤ length marks.now) × (1 ≤ part.now.end) × (part.now.end ≤ 4096) }
     ensures fact { (names : List ℕ) → result ≡ count (between low high) (map (λ (r : Row). r.tag) (kept_rows (row_at part.now.rows.now names) marks.now true 1 (part.now.end - 1))) }

@@ -83,6 +83,7 @@ fn refers_to(tag: u32) -> bool
         | in_range(schema::BOUND_ELEMENT, schema::ATTRIBUTE, tag)
 }
 
+// This and the next differ in the number and the spelling, which one function would be handed.
 fn reference_text(reference: u32) -> Option<Spelling>
     ensures { result ≡ reference_spelling reference }
 {

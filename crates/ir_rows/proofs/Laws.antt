@@ -8,3 +8,4 @@ pub mod Definitions
 pub mod Types
 pub mod Inside
 pub mod Graph
+pub mod Named

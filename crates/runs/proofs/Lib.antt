@@ -16,6 +16,7 @@ pub mod Handled
 pub mod Notes
 pub mod Cleared
 pub mod Stored
+pub mod Named
 pub mod Given
 pub mod Written
 pub mod Reduced

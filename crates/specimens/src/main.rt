@@ -89,6 +89,7 @@ fn put_lines<W: Write>(alloc: Global, out: &mut W, input: &[u8]) -> io::Result<(
 }
 
 // What cannot be written is passed over: the program ends as it does where all is written.
+// Beside that of the other program, which differs in the limit and in the work: the call is what is the same.
 fn main(rt: HostRuntime) {
     let _ = run::on_input(rt.alloc(), rt.reader(), LONGEST, io::writer(&rt), put_lines);
 }

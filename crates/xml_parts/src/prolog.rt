@@ -97,7 +97,7 @@ pub fn declaration(classes: &Classes, text: &[u8], at: usize) -> Option<usize>
     literal(text, spaces(classes, text, end), b"?>")
 }
 
-// Whether a comment or an instruction stands at a position.
+// Whether a comment or an instruction stands at a position. A line, as `is_marked` of xml_text with other words, which one function would be handed.
 #[tactic(auto, unfolding(xml::specs::Prolog::is_misc, text::specs::Text::bytes))]
 pub fn is_misc(text: &[u8], at: usize) -> bool
     ensures { result ≡ is_misc (drop at text.now) }

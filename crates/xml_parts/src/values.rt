@@ -93,6 +93,7 @@ fn value_stop(classes: &Classes, text: &[u8], at: usize, quote: u8) -> Option<us
     ensures ends { stopped text.now result ≡ value_end quote at (drop at text.now) }
     ensures whole { held text.now result ≡ is_value quote (drop at text.now) }
 {
+    // A `while`: its steps are runs of any length.
     let mut i = value_run(classes, text, at);
     while i < text.len() {
         let b = text[i];
@@ -147,6 +148,7 @@ fn skip_lines(text: &[u8], at: usize) -> usize
     if text::byte_at(text, at) != 13 {
         i = skip::<TextRun>(text, at);
     }
+    // A `while`: its steps are runs of any length.
     while text::byte_at(text, i) == 13 {
         i = skip::<TextRun>(text, i + 1);
     }
@@ -163,6 +165,7 @@ fn text_run(classes: &Classes, text: &[u8], at: usize) -> usize
 pub fn char_data(classes: &Classes, text: &[u8], at: usize) -> Option<usize>
     ensures { moved text.now result ≡ char_data at (drop at text.now) }
 {
+    // A `while`: its steps are runs of any length.
     let mut i = text_run(classes, text, at);
     while i < text.len() {
         if text[i] == b'<' {

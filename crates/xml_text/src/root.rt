@@ -21,7 +21,7 @@ pub enum Content {
     Starting(usize),
 }
 
-// Whether a comment, a section or an instruction may stand at a position.
+// Whether a comment, a section or an instruction may stand at a position. A line, as `is_misc` of xml_parts with other words, which one function would be handed.
 fn is_marked(text: &[u8], at: usize) -> bool
     ensures { result ≡ (starts_with (bytes "<!") (drop at text.now) || starts_with (bytes "<?") (drop at text.now)) }
 {

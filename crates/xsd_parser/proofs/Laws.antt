@@ -29,3 +29,4 @@ pub mod ChildrenRead
 pub mod Choices
 pub mod Alike
 pub mod Grows
+pub mod Named

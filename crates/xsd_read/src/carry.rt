@@ -24,7 +24,6 @@ fn head_after(p: Progress, rows_used: usize) -> usize
 }
 
 // Where the reading stands after an event: the record is changed and the event counted.
-#[inline(always)]
 fn stands_after(p: Progress, a: Arrival, head: usize) -> Progress
     requires { (p.mode.nesting ≤ open_tags_limit) × (p.events ≤ events_limit) }
     ensures { StandsAfter p a.entry head result }

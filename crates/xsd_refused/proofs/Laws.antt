@@ -4,3 +4,4 @@ pub mod Base
 pub mod Refused
 pub mod Count
 pub mod Finished
+pub mod Named
