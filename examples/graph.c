@@ -7,8 +7,8 @@
 
    Run:  ./graph FILE.xsd
 
-   The file is ASCII, of at most 65,536 bytes. Longer files and UTF-8 are read by the program `lubiksan` and by the Rust crate
-   `lubiksan-xml`, which put pieces of tapes together and hand them to lubiksan_read one after the other. */
+   The file is UTF-8 without characters above U+017F, of at most 65,536 bytes. Others are read by the program `lubiksan` and by the Rust
+   crate `lubiksan-xml`, which put pieces of tapes together and hand them to lubiksan_read one after the other. */
 #include <stdio.h>
 #include <stdlib.h>
 

@@ -65,8 +65,9 @@ causes! {
     Record = LUBIKSAN_RECORD, "the record is no event, or its tag has over 32 attributes";
     /// 4: a pair of the record lies outside the text or out of order.
     Pair = LUBIKSAN_PAIR, "a pair lies outside the text or out of order";
-    /// 5: a byte above 127; in a reading under a pair, else anywhere in the text.
-    NotAscii = LUBIKSAN_BYTE, "a character outside ASCII";
+    /// 5: a byte above 127 that is of no character from U+0080 to U+017F in UTF-8; in a reading under a pair, those of a character that an
+    /// end of the pair cuts among them, else anywhere in the text. Of a pattern any byte above 127.
+    Byte = LUBIKSAN_BYTE, "a byte above 127 that is of no character up to U+017F";
     /// 6: a close with no tag open.
     NothingOpen = LUBIKSAN_CLOSE, "a close with no tag open";
     /// 7: a start with 255 tags open.

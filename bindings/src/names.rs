@@ -1,4 +1,5 @@
-//! The text functions of the library. They take any bytes; letters outside ASCII have no case.
+//! The text functions of the library. They take any text; letters up to U+017F have the case that the Unicode data give them, as in the
+//! standard library: `ß` goes up to `SS`, `ŉ` to U+02BC and `N`, `İ` goes down to `i` and U+0307.
 
 use crate::calls;
 use crate::graph::Builtin;
@@ -50,6 +51,7 @@ pub fn map_builtin(name: &str) -> Option<Builtin> {
 ///
 /// ```
 /// assert_eq!(lubiksan::names::normalize_type_name("Amount_SimpleType"), "AmountSimpleType");
+/// assert_eq!(lubiksan::names::normalize_type_name("größe_ähnlich"), "GrößeÄhnlich");
 /// ```
 pub fn normalize_type_name(name: &str) -> String {
     converted(name, calls::normalize_type_name)
@@ -59,6 +61,7 @@ pub fn normalize_type_name(name: &str) -> String {
 ///
 /// ```
 /// assert_eq!(lubiksan::names::xml_to_snake_case("FIToFICstmrCdtTrf"), "fi_to_fi_cstmr_cdt_trf");
+/// assert_eq!(lubiksan::names::xml_to_snake_case("CréditÉtatİl"), "crédit_état_il");
 /// ```
 pub fn xml_to_snake_case(name: &str) -> String {
     converted(name, calls::xml_to_snake_case)
@@ -68,6 +71,7 @@ pub fn xml_to_snake_case(name: &str) -> String {
 ///
 /// ```
 /// assert_eq!(lubiksan::names::code_to_pascal_case("TEST-VALUE"), "TestValue");
+/// assert_eq!(lubiksan::names::code_to_pascal_case("ÉTÉ-ß"), "ÉtéSS");
 /// ```
 pub fn code_to_pascal_case(value: &str) -> String {
     converted(value, calls::code_to_pascal_case)
@@ -77,6 +81,7 @@ pub fn code_to_pascal_case(value: &str) -> String {
 ///
 /// ```
 /// assert!(lubiksan::names::same_normalized("a_b", "AB"));
+/// assert!(lubiksan::names::same_normalized("ı_a", "i_a"));
 /// ```
 pub fn same_normalized(a: &str, b: &str) -> bool {
     calls::same_normalized(a.as_bytes(), b.as_bytes())

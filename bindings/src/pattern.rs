@@ -41,7 +41,7 @@ impl Pattern {
             number => match Cause::of(number) {
                 Cause::NoPattern => Ok(Pattern::NotDerived),
                 Cause::Lengths => Err(Unjudged::Long),
-                Cause::NotAscii => Err(Unjudged::NotAscii),
+                Cause::Byte => Err(Unjudged::NotAscii),
                 Cause::PatternAside => Err(Unjudged::Aside),
                 cause => Err(Unjudged::Other { cause }),
             },
@@ -80,7 +80,7 @@ impl Unjudged {
     pub fn cause(&self) -> Cause {
         match self {
             Unjudged::Long => Cause::Lengths,
-            Unjudged::NotAscii => Cause::NotAscii,
+            Unjudged::NotAscii => Cause::Byte,
             Unjudged::Aside => Cause::PatternAside,
             Unjudged::Other { cause } => *cause,
         }

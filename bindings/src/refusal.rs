@@ -44,8 +44,8 @@ pub enum Refusal {
     Record(At),
     /// 4: a pair of the record lies outside the text or out of order.
     Pair(At),
-    /// 5: a name, a key or a value has a byte above 127.
-    NotAscii(At),
+    /// 5: a name, a key or a value has a byte above 127 that is of no character up to U+017F.
+    Byte(At),
     /// 6: a close with no tag open.
     NothingOpen(At),
     /// 7: a start with 255 tags open.
@@ -107,7 +107,7 @@ impl Refusal {
             Cause::NotGood => Refusal::NotGood,
             Cause::Record => Refusal::Record(at),
             Cause::Pair => Refusal::Pair(at),
-            Cause::NotAscii => Refusal::NotAscii(at),
+            Cause::Byte => Refusal::Byte(at),
             Cause::NothingOpen => Refusal::NothingOpen(at),
             Cause::TooDeep => Refusal::TooDeep(at),
             Cause::TooManyEvents => Refusal::TooManyEvents(at),
@@ -137,7 +137,7 @@ impl Refusal {
             Refusal::NotGood => Cause::NotGood,
             Refusal::Record(_) => Cause::Record,
             Refusal::Pair(_) => Cause::Pair,
-            Refusal::NotAscii(_) => Cause::NotAscii,
+            Refusal::Byte(_) => Cause::Byte,
             Refusal::NothingOpen(_) => Cause::NothingOpen,
             Refusal::TooDeep(_) => Cause::TooDeep,
             Refusal::TooManyEvents(_) => Cause::TooManyEvents,
@@ -179,7 +179,7 @@ impl Refusal {
 
     fn at(&self) -> Option<At> {
         match self {
-            Refusal::Record(at) | Refusal::Pair(at) | Refusal::NotAscii(at) => Some(*at),
+            Refusal::Record(at) | Refusal::Pair(at) | Refusal::Byte(at) => Some(*at),
             Refusal::NothingOpen(at) | Refusal::TooDeep(at) | Refusal::TooManyEvents(at) => {
                 Some(*at)
             }

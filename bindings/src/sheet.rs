@@ -380,7 +380,7 @@ impl<'a> SchemaSheet<'a> {
         let mut text = vec![0; TEXT];
         let length = self.write_xsd(&mut text)?;
         text.truncate(length);
-        // What the call writes is ASCII, so nothing is lost.
+        // What the call writes is UTF-8, so nothing is lost.
         Ok(String::from_utf8_lossy(&text).into_owned())
     }
 

@@ -36,7 +36,8 @@ impl Tape {
         Tape { text, marks }
     }
 
-    /// The tape of a schema text, which the library reads: ASCII, at most 65,536 bytes, well formed and whole.
+    /// The tape of a schema text, which the library reads: UTF-8 without characters above U+017F, at most 65,536 bytes, well formed and
+    /// whole.
     ///
     /// # Errors
     ///

@@ -16,8 +16,8 @@ use crate::limits::{MARKS, TEXT};
 pub enum NoTape {
     /// 1: the text has over 65,536 bytes, or over 16,384 marks are lent.
     Lengths,
-    /// 5: the text has a byte above 127.
-    NotAscii,
+    /// 5: the text has a byte above 127 that is of no character up to U+017F.
+    Byte,
     /// 17: the text is not well formed by XML 1.0 (Fifth Edition), or not whole.
     Malformed,
     /// 18: a document type, `<!DOCTYPE`, stands behind a well-formed prolog or at the start.
@@ -36,7 +36,7 @@ impl NoTape {
     fn of(number: u32) -> NoTape {
         match Cause::of(number) {
             Cause::Lengths => NoTape::Lengths,
-            Cause::NotAscii => NoTape::NotAscii,
+            Cause::Byte => NoTape::Byte,
             Cause::Malformed => NoTape::Malformed,
             Cause::Doctype => NoTape::Doctype,
             Cause::ShortMarks => NoTape::ShortMarks,
@@ -48,7 +48,7 @@ impl NoTape {
     pub fn cause(&self) -> Cause {
         match self {
             NoTape::Lengths => Cause::Lengths,
-            NoTape::NotAscii => Cause::NotAscii,
+            NoTape::Byte => Cause::Byte,
             NoTape::Malformed => Cause::Malformed,
             NoTape::Doctype => Cause::Doctype,
             NoTape::ShortMarks => Cause::ShortMarks,

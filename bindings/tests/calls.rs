@@ -1,7 +1,8 @@
 //! The calls through the bindings: every refusal with its number, place and event; lent buffers.
 
 use lubiksan::{
-    limits, Cause, Context, Graph, Kind, PieceFull, ReadAs, Refusal, SchemaSheet, Tape, TapeBuilder,
+    limits, Cause, Context, Graph, Kind, NoTape, PieceFull, ReadAs, Refusal, SchemaSheet, Tape,
+    TapeBuilder, TypeDef, TypeRef,
 };
 
 type Tried = Result<(), Box<dyn std::error::Error>>;
@@ -26,6 +27,74 @@ fn refusals_have_number_place_and_event() -> Tried {
     let mut piece = TapeBuilder::new();
     piece.start("schema", &[("targetNamespace", "x")])?;
     assert!(matches!(small.read(&piece.finish()), Err(Refusal::NoRoom(at)) if at.event == 0));
+    Ok(())
+}
+
+#[test]
+fn each_pair_holds_whole_characters() -> Tried {
+    // `a`, é in two bytes, ß in two bytes.
+    let read = |marks: &[u32]| {
+        let tape = Tape::from_buffers("a\u{e9}\u{df}".into(), marks.to_vec());
+        let answer = SchemaSheet::cleared(ReadAs::Standard).read(&tape);
+        answer.map_err(|refusal| refusal.number())
+    };
+    assert_eq!(read(&[2, 1, 0, 1, 1, 2, 3, 2]), Ok(1));
+    assert_eq!(read(&[2, 1, 0, 1, 1, 1, 2, 3]), Err(5));
+    assert_eq!(read(&[2, 1, 0, 1, 1, 2, 3, 1]), Err(5));
+    assert_eq!(read(&[2, 1, 0, 2, 2, 1, 3, 2]), Err(5));
+    assert_eq!(read(&[2, 1, 0, 2, 2, 9, 3, 2]), Err(4));
+    assert_eq!(read(&[3, 0, 3, 0]), Err(6));
+    // Under no pair any bytes may stand.
+    let tape = Tape::from_buffers(vec![b'a', 0xc3, 0xff], vec![2, 0, 0, 1]);
+    assert_eq!(SchemaSheet::cleared(ReadAs::Standard).read(&tape)?, 1);
+    Ok(())
+}
+
+#[test]
+fn graphs_have_what_case_brings_in() -> Tried {
+    let text = "<schema><element name='\u{e9}' type='\u{149}_\u{b5}'/>\
+        <complexType name='\u{149}_\u{b5}'><sequence><element name='\u{c9}t\u{130}' type='\u{df}_a'/></sequence></complexType>\
+        <simpleType name='SS_a'><restriction base='string'><enumeration value='x\u{130}-\u{149}'/></restriction></simpleType></schema>";
+    let mut sheet = SchemaSheet::cleared(ReadAs::Standard);
+    sheet.read(&Tape::of_text(text.into())?)?;
+    let mut graph = Graph::new();
+    sheet.lower(&mut graph)?;
+    let names: Vec<&str> = graph.types().map(|found| found.name()).collect();
+    assert_eq!(names, ["SSA", "\u{2bc}N\u{39c}"]);
+    let root = graph.roots().next().ok_or("a root was expected")?;
+    assert_eq!(
+        (root.xml_name, root.type_name),
+        ("\u{e9}", "\u{149}_\u{b5}")
+    );
+    let Some(TypeDef::CodeList(codes)) = graph.types().next() else {
+        return Err("a code list was expected".into());
+    };
+    let code = codes.codes().next().ok_or("a code was expected")?;
+    assert_eq!(code.rust_name, "Xi\u{307}\u{2bc}N");
+    let Some(TypeDef::Struct(found)) = graph.types().nth(1) else {
+        return Err("a struct was expected".into());
+    };
+    let field = found.fields().next().ok_or("a field was expected")?;
+    assert_eq!(field.rust_name, "\u{e9}t_i");
+    assert!(matches!(field.type_ref, TypeRef::Named("SSA")));
+
+    // Stored it is a graph; reduced it keeps all, since the root's name normalises to the type's.
+    let (rows, names) = (graph.rows().to_vec(), graph.names().to_vec());
+    let stored = Graph::from_buffers(rows.clone(), names.clone())?;
+    assert_eq!(stored.reduced()?.types().count(), 2);
+    // The three characters are of graphs alone, and U+03BC of neither.
+    let other = String::from_utf8(names)?.replace('\u{39c}', "\u{3bc}");
+    assert!(Graph::from_buffers(rows, other.into()).is_err());
+    let tape = Tape::of_text("<a b='\u{2bc}'/>".into());
+    assert_eq!(tape, Err(NoTape::Byte));
+    let mut piece = TapeBuilder::new();
+    piece.empty("a", &[("b", "\u{39c}")])?;
+    assert!(matches!(sheet.read(&piece.finish()), Err(Refusal::Byte(at)) if at.place == 0));
+    let written = sheet.to_xsd()?;
+    assert!(
+        written.contains("name=\"\u{c9}t\u{130}\" type=\"\u{df}_a\""),
+        "{written}"
+    );
     Ok(())
 }
 

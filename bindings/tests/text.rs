@@ -9,6 +9,9 @@ const WORKED: &str =
     "<?xml version=\"1.0\"?><a>x<!--y--><b c=\"&lt; \"\n d='\"'/><![CDATA[z]]></a>";
 const WORKED_MARKS: [u32; 18] = [1, 0, 22, 1, 2, 2, 34, 1, 36, 1, 39, 5, 47, 1, 50, 1, 3, 0];
 
+/// The words of 5.
+const BYTE: &str = "a byte above 127 that is of no character up to U+017F";
+
 /// The refusal of a text with this room; every mark is 0 then.
 fn refused(text: &[u8], room: usize) -> Option<NoTape> {
     let mut marks = vec![7; room];
@@ -53,9 +56,9 @@ fn a_part_of_the_marks_is_read() -> Tried {
 #[test]
 fn refusals_have_their_number_and_words() {
     let doctype = WORKED.replacen("?>", "?><!DOCTYPE a>", 1);
-    let high = WORKED.replacen('y', "\u{80}", 1);
+    let high = WORKED.replacen('y', "\u{180}", 1);
     let tried: [(&str, usize, u32, &str); 6] = [
-        (&high, 18, 5, "a character outside ASCII"),
+        (&high, 18, 5, BYTE),
         (
             &WORKED[..WORKED.len() - 1],
             0,
@@ -69,7 +72,7 @@ fn refusals_have_their_number_and_words() {
             19,
             "the tags of the text take more marks than lent",
         ),
-        ("<!DOCTYPE a [\u{e9}", 0, 5, "a character outside ASCII"),
+        ("<!DOCTYPE a [\u{180}", 0, 5, BYTE),
         ("<a><a>", 0, 17, "the text is not well-formed XML"),
     ];
     for (text, room, number, words) in tried {
@@ -112,6 +115,64 @@ fn the_longest_text_is_taken() {
         Err(NoTape::Lengths)
     );
     assert_eq!(marks, [7; 4]);
+}
+
+#[test]
+fn letters_up_to_017f_are_read() -> Tried {
+    let text =
+        "<\u{e9}l\u{e9}ment \u{df}=\"\u{17f}\u{80}\"><!--\u{d7}-->\u{a0}</\u{e9}l\u{e9}ment>";
+    let tape = Tape::of_text(text.into())?;
+    let Some(Event::Start(tag)) = tape.events().next() else {
+        return Err("a start tag was expected".into());
+    };
+    assert_eq!(tag.name(), "\u{e9}l\u{e9}ment".as_bytes());
+    let attributes: Vec<(&[u8], &[u8])> = tag.attributes().collect();
+    assert_eq!(
+        attributes,
+        [("\u{df}".as_bytes(), "\u{17f}\u{80}".as_bytes())]
+    );
+    let malformed = ["<\u{d7}/>", "<a\u{f7}/>", "<\u{b7}/>", "<\u{e9}></\u{c9}>"];
+    for text in malformed {
+        assert_eq!(
+            refused(text.as_bytes(), 4),
+            Some(NoTape::Malformed),
+            "{text}"
+        );
+    }
+    let bytes: [&[u8]; 7] = [
+        b"<a>\xc3</a>",
+        b"<a>\xa9</a>",
+        b"<a/>\xc5",
+        b"<a>\xc0\x80</a>",
+        b"<a>\xe2\x80\x99</a>",
+        b"<a>e\xcc\x81</a>",
+        b"\xef\xbb\xbf<a/>",
+    ];
+    for text in bytes {
+        assert_eq!(refused(text, 4), Some(NoTape::Byte));
+    }
+    Ok(())
+}
+
+#[test]
+fn a_character_is_cut_at_the_last_byte() {
+    // A root, then a comment up to the last byte of the longest text.
+    let of = |letters: &str| {
+        let filler = " ".repeat(limits::TEXT - 8 - letters.len());
+        let mut text = format!("<a/>{filler}<!--").into_bytes();
+        text.extend(letters.bytes());
+        text
+    };
+    // Not whole, so 17; with half of a character at the end 5 comes first.
+    assert_eq!(refused(&of("\u{e9}"), 4), Some(NoTape::Malformed));
+    let mut cut = of("x\u{e9}");
+    cut.pop();
+    cut.insert(0, b' ');
+    assert_eq!(cut.len(), limits::TEXT);
+    assert_eq!(refused(&cut, 4), Some(NoTape::Byte));
+    cut.push(0xa9);
+    let mut marks = [7; 4];
+    assert_eq!(tape_of(&cut, &mut marks), Err(NoTape::Lengths));
 }
 
 /// A root with so many empty tags in it: 6 marks and 4 for each.

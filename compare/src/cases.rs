@@ -9,6 +9,7 @@ use std::path::{Path, PathBuf};
 use crate::names::{
     changes_of_one_place, near_misses, prefixed, BUILTIN_NAMES, OTHER_BUILTIN_NAMES,
 };
+use crate::paper::text::is_text;
 use crate::random::Random;
 
 /// The limits of the letters and digits, the bytes beside them, the separators, and both ends of ASCII.
@@ -19,6 +20,19 @@ const NUMBER_BYTES: &[u8] = b"+-0 9:/";
 const SPELLING_BYTES: &[u8] = b"\0\x08\t\n\x0b\x0c\r\x0e\x1c\x1d\x1e\x1f !+,-./019:\x7f";
 const LONGEST_SPELLING: usize = 5;
 const FEW_NAME_BYTES: &[u8] = b"aA_b:";
+
+/// ASCII letters of both cases, digits and separators; letters up to U+017F, at least one of each kind of case and each lead byte, and
+/// characters that are no letters.
+const ACCENTED: [char; 40] = [
+    'a', 'b', 'z', 'A', 'B', 'Z', '0', '9', '_', '-', '.', ':', ' ', 'é', 'É', 'ß', 'ŉ', 'İ', 'ı',
+    'µ', 'ÿ', 'Ÿ', 'ſ', 'Ā', 'ā', 'ª', 'º', '×', '÷', '·', 'ĸ', '\u{80}', '\u{A0}', '\u{AD}', 'À',
+    'Ż', 'ż', 'Ĳ', 'ĳ', 'ŀ',
+];
+const LONGEST_ACCENTED: usize = 3;
+/// With the characters that case brings into a graph.
+const OF_GRAPHS: [char; 8] = ['a', 'S', '_', ':', 'ŉ', '\u{2BC}', '\u{307}', '\u{39C}'];
+const LONGEST_OF_GRAPHS: usize = 4;
+const RANDOM_ACCENTED: usize = 60_000;
 
 const SEED: u64 = 52;
 const RANDOM_NUMBERS: usize = 20_000;
@@ -51,6 +65,57 @@ fn one_byte_longer(texts: &[String], alphabet: &[u8]) -> Vec<String> {
         .collect()
 }
 
+/// All texts of up to `most` of the characters, shorter ones first.
+fn texts_of(characters: &[char], most: usize) -> Vec<String> {
+    let mut texts = vec![String::new()];
+    let mut from = 0;
+    for _ in 0..most {
+        let to = texts.len();
+        for index in from..to {
+            let longer: Vec<String> = characters
+                .iter()
+                .map(|c| format!("{}{c}", texts[index]))
+                .collect();
+            texts.extend(longer);
+        }
+        from = to;
+    }
+    texts
+}
+
+/// All short texts with accented letters.
+pub fn accented_texts() -> Vec<String> {
+    texts_of(&ACCENTED, LONGEST_ACCENTED)
+}
+
+/// All short texts of a graph, with the three characters that no schema sheet has.
+pub fn graph_texts() -> Vec<String> {
+    texts_of(&OF_GRAPHS, LONGEST_OF_GRAPHS)
+}
+
+/// Longer texts with accented letters, over five choices of characters.
+pub fn random_accented() -> Vec<String> {
+    let all: Vec<char> = ('\u{80}'..='\u{17F}').collect();
+    let mixed: Vec<char> = ('\0'..='\u{17F}').collect();
+    let choices: [&[char]; 5] = [
+        &ACCENTED,
+        &all,
+        &mixed,
+        &['é', 'É', 'a', 'A'],
+        &['İ', 'ŉ', '_', '-', 'ß'],
+    ];
+    let mut random = Random::new(SEED + 2);
+    (0..RANDOM_ACCENTED)
+        .map(|i| {
+            let choice = choices[i % choices.len()];
+            let length = random.below(LONGEST_RANDOM / 2 + 1);
+            (0..length)
+                .map(|_| choice[random.below(choice.len())])
+                .collect()
+        })
+        .collect()
+}
+
 /// All short texts.
 pub fn short_texts() -> Vec<String> {
     let mut texts = texts_over(EVERY_CLASS, 0..=4);
@@ -78,6 +143,11 @@ fn each_longer(text: &mut String, visit: &mut dyn FnMut(&str)) {
 /// Short names for all pairs.
 pub fn short_names() -> Vec<String> {
     texts_over(FEW_NAME_BYTES, 0..=3)
+}
+
+/// Short names with letters whose upper form is longer, shorter or another's, for all pairs.
+pub fn short_accented_names() -> Vec<String> {
+    texts_of(&['_', 'S', 's', 'ß', 'ſ', 'ı', 'i', 'é', 'É', 'ŉ', 'N'], 3)
 }
 
 /// Number texts, each once.
@@ -166,7 +236,7 @@ pub fn random_texts() -> Vec<String> {
 }
 
 /// The name-like tokens and the attribute values of the schemas under `folder`, each once, without
-/// those that have a byte above 127.
+/// those that have a character above U+017F.
 ///
 /// # Errors
 ///
@@ -178,7 +248,7 @@ pub fn schema_texts(folder: &Path) -> io::Result<Vec<String>> {
         texts.extend(
             tokens(&bytes)
                 .chain(attribute_values(&bytes))
-                .filter_map(ascii_text),
+                .filter_map(taken),
         );
     }
     Ok(texts.into_iter().collect())
@@ -222,7 +292,6 @@ fn value_from(rest: &[u8], quote: u8) -> Option<&[u8]> {
     Some(&rest[..end])
 }
 
-fn ascii_text(bytes: &[u8]) -> Option<String> {
-    let text = std::str::from_utf8(bytes).ok()?;
-    text.is_ascii().then(|| text.to_owned())
+fn taken(bytes: &[u8]) -> Option<String> {
+    is_text(bytes).then(|| String::from_utf8_lossy(bytes).into_owned())
 }

@@ -57,6 +57,42 @@ pub fn leaves(tally: &mut Tally, text: &str) {
     }
 }
 
+/// Compares normalising, the local name and the built-in type on a text of a graph, whose three characters
+/// have no other case there.
+pub fn of_graph(tally: &mut Tally, text: &str) {
+    let start = text.len() - leaves::local_name(text).len();
+    tally.compare("local_name", &text, start, ours::local_name(text));
+    let builtin = leaves::builtin_number(leaves::map_builtin(text));
+    tally.compare("map_builtin", &text, builtin, ours::map_builtin(text));
+    one_room(tally, CONVERSIONS[0], text, 2 * text.len() + 1);
+    neighbours(tally, "ŉ_a", text);
+}
+
+/// Compares the case of a character with the standard library's: the name of a code has its upper form, and its lower one behind
+/// another letter; the name of a field has `_` before an upper letter behind a lower one.
+pub fn case_of(tally: &mut Tally, c: char) {
+    let converted = |convert: fn(&str, &mut [u8]) -> usize, text: String| {
+        let mut out = [0; 16];
+        let length = convert(&text, &mut out).min(out.len());
+        String::from_utf8_lossy(&out[..length]).into_owned()
+    };
+    let upper: String = c.to_uppercase().collect();
+    tally.compare(
+        "to_uppercase",
+        &c,
+        upper,
+        converted(ours::code_to_pascal_case, c.into()),
+    );
+    let lower: String = c.to_lowercase().collect();
+    let behind = converted(ours::code_to_pascal_case, format!("X{c}"));
+    tally.compare("to_lowercase", &c, format!("X{lower}"), behind);
+    let snake = |text| converted(ours::xml_to_snake_case, text);
+    let is_upper = snake(format!("x{c}")).starts_with("x_");
+    tally.compare("is_uppercase", &c, c.is_uppercase(), is_upper);
+    let is_lower = snake(format!("{c}X")).ends_with("_x");
+    tally.compare("is_lowercase", &c, c.is_lowercase(), is_lower);
+}
+
 /// Compares the two number leaves on `text` with the model.
 pub fn numbers(tally: &mut Tally, text: &str) {
     u32_is(tally, text, number_u32(text));

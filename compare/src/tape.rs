@@ -121,8 +121,8 @@ fn event_xml<'a>(event: &'a Event, open: &mut Vec<&'a str>) -> Option<String> {
     }
 }
 
-/// The tag can be written as XML 1.0 and is in the domain: names of ASCII, keys unique, values
-/// without `<`, `"`, `&` and control bytes.
+/// The tag can be written as XML 1.0 and is in the domain: names of characters up to U+017F, keys unique,
+/// values without `<`, `"`, `&` and ASCII control bytes.
 pub fn is_writable(tag: &Tag) -> bool {
     let keys: Vec<&String> = tag.attributes.iter().map(|(key, _)| key).collect();
     let unique = (0..keys.len()).all(|i| !keys[..i].contains(&keys[i]));
@@ -131,18 +131,19 @@ pub fn is_writable(tag: &Tag) -> bool {
         && tag
             .attributes
             .iter()
-            .all(|(key, value)| is_name(key) && value.bytes().all(is_plain))
+            .all(|(key, value)| is_name(key) && value.chars().all(is_plain))
 }
 
-/// An XML 1.0 name of ASCII.
+/// An XML 1.0 name of characters up to U+017F.
 fn is_name(text: &str) -> bool {
-    let first = |b: u8| b.is_ascii_alphabetic() || b == b'_' || b == b':';
-    let later = |b: u8| first(b) || b.is_ascii_digit() || b == b'-' || b == b'.';
-    text.bytes().next().is_some_and(first) && text.bytes().all(later)
+    let accented = |c: char| ('\u{C0}'..='\u{17F}').contains(&c) && c != '\u{D7}' && c != '\u{F7}';
+    let first = |c: char| c.is_ascii_alphabetic() || c == '_' || c == ':' || accented(c);
+    let later = |c: char| first(c) || c.is_ascii_digit() || matches!(c, '-' | '.' | '\u{B7}');
+    text.chars().next().is_some_and(first) && text.chars().all(later)
 }
 
-fn is_plain(byte: u8) -> bool {
-    (32..127).contains(&byte) && !b"<\"&".contains(&byte)
+fn is_plain(c: char) -> bool {
+    (' '..='~').contains(&c) && !"<\"&".contains(c) || ('\u{80}'..='\u{17F}').contains(&c)
 }
 
 /// The events that `lines` writes: `<tag key=value>`, `<tag/>`, `</>`; a value may stand in `'`.

@@ -14,6 +14,7 @@ use compare::paper::state::State;
 use compare::paper::tree::{declared, Kind};
 use compare::random::Random;
 use compare::tape::{events, xml, Tape};
+use compare::tapes::accented::Accents;
 use compare::tapes::{document, messed, odd_events, written};
 
 fn blank(rows: usize, names: usize) -> Sheet {
@@ -78,6 +79,22 @@ fn random_tapes_agree_with_the_rust() {
         }
     }
     assert!(compared > 20_000, "only {compared} tapes are in the domain");
+}
+
+#[test]
+fn tapes_with_accented_letters_agree_with_the_rust() {
+    let mut random = Random::new(14);
+    let mut compared = 0;
+    for _ in 0..5_000 {
+        for plain in [document(&mut random), messed(&mut random)] {
+            let events = Accents::new(&mut random).events(&plain);
+            let left_out = agree::is_left_out(&State::cleared(), &events);
+            let text = xml(&events).filter(|text| !text.is_ascii());
+            compared += usize::from(text.is_some() && !left_out);
+            agree::check_tape(&events).unwrap_or_else(|text| panic!("{text}"));
+        }
+    }
+    assert!(compared > 2_500, "only {compared} tapes are in the domain");
 }
 
 #[test]

@@ -43,7 +43,7 @@ fn event_words(document: &Document, event: &Event, refusal: &Refusal) -> (usize,
             let (count, most) = (document.attributes(event).count(), limits::ATTRIBUTES);
             format!("the tag {tag} has {count} attributes, more than {most}")
         }
-        Refusal::NotAscii(_) => outside_ascii(document, event),
+        Refusal::Byte(_) => not_taken(document, event),
         Refusal::TooDeep(_) => format!(
             "the tag {tag} stands inside {} others, the most that may be open",
             255
@@ -61,21 +61,24 @@ fn event_words(document: &Document, event: &Event, refusal: &Refusal) -> (usize,
     (event.at, words)
 }
 
-/// What of a tag has a character outside ASCII.
-fn outside_ascii(document: &Document, event: &Event) -> String {
+/// What of a tag has a character that is not taken.
+fn not_taken(document: &Document, event: &Event) -> String {
+    let has = |text: &str| text.chars().any(|c| c > '\u{17F}');
+    let words =
+        |what: &str, text: &str| format!("{what} {} has a character above U+017F", quoted(text));
     let name = document.name(event);
-    if !name.is_ascii() {
-        return format!("the tag name {} is not ASCII", quoted(name));
+    if has(name) {
+        return words("the tag name", name);
     }
     for (key, value, _) in document.attributes(event) {
-        if !key.is_ascii() {
-            return format!("the attribute name {} is not ASCII", quoted(key));
+        if has(key) {
+            return words("the attribute name", key);
         }
-        if !value.is_ascii() {
-            return format!("{key} {} is not ASCII", quoted(value));
+        if has(value) {
+            return words(key, value);
         }
     }
-    format!("the tag {} is not ASCII", quoted(name))
+    words("the tag", name)
 }
 
 /// Which number of a tag is wrong: minOccurs before maxOccurs, or a facet's value.

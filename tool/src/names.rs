@@ -96,8 +96,10 @@ impl Names {
 
     /// The listing, names that meet with a mark before them; `line` says on which line of the file a row stands.
     pub fn listing(&self, line: impl Fn(usize) -> Option<usize>) -> String {
-        let width =
-            |of: fn(&Entry) -> &str| self.entries.iter().map(|e| of(e).len()).max().unwrap_or(0);
+        let width = |of: fn(&Entry) -> &str| {
+            let widths = self.entries.iter().map(|e| of(e).chars().count());
+            widths.max().unwrap_or(0)
+        };
         let (xml, rust) = (width(|e| &e.xml), width(|e| &e.rust));
         let shown = |e: &Entry| {
             let mark = if e.meets { '!' } else { ' ' };

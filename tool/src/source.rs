@@ -92,7 +92,7 @@ impl Source {
                 );
             }
             Way::QuickXml(NoTape::Lengths) => format!("it is longer than {} bytes", limits::TEXT),
-            Way::QuickXml(NoTape::NotAscii) => "it has a byte above 127".to_owned(),
+            Way::QuickXml(NoTape::Byte) => "it has a character above U+017F".to_owned(),
             Way::QuickXml(NoTape::ShortMarks) => {
                 format!("its tags take over {} marks", limits::MARKS)
             }

@@ -2,7 +2,11 @@
 
 mod common;
 
-use common::{lubiksan, Folder, Ran};
+use std::collections::HashSet;
+
+use common::{compiles, lubiksan, to_rust, Folder, Ran};
+use lubiksan::names::{code_to_pascal_case, xml_to_snake_case};
+use lubiksan_tool::identifier::identifier;
 
 fn names(text: &str) -> (Ran, Ran) {
     let folder = Folder::new();
@@ -24,7 +28,7 @@ fn names(text: &str) -> (Ran, Ran) {
 
 /// `names` and `rust` end with 1 in these words, at the place that `@` marks in the text.
 fn meet(marked: &str, words: &str) {
-    let column = 1 + marked.find('@').unwrap();
+    let column = 1 + marked.chars().position(|c| c == '@').unwrap();
     let words = format!("a.xsd:1:{column}: {words}\n");
     let (names, rust) = names(&marked.replace('@', ""));
     assert_eq!((names.status, names.err), (Some(1), words.clone()));
@@ -100,6 +104,53 @@ fn types_meet_by_their_identifiers() {
     meet(
         text,
         "two types have the Rust name \"a_b\": \"a.b\" and \"a-b\"",
+    );
+}
+
+#[test]
+fn accented_names_meet_by_case() {
+    let choice = |name: &str| format!("<complexType name='{name}'><choice/></complexType>");
+    for (first, again) in [
+        ("ı_a", "I_a"),
+        ("ı_a", "i_a"),
+        ("I_a", "i_a"),
+        ("ß_a", "SS_a"),
+    ] {
+        let text = format!("<schema>{}{}</schema>", choice(first), choice(again));
+        let column = 9 + choice(first).chars().count();
+        let words = format!(
+            "a.xsd:1:{column}: type \"{again}\" has the same Rust name as \"{first}\" in line 1 (refused with 20)\n"
+        );
+        let (names, rust) = names(&text);
+        assert_eq!((names.status, names.err), (Some(1), words.clone()));
+        assert_eq!((rust.status, rust.err), (Some(1), words));
+    }
+    let fields = |first: &str, again: &str| {
+        typed(&format!(
+            "<sequence><element name='{first}' type='string'/>@<element name='{again}' type='string'/></sequence>"
+        ))
+    };
+    meet(
+        &fields("Éa", "éa"),
+        "two fields of struct \"T\" have the Rust name \"éa\": \"Éa\" and \"éa\"",
+    );
+    // rustc would take the two for look-alikes, so they have one identifier.
+    meet(
+        &fields("kayıt", "kayit"),
+        "two fields of struct \"T\" have the Rust name \"kayit\": \"kayıt\" and \"kayit\"",
+    );
+    let text = "<schema><simpleType name='C'><restriction base='string'><enumeration value='ı'/>@<enumeration value='i'/></restriction></simpleType></schema>";
+    meet(
+        text,
+        "two codes of code list \"C\" have the Rust name \"I\": \"ı\" and \"i\"",
+    );
+    let (ran, _) = names(&fields("CréditÉtat", "İlk_Ödeme").replace('@', ""));
+    assert_eq!(ran.status, Some(0));
+    let listed = |word: &str| ran.out.lines().any(|line| line.contains(word));
+    assert!(
+        listed("crédit_état ") && listed("ilk_ödeme "),
+        "{}",
+        ran.out
     );
 }
 
@@ -180,4 +231,50 @@ fn places_are_those_of_the_last_definition() {
         .map(|(_, line)| line)
         .collect();
     assert_eq!(places, ["line 2", "line 7", "line 9"]);
+}
+
+/// Every character that a value of XML may hold up to U+017F, but for those of markup.
+fn characters() -> impl Iterator<Item = char> {
+    let ascii = (' '..='~').filter(|c| !"<&'\"".contains(*c));
+    ascii.chain('\u{80}'..='\u{17F}')
+}
+
+/// Names of one letter between others, those whose identifier came before left out.
+fn distinct(rust_name: fn(&str) -> String) -> Vec<String> {
+    let mut seen = HashSet::new();
+    let names = characters().map(|c| format!("Q{c}q"));
+    names
+        .filter(|name| seen.insert(identifier(&rust_name(name))))
+        .collect()
+}
+
+#[test]
+fn every_letter_stands_in_an_identifier_that_rustc_does_not_warn_of() {
+    let joined = |names: Vec<String>, tag: fn(&str) -> String| -> String {
+        names.iter().map(|name| tag(name)).collect()
+    };
+    let types = joined(distinct(str::to_owned), |name| {
+        format!("<complexType name='{name}'><choice/></complexType>")
+    });
+    let fields = joined(distinct(xml_to_snake_case), |name| {
+        format!("<element name='{name}' type='string'/>")
+    });
+    let codes = joined(distinct(code_to_pascal_case), |name| {
+        format!("<enumeration value='{name}'/>")
+    });
+    let text = format!(
+        "<schema>{types}<complexType name='_ß_ŉ_µ'><sequence>{fields}</sequence></complexType>\
+         <simpleType name='ªCodes'><restriction base='string'>{codes}</restriction></simpleType></schema>"
+    );
+    let folder = Folder::new();
+    let (file, source) = (folder.put("a.xsd", text), folder.path("a.rs"));
+    let ran = to_rust(&file, &source);
+    assert_eq!((ran.status, ran.err.as_str()), (Some(0), ""));
+    for edition in ["2015", "2024"] {
+        compiles(&source, edition);
+    }
+    let made = std::fs::read_to_string(&source).unwrap();
+    for word in ["struct QÄq", "pub qßq: ", " Qéq,", "struct SS_NM "] {
+        assert!(made.contains(word), "{word}");
+    }
 }

@@ -8,7 +8,7 @@ use std::sync::Mutex;
 use common::{cases, compiles, side_by_side, tells_of_names, to_rust, Folder, Random};
 
 /// Names that Rust, XML or this program may stumble over.
-const NAMES: [&str; 56] = [
+const NAMES: [&str; 68] = [
     "A",
     "a",
     "B",
@@ -65,6 +65,18 @@ const NAMES: [&str; 56] = [
     "'quote'",
     "Document",
     "r#raw",
+    "é",
+    "É_b",
+    "ß_a",
+    "İ",
+    "ı_a",
+    "ŉ_a",
+    "µ_a",
+    "æ",
+    "Größe",
+    "ĺª·×",
+    "ſ_ĳ",
+    "\u{80}",
 ];
 
 fn name(random: &mut Random) -> String {

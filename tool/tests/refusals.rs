@@ -41,11 +41,16 @@ fn numbers_are_refused_with_the_place_of_the_value() {
     );
     assert_eq!(line, "read 10 3");
     let (words, _) = refused(sequence(
-        r#"<element name="é" type="b" maxOccurs="4294967296"/>"#,
+        r#"<element name="é’" type="b" maxOccurs="4294967296"/>"#,
     ));
     assert_eq!(
         words,
-        r#"a.xsd:4:4: name "é" is not ASCII (refused with 5, event 3)"#
+        r#"a.xsd:4:4: name "é’" has a character above U+017F (refused with 5, event 3)"#
+    );
+    let (words, _) = refused(sequence(r#"<element name="é" type="ß" maxOccurs="é"/>"#));
+    assert_eq!(
+        words,
+        r#"a.xsd:4:42: maxOccurs "é" is not a number (refused with 10, event 3)"#
     );
     let (words, _) = refused(sequence(
         r#"<element name="a" type="b" minOccurs='1' maxOccurs='4294967296'/>"#,
@@ -90,10 +95,15 @@ fn tags_are_refused_with_the_place_of_the_tag() {
         "a.xsd:2:2: complexType has no name (refused with 9, event 1)"
     );
     assert_eq!(line, "read 9 1");
-    let (words, _) = refused("<é/>");
+    let (words, _) = refused("<éƀ/>");
     assert_eq!(
         words,
-        r#"a.xsd:1:1: the tag name "é" is not ASCII (refused with 5, event 0)"#
+        r#"a.xsd:1:1: the tag name "éƀ" has a character above U+017F (refused with 5, event 0)"#
+    );
+    let (words, _) = refused("<é ΐ='ß'/>");
+    assert_eq!(
+        words,
+        r#"a.xsd:1:1: the attribute name "ΐ" has a character above U+017F (refused with 5, event 0)"#
     );
     let attributes: String = (0..33).map(|i| format!(" a{i}=''")).collect();
     let (words, line) = refused(format!("<a{attributes}/>"));
@@ -257,8 +267,8 @@ fn types_of_one_name_in_a_stored_sheet_are_read_on_and_named() {
     assert!(ran.err.ends_with(words), "{}", ran.err);
 }
 
-/// Texts that are no XML, and why. Those of ASCII are refused by the library, with 17.
-const BAD: [(&[u8], &str); 29] = [
+/// Texts that are no XML, and why. Those without a character above U+017F are refused by the library, with 17.
+const BAD: [(&[u8], &str); 33] = [
     (
         b"<schema>\n<a/>\n",
         r#"a.xsd:3:1: the file ends, and "schema" of line 1 is not closed"#,
@@ -325,6 +335,19 @@ const BAD: [(&[u8], &str); 29] = [
         "a.xsd:1:1: the file is in UTF-16, only UTF-8 is read; write the file anew by `iconv -f UTF-16 -t UTF-8` and have its first line say UTF-8",
     ),
     (b"<1a/>", "a.xsd:1:2: a tag has no name"),
+    (b"<\xc2\xb7a/>", "a.xsd:1:2: a tag has no name"),
+    (
+        b"<a \xc3\x97=''/>",
+        "a.xsd:1:4: an attribute has no name",
+    ),
+    (
+        b"<\xc3\xa9></\xc3\x89>",
+        "a.xsd:1:4: the close of \"\u{c9}\" where \"\u{e9}\" of line 1 is open",
+    ),
+    (
+        b"<a \xc3\x9f='' \xc3\x9f=''/>",
+        "a.xsd:1:9: the attribute \"\u{df}\" stands there twice",
+    ),
     (
         b"<a><?xml x?></a>",
         "a.xsd:1:4: the XML declaration is not at the start of the file",
@@ -339,18 +362,15 @@ const BAD: [(&[u8], &str); 29] = [
 fn what_is_no_xml_is_refused() {
     for (text, words) in BAD {
         let shown = String::from_utf8_lossy(text);
-        let number = if text.is_ascii() {
-            " (refused with 17)"
-        } else {
-            ""
-        };
+        let is_text = std::str::from_utf8(text).is_ok();
+        let number = if is_text { " (refused with 17)" } else { "" };
         let (said, line) = refused(text);
         assert_eq!(
             (said, line.as_str()),
             (format!("{words}{number}"), ""),
             "{shown}"
         );
-        if text.is_ascii() {
+        if is_text {
             assert_eq!(refused(marked(text)).0, words, "{shown}");
         }
     }
@@ -363,6 +383,7 @@ fn the_name_of_an_encoding_is_looked_up_only_where_it_matters() {
     let words = r#"a.xsd:1:31: the encoding "latin1" is not read, only UTF-8; write the file anew by `iconv -f latin1 -t UTF-8` and have its first line say UTF-8"#;
     assert_eq!(refused(marked(text)).0, words);
     assert_eq!(refused(format!("{text}<!-- \u{e9} -->")).0, words);
+    assert_eq!(refused(format!("{text}<!-- \u{2019} -->")).0, words);
     assert_eq!(
         refused([text.as_bytes(), b"<!-- \xe9 -->"].concat()).0,
         words
@@ -589,14 +610,15 @@ const TYPES: [&str; 10] = [
     "<!DOCTYPE a \u{1}>",
 ];
 
-/// The same text short, long, and with a byte above 127, in the same words.
+/// The same text short, long, and with characters up to and above U+017F, in the same words.
 #[test]
 fn document_types_are_refused_whatever_the_length() {
     let said =
         |place: &str| format!("a.xsd:{place}: a document type is not read (refused with 18)");
     let all_ways = |text: &str, place: &str| {
         let long = format!("{text}{}", " ".repeat(65_536));
-        for text in [text.to_owned(), long, format!("{text}<!-- \u{e9} -->")] {
+        let with = |c: char| format!("{text}<!-- {c} -->");
+        for text in [text.to_owned(), long, with('\u{e9}'), with('\u{2019}')] {
             assert_eq!(refused(&text).0, said(place), "{text:.80}");
         }
         assert_eq!(refused(marked(text)).0, said(place), "{text}");

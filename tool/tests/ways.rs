@@ -25,6 +25,11 @@ fn run(text: impl AsRef<[u8]>, args: &[&str]) -> Ran {
     ran
 }
 
+/// UTF-8 without characters above U+017F.
+fn is_taken(text: &[u8]) -> bool {
+    std::str::from_utf8(text).is_ok_and(|text| text.chars().all(|c| c <= '\u{17F}'))
+}
+
 fn said_of(text: impl AsRef<[u8]>) -> String {
     let ran = run(text, &["graph", "--verbose"]);
     assert_eq!(ran.status, Some(0), "{}", ran.err);
@@ -40,8 +45,19 @@ fn verbose_says_who_reads() {
     let quick = |why: &str| format!("a.xsd: read by quick-xml, since {why}\n");
     let too_long = quick("it is longer than 65536 bytes");
     assert_eq!(said_of(long(65_537)), too_long);
-    let high = quick("it has a byte above 127");
-    assert_eq!(said_of("<schema><!-- \u{e9} --></schema>"), high);
+    let high = quick("it has a character above U+017F");
+    assert_eq!(said_of("<schema><!-- \u{2019} --></schema>"), high);
+    assert_eq!(said_of("<schema><!-- \u{180} --></schema>"), high);
+    assert_eq!(said_of("<schema><!-- \u{17f} --></schema>"), library);
+    let marks = library.replace("6 marks", "10 marks");
+    assert_eq!(said_of("<schema \u{e9}='\u{df}'></schema>"), marks);
+    // The last character begins at the last byte that is taken, or before it.
+    let accented = |letters: &str| {
+        let room = 65_536 - 17 - letters.len();
+        format!("<schema>{}{letters}</schema>", " ".repeat(room))
+    };
+    assert_eq!(said_of(accented("\u{e9}\u{e9}")), library);
+    assert_eq!(said_of(accented("\u{e9}\u{e9}") + "\n"), too_long);
     assert_eq!(said_of(marked("<schema/>")), high);
     let tags = |count: usize| format!("<schema>{}</schema>", "<a/>".repeat(count));
     assert_eq!(
@@ -54,7 +70,11 @@ fn verbose_says_who_reads() {
 
 #[test]
 fn without_verbose_nothing_is_said() {
-    for text in ["<schema/>", "<schema><!-- \u{e9} --></schema>"] {
+    for text in [
+        "<schema/>",
+        "<schema><!-- \u{e9} --></schema>",
+        "<schema><!-- \u{2019} --></schema>",
+    ] {
         let ran = run(text, &["graph"]);
         assert_eq!((ran.status, ran.err.as_str()), (Some(0), ""));
     }
@@ -101,7 +121,7 @@ fn both_ways_give_the_same() {
         &["graph", "--strict"],
         &["names"],
     ];
-    for text in files.iter().filter(|text| text.is_ascii()) {
+    for text in files.iter().filter(|text| is_taken(text)) {
         for args in commands {
             let (one, other) = (run(text, args), run(marked(text), args));
             assert_eq!((one.status, &one.err), (other.status, &other.err));
@@ -239,7 +259,7 @@ fn lines_and_columns_are_those_counted_from_the_start() {
 }
 
 /// Parts of small texts, cut and put together anew.
-const PARTS: [&str; 40] = [
+const PARTS: [&str; 49] = [
     "<a>",
     "</a>",
     "<a/>",
@@ -280,6 +300,15 @@ const PARTS: [&str; 40] = [
     "<a b='<'>",
     "\u{1}",
     "<?XML ?>",
+    "é",
+    "<é>",
+    "</é>",
+    "<ß ÿ='ı'/>",
+    "<a·/>",
+    "·",
+    "×",
+    "<?ſ é?>",
+    "’",
 ];
 
 #[test]
@@ -308,7 +337,7 @@ fn damaged_schemas_are_read_alike() {
         .collect();
     let files: Vec<Vec<u8>> = files
         .into_iter()
-        .filter(|text| text.is_ascii() && text.len() <= 65_536)
+        .filter(|text| is_taken(text) && text.len() <= 65_536)
         .collect();
     let seeds: Vec<u64> = (1..=cases(2_000) as u64).collect();
     side_by_side(&seeds, |&seed| {

@@ -1,7 +1,7 @@
 /* Measures how many bytes of stack each call takes: the call runs in a thread on a painted stack, and what is no longer painted
    below the frame that calls is counted. Prints a line `NAME BYTES` for each call.
 
-   usage: stack FILE.xsd..    ASCII, at most LUBIKSAN_TEXT_MAX bytes each; the largest number over all files is printed */
+   usage: stack FILE.xsd..    as lubiksan_tape takes them, at most LUBIKSAN_TEXT_MAX bytes each; the largest number over all files is printed */
 #include <pthread.h>
 #include <stdio.h>
 #include <stdlib.h>

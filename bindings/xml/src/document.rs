@@ -86,14 +86,22 @@ impl Document {
     /// [`NoDocument`] where the bytes are no well-formed XML in UTF-8, or have a document type.
     pub fn of(bytes: Vec<u8>) -> Result<Document, NoDocument> {
         match Taped::of(&bytes) {
-            Ok((tape, found)) => Ok(Document {
-                text: decoded(bytes)?,
-                found,
-                way: Way::Library(tape),
-            }),
+            Ok((tape, found)) => Document::by_library(decoded(bytes)?, found, tape),
             Err(NoTape::Malformed) => Err(malformed(decoded(bytes))),
             Err(NoTape::Doctype) => Err(with_document_type(decoded(bytes)?)),
             Err(why) => Document::by_quick_xml(decoded(bytes)?, why),
+        }
+    }
+
+    /// The library does not look up the name of the encoding; letters outside ASCII mean others under another one.
+    fn by_library(text: String, found: Events, tape: Taped) -> Result<Document, NoDocument> {
+        match xml::encoding_fault(&text).filter(|_| !text.is_ascii()) {
+            Some(fault) => Err(NoDocument::at(text, fault)),
+            None => Ok(Document {
+                text,
+                found,
+                way: Way::Library(tape),
+            }),
         }
     }
 

@@ -1,8 +1,8 @@
 //! A schema file of any length, in UTF-8, read into a schema sheet of the crate `lubiksan`, with file, line and column of what is refused.
 //!
-//! The library reads ASCII texts of up to 65,536 bytes itself. Any other text is read here: quick-xml cuts it into markup, every test that
-//! XML 1.0 asks for beyond that is made here, and the events go to the library in pieces. Names and values must be ASCII, comments and text
-//! need not be.
+//! The library reads texts of up to 65,536 bytes and without characters above U+017F itself. Any other text is read here: quick-xml cuts it
+//! into markup, every test that XML 1.0 asks for beyond that is made here, and the events go to the library in pieces. Names and values must
+//! do without characters above U+017F, comments and text need not.
 //!
 //! | Item | Is |
 //! |---|---|
@@ -15,7 +15,7 @@
 //! use lubiksan::ReadAs;
 //! use lubiksan_xml::Schema;
 //!
-//! let text = "<schema><!-- é --><element name='Document' type='Payment'/></schema>";
+//! let text = "<schema><!-- — --><element name='Document' type='Payment'/></schema>";
 //! let schema = Schema::of_bytes(text.into(), ReadAs::Standard)?;
 //! let graph = schema.graph()?;
 //! let root = graph.roots().next().ok_or("a root was expected")?;

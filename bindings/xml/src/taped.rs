@@ -26,8 +26,8 @@ impl Taped {
         let mut marks = vec![0; limits::MARKS];
         let used = tape_of(text, &mut marks)?;
         marks.truncate(used);
-        // What is accepted is ASCII.
-        let text = std::str::from_utf8(text).map_err(|_| NoTape::NotAscii)?;
+        // What is accepted is UTF-8.
+        let text = std::str::from_utf8(text).map_err(|_| NoTape::Byte)?;
         let mut walk = Walk::new(text);
         walk.all(&marks);
         let starts = walk.starts;

@@ -1,4 +1,4 @@
-//! Random documents: whole, in pieces, damaged, on sheets that no reading reaches and on damaged ones.
+//! Random documents: whole, in pieces, damaged, with accented letters, on sheets that no reading reaches and on damaged ones.
 
 use super::check::{rooms, Checks};
 use crate::definitions::readings::{cut, damage_one, damage_tape};
@@ -8,6 +8,7 @@ use crate::paper::state::State;
 use crate::random::Random;
 use crate::tally::Tally;
 use crate::tape::{Event, Tape};
+use crate::tapes::accented::{move_boundary, Accents};
 use crate::tapes::{document, messed, odd_events};
 
 const SEED: u64 = 0x6c75_6269_6b10;
@@ -15,6 +16,8 @@ const SEED: u64 = 0x6c75_6269_6b10;
 /// How many documents are read; how many sheets are damaged.
 const DOCUMENTS: usize = 100_000;
 const SHEETS: usize = 30_000;
+/// How many of each have accented letters.
+const ACCENTED: usize = 40_000;
 
 /// Random documents from cleared sheets.
 pub fn documents() -> Vec<Tally> {
@@ -26,15 +29,36 @@ pub fn documents() -> Vec<Tally> {
     let mut random = Random::new(SEED);
     for index in 0..DOCUMENTS {
         let events = random_events(&mut random, index);
-        let lent = room(&State::cleared(), &events, index);
-        match index % 4 {
-            0 => checks.document(lent, &events),
-            1 => in_pieces(&mut checks, &events, lent, &mut random),
-            2 => damaged(&mut checks, &events, lent, index, &mut random),
-            _ => drop(checks.read(&State::cleared().sheet(lent), &Tape::shared(&events))),
-        }
+        in_turn(&mut checks, &events, index, &mut random);
     }
     checks.tallies()
+}
+
+/// The same with accented letters in names and values.
+pub fn accented() -> Vec<Tally> {
+    let mut checks = Checks::new(
+        "random documents with accented letters, in turn in five rooms, damaged, and in pieces",
+        "their states with the Rust's handlers",
+        "the same documents with the Rust's parse_str",
+    );
+    let mut random = Random::new(SEED + 2);
+    for index in 0..ACCENTED {
+        let accents = Accents::new(&mut random);
+        let events = accents.events(&random_events(&mut random, index));
+        in_turn(&mut checks, &events, index, &mut random);
+    }
+    checks.tallies()
+}
+
+/// The events whole, in pieces, damaged, or with shared texts.
+fn in_turn(checks: &mut Checks, events: &[Event], index: usize, random: &mut Random) {
+    let lent = room(&State::cleared(), events, index);
+    match index % 4 {
+        0 => checks.document(lent, events),
+        1 => in_pieces(checks, events, lent, random),
+        2 => damaged(checks, events, lent, index, random),
+        _ => drop(checks.read(&State::cleared().sheet(lent), &Tape::shared(events))),
+    }
 }
 
 /// One of the rooms, in turn.
@@ -93,6 +117,34 @@ pub fn sheets() -> Vec<Tally> {
         }
         checks.read(&sheet, &Tape::of(&events));
         checks.clear(&sheet, 0);
+    }
+    checks.tallies()
+}
+
+/// Good sheets with accented letters, every other one with one byte changed or the end of a pair moved by one byte, read on.
+pub fn accented_sheets() -> Vec<Tally> {
+    let mut checks = Checks::new(
+        "random sheets with accented letters, half of them damaged, read on",
+        "their states with the Rust's handlers",
+        "no documents",
+    );
+    let mut random = Random::new(SEED + 3);
+    for index in 0..ACCENTED {
+        let plain = random_state(&mut random);
+        let accents = Accents::new(&mut random);
+        let rows = accents.rows(&plain.rows);
+        let state = State { rows, ..plain };
+        let events = accents.events(&odd_events(&mut random, 1 + index % 8));
+        let mut sheet = state.sheet(room(&state, &events, index));
+        match index % 4 {
+            1 if !sheet.names.is_empty() => {
+                let at = random.below(sheet.names.len());
+                sheet.names[at] = random.below(256) as u8;
+            }
+            3 => move_boundary(&mut sheet.rows, &state.rows, &mut random),
+            _ => {}
+        }
+        checks.read(&sheet, &Tape::of(&events));
     }
     checks.tallies()
 }

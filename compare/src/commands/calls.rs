@@ -14,11 +14,13 @@ type Group = fn() -> Vec<Tally>;
 
 /// All of them.
 pub fn run() -> ExitCode {
-    let groups: [Group; 18] = [
+    let groups: [Group; 20] = [
         small::compare,
         numbers::compare,
         longer::documents,
         longer::sheets,
+        longer::accented,
+        longer::accented_sheets,
         written::compare,
         labels::compare,
         written_schemas,

@@ -16,8 +16,13 @@ pub fn run() -> ExitCode {
     groups.take("built-in names", cases::builtin_names());
     groups.sources.push(builtins::compared());
     groups.take("random texts", cases::random_texts());
+    groups.take("short accented texts", cases::accented_texts());
+    groups.take("random accented texts", cases::random_accented());
+    groups.take_case();
+    groups.take_of_graphs();
     take_schemas(&mut groups);
     groups.take_pairs(&cases::short_names());
+    groups.take_pairs(&cases::short_accented_names());
     cases::each_spelling(&mut |text| checks::numbers(&mut groups.numbers, text));
     groups.print()
 }
@@ -59,6 +64,23 @@ impl Groups {
             checks::numbers(&mut self.numbers, text);
             previous = text;
         }
+        self.sources.push(tally);
+    }
+
+    /// The case of every character up to U+017F; `_` and `-`, which stand between parts of names, are no letters.
+    fn take_case(&mut self) {
+        let mut tally = Tally::new("case of each character up to U+017F");
+        let characters = ('\0'..='\u{17F}').filter(|c| !"_-".contains(*c));
+        characters.for_each(|c| checks::case_of(&mut tally, c));
+        self.sources.push(tally);
+    }
+
+    fn take_of_graphs(&mut self) {
+        let mut tally = Tally::new("texts of graphs");
+        let texts = cases::graph_texts();
+        texts
+            .iter()
+            .for_each(|text| checks::of_graph(&mut tally, text));
         self.sources.push(tally);
     }
 

@@ -11,13 +11,14 @@ type Group = fn() -> Vec<Tally>;
 
 /// All of them.
 pub fn run() -> ExitCode {
-    let groups: [Group; 12] = [
+    let groups: [Group; 13] = [
         small::compare,
         repeated::examples,
         repeated::compare,
         longer::schemas,
         longer::documents,
         longer::sheets,
+        longer::accented,
         blocks::compare,
         limits::compare,
         runs::compare,

@@ -11,10 +11,11 @@ type Group = fn() -> Vec<Tally>;
 
 /// All of them.
 pub fn run() -> ExitCode {
-    let groups: [Group; 8] = [
+    let groups: [Group; 9] = [
         groups::small,
         groups::spelled,
         groups::any,
+        groups::accented,
         groups::changed,
         groups::ordered,
         groups::lengths,

@@ -16,12 +16,14 @@ const STACK: usize = 256 << 20;
 
 /// All of this extent.
 pub fn run(extent: Extent) -> ExitCode {
-    let groups: [Group; 7] = [
+    let groups: [Group; 9] = [
         limits::specimens,
         small::whole,
         small::bytes,
         small::words,
+        small::accented,
         longer::documents,
+        longer::accented,
         limits::limits,
         schema_texts,
     ];

@@ -11,7 +11,7 @@ type Group = fn() -> Vec<Tally>;
 
 /// All of them.
 pub fn run() -> ExitCode {
-    let groups: [Group; 9] = [
+    let groups: [Group; 10] = [
         small::compare,
         values::bytes,
         values::short,
@@ -19,6 +19,7 @@ pub fn run() -> ExitCode {
         values::places,
         longer::schemas,
         longer::sheets,
+        longer::accented,
         limits::compare,
         written_schemas,
     ];

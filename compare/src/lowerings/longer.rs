@@ -1,4 +1,4 @@
-//! Random schemas, documents that were read, sheets that no reading reaches, and damaged ones.
+//! Random schemas, with accented letters too, documents that were read, sheets that no reading reaches, and damaged ones.
 
 use super::check::{Checks, Room};
 use super::generate::schema;
@@ -10,6 +10,7 @@ use crate::paper::state::State;
 use crate::random::Random;
 use crate::tally::Tally;
 use crate::tape::Event;
+use crate::tapes::accented::Accents;
 use crate::tapes::{document, messed};
 
 const SEED: u64 = 0x6c75_6269_6b20;
@@ -18,6 +19,7 @@ const SEED: u64 = 0x6c75_6269_6b20;
 const SCHEMAS: usize = 72_000;
 const DOCUMENTS: usize = 30_000;
 const SHEETS: usize = 60_000;
+const ACCENTED: usize = 30_000;
 
 /// Random schemas of up to 14 types, under both choices, every other one without the types whose name came before.
 pub fn schemas() -> Vec<Tally> {
@@ -29,6 +31,25 @@ pub fn schemas() -> Vec<Tally> {
     for index in 0..SCHEMAS {
         let mut state = schema(&mut random, 14);
         choose(&mut state, index);
+        match index % 2 {
+            0 => checks.in_rooms(&state),
+            _ => checks.in_rooms(&state.without_repeated()),
+        }
+    }
+    checks.tallies()
+}
+
+/// Random schemas with accented letters in names and values, every other one without the types whose name came before.
+pub fn accented() -> Vec<Tally> {
+    let mut checks = Checks::new(
+        "random schemas with accented letters, in seven rooms",
+        "their graphs with the Rust's lower",
+    );
+    let mut random = Random::new(SEED + 3);
+    for index in 0..ACCENTED {
+        let plain = schema(&mut random, 14);
+        let rows = Accents::new(&mut random).rows(&plain.rows);
+        let state = State { rows, ..plain };
         match index % 2 {
             0 => checks.in_rooms(&state),
             _ => checks.in_rooms(&state.without_repeated()),

@@ -5,6 +5,7 @@
 //! |---|---|
 //! | `sheet` | rows of ten numbers, how pairs are packed |
 //! | `state` | what a schema sheet says, and when it is good |
+//! | `text` | order 12: what a text is |
 //! | `number` | numbers and `unbounded`, as order 2 spells them |
 //! | `event` | what an event does |
 //! | `reading` | the tape, clearing, the reading call |
@@ -28,6 +29,7 @@ pub mod reading;
 pub mod repeated;
 pub mod sheet;
 pub mod state;
+pub mod text;
 pub mod tree;
 pub mod written;
 pub mod xml;

@@ -2,6 +2,7 @@
 
 use super::sheet::{good_lengths, Sheet};
 use super::state::State;
+use super::text::is_text;
 use super::{answer, Answer};
 use crate::tape::{Event, Tag, Tape};
 
@@ -105,11 +106,11 @@ fn texts_under(text: &[u8], pairs: &[u32]) -> Result<Vec<String>, u32> {
         parts.push(text[from as usize..to as usize].to_vec());
         end = to;
     }
-    if !parts.iter().all(|part| part.is_ascii()) {
+    if !parts.iter().all(|part| is_text(part)) {
         return Err(5);
     }
     let texts = parts.into_iter().map(String::from_utf8);
-    Ok(texts.map(|text| text.expect("ASCII is UTF-8")).collect())
+    Ok(texts.map(|text| text.expect("a text is UTF-8")).collect())
 }
 
 fn tag_of(texts: &[String]) -> Tag {

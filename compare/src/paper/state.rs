@@ -1,6 +1,7 @@
 //! What a schema sheet says, and when it is good.
 
 use super::sheet::{good_lengths, names_used, rows_used, Lent, Row, Sheet};
+use super::text::is_text;
 
 /// The state of a run: row 0 and the other rows. `rows[0]` is row 1, its a 0: the count of order 7 is made for a sheet.
 #[derive(Clone, Debug, PartialEq, Eq)]
@@ -190,7 +191,7 @@ fn unpacked_row(ten: &[u32], names: &[u8], end: &mut usize) -> Option<Row> {
 /// The text of a pair that starts at `end` and lies inside the names; `end` moves on.
 fn text_under(pair: &[u32], names: &[u8], end: &mut usize) -> Option<String> {
     let bytes = names.get(*end..)?.get(..pair[1] as usize)?;
-    if pair[0] as usize != *end || !bytes.is_ascii() {
+    if pair[0] as usize != *end || !is_text(bytes) {
         return None;
     }
     *end += bytes.len();

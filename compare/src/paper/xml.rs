@@ -7,13 +7,14 @@
 use std::collections::HashSet;
 use std::str;
 
+use super::text::is_text;
 use super::{answer, Answer};
 
 /// What a text of at most 65,536 bytes is.
 #[derive(Clone, Debug, PartialEq, Eq)]
 pub enum Judged {
-    /// It has a byte above 127.
-    NotAscii,
+    /// It has a byte above 127 that is of no character up to U+017F.
+    Byte,
     /// The bytes `<!DOCTYPE` stand in it with only a well-formed prolog, or nothing, before them.
     Doctype,
     /// It is not well formed.
@@ -34,7 +35,7 @@ pub fn tape_of(text: &[u8], lent: &[u32]) -> (Answer, Vec<u32>) {
 pub fn answered(judged: &Judged, lent: usize) -> (Answer, Vec<u32>) {
     let mut marks = vec![0; lent];
     let number = match judged {
-        Judged::NotAscii => 5,
+        Judged::Byte => 5,
         Judged::Doctype => 18,
         Judged::Malformed => 17,
         Judged::Tape(tape) if tape.len() > lent => 19,
@@ -48,8 +49,8 @@ pub fn answered(judged: &Judged, lent: usize) -> (Answer, Vec<u32>) {
 
 /// What `text` is.
 pub fn judged(text: &[u8]) -> Judged {
-    if !text.is_ascii() {
-        return Judged::NotAscii;
+    if !is_text(text) {
+        return Judged::Byte;
     }
     if has_doctype(text) {
         return Judged::Doctype;
@@ -73,7 +74,7 @@ fn is_char(point: u32) -> bool {
 }
 
 fn all_chars(text: &[u8]) -> bool {
-    text.iter().all(|&byte| is_char(byte.into()))
+    str::from_utf8(text).is_ok_and(|text| text.chars().all(|c| is_char(c.into())))
 }
 
 /// [3] S
@@ -93,21 +94,31 @@ fn space(left: &[u8]) -> Option<&[u8]> {
     Some(spaces(left))
 }
 
-/// [4] NameStartChar
-fn starts_name(byte: u8) -> bool {
-    byte.is_ascii_alphabetic() || b":_".contains(&byte)
+/// The first character of a text, of one byte or two.
+fn first(left: &[u8]) -> Option<char> {
+    let of = |length| str::from_utf8(left.get(..length)?).ok();
+    of(1).or_else(|| of(2))?.chars().next()
 }
 
-/// [4a] NameChar
-fn is_in_name(byte: u8) -> bool {
-    starts_name(byte) || byte.is_ascii_digit() || b"-.".contains(&byte)
+/// [4] NameStartChar, as far as texts have characters
+fn starts_name(c: char) -> bool {
+    let letters = matches!(c, '\u{C0}'..='\u{D6}' | '\u{D8}'..='\u{F6}' | '\u{F8}'..='\u{2FF}');
+    letters || matches!(c, ':' | 'A'..='Z' | '_' | 'a'..='z')
+}
+
+/// [4a] NameChar, as far as texts have characters
+fn is_in_name(c: char) -> bool {
+    starts_name(c) || matches!(c, '-' | '.' | '0'..='9' | '\u{B7}')
 }
 
 /// [5] Name, and what is left
 fn name(left: &[u8]) -> Option<(&[u8], &[u8])> {
-    let end = left.iter().position(|&byte| !is_in_name(byte));
-    let (name, left) = left.split_at(end.unwrap_or(left.len()));
-    starts_name(*name.first()?).then_some((name, left))
+    first(left).filter(|&c| starts_name(c))?;
+    let mut end = 0;
+    while let Some(c) = first(&left[end..]).filter(|&c| is_in_name(c)) {
+        end += c.len_utf8();
+    }
+    Some(left.split_at(end))
 }
 
 /// What stands before the first `end`, and what is left behind it.

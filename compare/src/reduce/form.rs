@@ -1,6 +1,7 @@
 //! Has a sheet the form of a graph sheet (paper 01, "Graph sheet")? What names say, c of heads and the number of children are not judged.
 
 use crate::paper::sheet::{good_lengths, Sheet};
+use crate::paper::text::is_graph_text;
 
 /// How many numbers a row has.
 const ROW: usize = 10;
@@ -78,12 +79,12 @@ impl Form<'_> {
         may
     }
 
-    /// A used pair starts at the end of the one before and is ASCII.
+    /// A used pair starts at the end of the one before and holds a graph's text.
     fn covers(&mut self, offset: u32, length: u32) -> bool {
         let (from, to) = (self.end, self.end + length as usize);
         self.end = to;
         let text = self.names.get(from..to);
-        offset as usize == from && text.is_some_and(<[u8]>::is_ascii)
+        offset as usize == from && text.is_some_and(is_graph_text)
     }
 }
 

@@ -20,12 +20,15 @@ use crate::paper::state::State;
 use crate::random::Random;
 use crate::reader;
 use crate::tally::Tally;
+use crate::tapes::accented::{move_boundary, Accents};
 
 const SEED: u64 = 0x7265_6475_6365;
 
 /// How many random graphs are tried, and how many of them with every number changed.
 const RANDOM: usize = 60_000;
 const CHANGED: usize = 60;
+/// How many have accented letters.
+const ACCENTED: usize = 30_000;
 
 /// The comparisons of one group.
 struct Compared {
@@ -199,6 +202,27 @@ pub fn any() -> Vec<Tally> {
         if k % 50 == 0 {
             compared.graph(&sheet_of(&rows, LARGEST), LARGEST, false);
         }
+    }
+    compared.tallies()
+}
+
+/// Random graphs with accented letters and the three characters that case brings in; every other one with one byte changed, or the end
+/// of a pair moved by one byte.
+pub fn accented() -> Vec<Tally> {
+    let mut compared = Compared::new("random graphs with accented letters, half of them damaged");
+    let mut numbers = Random::new(SEED + 3);
+    for k in 0..ACCENTED {
+        let rows = Accents::of_graph(&mut numbers).rows(&random(&mut numbers));
+        compared.rooms(&rows, true);
+        let mut damaged = sheet_of(&rows, exact(&rows));
+        if k % 2 == 0 && !damaged.names.is_empty() {
+            let at = numbers.below(damaged.names.len());
+            damaged.names[at] = 0x80 | numbers.below(128) as u8;
+        } else {
+            move_boundary(&mut damaged.rows, &rows, &mut numbers);
+        }
+        compared.form(&damaged);
+        compared.graph(&damaged, exact(&rows), false);
     }
     compared.tallies()
 }

@@ -1,5 +1,6 @@
 //! Lists of events to try: written ones for the sentences of paper 01, and random ones.
 
+pub mod accented;
 mod random;
 mod written;
 

@@ -152,7 +152,9 @@ impl Checks {
 
     fn judges(&mut self, text: &[u8], judged: &Judged) {
         let good = match judged {
-            Judged::NotAscii => return self.class("not asked", "a byte above 127 (5)"),
+            Judged::Byte => {
+                return self.class("not asked", "a byte of no character up to U+017F (5)")
+            }
             Judged::Doctype => return self.class("not asked", "a DOCTYPE (18)"),
             Judged::Malformed => false,
             Judged::Tape(_) => true,

@@ -40,11 +40,18 @@ const LETS_PASS: &[Reason] = &[
 ];
 
 /// Why a text is refused that is well formed.
-const REFUSES: &[Reason] = &[Reason {
-    parser: "libxml2",
-    name: "a name whose colons make no qualified name",
-    without: without_colons,
-}];
+const REFUSES: &[Reason] = &[
+    Reason {
+        parser: "libxml2",
+        name: "a name whose colons make no qualified name",
+        without: without_colons,
+    },
+    Reason {
+        parser: "expat",
+        name: "a letter in a name that is one since the Fifth Edition",
+        without: without_new_letters,
+    },
+];
 
 /// Why `parser` lets a text pass that is not well formed, if it is one of the known reasons.
 pub fn lets_pass(parser: &str, text: &[u8]) -> Option<&'static str> {
@@ -113,6 +120,27 @@ fn without_empty_namespaces(text: &[u8]) -> Option<Vec<u8>> {
         text.drain(at..at + EMPTY.len());
     }
     Some(text)
+}
+
+/// Letters of names in the Fifth Edition of XML 1.0 and not in the Fourth, up to U+017F, and others in their place.
+const NEW_LETTERS: [(char, char); 6] = [
+    ('\u{132}', '\u{101}'),
+    ('\u{133}', '\u{103}'),
+    ('\u{13F}', '\u{105}'),
+    ('\u{140}', '\u{107}'),
+    ('\u{149}', '\u{109}'),
+    ('\u{17F}', '\u{10B}'),
+];
+
+/// Another letter for each new one.
+fn without_new_letters(text: &[u8]) -> Option<Vec<u8>> {
+    let text = std::str::from_utf8(text).ok()?;
+    let other = |c: char| NEW_LETTERS.iter().find(|(new, _)| *new == c);
+    let changed: String = text
+        .chars()
+        .map(|c| other(c).map_or(c, |pair| pair.1))
+        .collect();
+    (changed != text).then(|| changed.into_bytes())
 }
 
 /// `_` for each colon.

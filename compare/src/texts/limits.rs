@@ -28,12 +28,14 @@ pub fn specimens(_: Extent) -> Counted {
 
 /// Lengths, depths and counts.
 pub fn limits(_: Extent) -> Counted {
-    let mut checks =
-        Checks::new("lengths, depths and counts around the limits, each byte in each place");
+    let mut checks = Checks::new(
+        "lengths, depths and counts around the limits, each byte and character in each place",
+    );
     lengths(&mut checks);
     depths(&mut checks);
     counts(&mut checks);
     every_byte(&mut checks);
+    every_character(&mut checks);
     references(&mut checks);
     checks.counted()
 }
@@ -60,6 +62,10 @@ fn lengths(checks: &mut Checks) {
             filled("<", "a", "/>", length),
             filled("<!DOCTYPE", "<", "", length),
             vec![0xFF; length],
+            filled("<a>", "é", "</a>", length),
+            filled("<a b='x", "é", "'/>", length),
+            filled("<!--é", "x", "é--><a/>", length),
+            filled("<a/><!---->", "é", "", length),
         ];
         for text in texts {
             if length <= 65_536 {
@@ -198,6 +204,41 @@ fn every_byte(checks: &mut Checks) {
         for byte in 0..=255 {
             let text = [before.as_bytes(), &[byte], behind.as_bytes()].concat();
             checks.text(&text);
+        }
+    }
+}
+
+/// Each two bytes that begin as a character of two bytes, or nearly, in each place where names and characters stand.
+fn every_character(checks: &mut Checks) {
+    let places = [
+        ["<", "/>"],
+        ["<a", "/>"],
+        ["<a ", "=''/>"],
+        ["<a b", "=''/>"],
+        ["<a b='", "'/>"],
+        ["<a>", "</a>"],
+        ["<a></", ">"],
+        ["<a></a", ">"],
+        ["<a>&", ";</a>"],
+        ["<a>&#", "1;</a>"],
+        ["<!--", "--><a/>"],
+        ["<?", "?><a/>"],
+        ["<?p", "?><a/>"],
+        ["<?p ", "?><a/>"],
+        ["<?xml version='1.0'", "?><a/>"],
+        ["<?xml version='1.0' encoding='a", "'?><a/>"],
+        ["<a><![CDATA[", "]]></a>"],
+        ["<a/>", ""],
+        ["", "<a/>"],
+        ["<!--", "--><!DOCTYPE"],
+    ];
+    let leads = (0xBF..=0xC7).chain([0xCA, 0xCC, 0xCE, 0xDF, 0xE2, 0xF0]);
+    for lead in leads {
+        for tail in 0x7F..=0xC0 {
+            for [before, behind] in places {
+                let text = [before.as_bytes(), &[lead, tail], behind.as_bytes()].concat();
+                checks.text(&text);
+            }
         }
     }
 }

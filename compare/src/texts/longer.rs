@@ -22,15 +22,31 @@ const fn changes_of_each(extent: Extent) -> (usize, usize) {
     }
 }
 
+/// How many of them have accented letters in names.
+const ACCENTED_DOCUMENTS: usize = 50_000;
+
 /// Random documents, each also changed.
 pub fn documents(_: Extent) -> Counted {
     let mut checks = Checks::new("random documents, and two changes of each");
     let mut random = Random::new(SEED);
     for _ in 0..DOCUMENTS {
-        let text = document(&mut random).into_bytes();
+        let text = document(&mut random, &NAMES).into_bytes();
         checks.text(&text);
-        checks.text(&changed(&text, &mut random));
-        checks.text(&changed(&text, &mut random));
+        checks.text(&changed(&text, PIECES, &mut random));
+        checks.text(&changed(&text, PIECES, &mut random));
+    }
+    checks.counted()
+}
+
+/// Random documents with accented letters in names, each also changed: most changes of a byte cut a character.
+pub fn accented(_: Extent) -> Counted {
+    let mut checks = Checks::new("random documents with accented names, and two changes of each");
+    let mut random = Random::new(SEED + 2);
+    for _ in 0..ACCENTED_DOCUMENTS {
+        let text = document(&mut random, &ACCENTED).into_bytes();
+        checks.text(&text);
+        checks.text(&changed(&text, PIECES, &mut random));
+        checks.text(&changed(&text, ACCENTED_PIECES, &mut random));
     }
     checks.counted()
 }
@@ -59,7 +75,7 @@ fn changes(checks: &mut Checks, text: &[u8], extent: Extent, random: &mut Random
     checks.text(text);
     let (most, bytes) = changes_of_each(extent);
     for _ in 0..most.min(bytes / text.len().max(1)) {
-        let changed = changed(text, random);
+        let changed = changed(text, PIECES, random);
         checks.text(&changed);
     }
 }
@@ -108,20 +124,45 @@ const PIECES: &[&str] = &[
     "xml",
 ];
 
+/// What is put into a text with accented letters.
+const ACCENTED_PIECES: &[&str] = &[
+    "é",
+    "ÿ",
+    "ĳ",
+    "\u{B7}",
+    "×",
+    "÷",
+    "\u{80}",
+    "\u{A0}",
+    "ª",
+    "\u{17F}",
+    "\u{180}",
+    "\u{2BC}",
+    "\u{301}",
+    "<é>",
+    "</é>",
+    "<ß/>",
+    " ŉ=''",
+    " é=\"ĸ\"",
+    "<?ſ?>",
+    "&é;",
+    "<!--é-->",
+];
+
 /// The text with one to three edits, at most 65,536 bytes long.
-fn changed(text: &[u8], random: &mut Random) -> Vec<u8> {
+fn changed(text: &[u8], pieces: &[&str], random: &mut Random) -> Vec<u8> {
     let mut text = text.to_vec();
     for _ in 0..1 + random.below(3) {
-        edit(&mut text, random);
+        edit(&mut text, pieces, random);
     }
     text.truncate(65_536);
     text
 }
 
-fn edit(text: &mut Vec<u8>, random: &mut Random) {
+fn edit(text: &mut Vec<u8>, pieces: &[&str], random: &mut Random) {
     let from = random.below(text.len() + 1);
     let to = text.len().min(from + random.below(5));
-    let piece = PIECES[random.below(PIECES.len())].bytes();
+    let piece = pieces[random.below(pieces.len())].bytes();
     match random.below(8) {
         0 | 1 => drop(text.splice(from..from, piece)),
         2 | 3 => drop(text.splice(from..to, piece)),
@@ -163,8 +204,24 @@ const NAMES: [&str; 12] = [
     "xs:name",
 ];
 
-/// A random well-formed document.
-fn document(random: &mut Random) -> String {
+/// Names with letters of two bytes, one of each kind that matters.
+const ACCENTED: [&str; 12] = [
+    "é",
+    "ß",
+    "xs:élément",
+    "ĳ:a",
+    "_",
+    "ÿ\u{B7}",
+    "É",
+    "à-ŉ",
+    "ø.1",
+    "xmlé",
+    "ſ",
+    "xs:ı",
+];
+
+/// A random well-formed document with these names.
+fn document(random: &mut Random, names: &[&str]) -> String {
     let declaration = one_of(
         random,
         &[
@@ -176,7 +233,7 @@ fn document(random: &mut Random) -> String {
         ],
     );
     let before = misc(random);
-    let root = element(random, 0);
+    let root = element(random, names, 0);
     let behind = misc(random);
     format!("{declaration}{before}{root}{behind}")
 }
@@ -202,25 +259,25 @@ fn passed(random: &mut Random) -> &'static str {
     )
 }
 
-fn element(random: &mut Random, depth: usize) -> String {
-    let name = one_of(random, &NAMES);
+fn element(random: &mut Random, names: &[&str], depth: usize) -> String {
+    let name = one_of(random, names);
     let tag = format!(
         "<{name}{}{}",
-        attributes(random),
+        attributes(random, names),
         one_of(random, &["", "", " ", "\n"])
     );
     if depth > 4 || random.below(3) == 0 {
         return format!("{tag}/>");
     }
     let inside: String = (0..random.below(5))
-        .map(|_| content(random, depth))
+        .map(|_| content(random, names, depth))
         .collect();
     format!("{tag}>{inside}</{name}{}>", one_of(random, &["", "", " "]))
 }
 
-fn content(random: &mut Random, depth: usize) -> String {
+fn content(random: &mut Random, names: &[&str], depth: usize) -> String {
     match random.below(4) {
-        0 | 1 => element(random, depth + 1),
+        0 | 1 => element(random, names, depth + 1),
         2 => passed(random).to_owned(),
         _ => one_of(
             random,
@@ -245,13 +302,13 @@ fn content(random: &mut Random, depth: usize) -> String {
 }
 
 /// Attributes with different keys.
-fn attributes(random: &mut Random) -> String {
+fn attributes(random: &mut Random, names: &[&str]) -> String {
     let count = match random.below(12) {
-        0 => NAMES.len(),
+        0 => names.len(),
         some => some % 4,
     };
-    let start = random.below(NAMES.len());
-    let keys = (0..count).map(|index| NAMES[(start + index) % NAMES.len()]);
+    let start = random.below(names.len());
+    let keys = (0..count).map(|index| names[(start + index) % names.len()]);
     let written = keys.map(|key| {
         let space = one_of(random, &[" ", " ", "\n\t"]);
         let eq = one_of(random, &["=", "=", " = ", "=\r\n"]);

@@ -8,7 +8,7 @@
 //! | `explained` | where the other parsers differ by intention |
 //! | `small` | every short text over bytes and words that matter, in each place of a document |
 //! | `longer` | random documents, the schemas, and changes of both |
-//! | `limits` | lengths, depths and counts around the limits, each byte in each place |
+//! | `limits` | lengths, depths and counts around the limits, each byte and character in each place |
 
 /// How many texts are compared.
 #[derive(Clone, Copy, Debug, PartialEq, Eq)]

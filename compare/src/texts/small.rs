@@ -220,6 +220,42 @@ const WORDS: &[Place] = &[
     },
 ];
 
+/// Letters that begin names, characters that stand behind the first and such that stand in none, in names.
+const ACCENTED: &[Place] = &[
+    // a tag
+    Place {
+        before: "<",
+        behind: "/>",
+        most: 4,
+        pieces: &[
+            "é", "ÿ", "ſ", "ĳ", "\u{B7}", "×", "÷", "\u{80}", "ª", "a", "1", " ", ":",
+        ],
+    },
+    // a key
+    Place {
+        before: "<a ",
+        behind: "=''/>",
+        most: 4,
+        pieces: &[
+            "À", "Ö", "Ø", "ö", "ø", "ŉ", "\u{B7}", "×", "\u{BF}", "a", "-", "='' ", "\u{A0}",
+        ],
+    },
+    // an end tag
+    Place {
+        before: "<éß></",
+        behind: ">",
+        most: 4,
+        pieces: &["é", "ß", "É", "e", "\u{B7}", "\u{A0}", " ", "/", ">", "<éß"],
+    },
+    // an instruction
+    Place {
+        before: "<?",
+        behind: "?><a/>",
+        most: 4,
+        pieces: &["é", "ı", "Ŀ", "\u{B7}", "÷", "\u{9F}", "x", "?", ">", " "],
+    },
+];
+
 fn compare(group: &'static str, places: &[Place]) -> Counted {
     let mut checks = Checks::new(group);
     for place in places {
@@ -273,6 +309,20 @@ pub fn words(extent: Extent) -> Counted {
         Extent::All => compare(
             "all lists of up to 5 words in six places of a document",
             WORDS,
+        ),
+    }
+}
+
+/// All lists of up to 4 characters in the names of tags, keys, end tags and instructions; for the gate, up to 3.
+pub fn accented(extent: Extent) -> Counted {
+    match extent {
+        Extent::Gate => compare(
+            "all lists of up to 3 characters with accented letters in four names",
+            &shorter(ACCENTED),
+        ),
+        Extent::All => compare(
+            "all lists of up to 4 characters with accented letters in four names",
+            ACCENTED,
         ),
     }
 }

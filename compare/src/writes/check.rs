@@ -197,7 +197,7 @@ impl Checks {
     }
 }
 
-/// The start of a text, which is ASCII.
+/// The start of a text, or all of it where a character stands across that end.
 fn shown(text: &str) -> &str {
     text.get(..SHOWN).unwrap_or(text)
 }

@@ -1,4 +1,4 @@
-//! Random schemas, good sheets that no reading reaches, odd values, and damaged sheets.
+//! Random schemas, with accented letters too, good sheets that no reading reaches, odd values, and damaged sheets.
 
 use super::check::Checks;
 use crate::definitions::readings::damage_one;
@@ -9,12 +9,15 @@ use crate::paper::state::State;
 use crate::paper::written::{written, Written};
 use crate::random::Random;
 use crate::tally::Tally;
+use crate::tapes::accented::{move_boundary, Accents};
 
 const SEED: u64 = 0x6c75_6269_6b30;
 
 /// How many schemas and sheets are written.
 const SCHEMAS: usize = 12_000;
 const SHEETS: usize = 30_000;
+/// How many schemas have accented letters.
+const ACCENTED: usize = 8_000;
 
 /// Parts of values: held by themselves, held with others, and never held.
 const PARTS: [&str; 24] = [
@@ -83,6 +86,22 @@ pub fn sheets() -> Vec<Tally> {
         }
         checks.write(&sheet, room);
         checks.write(&sheet, 65_537);
+    }
+    checks.tallies()
+}
+
+/// Random schemas with accented letters, under both choices, and their sheets with the end of a pair moved by one byte.
+pub fn accented() -> Vec<Tally> {
+    let mut checks = Checks::new("random schemas with accented letters, in six rooms");
+    let mut random = Random::new(SEED + 2);
+    for index in 0..ACCENTED {
+        let mut state = schema(&mut random, 14);
+        state.by_standard = index % 3 == 0;
+        state.rows = Accents::new(&mut random).rows(&state.rows);
+        checks.in_rooms(&state);
+        let mut sheet = sheet_of(&state);
+        move_boundary(&mut sheet.rows, &state.rows, &mut random);
+        checks.write(&sheet, 2_000);
     }
     checks.tallies()
 }

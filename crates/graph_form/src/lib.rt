@@ -13,11 +13,11 @@ ghost use Rattle.graph_form.specs.Call.{FormIs};
 
 use crate::count::{count_roots, count_types};
 use crate::row::GraphRow;
-use rows::behind;
 use rows::lengths::{parts_fit, sheet_lengths};
 use rows::part::SheetPart;
 use rows::scan::scan_sheet;
 use rows::ten::ten_of;
+use rows::{behind, used};
 use sheet::limits;
 use sheet::refusal::Refusal;
 
@@ -37,18 +37,19 @@ pub fn is_form(rows: &[u32], names: &[u8]) -> bool
         names,
         end: z.at0 as usize,
     };
-    let used = z.len0 as usize;
+    let names_end = z.len0 as usize;
     let roots = z.at1 as usize;
     let types = z.len1 as usize;
-    let Some(s) = scan_sheet::<GraphRow>(&part, part.ten(1), z.len0) else {
+    let row1 = part.ten(1);
+    let Some(s) = scan_sheet::<GraphRow>(&part, row1, z.len0) else {
         return false;
     };
     row0::row0_form(z)
-        & (s.end == used)
+        & (s.end == names_end)
         & (roots == count_roots(&part))
         & (types == count_types(&part))
-        & behind::zeros_behind(rows, names, part.end, used)
-        & behind::names_test(names, used)
+        & behind::zeros_behind(rows, names, part.end, names_end)
+        & used::names_test::<GraphRow>(&part, row1, names_end)
 }
 
 // Whether the lengths are those of a sheet and it is in the form.

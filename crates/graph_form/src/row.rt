@@ -121,4 +121,8 @@ impl RowTests for GraphRow {
             head
         }
     }
+
+    fn is_text(s: &[u8]) -> bool {
+        text::is_graph_text(s)
+    }
 }

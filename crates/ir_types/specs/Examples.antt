@@ -44,6 +44,16 @@ sample-form : graph_form sample_sheet ≡ true
 unfolding sample sample_sheet texts builtin_names sheets graphs
 sample-form = refl
 
+-- a graph of a namespace alone, of these bytes
+named : List ℕ → Bool
+named ns = graph_form (graph_sheet (record { namespace = ns; root_elements = []; types = [] }) 20 8)
+
+-- order 12: é; U+02BC, U+0307 and U+039C; a lead at the end, U+0301, U+0180
+named-form : (named (195 ∷ 169 ∷ []) ≡ true) × (named (202 ∷ 188 ∷ 204 ∷ 135 ∷ 206 ∷ 156 ∷ []) ≡ true)
+    × (named (97 ∷ 206 ∷ []) ≡ false) × (named (204 ∷ 129 ∷ []) ≡ false) × (named (198 ∷ 128 ∷ []) ≡ false)
+unfolding named texts builtin_names sheets graphs
+named-form = (refl, refl, refl, refl, refl)
+
 sample-rows : sample_sheet.rows
     ≡ 0 ∷ 9 ∷ 20 ∷ 1 ∷ 3 ∷ 0 ∷ 0 ∷ 0 ∷ 0 ∷ 0
     ∷ 1 ∷ 0 ∷ 3 ∷ 0 ∷ 0 ∷ 0 ∷ 0 ∷ 0 ∷ 0 ∷ 0

@@ -87,7 +87,7 @@ rows_form z (n ∷ ts) =
 unfoldable pub names_form : ℕ → List Ten → Bool
 names_form names_used ts = covers used_pairs 0 ts && eqb (covered 0 ts) names_used
 
--- that all names are bytes below 128 is asked of each used pair, which is the same (`form-whole`)
+-- order 12: "in .. the graph form each used pair by itself holds such text, in graphs also U+02BC, U+0307 and U+039C"
 unfoldable pub graph_form : Sheet → Bool
 graph_form x =
     let z = graph_row0_in x in

@@ -1,4 +1,4 @@
--- The graphs that a graph sheet can hold: each text holds bytes below 128, each number is within its width in 003, a bound is above 1.
+-- The graphs that a graph sheet can hold: each text is one of a graph, each number is within its width in 003, a bound is above 1.
 --     ref_ok .. type_ok, root_ok    the same of the parts
 --     graph_ok       all of it
 --     row_form       tag, a, b and c of a row are what the tag allows

@@ -5,6 +5,8 @@
 
    A buffer is a pointer and a length in elements. Every pointer is valid, also for a length of 0 (any pointer that is not null
    and is aligned for its type), and the buffers of a call and what it stores do not overlap. Any bytes and numbers are taken.
+   A text is ASCII and the characters from U+0080 to U+017F in UTF-8, of two bytes each; in a graph U+02BC, U+0307 and U+039C may
+   stand too, which case brings in. Each pair of a tape, and each used pair of a sheet, holds whole characters.
    Nothing is allocated and nothing is kept between calls: what goes from call to call is the sheet. Of the C library the archive
    uses memset and memmove alone. It is for x86-64 Linux. */
 #ifndef LUBIKSAN_H
@@ -41,7 +43,7 @@ extern "C" {
 /* Bytes of stack that a call takes below the frame that calls it, as measured on x86-64 Linux and rounded up to 1,024. */
 #define LUBIKSAN_TAPE_STACK 45056
 #define LUBIKSAN_CLEAR_STACK 1024
-#define LUBIKSAN_READ_STACK 1024
+#define LUBIKSAN_READ_STACK 2048
 #define LUBIKSAN_LOWER_STACK 1024
 #define LUBIKSAN_REDUCE_STACK 70656
 #define LUBIKSAN_WRITE_STACK 1024
@@ -58,7 +60,8 @@ extern "C" {
 /* 3 to 11: an event was refused. The place is its number in the piece, from 0, and the sheet holds the state after the events before it. */
 #define LUBIKSAN_RECORD 3        /* kind not 1 to 3, record cut short, too many attributes, a close with any */
 #define LUBIKSAN_PAIR 4          /* a pair outside the text or out of order */
-#define LUBIKSAN_BYTE 5          /* a byte above 127 under a pair; also of lubiksan_tape: anywhere in the text */
+#define LUBIKSAN_BYTE 5          /* a byte above 127 under a pair that is of no character of a text, or of one that an end of the pair cuts;
+                                    also of lubiksan_tape: anywhere in the text; of lubiksan_pattern: any byte above 127 */
 #define LUBIKSAN_CLOSE 6         /* a close with no tag open */
 #define LUBIKSAN_OPEN_TAGS 7     /* a start with LUBIKSAN_OPEN_TAGS_MAX tags open */
 #define LUBIKSAN_EVENTS 8        /* LUBIKSAN_EVENTS_MAX events are done */
@@ -213,7 +216,8 @@ uint32_t lubiksan_parse_u64(const uint8_t *text, size_t length, uint64_t *value)
 uint32_t lubiksan_map_builtin(const uint8_t *name, size_t length);
 
 /* The conversions return how many bytes the converted name has, or SIZE_MAX where out is shorter. In both cases out holds the first
-   bytes of the converted name, as far as out reaches, and behind them what it held. */
+   bytes of the converted name, as far as out reaches, and behind them what it held. Letters up to U+017F have their case: a normalised
+   name has at most one byte more than the name, a code form half as many again, a snake form twice as many. */
 size_t lubiksan_normalize_type_name(const uint8_t *name, size_t length, uint8_t *out, size_t room);
 size_t lubiksan_xml_to_snake_case(const uint8_t *name, size_t length, uint8_t *out, size_t room);
 size_t lubiksan_code_to_pascal_case(const uint8_t *value, size_t length, uint8_t *out, size_t room);
@@ -278,8 +282,8 @@ uint32_t lubiksan_label_number(const uint32_t *graph_rows, size_t graph_rows_len
                                size_t graph_names_length, const uint8_t *words, size_t words_length, size_t row);
 
 /* Whether a graph sheet has the form that a lowering gives it: LUBIKSAN_ACCEPTED, LUBIKSAN_LENGTHS or LUBIKSAN_GRAPH_FORM. *place is set
-   to 0. Judged are the order and the numbers of the rows, the counts in row 0, that the pairs cover the names, bytes below 128, and
-   zeros behind the used parts; not judged are what the names say, c of roots and types, and how many children a type has. */
+   to 0. Judged are the order and the numbers of the rows, the counts in row 0, that the pairs cover the names, that each used pair
+   holds a text, in which U+02BC, U+0307 and U+039C may stand too, and zeros behind the used parts; not judged are what the names say, c of roots and types, and how many children a type has. */
 uint32_t lubiksan_graph_form(const uint32_t *graph_rows, size_t graph_rows_length, const uint8_t *graph_names,
                              size_t graph_names_length, size_t *place);
 

@@ -2,42 +2,67 @@
 // compared as they normalise. Each answers how many bytes it wrote, or `None` where the part is shorter than the conversion.
 #![tactic(auto)]
 
+pub mod cases;
+pub mod characters;
+pub mod reading;
 pub mod same;
+pub mod segments;
 pub mod snake;
 
-ghost use Rattle.std.specs.Prelude.{◌≡◌, true};
+ghost use Rattle.std.specs.Prelude.{◌≡◌, ◌<◌, true};
+ghost use Rattle.text.specs.Characters.{characters};
 ghost use Rattle.names.specs.Names.{normalize_type_name, code_to_pascal_case};
 ghost use Rattle.names.specs.Answers.{Put};
-ghost use Rattle.names.specs.Scans.{cased_byte, byte_segments};
+ghost use Rattle.names.specs.Scans.{segments};
 
-use text::ascii::{to_lower, to_upper};
+use reading::Reading;
+use segments::{SegmentBytes, cased_byte};
 use text::has_byte;
 
-// A byte of a segment: in the upper form where it is the first, else as it is or in the lower form. The two flags are the definition's, and so is `lowers` of
-// `put_segments`: the form of a byte as an enum or a closure would only name the same two tests again.
-pub fn cased(b: u8, up: bool, lowers: bool) -> u8
-    ensures { result ≡ cased_byte up lowers b }
+// Character by character. Never inlined: only a name with a byte from 128 on asks for it.
+#[inline(never)]
+fn put_characters(s: &[u8], separator: u8, lowers: bool, out: &mut [u8]) -> Option<usize>
+    requires { separator < 128 }
+    ensures { Put (segments separator lowers true (characters s.now)) out.old result out.new }
 {
-    if up {
-        return to_upper(b);
+    let bytes = SegmentBytes {
+        reading: Reading::Segments,
+        rest: s,
+        separator,
+        lowers,
+        up: true,
+    };
+    let mut n = 0;
+    for b in bytes {
+        if out.len() <= n {
+            return None;
+        }
+        out[n] = b;
+        n += 1;
     }
-    if lowers { to_lower(b) } else { b }
+    Some(n)
 }
 
-// The segments of s between separators, put together, each with its first letter in the upper form.
+// The segments of s between separators, put together, each with its first character in the upper form: byte by byte, or from the start again where a byte is not
+// below 128. Inlined, so that each of the two conversions has a loop of its own.
+#[inline(always)]
 fn put_segments(s: &[u8], separator: u8, lowers: bool, out: &mut [u8]) -> Option<usize>
-    ensures { Put (byte_segments separator lowers true s.now) out.old result out.new }
+    requires { separator < 128 }
+    ensures { Put (segments separator lowers true (characters s.now)) out.old result out.new }
 {
     let mut up = true;
     let mut n = 0;
     for b in s {
+        if *b >= 128 {
+            return put_characters(s, separator, lowers, out);
+        }
         if *b == separator {
             up = true;
         } else {
             if out.len() <= n {
                 return None;
             }
-            out[n] = cased(*b, up, lowers);
+            out[n] = cased_byte(*b, up, lowers);
             n += 1;
             up = false;
         }
@@ -57,7 +82,7 @@ pub fn put_same(s: &[u8], out: &mut [u8]) -> Option<usize>
     Some(s.len())
 }
 
-// A type name as a Rust name: without underscores, each segment's first letter in the upper form.
+// A type name as a Rust name: without underscores, each segment's first character in the upper form.
 pub fn normalize_type_name(name: &[u8], out: &mut [u8]) -> Option<usize>
     ensures { Put (normalize_type_name name.now) out.old result out.new }
 {

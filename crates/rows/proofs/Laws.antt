@@ -3,6 +3,7 @@ pub mod Zeros
 pub mod Tens
 pub mod Ends
 pub mod Scan
+pub mod Used
 pub mod Words
 pub mod Room
 pub mod Texts

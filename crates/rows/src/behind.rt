@@ -1,6 +1,5 @@
-// What stands in and behind the used parts of a sheet's two buffers.
-ghost use Rattle.std.specs.Prelude.{◌≡◌, ◌&&◌, ◌*◌, ◌≤◌, length, take, drop};
-ghost use Rattle.text.specs.Text.{is_plain};
+// What stands behind the used parts of a sheet's two buffers.
+ghost use Rattle.std.specs.Prelude.{◌≡◌, ◌&&◌, ◌*◌, ◌≤◌, length, drop};
 ghost use Rattle.sheet.specs.Rows.{all_zero};
 
 use sheet::limits;
@@ -15,12 +14,4 @@ pub fn zeros_behind(rows: &[u32], names: &[u8], rows_used: usize, names_used: us
         & names[names_used..]
             .iter()
             .fold(true, |ok, x| ok & (*x == 0))
-}
-
-// Whether the used names are bytes below 128.
-pub fn names_test(names: &[u8], names_used: usize) -> bool
-    requires { names_used ≤ length names.now }
-    ensures { result ≡ is_plain (take names_used names.now) }
-{
-    text::is_plain(&names[..names_used])
 }

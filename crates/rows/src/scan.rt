@@ -32,6 +32,10 @@ pub trait RowTests {
     // The head behind which the next row stands.
     fn head_after(head: u32, tag: u32) -> u32
         ensures { result ≡ tests.head_after head tag };
+
+    // Whether a pair may name a text.
+    fn is_text(s: &[u8]) -> bool
+        ensures { result ≡ tests.text s.now };
 }
 
 // Of rows that passed: where their pairs end, and the tag of the last head, that of row 1 where no head came.

@@ -10,13 +10,22 @@ use mathlib.Core.Bool.{Bool, true, false, ◌&&◌}
 use lib.Dec.{leb}
 use mathlib.Core.List.{List, [], ◌++◌, map}
 use lib.ListN.{length, take, drop}
-use Rattle.text.specs.Text.{Text, bytes, every, is_text, local_name}
+use Rattle.text.specs.Text.{Text, bytes, every, is_plain, is_text, is_graph_text, local_name}
+use Rattle.text.specs.Utf8.{is_point, is_graph_point, SpelledBy}
+use Rattle.text.proofs.Laws.Class.{plain-text, plain-graph-text}
+use Rattle.text.proofs.Laws.Utf8.{text-exactly, graph-text-exactly}
 use Rattle.text.specs.Trim.{Around}
 use Rattle.number.specs.Number.{parsed, plain_number, number, Spells}
 use Rattle.number.proofs.Laws.Spellings.{number-kept, number-exactly}
 use Rattle.builtin.specs.Builtin.{first_match, map_builtin}
 use Rattle.builtin.specs.Source.{source_builtins}
 use Rattle.builtin.proofs.Laws.Source.{builtin-kept}
+use Rattle.names.specs.Cases.{case_table, lower_of, is_upper_char, is_lower_char, in_table}
+use Rattle.names.specs.Names.{normalize_type_name, xml_to_snake_case, code_to_pascal_case}
+use Rattle.names.specs.Plain.{byte_normalize, byte_snake, byte_pascal}
+use Rattle.names.proofs.Laws.Rules.{table-length, case-apart, case-down}
+use Rattle.names.proofs.Laws.Names.{normalize-text, snake-text, pascal-text}
+use Rattle.names.proofs.Laws.Plain.{normalize-ascii, snake-ascii, pascal-ascii}
 use Rattle.sheet.specs.Rows.{Row, Sheet}
 use Rattle.sheet.specs.Form.{words, rows_used_of, names_used_of, tens_of}
 use Rattle.sheet.specs.Returned.{accepted, malformed, doctype}
@@ -41,10 +50,12 @@ use Rattle.xsd_types.proofs.Laws.Convert.{convert-table, convert-good, converted
 use Rattle.xsd_types.proofs.Laws.Clear.{good-clear}
 use Rattle.xsd_types.proofs.Laws.Table.{clear-table}
 use Rattle.xsd_types.proofs.Laws.Choice.{good-before}
+use Rattle.xsd_types.proofs.Laws.Whole.{plain_good, good-plain}
 use Rattle.xsd_parser.specs.Event.{Tag, Event}
 use Rattle.xsd_parser.specs.Kinds.{start_kind, empty_kind}
 use Rattle.xsd_parser.specs.EventText.{event_ok}
-use Rattle.xsd_parser.specs.Tape.{Judged, event, event_of, records}
+use Rattle.xsd_parser.specs.Tape.{Pair, all_ascii, Judged, event, event_of, records}
+use Rattle.xsd_parser.proofs.Laws.EventTexts.{ascii-whole}
 use Rattle.xsd_parser.specs.Handlers.{ok, is_unbounded}
 use Rattle.xsd_parser.specs.Step.{step}
 use Rattle.xsd_parser.specs.Read.{read_records, read, read_state, ReadIs}
@@ -77,6 +88,7 @@ use Rattle.ir_types.specs.Back.{graph_back}
 use Rattle.ir_types.proofs.Laws.Back.{graph-back}
 use Rattle.ir_types.specs.Last.{insert_all}
 use Rattle.ir_types.specs.Form.{graph_form}
+use Rattle.ir_types.proofs.Laws.Whole.{plain_form, form-plain}
 use Rattle.ir_types.specs.Label.{label}
 use Rattle.ir_types.specs.Table.{LabelTable}
 use Rattle.ir_types.proofs.Laws.Table.{label-table}
@@ -255,7 +267,7 @@ claim-document-once = derived-once
 pub claim-doctype : (text : Text) (before : List ℕ) → ((tape_of text before).number ≡ doctype) ↔ (Readable text before × BegunByDoctype text)
 claim-doctype = eighteen-exactly
 
--- order 1, "17 not well formed": below 128, not 18, and no derivation
+-- order 1, "17 not well formed": a text of order 12, not 18, and no derivation
 pub claim-malformed : (text : Text) (before : List ℕ)
     → ((tape_of text before).number ≡ malformed) ↔ (Readable text before × (BegunByDoctype text → ⊥) × ((es : List TapeEvent) → Derived text es → ⊥))
 claim-malformed = seventeen-exactly
@@ -265,7 +277,7 @@ claim-malformed = seventeen-exactly
 pub claim-tape-is : (text : Text) (before : List ℕ) (number place : ℕ) (after : List ℕ) → TapeIs text before number place after ↔ (taken number place after ≡ tape_of text before)
 claim-tape-is = tape-exactly
 
--- order 1, "accepted, place is the marks used": an accepted tape is that of a well-formed text below 128, up to its place
+-- order 1, "accepted, place is the marks used": an accepted tape is that of a well-formed text, up to its place
 pub claim-tape : (text : Text) (before : List ℕ) → (tape_of text before).number ≡ accepted → (es : List TapeEvent) × (document text ≡ well_formed es) × (is_text text ≡ true)
     × (take (tape_of text before).place (tape_of text before).marks ≡ tape_marks es)
 claim-tape = accepted-tape
@@ -540,3 +552,49 @@ claim-rows-back = rows_back
 
 pub claim-columns-back : (columns : List ℕ) → words columns ≡ true → sheet_lengths (length columns) 0 ≡ true → columns_of (rows_of_columns columns) ≡ columns
 claim-columns-back = columns-back
+
+-- order 12, "Accept UTF-8 for code points U+0080 to U+017F": a text is exactly the UTF-8 of code points below U+0180; "in graphs also U+02BC, U+0307 and U+039C"
+pub claim-text : (s : Text) → (is_text s ≡ true) ↔ SpelledBy is_point s
+claim-text = text-exactly
+
+pub claim-graph-text : (s : Text) → (is_graph_text s ≡ true) ↔ SpelledBy is_graph_point s
+claim-graph-text = graph-text-exactly
+
+-- order 12, everything of before for texts below 128: they are texts, 5 is refused for none of their pairs, and where the used names are such, a schema sheet is
+-- good and a graph sheet is in the form by the tests of before, which asked that and nothing else of them
+pub claim-text-ascii : (s : Text) → is_plain s ≡ true → (is_text s ≡ true) × (is_graph_text s ≡ true)
+claim-text-ascii s e = (plain-text s e, plain-graph-text s e)
+
+pub claim-pairs-ascii : (text : Text) → is_plain text ≡ true → (ps : List Pair) → all_ascii text ps ≡ true
+claim-pairs-ascii = ascii-whole
+
+pub claim-good-ascii : (x : Sheet) → is_plain (take (names_used_of x) x.names) ≡ true → bare_good x ≡ plain_good x
+claim-good-ascii = good-plain
+
+pub claim-form-ascii : (x : Sheet) → is_plain (take (names_used_of x) x.names) ≡ true → graph_form x ≡ plain_form x
+claim-form-ascii = form-plain
+
+-- order 12: "Case comes from a table of 256 code points"; "Over the whole table: no letter is both upper and lower, and the lower form of an upper letter, if itself in
+-- the table, is a lower letter." A character is its bytes, below 128 one of ASCII.
+pub claim-case-table : length case_table ≡ 256
+claim-case-table = table-length
+
+pub claim-case-apart : (c : Text) → is_upper_char c && is_lower_char c ≡ false
+claim-case-apart = case-apart
+
+pub claim-case-down : (c : Text) → is_upper_char c ≡ true → in_table (lower_of c) ≡ true → is_lower_char (lower_of c) ≡ true
+claim-case-down = case-down
+
+-- what the conversions of names give is a text of graphs; on texts below 128 each conversion is the one of before, byte by byte
+pub claim-names-text : (s : Text) → is_text s ≡ true
+    → (is_graph_text (normalize_type_name s) ≡ true) × (is_graph_text (xml_to_snake_case s) ≡ true) × (is_graph_text (code_to_pascal_case s) ≡ true)
+claim-names-text s e = (normalize-text s e, snake-text s e, pascal-text s e)
+
+pub claim-normalize-ascii : (s : Text) → is_plain s ≡ true → normalize_type_name s ≡ byte_normalize s
+claim-normalize-ascii = normalize-ascii
+
+pub claim-snake-ascii : (s : Text) → is_plain s ≡ true → xml_to_snake_case s ≡ byte_snake s
+claim-snake-ascii = snake-ascii
+
+pub claim-pascal-ascii : (s : Text) → is_plain s ≡ true → code_to_pascal_case s ≡ byte_pascal s
+claim-pascal-ascii = pascal-ascii

@@ -25,7 +25,7 @@ bad_record = 3
 abbrev pub bad_pair : ℕ
 bad_pair = 4
 
--- "byte above 127 under a pair"
+-- "byte above 127 under a pair"; by order 12 "any other byte above 127" than those of a character up to U+017F whole in its pair
 abbrev pub not_ascii : ℕ
 not_ascii = 5
 

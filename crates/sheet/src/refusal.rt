@@ -16,7 +16,7 @@ pub enum Refusal {
     BadRecord = 3,
     // "pair outside the text or out of order"
     BadPair = 4,
-    // "byte above 127 under a pair"
+    // "byte above 127 under a pair"; by order 12 one of no character up to U+017F, or of a character that an end of its pair cuts.
     NotAscii = 5,
     // "close with no tag open"
     NoTagOpen = 6,

@@ -35,7 +35,7 @@ pub fn pairs_inside(limit: usize, marks: &[u32], from: usize, n: usize) -> bool
     true
 }
 
-// 5: whether all bytes under n pairs may stand in a text, each read.
+// 5: whether under each of n pairs stands a text, each read.
 fn bytes_ascii(v: View<'_, '_>, from: usize, n: usize) -> bool
     requires { from + 2 * n ≤ length v.marks.now }
     ensures { result ≡ all_ascii v.entry.text.now (pairs_of n (drop from v.entry.marks.now)) }

@@ -2,10 +2,12 @@
 pub mod Tests
 pub mod Texts
 pub mod Every
+pub mod Pairs
 pub mod Class
 pub mod Characters
 pub mod Local
 pub mod Bits
 pub mod Table
+pub mod Utf8
 pub mod Trim
 pub mod Std

@@ -3,8 +3,12 @@
 --     Text          a text: the list of its bytes
 --     bytes         a quoted text as bytes; `code "A"` is the byte of one quoted character
 --     is_plain_byte, is_plain    a byte below 128; all bytes of the text are such
---     is_text, is_graph_text    the texts that a tape and a sheet may hold, and those that a graph may hold: today both are the plain ones
 --     between       the byte is one of a range
+--     is_tail       a byte that may stand second in a character of two bytes
+--     is_pair, is_graph_pair    the two bytes are a character of UTF-8 from U+0080 to U+017F; or one of the three more that a graph may hold; pair_of: either
+--     text_by       the text goes on behind a first byte that waits for its second one, or behind none: by a rule that says which two bytes are a character
+--     is_text, is_graph_text    the texts that a tape and a sheet may hold, and those that a graph may hold
+--     lead_after    the byte that waits behind a byte
 --     is_upper, is_lower, is_digit    the classes of a byte, as Rust's is_uppercase, is_lowercase and is_ascii_digit have them below 128
 --     upper, lower  the upper and the lower form of a letter; every other byte is its own
 --     every         each element of the list passes the test
@@ -38,16 +42,41 @@ is_plain_byte b = ltb b 128
 unfoldable pub is_plain : Text → Bool
 is_plain s = every is_plain_byte s
 
--- "all names are bytes below 128"
-unfoldable pub is_text : Text → Bool
-is_text s = is_plain s
-
--- a graph's names are those of a sheet
-unfoldable pub is_graph_text : Text → Bool
-is_graph_text s = is_text s
-
 unfoldable pub between : ℕ → ℕ → ℕ → Bool
 between low high b = leb low b && leb b high
+
+-- RFC 3629, section 3: a character from U+0080 to U+07FF is a byte 110xxxxx and a byte 10xxxxxx, here from C2 80 (U+0080) to C5 BF (U+017F)
+unfoldable pub is_tail : ℕ → Bool
+is_tail b = between 128 191 b
+
+unfoldable pub is_pair : ℕ → ℕ → Bool
+is_pair lead tail = between 194 197 lead && is_tail tail
+
+-- "in graphs also U+02BC, U+0307 and U+039C": CA BC, CC 87, CE 9C
+unfoldable pub is_graph_pair : ℕ → ℕ → Bool
+is_graph_pair lead tail =
+    is_pair lead tail || (eqb lead 202 && eqb tail 188) || (eqb lead 204 && eqb tail 135) || (eqb lead 206 && eqb tail 156)
+
+abbrev pub pair_of : Bool → ℕ → ℕ → Bool
+pair_of graph = if graph then is_graph_pair else is_pair
+
+-- behind the byte `lead`, which waits for the second byte of its character; 0 where none waits
+unfoldable pub text_by : (ℕ → ℕ → Bool) → ℕ → Text → Bool
+text_by pair lead [] = eqb lead 0
+text_by pair lead (b ∷ s) =
+    if eqb lead 0 then text_by pair (if is_plain_byte b then 0 else b) s else (pair lead b && text_by pair 0 s)
+
+-- "Accept UTF-8 for code points U+0080 to U+017F."
+unfoldable pub is_text : Text → Bool
+is_text s = text_by is_pair 0 s
+
+unfoldable pub is_graph_text : Text → Bool
+is_graph_text s = text_by is_graph_pair 0 s
+
+-- the byte that waits behind b; 255, with which no character begins, where no text goes on so
+unfoldable pub lead_after : (ℕ → ℕ → Bool) → ℕ → ℕ → ℕ
+lead_after pair lead b =
+    if eqb lead 0 then (if is_plain_byte b then 0 else b) else (if pair lead b then 0 else 255)
 
 abbrev pub is_upper : ℕ → Bool
 is_upper b = between (code "A") (code "Z") b

@@ -1,6 +1,7 @@
 -- Laws of the definitions in specs/. No contract cites them.
 pub mod Steps
 pub mod Names
+pub mod Points
 pub mod Values
 pub mod Prolog
 pub mod Moves

@@ -10,14 +10,14 @@
 --     ReadsThrough  a reading that meets none of 3, 4, 5 and 6, and leaves so many tags open where it is accepted
 use Rattle.std.specs.Prelude.{ℕ, zero, suc, ◌+◌, ◌-◌, ◌≤◌, ◌<◌, ◌≡◌, ◌⊎◌, List, [], ◌∷◌, ◌++◌, Bool, true, false, eqb, leb, length, get_or, drop, if◌then◌else◌}
 use Prim.Native.Char.{code}
-use Rattle.text.specs.Text.{Text, first, contains}
+use Rattle.text.specs.Text.{Text, contains}
 use Rattle.sheet.specs.Limits.{attributes_limit}
 use Rattle.sheet.specs.Returned.{accepted, too_many_open}
 use Rattle.xsd_parser.specs.Kinds.{start_kind, empty_kind}
 use Rattle.xsd_parser.specs.Event.{Event}
 use Rattle.xsd_parser.specs.Tape.{Pair, pair_text, tag_of, event_of, Judged, event}
 use Rattle.xsd_parser.specs.Read.{Reading}
-use Rattle.xml.specs.Classes.{is_name_start}
+use Rattle.xml.specs.Classes.{is_name_start, begins}
 use Rattle.xml.specs.Steps.{name_of}
 use Rattle.xml.specs.Values.{is_quote}
 use Rattle.xml.specs.Tape.{AttributePairs, TapeEvent}
@@ -27,7 +27,7 @@ end_of p = p.offset + p.size
 
 -- [5] Name ::= NameStartChar (NameChar)*
 pub record NameAt (text : Text) (p : Pair) : Type 0 where
-  pub starts : is_name_start (first (drop p.offset text)) ≡ true
+  pub starts : begins is_name_start (drop p.offset text) ≡ true
   pub whole : pair_text text p ≡ name_of (drop p.offset text)
 
 -- [10] AttValue ::= '"' ([^<&"] | Reference)* '"' | "'" ([^<&'] | Reference)* "'"

@@ -8,7 +8,7 @@ use Rattle.sheet.specs.Returned.{accepted, bad_length, not_ascii, malformed, doc
 use Rattle.xml.specs.Tape.{TapeEvent, tape_marks}
 use Rattle.xml.specs.Grammar.{Derived, BegunByDoctype}
 
--- the lengths are right and all bytes are below 128
+-- the lengths are right, and the bytes are a text: below 128, or characters from U+0080 to U+017F in UTF-8
 abbrev pub Readable : Text → List ℕ → Type 0
 Readable text before = (tape_lengths (length text) (length before) ≡ true) × (is_text text ≡ true)
 

@@ -1,7 +1,9 @@
--- XML 1.0 (Fifth Edition), production by production, as far as a text below 128 without a document type uses it: a value of `Derived s es` is a derivation
+-- XML 1.0 (Fifth Edition), production by production, as far as a text up to U+017F without a document type uses it: a value of `Derived s es` is a derivation
 -- of the text s, with its tags in order as the events es. A well-formedness constraint is a premise where the standard hangs it. `Document.document` accepts
--- exactly what has a derivation (proofs/Laws/Grammar.antt).
+-- exactly what has a derivation (proofs/Laws/Grammar.antt). Names are of characters in UTF-8. Where a production takes any Char but for bytes below 128, it is
+-- asked of each byte: every byte from 128 on passes, and so does every code point of a text from U+0080 on (`char-points` of proofs/Laws/Points.antt).
 --     Opt, Many     X? and X*; Run: a byte of a class and as many as there are of another; Without: "- (Char* word Char*)"
+--     CharOf        a character of a class of code points
 --     is_text_char    [^<&]; is_value_char: [^<&"] or [^<&']; is_hex_digit: [0-9a-fA-F]; number_of: what digits name
 --     Offsets: `at` is where the derived text begins. A tag is derived with the text of its name and its event, attributes with their keys and their pairs.
 use Rattle.std.specs.Prelude.{ℕ, ◌+◌, ◌-◌, ◌*◌, ◌≡◌, List, [], ◌∷◌, ◌++◌, Bool, true, false, not, ◌&&◌, ◌||◌, eqb, length, if◌then◌else◌}
@@ -9,7 +11,7 @@ use Prim.Native.Char.{code}
 use Rattle.text.specs.Text.{Text, bytes, every, between, is_digit, same, lower}
 use Rattle.text.specs.Trim.{is_white_space}
 use Rattle.xsd_parser.specs.Kinds.{start_kind, empty_kind}
-use Rattle.xml.specs.Classes.{is_char, is_letter, is_name_start, is_name, is_encoding}
+use Rattle.xml.specs.Classes.{is_char, is_letter, is_name_start, is_name, is_encoding, is_byte_of, is_pair_of}
 use Rattle.xml.specs.Tape.{AttributePairs, TapeEvent}
 
 pub data Opt (P : Text → Type 0) : Text → Type 0 where
@@ -26,14 +28,18 @@ pub data Run (p q : ℕ → Bool) : Text → Type 0 where
 abbrev pub Without : Text → Text → Type 0
 Without word s = (u v : Text) → s ≡ u ++ (word ++ v) → ⊥
 
+pub data CharOf (p : ℕ → Bool) : Text → Type 0 where
+  one_byte : {b : ℕ} → is_byte_of p b ≡ true → CharOf p (b ∷ [])
+  two_bytes : {b t : ℕ} → is_pair_of p b t ≡ true → CharOf p (b ∷ t ∷ [])
+
 -- [2] Char, [4] NameStartChar and [4a] NameChar are `is_char`, `is_name_start` and `is_name` (Classes.antt), which `is_white_space` of [3] stands beside.
 -- [3] S ::= (#x20 | #x9 | #xD | #xA)+
 abbrev pub S : Text → Type 0
 S = Run is_white_space is_white_space
 
 -- [5] Name ::= NameStartChar (NameChar)*
-abbrev pub Name : Text → Type 0
-Name = Run is_name_start is_name
+pub data Name : Text → Type 0 where
+  name : {s t : Text} → CharOf is_name_start s → Many (CharOf is_name) t → Name (s ++ t)
 
 unfoldable pub is_hex_digit : ℕ → Bool
 is_hex_digit b = is_digit b || between (code "a") (code "f") b || between (code "A") (code "F") b

@@ -7,8 +7,8 @@
 --     misc          [27] Misc, as many as stand there
 --     prolog        [22] without its doctypedecl
 use Rattle.std.specs.Prelude.{ℕ, zero, suc, [], ◌∷◌, Bool, false, not, ◌&&◌, ◌||◌, length, drop, if◌then◌else◌}
-use Rattle.text.specs.Text.{Text, bytes, first, is_digit}
-use Rattle.xml.specs.Classes.{is_name, is_letter, is_encoding}
+use Rattle.text.specs.Text.{Text, bytes, is_digit}
+use Rattle.xml.specs.Classes.{is_name, is_letter, is_encoding, begins}
 use Rattle.xml.specs.Steps.{Step, bad, behind, ◌and_then◌, starts_with, literal, one_then, spaces, space, comment, instruction}
 use Rattle.xml.specs.Values.{is_quote}
 
@@ -74,7 +74,7 @@ misc at s = spaces at s and_then misc_behind
 
 -- a declaration stands here, and no instruction whose name begins with `xml`
 unfoldable pub is_declaration : Text → Bool
-is_declaration s = starts_with (bytes "<?xml") s && not (is_name (first (drop 5 s)))
+is_declaration s = starts_with (bytes "<?xml") s && not (begins is_name (drop 5 s))
 
 -- [22] prolog ::= XMLDecl? Misc* (doctypedecl Misc*)?, up to where a doctypedecl may stand
 unfoldable pub prolog : ℕ → Text → Step

@@ -5,14 +5,14 @@
 --     literal       a word
 --     many          as many bytes of a class as stand there, none too
 --     spaces        S?; space: S
---     name_of        the name that the bytes left begin with; name: [5]
+--     name_of        the characters of names that the bytes left begin with; name: [5]
 --     until         characters up to the first place of a word, and the word
 --     comment       [15]; instruction: [16] with its [17]; section: [18] CDATA
 use Rattle.std.specs.Prelude.{ℕ, suc, ◌+◌, [], ◌∷◌, Bool, true, false, ◌&&◌, eqb, length, drop, if◌then◌else◌}
 use Rattle.text.specs.Text.{Text, bytes, first}
 use Rattle.text.specs.Trim.{is_white_space}
 use Rattle.xml.specs.Grammar.{is_xml}
-use Rattle.xml.specs.Classes.{is_char, is_name_start, is_name}
+use Rattle.xml.specs.Classes.{is_char, is_name_start, is_name, is_byte_of, is_pair_of, begins}
 
 pub data Step : Type 0 where
   bad : Step
@@ -47,13 +47,16 @@ spaces at s = many is_white_space at s
 unfoldable pub space : ℕ → Text → Step
 space at s = one_then is_white_space is_white_space at s
 
--- [5] Name ::= NameStartChar (NameChar)*
-unfoldable pub name : ℕ → Text → Step
-name at s = one_then is_name_start is_name at s
-
 unfoldable pub name_of : Text → Text
 name_of [] = []
-name_of (b ∷ s) = if is_name b then b ∷ name_of s else []
+name_of (b ∷ []) = if is_byte_of is_name b then b ∷ [] else []
+name_of (b ∷ t ∷ s) =
+    if is_byte_of is_name b then b ∷ name_of (t ∷ s) else
+    if is_pair_of is_name b t then b ∷ t ∷ name_of s else []
+
+-- [5] Name ::= NameStartChar (NameChar)*
+unfoldable pub name : ℕ → Text → Step
+name at s = if begins is_name_start s then behind (at + length (name_of s)) (drop (length (name_of s)) s) else bad
 
 -- "Char* - (Char* word Char*)" and the word
 unfoldable pub until : Text → ℕ → Text → Step

@@ -7,10 +7,11 @@
 --     written_event       the event of a tag written at an offset; tagged_as: what it is read as, with what stands behind it
 use Rattle.std.specs.Prelude.{ℕ, ◌+◌, List, [], ◌∷◌, ◌++◌, Bool, true, not, ◌&&◌, eqb, length, if◌then◌else◌}
 use Prim.Native.Char.{code}
-use Rattle.text.specs.Text.{Text, bytes, first, every, contains}
+use Rattle.text.specs.Text.{Text, bytes, same, contains}
 use Rattle.xsd_parser.specs.Kinds.{start_kind}
 use Rattle.xsd_parser.specs.Event.{Attr, Tag}
-use Rattle.xml.specs.Classes.{is_name_start, is_name}
+use Rattle.xml.specs.Classes.{is_name_start, begins}
+use Rattle.xml.specs.Steps.{name_of}
 use Rattle.xml.specs.Values.{is_plain}
 use Rattle.xsd_parser.specs.Tape.{Pair}
 use Rattle.xml.specs.Tape.{AttributePairs, TapeEvent}
@@ -19,7 +20,7 @@ use Rattle.xml.specs.Tags.{Tagged, tagged}
 
 -- [5] Name ::= NameStartChar (NameChar)*
 unfoldable pub is_name_text : Text → Bool
-is_name_text s = is_name_start (first s) && every is_name s
+is_name_text s = begins is_name_start s && same (name_of s) s
 
 -- "([^<&"] | Reference)*", or with the other quote
 unfoldable pub is_value : ℕ → Text → Bool

@@ -2,4 +2,5 @@
 pub mod Classes
 pub mod Skips
 pub mod Held
-pub mod Ended
+pub mod Letters
+pub mod Alike

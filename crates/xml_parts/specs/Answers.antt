@@ -3,13 +3,14 @@
 --     class_table    the classes of each byte, the bit of a class at its place; has_bit: flags have a bit
 --     moved         where a step ends, with the bytes left there
 --     stopped        what a value's last byte, or the end of a text without one, says of where the value ends; held: of whether it may stand whole between quotes
---     matched        a name that is the name at another place
+--     point_by       the code point of two bytes
+--     start_width    how many bytes the first character of a name has; matched: a name that is the name at another place
 --     body_of        the step of a `Body`
 --     Before        bytes that may be passed over before a word
 use Rattle.std.specs.Prelude.{ℕ, ◌+◌, ◌/◌, ◌%◌, ◌^◌, ◌<◌, ◌≡◌, List, [], ◌∷◌, Bool, true, false, Option, Some, None, length, get_or, drop, eqb, ltb, leb, if◌then◌else◌}
-use Rattle.text.specs.Text.{Text, is_digit, same}
+use Rattle.text.specs.Text.{Text, is_digit, is_pair, first, same}
 use Rattle.text.specs.Trim.{is_white_space}
-use Rattle.xml.specs.Classes.{is_char, is_letter, is_name_start, is_name, is_encoding}
+use Rattle.xml.specs.Classes.{is_char, is_letter, is_name_start, is_name, is_encoding, point_of, is_byte_of, begins}
 use Rattle.xml.specs.Steps.{Step, bad, behind, name, name_of}
 use Rattle.xml.specs.Values.{is_in_text, is_in_value}
 use Rattle.xml.specs.Prolog.{version_number, encoding_name, yes_or_no}
@@ -18,8 +19,8 @@ use Rattle.xml_parts.specs.declared.prolog.Body.{Body}
 
 abbrev pub class_of : Class → ℕ → Bool
 class_of Class.Space = is_white_space
-class_of Class.NameStart = is_name_start
-class_of Class.Name = is_name
+class_of Class.NameStart = is_byte_of is_name_start
+class_of Class.Name = is_byte_of is_name
 class_of Class.Digit = is_digit
 class_of Class.Letter = is_letter
 class_of Class.Encoding = is_encoding
@@ -52,6 +53,14 @@ stopped text None = bad
 abbrev pub held : Text → Option ℕ → Bool
 held text (Some e) = leb (length text) e
 held text None = false
+
+-- the code point of a lead byte and its tail, 0 where they are no character
+unfoldable pub point_by : ℕ → ℕ → ℕ
+point_by lead tail = if is_pair lead tail then point_of lead tail else 0
+
+-- how many bytes the character has that begins a name here, 0 where none does
+unfoldable pub start_width : Text → ℕ
+start_width s = if begins is_name_start s then (if is_byte_of is_name_start (first s) then 1 else 2) else 0
 
 -- a name, where it is the name at another place
 unfoldable pub matched : Text → ℕ → ℕ → Step

@@ -1,6 +1,6 @@
 // The classes of characters.
 ghost use Rattle.std.specs.Prelude.{◌≡◌, ◌<◌};
-ghost use Rattle.xml.specs.Classes.{is_char, is_name};
+ghost use Rattle.xml.specs.Classes.{is_char, is_name, is_byte_of};
 ghost use Rattle.xml_parts.specs.Answers.{class_of, class_table, has_bit};
 
 #[derive(Clone, Copy)]
@@ -73,7 +73,7 @@ impl Classes {
     }
 
     pub fn is_name(&self, b: u8) -> bool
-        ensures { result ≡ is_name b }
+        ensures { result ≡ is_byte_of is_name b }
     {
         self.in_class(Class::Name, b)
     }

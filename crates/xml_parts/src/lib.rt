@@ -3,6 +3,7 @@
 #![tactic(auto)]
 
 pub mod classes;
+mod letters;
 pub mod prolog;
 pub mod steps;
 pub mod values;

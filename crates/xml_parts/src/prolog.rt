@@ -4,7 +4,7 @@ ghost use Rattle.xml.specs.Prolog.{eq, quoted, declared, optional, declaration, 
 ghost use Rattle.xml_parts.specs.Answers.{moved, body_of};
 
 use crate::classes::{Class, Classes};
-use crate::steps::{comment, instruction, literal, one_then, spaces, starts};
+use crate::steps::{comment, goes_on, instruction, literal, one_then, spaces, starts};
 use crate::values::is_quote;
 
 // What stands between the quotes of a part of the declaration.
@@ -132,7 +132,7 @@ pub fn misc(classes: &Classes, text: &[u8], at: usize) -> Option<usize>
 pub fn is_declaration(classes: &Classes, text: &[u8]) -> bool
     ensures { result ≡ is_declaration text.now }
 {
-    starts(text, 0, b"<?xml") & !classes.is_name(text::byte_at(text, 5))
+    starts(text, 0, b"<?xml") && !goes_on(classes, text, 5)
 }
 
 #[tactic(auto, unfolding(xml::specs::Prolog::prolog))]

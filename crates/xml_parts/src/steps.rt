@@ -1,12 +1,13 @@
 // Steps over a text: words, runs of a class, names, and the marked parts that give no event.
-ghost use Rattle.std.specs.Prelude.{◌≡◌, ◌≤◌, length, drop, is_some, IfSome};
-ghost use Rattle.xml.specs.Classes.{is_name};
+ghost use Rattle.std.specs.Prelude.{◌≡◌, ◌≤◌, ◌+◌, length, drop, is_some, IfSome};
+ghost use Rattle.xml.specs.Classes.{is_name, is_byte_of, begins};
 ghost use Rattle.text.specs.Text.{bytes, same};
 ghost use Rattle.xml.specs.Steps.{behind, starts_with, literal, many, one_then, spaces, name, name_of, until, comment, target, instruction_end, instruction, section};
 ghost use Rattle.xml.specs.Grammar.{is_xml};
-ghost use Rattle.xml_parts.specs.Answers.{Before, class_of, moved, matched};
+ghost use Rattle.xml_parts.specs.Answers.{Before, class_of, moved, start_width, matched};
 
 use crate::classes::{Class, Classes, is_char};
+use crate::letters;
 use plain_bytes::{CommentRun, Run, SectionRun, skip};
 
 // Whether the word stands at a position. By hand: with the library's `starts_with` the tape took 2 to 15 hundredths more instructions (the bar: the tape is
@@ -73,12 +74,45 @@ pub fn one_then(
     Some(many(classes, text, at + 1, class))
 }
 
-// Behind the characters of a name that stand at a position, eight at a time with one test of the length. A `while`, as in `plain_bytes::skip`. Inlined: a call for
+// How many bytes the character has that begins a name at a position: 0 where none does.
+fn start_width(classes: &Classes, text: &[u8], at: usize) -> usize
+    ensures { result ≡ start_width (drop at text.now) }
+{
+    let Some(first) = text.get(at) else {
+        return 0;
+    };
+    if classes.in_class(Class::NameStart, *first) {
+        return 1;
+    }
+    if letters::start_at(text, at) { 2 } else { 0 }
+}
+
+// Whether a name goes on at a position.
+pub fn goes_on(classes: &Classes, text: &[u8], at: usize) -> bool
+    ensures { result ≡ begins is_name (drop at text.now) }
+{
+    classes.is_name(text::byte_at(text, at)) || letters::name_at(text, at)
+}
+
+// Behind the characters of names that stand at a position: runs of bytes below 128, and between them characters of two bytes. No `for`: a run has any number of
+// bytes.
+#[cold]
+fn long_end(classes: &Classes, text: &[u8], at: usize) -> usize
+    ensures { result ≡ at + length (name_of (drop at text.now)) }
+{
+    let mut end = many(classes, text, at, Class::Name);
+    while letters::name_at(text, end) {
+        end = many(classes, text, end + 2, Class::Name);
+    }
+    end
+}
+
+// Behind the name bytes below 128 that stand at a position, eight at a time with one test of the length. A `while`, as in `plain_bytes::skip`. Inlined: a call for
 // each name took as many instructions as the eight save.
 #[inline(always)]
-fn name_end(classes: &Classes, text: &[u8], at: usize) -> usize
+fn name_bytes(classes: &Classes, text: &[u8], at: usize) -> usize
     requires { at ≤ length text.now }
-    ensures { behind result (drop result text.now) ≡ many is_name at (drop at text.now) }
+    ensures { behind result (drop result text.now) ≡ many (is_byte_of is_name) at (drop at text.now) }
 {
     let mut i = at;
     while 8 <= text.len() - i {
@@ -90,36 +124,81 @@ fn name_end(classes: &Classes, text: &[u8], at: usize) -> usize
     many(classes, text, i, Class::Name)
 }
 
+// Behind the characters of names that stand at a position, where most names are bytes below 128 alone.
+#[inline(always)]
+fn name_end(classes: &Classes, text: &[u8], at: usize) -> usize
+    requires { at ≤ length text.now }
+    ensures { result ≡ at + length (name_of (drop at text.now)) }
+{
+    let end = name_bytes(classes, text, at);
+    if text::byte_at(text, end) < 128 {
+        end
+    } else {
+        long_end(classes, text, at)
+    }
+}
+
+// A name with any first character.
+#[cold]
+fn long_name(classes: &Classes, text: &[u8], at: usize) -> Option<usize>
+    ensures { moved text.now result ≡ name at (drop at text.now) }
+{
+    let first = start_width(classes, text, at);
+    if first == 0 {
+        return None;
+    }
+    Some(long_end(classes, text, at + first))
+}
+
+// Inlined: as a call of its own the tape of an ASCII text took a fiftieth more instructions (the bar of `letters::point_at`).
 #[inline(always)]
 pub fn name(classes: &Classes, text: &[u8], at: usize) -> Option<usize>
     ensures { moved text.now result ≡ name at (drop at text.now) }
 {
-    if !classes.in_class(Class::NameStart, *text.get(at)?) {
-        return None;
+    if classes.in_class(Class::NameStart, *text.get(at)?) {
+        return Some(name_end(classes, text, at + 1));
     }
-    Some(name_end(classes, text, at + 1))
+    long_name(classes, text, at)
 }
 
-// Behind the name at `a`, where the name at `b` is the same.
+// The characters of names that stand at a position.
+fn name_of<'a>(classes: &Classes, text: &'a [u8], at: usize) -> &'a [u8]
+    ensures { result.now ≡ name_of (drop at text.now) }
+{
+    let from = at.min(text.len());
+    let end = long_end(classes, text, from);
+    &text[from..end]
+}
+
+// Behind the name at `a`, where the name at `b` is the same: with any characters of names.
+#[cold]
+fn same_long(classes: &Classes, text: &[u8], a: usize, b: usize) -> Option<usize>
+    ensures alike { is_some result ≡ same (name_of (drop a text.now)) (name_of (drop b text.now)) }
+    ensures ends { IfSome result (λ e. e ≡ a + length (name_of (drop a text.now))) }
+{
+    let name = name_of(classes, text, a);
+    text::same_text(name, name_of(classes, text, b)).then_some(a + name.len())
+}
+
+// The same, where most names are bytes below 128 alone.
 fn same_run(classes: &Classes, text: &[u8], a: usize, b: usize) -> Option<usize>
     ensures alike { is_some result ≡ same (name_of (drop a text.now)) (name_of (drop b text.now)) }
-    ensures ends { IfSome result (λ e. many is_name a (drop a text.now) ≡ behind e (drop e text.now)) }
+    ensures ends { IfSome result (λ e. e ≡ a + length (name_of (drop a text.now))) }
 {
     let beside = text.len().saturating_sub(a.max(b));
     for k in 0..beside {
         let (x, y) = (text[a + k], text[b + k]);
         if !classes.is_name(x) {
-            return (!classes.is_name(y)).then_some(a + k);
+            if x < 128 && y < 128 {
+                return (!classes.is_name(y)).then_some(a + k);
+            }
+            break;
         }
         if x != y {
             return None;
         }
     }
-    let (x, y) = (
-        text::byte_at(text, a + beside),
-        text::byte_at(text, b + beside),
-    );
-    (!classes.is_name(x) & !classes.is_name(y)).then_some(a + beside)
+    same_long(classes, text, a, b)
 }
 
 // Whether the names at two positions are the same. Most keys of a tag differ in their first byte.
@@ -127,8 +206,8 @@ pub fn same_name(classes: &Classes, text: &[u8], a: usize, b: usize) -> bool
     ensures { result ≡ same (name_of (drop a text.now)) (name_of (drop b text.now)) }
 {
     let (x, y) = (text::byte_at(text, a), text::byte_at(text, b));
-    if x != y {
-        return !classes.is_name(x) & !classes.is_name(y);
+    if x != y && classes.is_name(x) {
+        return false;
     }
     same_run(classes, text, a, b).is_some()
 }
@@ -224,7 +303,7 @@ pub fn section(text: &[u8], at: usize) -> Option<usize>
 pub fn matched_name(classes: &Classes, text: &[u8], at: usize, top: usize) -> Option<usize>
     ensures { moved text.now result ≡ matched text.now at top }
 {
-    if !classes.in_class(Class::NameStart, text::byte_at(text, at)) {
+    if start_width(classes, text, at) == 0 {
         return None;
     }
     same_run(classes, text, at, top)

@@ -2,7 +2,7 @@
 --     a_form         a's part of `row_form`
 --     schema_tests    the tests of a row, for the pass over the rows of a sheet
 use Rattle.std.specs.Prelude.{ℕ, Bool, ◌&&◌, ◌||◌, eqb}
-use Rattle.text.specs.Text.{between}
+use Rattle.text.specs.Text.{is_text, between}
 use Rattle.sheet.specs.Form.{is_flag}
 use Rattle.xsd_types.specs.Tags.{min_length_tag, max_length_tag, total_digits_tag, fraction_digits_tag, any_tag, bound_element_tag, unbounded_element_tag, attribute_tag}
 use Rattle.xsd_types.specs.Good.{used_pairs, ten_form, may_follow, head_after}
@@ -14,4 +14,4 @@ a_form tag a =
     || ((eqb tag any_tag || eqb tag attribute_tag) && is_flag a)
 
 abbrev pub schema_tests : Tests
-schema_tests = record { form = ten_form; pairs = used_pairs; follows = may_follow; head_after = head_after }
+schema_tests = record { form = ten_form; pairs = used_pairs; follows = may_follow; head_after = head_after; text = is_text }

@@ -16,10 +16,10 @@ ghost use Rattle.xsd_types.specs.Count.{bare, good};
 
 use crate::forms::row::SchemaRow;
 use crate::row0::tests;
-use rows::behind;
 use rows::lengths::parts_fit;
 use rows::part::SheetPart;
 use rows::scan::scan_sheet;
+use rows::{behind, used};
 use sheet::limits;
 
 // Whether the sheet is good but for its count: a of row 1 is not looked at.
@@ -38,14 +38,15 @@ pub fn is_bare_good(rows: &[u32], names: &[u8]) -> bool
         names,
         end: z.rows_used as usize,
     };
-    let used = z.names_used as usize;
-    let Some(s) = scan_sheet::<SchemaRow>(&part, scan::bare_row1(rows), z.names_used) else {
+    let names_end = z.names_used as usize;
+    let row1 = scan::bare_row1(rows);
+    let Some(s) = scan_sheet::<SchemaRow>(&part, row1, z.names_used) else {
         return false;
     };
     tests::row0_form(z)
-        & (s.end == used)
-        & behind::zeros_behind(rows, names, part.end, used)
-        & behind::names_test(names, used)
+        & (s.end == names_end)
+        & behind::zeros_behind(rows, names, part.end, names_end)
+        & used::names_test::<SchemaRow>(&part, row1, names_end)
         & tests::limits(z)
         & tests::root_test(z)
         & tests::nesting_test(z)

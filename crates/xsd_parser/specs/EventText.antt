@@ -1,4 +1,4 @@
--- Events whose texts may stand in a sheet: "all names are bytes below 128".
+-- Events whose texts may stand in a sheet: "all names are bytes below 128", and by order 12 characters up to U+017F.
 --     attr_ok        the attribute's key and value are texts
 --     tag_ok         the tag's name, keys and values are texts
 --     event_ok       the event's tag is such; a close has none

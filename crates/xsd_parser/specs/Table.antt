@@ -27,7 +27,7 @@ pub data RecordTable (text : Text) : List ℕ → ℕ → Type 0 where
   -- 4: "pair outside the text or out of order"
   outside : {kind count : ℕ} {rest : List ℕ} → form_test kind count (length rest) ≡ true → (kind ≡ close_kind → ⊥)
       → all_inside (length text) 0 (pairs_of (pair_count count) rest) ≡ false → RecordTable text (kind ∷ count ∷ rest) returned.bad_pair
-  -- 5: "byte above 127 under a pair"
+  -- 5: "byte above 127 under a pair", by order 12 of no character, or of one cut by an end of its pair
   high : {kind count : ℕ} {rest : List ℕ} → form_test kind count (length rest) ≡ true → (kind ≡ close_kind → ⊥)
       → all_inside (length text) 0 (pairs_of (pair_count count) rest) ≡ true → all_ascii text (pairs_of (pair_count count) rest) ≡ false
       → RecordTable text (kind ∷ count ∷ rest) returned.not_ascii

@@ -3,7 +3,7 @@
 --     pairs_of n     the first n pairs of the marks
 --     pair_text      the part of the text under a pair
 --     all_inside     each pair lies inside the text and starts at or after the end of the one before
---     all_ascii      all bytes under the pairs may stand in a text
+--     all_ascii      under each pair stands a text
 --     tag_of         the tag that a record's pairs stand for
 --     Judged        what a record is judged to be: an event, or a refusal with its number
 --     Recorded      the first record of the marks: none left, a refusal, or an event with the marks behind it
@@ -36,7 +36,8 @@ all_inside text_length end [] = true
 all_inside text_length end (p ∷ ps) =
     leb end p.offset && leb (p.offset + p.size) text_length && all_inside text_length (p.offset + p.size) ps
 
--- 5: "byte above 127 under a pair"
+-- 5: "byte above 127 under a pair". Order 12: "any other byte above 127" than those of a character up to U+017F, "those of a character cut by an end of its
+-- pair among them"
 unfoldable pub all_ascii : Text → List Pair → Bool
 all_ascii text ps = every (λ (p : Pair). is_text (pair_text text p)) ps
 

@@ -74,7 +74,7 @@ rows_form (n ∷ ts) =
 unfoldable pub names_form : ℕ → List Ten → Bool
 names_form names_used ts = covers used_pairs 0 ts && eqb (covered 0 ts) names_used
 
--- "all names are bytes below 128", asked of each used pair, which is the same (`good-whole`)
+-- order 12: "in good sheets .. each used pair by itself holds such text"
 unfoldable pub names_test : Sheet → Bool
 names_test x = texts_pass is_text used_pairs x
 

@@ -30,6 +30,11 @@ element-text : writes (Item.element (record { name = bytes "D"; type_name = byte
 unfolding computes texts
 element-text = refl
 
+-- é in UTF-8, as in the sheet
+accent-text : writes (Item.element (record { name = 195 ∷ 169 ∷ []; type_name = bytes "T"; event = 3 }) ∷ []) ≡ bytes "<xs:element name=\"" ++ 195 ∷ 169 ∷ bytes "\" type=\"T\"/>"
+unfolding computes texts
+accent-text = refl
+
 -- "A simpleType holds a restriction"; an empty base stands too
 simple-text : writes (Item.simple_type (record { name = bytes "S"; base = []; facets = Facet.max_length 5000000000 ∷ Facet.pattern (bytes "a\"b") ∷ []; event = 0 }) ∷ [])
     ≡ bytes "<xs:simpleType name=\"S\"><xs:restriction base=\"\"><xs:maxLength value=\"5000000000\"/><xs:pattern value='a\"b'/></xs:restriction></xs:simpleType>"
@@ -103,7 +108,7 @@ unfolding computes texts sheets schemas
 two-by-rows = refl
 
 -- "a `<`, both quotes, a forbidden control byte, a `&` that starts no predefined entity or legal character reference"
-held : every holds (bytes "" ∷ bytes "it's" ∷ bytes "a\"b" ∷ bytes ">]]>" ∷ bytes "&amp;&lt;&gt;&apos;&quot;" ∷ bytes "&#0065;&#x10FFFF;" ∷ (9 ∷ 10 ∷ 13 ∷ 32 ∷ 127 ∷ []) ∷ []) ≡ true
+held : every holds (bytes "" ∷ bytes "it's" ∷ bytes "a\"b" ∷ bytes ">]]>" ∷ bytes "&amp;&lt;&gt;&apos;&quot;" ∷ bytes "&#0065;&#x10FFFF;" ∷ (9 ∷ 10 ∷ 13 ∷ 32 ∷ 127 ∷ []) ∷ (195 ∷ 169 ∷ 195 ∷ 151 ∷ []) ∷ []) ≡ true
 unfolding computes texts takes
 held = refl
 

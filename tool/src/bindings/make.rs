@@ -495,8 +495,12 @@ fn type_of(kind: &str, own: &Own<'_>, known: &BTreeSet<String>) -> Option<String
 /// `Abc` of `abc`
 fn capital(name: &str) -> String {
     let mut letters = name.chars();
-    let first = letters.next().map(|c| c.to_ascii_uppercase());
-    first.into_iter().chain(letters).collect()
+    let first: String = letters
+        .next()
+        .into_iter()
+        .flat_map(char::to_uppercase)
+        .collect();
+    first + letters.as_str()
 }
 
 /// minOccurs and maxOccurs of a tag.

@@ -67,12 +67,14 @@ impl Modules {
     }
 }
 
-/// The name of a schema's module, from the file's stem.
+/// The name of a schema's module, from the file's stem. Of ASCII, since rustc finds no file of another name.
 fn module_name(file: &Path) -> String {
     let stem = file
         .file_stem()
         .map(|stem| stem.to_string_lossy().to_lowercase());
-    let name = identifier(&stem.unwrap_or_default());
+    let plain = |c: char| if c.is_ascii() { c } else { '_' };
+    let stem: String = stem.unwrap_or_default().chars().map(plain).collect();
+    let name = identifier(&stem);
     match name == "support" {
         true => format!("{name}_"),
         false => spelled(&name),

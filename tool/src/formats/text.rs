@@ -123,10 +123,14 @@ fn attribute_type(attribute: &lubiksan::Attribute<'_>) -> String {
 fn put_lines(out: &mut String, lines: &[[String; 3]]) {
     let first = lines
         .iter()
-        .map(|[rust, _, _]| rust.len())
+        .map(|[rust, _, _]| rust.chars().count())
         .max()
         .unwrap_or(0);
-    let second = lines.iter().map(|[_, xml, _]| xml.len()).max().unwrap_or(0);
+    let second = lines
+        .iter()
+        .map(|[_, xml, _]| xml.chars().count())
+        .max()
+        .unwrap_or(0);
     for [rust, xml, kind] in lines {
         let line = format!("    {rust:first$}  {xml:second$}  {kind}");
         let _ = writeln!(out, "{}", line.trim_end());

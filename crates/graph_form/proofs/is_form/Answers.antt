@@ -15,9 +15,9 @@ returns-then-not-parts_fit c =
 pub returns-in_default : goal.returns-in_default
 returns-in_default c =
     form-fails c.args.rows.now c.args.names.now (as_ten c.ten_of-z.result) c.ten_of-z.ensures (sym c.parts_fit.ensures.fits ∙ c.if-not-parts_fit.false)
-    c.ten.ensures c.in_default.ensures
+    c.ten-row1.ensures c.in_default.ensures
 
 pub returns : goal.returns
 returns c =
     form-tests c.args.rows.now c.args.names.now (as_ten c.ten_of-z.result) c.ten_of-z.ensures (sym c.parts_fit.ensures.fits ∙ c.if-not-parts_fit.false)
-    c.in-Some.s c.row0_form.ensures c.zeros_behind.ensures c.names_test.ensures c.ten.ensures c.count_roots.ensures c.count_types.ensures c.in-Some.ensures
+    c.in-Some.s c.row0_form.ensures c.zeros_behind.ensures c.names_test.ensures c.ten-row1.ensures c.count_roots.ensures c.count_types.ensures c.in-Some.ensures

@@ -30,13 +30,13 @@ graph-then : (v : Text) (b c : Bool) → is_text v && b ≡ true → (b ≡ true
 graph-then v b c h f = and-true (text-in-graph v (and-true-left (is_text v) b h)) (f (and-true-right (is_text v) b h))
 
 normalize-graph : (s : Text) → is_text s ≡ true → is_graph_text (normalize_type_name s) ≡ true
-normalize-graph s h = text-in-graph (normalize_type_name s) (normalize-text s h)
+normalize-graph s h = normalize-text s h
 
 snake-graph : (s : Text) → is_text s ≡ true → is_graph_text (xml_to_snake_case s) ≡ true
-snake-graph s h = text-in-graph (xml_to_snake_case s) (snake-text s h)
+snake-graph s h = snake-text s h
 
 pascal-graph : (s : Text) → is_text s ≡ true → is_graph_text (code_to_pascal_case s) ≡ true
-pascal-graph s h = text-in-graph (code_to_pascal_case s) (pascal-text s h)
+pascal-graph s h = pascal-text s h
 
 -- ---- what needs no conversion
 

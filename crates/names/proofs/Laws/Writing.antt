@@ -6,6 +6,7 @@ use mathlib.Core.List.{[], ◌∷◌, ◌++◌, append_assoc}
 use native.Mathlib.Numerals.{add-one}
 use native.Mathlib.Omega.{arith}
 use lib.ListN.{length, take, drop, set, get_or, length-drop, length-append, drop_of_length-le}
+use Rattle.std.proofs.lemmas.Slice.{drop-append-drop}
 use lib.Seq.{take_all, length-take-le, take-suc, drop-cons, set_at}
 use borrow.Author.Tests.{le-leb, lt-leb}
 use Rattle.text.specs.Text.{Text}
@@ -62,6 +63,14 @@ writing-full {t} {before} {n} w h =
       counted = rw (lt-leb (length t) (length before) k);
       holds = w.holds ∙ rw (drop_of_length-le before h, drop_of_length-le before {i = length t} (omega arith), e);
     }
+
+-- the same text put from the start again
+pub put_again : {t before : Text} {n : ℕ} {out rest : Text} {answer : Option ℕ} {after : Text} → Writing t before n out rest → Put t out answer after → Put t before answer after
+unfolding written placed
+put_again {t} {before} {n} {out} w p =
+    let l = writing-length w in
+    let same : drop (length t) out ≡ drop (length t) before = rw w.holds (drop-append-drop n before (take n t) (length t) w.within (length-take-le n t w.within)) in
+    record { counted = rw l at p.counted; holds = p.holds ∙ rw (l, same) }
 
 -- the text that was put, under another name
 pub put_as : {t t' before : Text} {answer : Option ℕ} {after : Text} → Put t before answer after → t ≡ t' → Put t' before answer after

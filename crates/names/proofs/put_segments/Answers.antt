@@ -1,18 +1,24 @@
--- `names::put_segments` meets its contract. The loop's invariant: n bytes of the target are written, and the scan of s from b on is what is
--- still to be written. Assumes nothing.
+-- `names::put_segments` meets its contract. The loop's invariant: n bytes of the target are written, and the scan of s from b on is what is still to be written.
+-- Assumes nothing.
 use mathlib.Core.Logic.{⊎_elim}
 use native.Mathlib.Numerals.{add-one}
 use native.Mathlib.Omega.{arith}
-use Rattle.names.proofs.Laws.Writing.{writing-length, writing-as, writing_more, writing-end, writing-full}
-use Rattle.names.proofs.Laws.Scans.{bytes-passed, bytes-kept, bytes-end}
+use lib.ListN.{get_or}
+use Rattle.names.proofs.Laws.Writing.{writing-length, writing-as, writing_more, writing-end, writing-full, put_again}
+use Rattle.names.proofs.Laws.Scans.{cased-one, segments-passed, segments-kept, segments-end}
 use Rattle.names.proofs.put_segments.Goals as goal
+
+pub returns-then-b-ge128 : goal.returns-then-b-ge128
+returns-then-b-ge128 c = put_again c.loop-b.invariant c.put_characters.ensures
 
 pub returns-then-out-n : goal.returns-then-out-n
 returns-then-out-n c =
     let a = c.args in
+    let up = c.loop-b.up in
+    let i = c.loop-b.b-index in
     let w = c.loop-b.invariant in
     writing-full
-    (writing-as w (bytes-kept a.separator a.lowers c.loop-b.up a.s.now c.loop-b.b-index (omega arith) c.if-b-separator.false))
+    (writing-as w (segments-kept a.separator a.lowers up a.s.now i _ (omega arith) (omega arith) c.if-b-separator.false (cased-one up a.lowers (get_or a.s.now i 0))))
     (omega (arith, writing-length w))
 
 pub loop-b-preserved : goal.loop-b-preserved
@@ -22,13 +28,12 @@ loop-b-preserved c =
     let i = c.loop-b.b-index in
     let w = c.loop-b.invariant in
     ⊎_elim
-    (λ v. rw (v.out-is, v.up-is, v.n-is, add-one i) (writing-as w (bytes-passed a.separator a.lowers up a.s.now i (omega arith) v.if-b-separator.true)))
-    (λ v. rw (v.out-is, v.up-is, v.n-is, v.cased.ensures, add-one i)
-    (writing_more (writing-as w (bytes-kept a.separator a.lowers up a.s.now i (omega arith) v.if-b-separator.false)) (omega (arith, writing-length w))))
+    (λ v. rw (v.out-is, v.up-is, v.n-is, add-one i) (writing-as w (segments-passed a.separator a.lowers up a.s.now i (omega arith) (omega arith) v.if-b-separator.true)))
+    (λ v. rw (v.out-is, v.up-is, v.n-is, add-one i)
+    (writing_more (writing-as w (segments-kept a.separator a.lowers up a.s.now i _ (omega arith) (omega arith) v.if-b-separator.false v.cased_byte.ensures)) (omega (arith, writing-length w))))
     c.if-b-separator.branch-raw
 
 pub returns : goal.returns
 returns c =
     let a = c.args in
-    writing-end
-    (writing-as c.loop-b.invariant (bytes-end a.separator a.lowers c.loop-b.up a.s.now c.loop-b.b-index (omega arith)))
+    writing-end (writing-as c.loop-b.invariant (segments-end a.separator a.lowers c.loop-b.up a.s.now c.loop-b.b-index (omega arith)))

@@ -10,12 +10,12 @@ use lib.Dec.{eqb, leb}
 use lib.ListN.{length, take, drop, length-append}
 use lib.Seq.{drop_at, take_at, drop-drop}
 use borrow.Author.Tests.{eqb-true, leb-true, eq-eqb}
-use Rattle.text.specs.Text.{Text, every, is_plain, is_text, join}
+use Rattle.text.specs.Text.{Text, every, is_plain, join}
 use Rattle.sheet.specs.Rows.{Row, Pairs, pairs, pack_row, pack, names_of, text_at, unpack_row}
 use Rattle.sheet.specs.Form.{counted, pair_form, row_covers, end_of, covers, covered}
-use Rattle.text.proofs.Laws.Tests.{and-true-left, and-true-right, and-true}
+use Rattle.text.proofs.Laws.Tests.{and-true-left, and-true-right, and-true, two}
 use Rattle.text.proofs.Laws.Every.{every-head, every-tail}
-use Rattle.text.proofs.Laws.Class.{plain-append, each-plain, text-is-plain}
+use Rattle.text.proofs.Laws.Class.{plain-append, each-plain}
 
 pub counted-used : (used : ℕ → ℕ → ℕ) (r : Row) → counted used r ≡ true → used r.tag r.a ≡ length r.texts
 unfolding counted
@@ -118,15 +118,13 @@ unfolding pack
 length-pack k [] = refl
 length-pack k (r ∷ rs) = rw (length-pack (k + length (join r.texts)) rs)
 
--- the texts of rows are plain where their names are plain as a whole; `ok` is a test of texts that asks the same
-pub plain-rows : (ok : Text → Bool) → ((s : Text) → ok s ≡ is_plain s) → (rs : List Row) → every (λ (r : Row). every ok r.texts) rs ≡ is_plain (names_of rs)
-unfolding names_of every join
-plain-rows ok same [] = each-plain ok same []
-plain-rows ok same (r ∷ rs) = rw (each-plain ok same r.texts, plain-rows ok same rs) (sym (plain-append (join r.texts) (names_of rs)))
-
--- while each text is plain
-pub is_text-names_of : (rs : List Row) → is_text (names_of rs) ≡ every (λ (r : Row). every is_text r.texts) rs
-is_text-names_of rs = text-is-plain (names_of rs) ∙ sym (plain-rows is_text text-is-plain rs)
+-- the texts of rows pass where their names are plain as a whole; `ok` is a test of texts that plain ones pass
+pub plain-rows : (ok : Text → Bool) → ((s : Text) → is_plain s ≡ true → ok s ≡ true) → (rs : List Row) → is_plain (names_of rs) ≡ true → every (λ (r : Row). every ok r.texts) rs ≡ true
+unfolding names_of every
+plain-rows ok plain [] e = refl
+plain-rows ok plain (r ∷ rs) e =
+    let (x, y) = two (is_plain (join r.texts)) (is_plain (names_of rs)) (sym (plain-append (join r.texts) (names_of rs)) ∙ e) in
+    and-true (each-plain ok plain r.texts x) (plain-rows ok plain rs y)
 
 -- names of two lists of rows, one behind the other
 pub names_of-append : (rs ts : List Row) → names_of (rs ++ ts) ≡ names_of rs ++ names_of ts

@@ -1,12 +1,13 @@
 -- The two buffers of a sheet: what stands in the buffers made of rows, and that a sheet is made of the rows read from it. Assumes nothing.
 use mathlib.Core.Path.{◌≡◌, refl, sym, ap, ◌∙◌}
-use mathlib.Core.Bool.{Bool, true}
-use mathlib.Core.List.{List, ◌∷◌, ◌++◌, map}
+use mathlib.Core.Bool.{Bool, true, ◌&&◌, ◌||◌}
+use mathlib.Core.List.{List, [], ◌∷◌, ◌++◌, map}
 use Prim.Native.Nat.{ℕ, suc, ◌+◌, ◌-◌, ◌*◌, ◌≤◌}
 use native.Mathlib.Omega.{arith}
 use lib.Seq.{take_at}
 use lib.ListN.{length, take, drop, replicate, length-append, length-drop}
 use Rattle.text.specs.Text.{Text, every, is_plain}
+use Rattle.text.proofs.Laws.Tests.{bool_cases}
 use Rattle.sheet.specs.Rows.{Ten, Row, Sheet, ten, tens, numbers, pack, names_of, unpack_row, filled, all_zero, sheet_of_rows}
 use Rattle.sheet.specs.Form.{covers, covered, counted, rows_used_of, names_used_of, tens_of, texts_pass}
 use Rattle.sheet.proofs.Laws.Numbers.{tens-numbers, length-numbers, numbers-tens, length-filled, take-filled, zeros-filled, filled-back}
@@ -79,10 +80,23 @@ module _ (used : ℕ → ℕ → ℕ) (x : Sheet) (u : ℕ) (few-pairs : every (
       let names = filled-back x.names (names_of (map (unpack_row used x.names) ts)) (drop (covered 0 ts) x.names) names-read zero-names in
       λ i. record { rows = rows i; names = names i }
 
--- where the pairs of a sheet cover its names, each text is plain where the used names are plain as a whole; `ok` is a test of texts that asks the same
-pub texts-plain : (ok : Text → Bool) → ((s : Text) → ok s ≡ is_plain s) → (used : ℕ → ℕ → ℕ) (x : Sheet) → every (few used) (tens_of x) ≡ true → covers used 0 (tens_of x) ≡ true
-    → covered 0 (tens_of x) ≡ names_used_of x → names_used_of x ≤ length x.names → texts_pass ok used x ≡ is_plain (take (names_used_of x) x.names)
+-- where the pairs of a sheet cover its names, each text passes where the used names are plain as a whole; `ok` is a test of texts that plain ones pass
+pub texts-plain : (ok : Text → Bool) → ((s : Text) → is_plain s ≡ true → ok s ≡ true) → (used : ℕ → ℕ → ℕ) (x : Sheet) → every (few used) (tens_of x) ≡ true → covers used 0 (tens_of x) ≡ true
+    → covered 0 (tens_of x) ≡ names_used_of x → names_used_of x ≤ length x.names → is_plain (take (names_used_of x) x.names) ≡ true → texts_pass ok used x ≡ true
 unfolding texts_pass tens_of
-texts-plain ok same used x f c e h =
+texts-plain ok plain used x f c e h p =
     let k = rows_used_of x - 1 in
-    plain-rows ok same (map (unpack_row used x.names) (tens k (drop 10 x.rows))) ∙ ap is_plain (sym (rw (← e) (names-taken used x k f c (rw e h))))
+    plain-rows ok plain (map (unpack_row used x.names) (tens k (drop 10 x.rows))) (ap is_plain (sym (rw (← e) (names-taken used x k f c (rw e h)))) ∙ p)
+
+-- so it is asked of all used names at once, or else of each text by itself
+pub plain-or-each : (ok : Text → Bool) → ((s : Text) → is_plain s ≡ true → ok s ≡ true) → (used : ℕ → ℕ → ℕ) (x : Sheet) → every (few used) (tens_of x) ≡ true → covers used 0 (tens_of x) ≡ true
+    → covered 0 (tens_of x) ≡ names_used_of x → names_used_of x ≤ length x.names → texts_pass ok used x ≡ is_plain (take (names_used_of x) x.names) || texts_pass ok used x
+plain-or-each ok plain used x f c e h =
+    bool_cases (is_plain (take (names_used_of x) x.names)) (λ p. rw p (texts-plain ok plain used x f c e h p)) (λ p. rw p)
+
+-- the texts of rows, asked row by row
+pub each-row : (ok : Text → Bool) (used : ℕ → ℕ → ℕ) (names : List ℕ) (ts : List Ten)
+    → every (λ (t : Ten). every ok (unpack_row used names t).texts) ts ≡ every (λ (r : Row). every ok r.texts) (map (unpack_row used names) ts)
+unfolding every
+each-row ok used names [] = refl
+each-row ok used names (t ∷ ts) = ap (λ (b : Bool). every ok (unpack_row used names t).texts && b) (each-row ok used names ts)

@@ -1,16 +1,16 @@
 -- Laws of characters (specs/Characters.antt): induction over them, what they are put together, and that each one of a text is a text. Assumes nothing.
 use mathlib.Core.Path.{◌≡◌, refl, sym, ◌∙◌}
-use mathlib.Core.Bool.{true, false, ◌&&◌, and-false}
+use mathlib.Core.Bool.{true, false, ◌&&◌, and-false, false≢true}
 use mathlib.Core.List.{[], ◌∷◌}
 use Prim.Native.Nat.{ℕ, ◌≤◌}
 use native.Mathlib.Omega.{arith}
-use lib.ListN.{get_or}
-use borrow.Author.Tests.{lt-leb}
-use Rattle.text.specs.Text.{Text, every, is_text, is_upper, is_lower, upper, lower, between, first, join}
-use Rattle.text.specs.Characters.{is_lead, is_tail, characters, upper_of, lower_of, is_lower_char}
-use Rattle.text.proofs.Laws.Tests.{and-true-left, and-true-right, and-true, two, bool_cases}
+use lib.Dec.{eqb, ltb}
+use borrow.Author.Tests.{lt-leb, le-ltb, eqb-true}
+use Rattle.text.specs.Text.{Text, every, is_tail, is_pair, is_text, is_upper, is_lower, upper, lower, between, first, join}
+use Rattle.text.specs.Characters.{is_lead, characters}
+use Rattle.text.proofs.Laws.Tests.{and-true-left, and-true-right, and-true, two, or_four, bool_cases}
 use Rattle.text.proofs.Laws.Texts.{between-low}
-use Rattle.text.proofs.Laws.Class.{text-cons, text-cut, upper-text, lower-text}
+use Rattle.text.proofs.Laws.Class.{empty-text, text-behind, text-pair, text-high}
 
 -- ---- how a text begins
 
@@ -46,9 +46,17 @@ characters-join s =
 
 -- ---- the bytes of a character of two: from 128 on, without case
 
-pub lead-high : (b t : ℕ) → is_lead b && is_tail t ≡ true → 128 ≤ b
+pub lead-low : (b : ℕ) → is_lead b ≡ true → 194 ≤ b
 unfolding is_lead
-lead-high b t e = omega (arith, between-low 194 197 b (and-true-left (is_lead b) (is_tail t) e))
+lead-low b e =
+    or_four (between 194 197 b) (eqb b 202) (eqb b 204) (eqb b 206) e
+    (λ w. between-low 194 197 b w)
+    (λ w. omega (arith, eqb-true b 202 w))
+    (λ w. omega (arith, eqb-true b 204 w))
+    (λ w. omega (arith, eqb-true b 206 w))
+
+pub lead-high : (b t : ℕ) → is_lead b && is_tail t ≡ true → 128 ≤ b
+lead-high b t e = omega (arith, lead-low b (and-true-left (is_lead b) (is_tail t) e))
 
 pub tail-high : (b t : ℕ) → is_lead b && is_tail t ≡ true → 128 ≤ t
 unfolding is_tail
@@ -72,33 +80,27 @@ high-lower b h = rw (high-no-upper b h)
 
 -- ---- characters of a text
 
+-- a sheet's character is one of `characters`
+pub pair-character : (b t : ℕ) → is_pair b t ≡ true → is_lead b && is_tail t ≡ true
+unfolding is_pair is_lead
+pair-character b t e = let (x, y) = two (between 194 197 b) (is_tail t) e in and-true (rw x) y
+
+-- a text that begins with a byte of its own: the byte is below 128
+one-text : (b : ℕ) (s : Text) → is_lead b && is_tail (first s) ≡ false → is_text (b ∷ s) ≡ true → (is_text (b ∷ []) ≡ true) × (is_text s ≡ true)
+unfolding first
+one-text b s e k = bool_cases (ltb b 128) (λ h. (text-behind b [] h ∙ empty-text, sym (text-behind b s h) ∙ k)) (λ h. absurd (high s h e k))
+  where
+    high : (s : Text) → ltb b 128 ≡ false → is_lead b && is_tail (first s) ≡ false → is_text (b ∷ s) ≡ true → ⊥
+    high [] h e k = false≢true (sym (text-high b h) ∙ k)
+    high (t ∷ s) h e k = false≢true (sym e ∙ pair-character b t (and-true-left (is_pair b t) (is_text s) (sym (text-pair b t s h) ∙ k)))
+
 pub characters-text : (s : Text) → is_text s ≡ true → every is_text (characters s) ≡ true
 unfolding characters every
 characters-text s =
     by_characters (λ u. is_text u ≡ true → every is_text (characters u) ≡ true) (λ k. refl)
-    (λ b u e h k. let (x, y) = two (is_text (b ∷ [])) (is_text u) (sym (text-cons b u) ∙ k) in rw (characters-one b u e) (and-true x (h y)))
+    (λ b u e h k. let (x, y) = one-text b u e k in rw (characters-one b u e) (and-true x (h y)))
     (λ b t u e h k.
-    let y = and-true-right (is_text (t ∷ [])) (is_text u) (sym (text-cons t u) ∙ and-true-right (is_text (b ∷ [])) (is_text (t ∷ u)) (sym (text-cons b (t ∷ u)) ∙ k)) in
-    rw (characters-two b t u e) (and-true (text-cut (b ∷ t ∷ []) u k y) (h y)))
-    s
-
-pub upper_of-text : (c : Text) → is_text c ≡ true → is_text (upper_of c) ≡ true
-unfolding upper_of
-upper_of-text [] e = e
-upper_of-text (b ∷ []) e = upper-text b e
-upper_of-text (b ∷ t ∷ s) e = e
-
-pub lower_of-text : (c : Text) → is_text c ≡ true → is_text (lower_of c) ≡ true
-unfolding lower_of
-lower_of-text [] e = e
-lower_of-text (b ∷ []) e = lower-text b e
-lower_of-text (b ∷ t ∷ s) e = e
-
--- the class of the first character, by the text's first byte
-pub next-lower : (s : Text) → is_lower_char (get_or (characters s) 0 []) ≡ is_lower (first s)
-unfolding characters first is_lower_char between
-next-lower s =
-    by_characters (λ u. is_lower_char (get_or (characters u) 0 []) ≡ is_lower (first u)) refl
-    (λ b u e h. rw (characters-one b u e))
-    (λ b t u e h. rw (characters-two b t u e) (sym (high-no-lower b (lead-high b t e))))
+    let wide = le-ltb b 128 (lead-high b t e) in
+    let (x, y) = two (is_pair b t) (is_text u) (sym (text-pair b t u wide) ∙ k) in
+    rw (characters-two b t u e) (and-true (text-pair b t [] wide ∙ and-true x empty-text) (h y)))
     s

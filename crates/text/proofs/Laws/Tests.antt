@@ -96,6 +96,13 @@ pub test-cases : (b : Bool) → (b ≡ true) ⊎ (b ≡ false)
 test-cases true = inl refl
 test-cases false = inr refl
 
+-- one of four tests holds
+pub or_four : {C : Type 0} (a b c d : Bool) → a || b || c || d ≡ true → (a ≡ true → C) → (b ≡ true → C) → (c ≡ true → C) → (d ≡ true → C) → C
+or_four true b c d e f g h k = f refl
+or_four false true c d e f g h k = g refl
+or_four false false true d e f g h k = h refl
+or_four false false false d e f g h k = k e
+
 -- a disjunction that holds though its right side fails
 pub or-true-left : (a b : Bool) → a || b ≡ true → b ≡ false → a ≡ true
 or-true-left true b e h = refl

@@ -11,7 +11,7 @@ use Prim.Native.Char.{code}
 use Rattle.text.specs.Text.{Text, bytes, first, is_digit}
 use Rattle.text.proofs.Laws.Tests.{if-either}
 use Rattle.text.specs.Trim.{is_white_space}
-use Rattle.xml.specs.Classes.{is_char, is_name_start, is_name, is_letter, is_encoding}
+use Rattle.xml.specs.Classes.{is_char, is_name_start, is_letter, is_encoding, begins}
 use Rattle.xml.specs.Steps.{Step, bad, behind, ◌and_then◌, starts_with, literal, many, one_then, spaces, space, name, name_of, until, comment, target, instruction_end, instruction, section}
 use Rattle.xml.specs.Grammar.{is_xml}
 use Rattle.xml.specs.Values.{is_plain, is_quote, value_end, value, char_data}
@@ -63,7 +63,8 @@ space-keeps text = one-keeps is_white_space is_white_space text
 
 pub name-keeps : (text : Text) → Keeps text name
 unfolding name
-name-keeps text = one-keeps is_name_start is_name text
+name-keeps text at s h =
+    if-either (Here text) (begins is_name_start s) (ap (drop (length (name_of s))) h ∙ drop-drop (length (name_of s)) at text) tt
 
 pub until-keeps : (word text : Text) → Keeps text (until word)
 unfolding until

@@ -13,13 +13,13 @@ use borrow.Author.Tests.{eqb-true}
 use Rattle.text.specs.Text.{Text, bytes, first, contains}
 use Rattle.text.proofs.Laws.Tests.{bool_cases, or_cases}
 use Rattle.text.specs.Trim.{is_white_space}
-use Rattle.xml.specs.Classes.{is_char, is_name_start, is_name}
+use Rattle.xml.specs.Classes.{is_char}
 use Rattle.xml.specs.Steps.{Step, bad, behind, ◌and_then◌, starts_with, literal, many, one_then, spaces, name, name_of, until, comment, target, instruction_end, instruction, section}
 use Rattle.xml.specs.Grammar.{is_xml}
 use Rattle.xml.specs.Values.{is_plain, is_quote, value_end, value, char_data}
 use Rattle.xml.specs.Prolog.{eq, is_misc, misc_part, misc_from}
 use Rattle.xml.proofs.Laws.Steps.{starts-length}
-use Rattle.xml.proofs.Laws.Names.{behind-at, behind-rest, bad-not}
+use Rattle.xml.proofs.Laws.Names.{behind-at, behind-rest, bad-not, name-read, name_of-begun, name_of-length, begins-name}
 
 abbrev pub Moves : (ℕ → Text → Step) → Type 0
 Moves f = (at : ℕ) (s : Text) (e : ℕ) (r : Text) → f at s ≡ behind e r → (at ≤ e) × (e + length r ≡ at + length s)
@@ -70,8 +70,9 @@ unfolding spaces
 spaces-moves at s e r q = many-moves is_white_space at s e r q
 
 pub name-passes : Passes name
-unfolding name
-name-passes at s e r q = one_passes is_name_start is_name at s e r q
+name-passes at s e r q =
+    let n = name-read at s e r q in
+    omega (arith, n.1, ap length n.2, name_of-begun s (begins-name s n.0), name_of-length s, length-drop (length (name_of s)) s)
 
 pub until-moves : (word : Text) → 0 < length word → Moves (until word)
 unfolding until

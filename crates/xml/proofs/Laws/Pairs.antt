@@ -14,8 +14,7 @@ use Rattle.text.specs.Text.{Text, bytes, first, contains}
 use Rattle.text.proofs.Laws.Tests.{bool_cases, if-either}
 use Rattle.text.proofs.Laws.Texts.{first-drop}
 use Rattle.xsd_parser.specs.Tape.{pair_text}
-use Rattle.xml.specs.Classes.{is_name_start}
-use Rattle.xml.specs.Steps.{Step, bad, behind, starts_with, literal, one_then, spaces, name, name_of}
+use Rattle.xml.specs.Steps.{Step, bad, behind, starts_with, literal, spaces, name, name_of}
 use Rattle.xml.specs.Values.{is_quote, value}
 use Rattle.xml.specs.Prolog.{eq}
 use Rattle.xml.specs.Tape.{AttributePairs, TapeEvent}
@@ -23,21 +22,16 @@ use Rattle.xml.specs.Tags.{Part, wrong, last, more, span, attribute_behind, valu
 use Rattle.xml.specs.Tags.{attributes_from, attributes, Tagged, untagged, tagged, tagged_by, attributes_behind, name_behind, tag}
 use Rattle.xml.specs.Grammar.{is_among}
 use Rattle.xml.specs.Accepted.{end_of, NameAt, ValueAt, AttributesAt, EventAt}
-use Rattle.xml.proofs.Laws.Names.{behind-at, bad-not, name-part}
+use Rattle.xml.proofs.Laws.Names.{behind-at, bad-not, name-read, name-part}
 use Rattle.xml.proofs.Laws.Moves.{name-passes, spaces-moves, eq-passes, value-end-stands, value-two}
 use Rattle.xml.proofs.Laws.Here.{here-next, literal-keeps, spaces-keeps, name-keeps, eq-keeps, value_keeps}
 
 -- a name
-pub name-starts : (at : ℕ) (s : Text) (e : ℕ) (r : Text) → name at s ≡ behind e r → is_name_start (first s) ≡ true
-unfolding name one_then first
-name-starts at [] e r q = absurd (bad-not q)
-name-starts at (b ∷ s) e r q = bool_cases (is_name_start b) (λ y. y) (λ y. absurd (bad-not (rw y at q)))
-
 pub name-at : (text : Text) (at : ℕ) (s : Text) (e : ℕ) (r : Text) → s ≡ drop at text → name at s ≡ behind e r → NameAt text (span at e)
 unfolding pair_text
 name-at text at s e r h q =
     let k : name at (drop at text) ≡ behind e r = rw h at q in
-    record { starts = name-starts at (drop at text) e r k; whole = name-part at (drop at text) e r k }
+    record { starts = (name-read at (drop at text) e r k).0; whole = name-part at (drop at text) e r k }
 
 -- a value
 pub value-stands : (at : ℕ) (s : Text) (e : ℕ) (r : Text) → value at s ≡ behind e r → (b : ℕ) × (v : Text) × (is_quote b ≡ true) × (s ≡ b ∷ v ++ b ∷ r) × (contains b v ≡ false)

@@ -1,23 +1,25 @@
--- The tape of a well-formed text is read as its events: its pairs lie inside the text and rise, all bytes are below 128, and each record has its numbers.
+-- The tape of a well-formed text is read as its events: its pairs lie inside the text and rise, each holds a text, and each record has its numbers.
 -- Assumes nothing.
-use Prim.Native.Nat.{ℕ, zero, suc, ◌+◌, ◌*◌, ◌≤◌}
+use Prim.Native.Nat.{ℕ, zero, suc, ◌+◌, ◌-◌, ◌*◌, ◌≤◌}
 use mathlib.Core.Path.{◌≡◌, refl, sym, ap, ◌∙◌}
 use mathlib.Core.List.{List, [], ◌∷◌, ◌++◌}
 use mathlib.Core.Bool.{true}
 use native.Mathlib.Omega.{arith}
-use lib.Dec.{leb}
-use lib.ListN.{length, drop, length-append}
+use lib.Dec.{eqb, leb, ltb}
+use lib.ListN.{length, take, drop, length-append, take-append-drop}
 use lib.Seq.{drop_at}
-use borrow.Author.Tests.{le-leb, ne_eqb}
+use mathlib.Core.Logic.{⊎_elim}
+use borrow.Author.Tests.{eqb-true, le-leb, ne_eqb}
 use Rattle.text.specs.Text.{Text, every, is_text, between}
-use Rattle.text.proofs.Laws.Tests.{and-true, two}
-use Rattle.text.proofs.Laws.Class.{text-is-plain}
+use Rattle.text.proofs.Laws.Tests.{and-true, and-true-left, and-true-right, or_cases, two}
+use Rattle.text.proofs.Laws.Class.{text-around}
 use Rattle.xsd_parser.specs.Tape.{Pair, pairs_of, pair_text, pair_count, form_test, all_inside, all_ascii, tag_record, record1, next, event, Judged, records_from, records}
-use Rattle.xsd_parser.proofs.Laws.EventTexts.{ascii-whole}
 use Rattle.xsd_parser.proofs.Laws.Records.{records-none, records-next}
 use Rattle.xml.specs.Tape.{AttributePairs, TapeEvent, attribute_marks, event_marks, tape_marks}
 use Rattle.xml.specs.Document.{well_formed, document}
-use Rattle.xml.specs.Accepted.{end_of, AttributesAt, EventAt, EventsAt, few_attributes, attribute_pairs, event_read, records_read}
+use Rattle.xml.specs.Accepted.{end_of, NameAt, ValueAt, AttributesAt, EventAt, EventsAt, few_attributes, attribute_pairs, event_read, records_read}
+use Rattle.xml.specs.Values.{is_quote}
+use Rattle.xml.proofs.Laws.Names.{name-text}
 use Rattle.xml.proofs.Laws.Tags.{marks-length}
 use Rattle.xml.proofs.Laws.Events.{events-at}
 
@@ -63,9 +65,32 @@ unfolding all_inside
 inside-tag text name xs h p =
     and-true (and-true (le-leb 0 name.offset (omega arith)) (le-leb (end_of name) (length text) h)) (inside-attributes text (end_of name) xs p)
 
--- 5: the bytes
-pub all_ascii_lem : (text : Text) (ps : List Pair) → is_text text ≡ true → all_ascii text ps ≡ true
-all_ascii_lem text ps t = ascii-whole text (sym (text-is-plain text) ∙ t) ps
+-- 5: the bytes. A name is a text, and so is what stands between the quotes of a text, which are bytes below 128.
+pub name-pair : (text : Text) (p : Pair) → NameAt text p → is_text (pair_text text p) ≡ true
+name-pair text p n = ap is_text n.whole ∙ name-text (drop p.offset text)
+
+quote-low : (q : ℕ) → is_quote q ≡ true → ltb q 128 ≡ true
+unfolding is_quote
+quote-low q e = ⊎_elim (λ h. rw (eqb-true q 34 h)) (λ h. rw (eqb-true q 39 h)) (or_cases (eqb q 34) (eqb q 39) e)
+
+pub value-pair : (text : Text) (p : Pair) → is_text text ≡ true → ValueAt text p → is_text (pair_text text p) ≡ true
+value-pair text p t v =
+    let low = quote-low v.quote v.quotes in
+    let front = take (p.offset - 1) text in
+    let part = pair_text text p in
+    let split : text ≡ front ++ v.quote ∷ (part ++ v.quote ∷ v.rest) = sym (take-append-drop (p.offset - 1) text) ∙ ap (λ (s : Text). front ++ s) v.stands in
+    let behind = and-true-right (is_text front) _ (sym (text-around front v.quote (part ++ v.quote ∷ v.rest) low) ∙ sym (ap is_text split) ∙ t) in
+    and-true-left (is_text part) (is_text v.rest) (sym (text-around part v.quote v.rest low) ∙ behind)
+
+pub attribute-texts : (text : Text) (end : ℕ) (xs : List AttributePairs) → is_text text ≡ true → AttributesAt text end xs → all_ascii text (attribute_pairs xs) ≡ true
+unfolding all_ascii every attribute_pairs
+attribute-texts text end [] t p = refl
+attribute-texts text end (x ∷ xs) t p =
+    and-true (name-pair text x.key p.1) (and-true (value-pair text x.value t p.3) (attribute-texts text (end_of x.value) xs t p.5))
+
+pub tag-texts : (text : Text) (name : Pair) (xs : List AttributePairs) → is_text text ≡ true → NameAt text name → AttributesAt text (end_of name) xs → all_ascii text (name ∷ attribute_pairs xs) ≡ true
+unfolding all_ascii every
+tag-texts text name xs t n p = and-true (name-pair text name n) (attribute-texts text (end_of name) xs t p)
 
 -- a record
 pub record-tag : (text : Text) (kind : ℕ) (name : Pair) (xs : List AttributePairs) (rest : List ℕ) → is_text text ≡ true → leb (length xs) 32 ≡ true → EventAt text (TapeEvent.tag kind name xs)
@@ -80,7 +105,7 @@ record-tag text kind name xs rest t f p =
       pairs-of-tag name xs rest,
       behind-tag name.offset name.size xs rest,
       inside-tag text name xs p.4 p.5,
-      all_ascii_lem text (name ∷ attribute_pairs xs) t,
+      tag-texts text name xs t p.3 p.5,
     )
 
 pub record-event : (text : Text) (e : TapeEvent) (rest : List ℕ) → is_text text ≡ true → few_attributes e ≡ true → EventAt text e → record1 text (event_marks e ++ rest) ≡ next (event_read text e) rest

@@ -1,23 +1,24 @@
 -- A written tag is read as that tag: each step ends where its part of the written text ends. Assumes nothing.
 use Prim.Native.Nat.{ℕ, zero, suc, ◌+◌, ◌*◌, ◌≤◌, ◌<◌}
 use Prim.Native.Char.{code}
-use mathlib.Core.Path.{◌≡◌, refl, sym, ap, ◌∙◌}
+use mathlib.Core.Path.{◌≡◌, refl, sym, ap, subst, ◌∙◌}
 use mathlib.Core.Logic.{⊎_elim}
 use mathlib.Core.List.{List, [], ◌∷◌, ◌++◌, append-nil, append_assoc}
 use mathlib.Core.Bool.{Bool, true, false, not, ◌&&◌, ◌||◌, false≢true}
 use native.Mathlib.Omega.{arith}
 use lib.Dec.{eqb, ltb}
 use lib.ListN.{length, drop, length-append, length-drop}
-use lib.Seq.{drop-append-le}
+use lib.Seq.{drop-append-le, drop-append_seam}
 use borrow.Author.Tests.{eqb-true, eqb-false, eq-eqb, ne_eqb, not-true}
-use Rattle.text.specs.Text.{Text, bytes, first, every, contains, between}
-use Rattle.text.proofs.Laws.Tests.{bool_cases, two, four, or_left, or_right, or_cases, if-cases, if-keeps}
+use Rattle.text.specs.Text.{Text, bytes, first, every, is_pair, same, contains, between}
+use Rattle.text.proofs.Laws.Tests.{bool_cases, and-true-left, and-true-right, two, four, or_left, or_right, or_cases, if-cases, if-keeps}
+use Rattle.text.proofs.Laws.Texts.{same-eq}
 use Rattle.text.proofs.Laws.Every.{every-head, every-tail}
 use Rattle.xsd_parser.specs.Event.{Attr, Tag}
 use Rattle.xsd_parser.specs.Tape.{Pair}
 use Rattle.text.specs.Trim.{is_white_space}
-use Rattle.xml.specs.Classes.{is_letter, is_name_start, is_name}
-use Rattle.xml.specs.Steps.{behind, starts_with, literal, many, one_then, spaces, name, name_of}
+use Rattle.xml.specs.Classes.{is_letter, is_name_start, is_name, is_byte_of, is_pair_of, begins}
+use Rattle.xml.specs.Steps.{behind, starts_with, literal, many, spaces, name, name_of}
 use Rattle.xml.specs.Grammar.{digit_of, is_among}
 use Rattle.xml.specs.Values.{is_number, is_entity, is_reference, is_plain, value_end, is_quote, value}
 use Rattle.xml.specs.Prolog.{eq}
@@ -25,7 +26,7 @@ use Rattle.xml.specs.Tape.{AttributePairs}
 use Rattle.xml.specs.Tags.{last, more, attribute_from, attribute, part_of, ended, attributes_from, attributes, tagged, tag}
 use Rattle.xml.specs.Written.{is_name_text, is_value, quote_of, attribute_ok, new_keys, written_attributes, tag_end, written_tag, attribute_places, tagged_as}
 use Rattle.xml.proofs.Laws.Steps.{starts-length}
-use Rattle.xml.proofs.Laws.Names.{name_of-none, name_of-some}
+use Rattle.xml.proofs.Laws.Names.{name_of-none, name_of-some, name_of-pair, by_name, name-begun, may_start, begins-may-start, begins-append, begins-low}
 use Rattle.xml.proofs.Laws.Tags.{attributes-last, tag-found}
 
 -- a name
@@ -36,31 +37,36 @@ many-written p at [] (b ∷ r) h e = rw e (ap (λ (k : ℕ). behind k (b ∷ r))
 many-written p at (b ∷ n) r h e =
     rw (every-head p b n h) (many-written p (suc at) n r (every-tail p b n h) e ∙ ap (λ (k : ℕ). behind k r) (omega arith))
 
-pub no-name-empty : is_name_text [] ≡ false
-unfolding is_name_text first is_name_start is_letter between
-no-name-empty = refl
+pub name_of-written : (n r : Text) → name_of n ≡ n → begins is_name r ≡ false → name_of (n ++ r) ≡ n
+name_of-written n r h e =
+    by_name (λ u. name_of u ≡ u → name_of (u ++ r) ≡ u)
+    (λ u k q. subst (λ (t : Text). name_of (t ++ r) ≡ t) (sym (name_of-none u k) ∙ q) (name_of-none r e))
+    (λ b u k f q. name_of-some b (u ++ r) k ∙ ap (λ (t : Text). b ∷ t) (f (ap (drop 1) (sym (name_of-some b u k) ∙ q))))
+    (λ b c u k f q. name_of-pair b c (u ++ r) k ∙ ap (λ (t : Text). b ∷ c ∷ t) (f (ap (drop 2) (sym (name_of-pair b c u k) ∙ q))))
+    n h
 
-pub name-written : (at : ℕ) (n r : Text) → is_name_text n ≡ true → is_name (first r) ≡ false → name at (n ++ r) ≡ behind (at + length n) r
-unfolding name one_then is_name_text first
-name-written at [] r h e = absurd (false≢true (sym no-name-empty ∙ h))
-name-written at (b ∷ n) r h e =
-    let p = two (is_name_start b) (every is_name (b ∷ n)) h in
-    rw p.0 (many-written is_name (suc at) n r (every-tail is_name b n p.1) e ∙ ap (λ (k : ℕ). behind k r) (omega arith))
+module _ (n : Text) (ok : is_name_text n ≡ true) where
+  pub name-begins : begins is_name_start n ≡ true
+  unfolding is_name_text
+  name-begins = and-true-left (begins is_name_start n) (same (name_of n) n) ok
 
-pub name_of-written : (n r : Text) → every is_name n ≡ true → is_name (first r) ≡ false → name_of (n ++ r) ≡ n
-name_of-written [] r h e = name_of-none r e
-name_of-written (b ∷ n) r h e = name_of-some b (n ++ r) (every-head is_name b n h) ∙ ap (λ (t : Text). b ∷ t) (name_of-written n r (every-tail is_name b n h) e)
+  pub name-is-whole : name_of n ≡ n
+  unfolding is_name_text
+  name-is-whole = same-eq (name_of n) n (and-true-right (begins is_name_start n) (same (name_of n) n) ok)
 
-pub name-start : (n r : Text) → is_name_text n ≡ true → is_name_start (first (n ++ r)) ≡ true
-unfolding is_name_text first
-name-start [] r h = absurd (false≢true (sym no-name-empty ∙ h))
-name-start (b ∷ n) r h = (two (is_name_start b) (every is_name (b ∷ n)) h).0
+  pub name-written : (at : ℕ) (r : Text) → begins is_name r ≡ false → name at (n ++ r) ≡ behind (at + length n) r
+  name-written at r e =
+      name-begun at (n ++ r) (begins-append is_name_start n r name-begins)
+      ∙ (rw (name_of-written n r name-is-whole e, drop-append_seam n r))
+
+  pub name-start : (r : Text) → may_start (first (n ++ r)) ≡ true
+  name-start r = begins-may-start (n ++ r) (begins-append is_name_start n r name-begins)
 
 -- the byte that a name starts with is no other
-pub start-other : (b k : ℕ) → is_name_start b ≡ true → is_name_start k ≡ false → eqb b k ≡ false
-start-other b k h e = ne_eqb b k (λ (q : b ≡ k). false≢true (sym e ∙ ap is_name_start (sym q) ∙ h))
+pub start-other : (b k : ℕ) → may_start b ≡ true → may_start k ≡ false → eqb b k ≡ false
+start-other b k h e = ne_eqb b k (λ (q : b ≡ k). false≢true (sym e ∙ ap may_start (sym q) ∙ h))
 
-pub start-no-space : (b : ℕ) → is_name_start b ≡ true → is_white_space b ≡ false
+pub start-no-space : (b : ℕ) → may_start b ≡ true → is_white_space b ≡ false
 unfolding is_white_space is_name_start is_letter between
 start-no-space b h = rw (start-other b 9 h refl, start-other b 10 h refl, start-other b 13 h refl, start-other b 32 h refl)
 
@@ -173,19 +179,19 @@ unfolding eq spaces many is_white_space literal starts_with bytes
 eq-written at s e = spaces-stop (at + 1) s e
 
 -- an attribute
-pub equals-no-name : is_name 61 ≡ false
+pub equals-no-name : (s : Text) → begins is_name (61 ∷ s) ≡ false
 unfolding is_name is_name_start is_letter between
-equals-no-name = refl
+equals-no-name s = begins-low is_name 61 s (omega arith) refl
 
 pub attribute-written : (at : ℕ) (k : Text) (q : ℕ) (v r : Text) → is_name_text k ≡ true → is_quote q ≡ true → is_white_space q ≡ false → is_value q v ≡ true
     → attribute at ((k ++ (61 ∷ q ∷ (v ++ (q ∷ r))))) ≡ more (attribute_from at (at + length k) (at + length k + 1) (at + length k + 1 + length v + 2)) k (at + length k + 1 + length v + 2) r
-unfolding attribute first is_name_text
+unfolding attribute first
 attribute-written at k q v r h e f g =
     rw (
-      name-written at k (61 ∷ q ∷ (v ++ (q ∷ r))) h equals-no-name,
+      name-written k h at (61 ∷ q ∷ (v ++ (q ∷ r))) (equals-no-name _),
       eq-written (at + length k) (q ∷ v ++ q ∷ r) f,
       value_written q (at + length k + 1) v r e g,
-      name_of-written k (61 ∷ q ∷ (v ++ (q ∷ r))) (two (is_name_start (first k)) (every is_name k) h).1 equals-no-name,
+      name_of-written k (61 ∷ q ∷ (v ++ (q ∷ r))) (name-is-whole k h) (equals-no-name _),
     )
 
 pub starts-not : (w : ℕ) (word s : Text) → eqb (first s) w ≡ false → eqb 0 w ≡ false → starts_with (w ∷ word) s ≡ false
@@ -210,7 +216,7 @@ pub part-written : (at : ℕ) (k : Text) (q : ℕ) (v r : Text) → is_name_text
 unfolding part_of bytes is_name_start is_letter between
 part-written at k q v r h e f g =
     let s = (k ++ (61 ∷ q ∷ (v ++ (q ∷ r)))) in
-    let b = name-start k (61 ∷ q ∷ (v ++ (q ∷ r))) h in
+    let b = name-start k h (61 ∷ q ∷ (v ++ (q ∷ r))) in
     let to : suc at + length k + 1 + length v + 2 ≡ at + length k + length v + 4 = omega arith in
     rw (
       spaces-one at s (start-no-space (first s) b),
@@ -290,8 +296,8 @@ attributes-written (x ∷ xs) (suc turns) keys before at kind rest ok new low hi
     ∙ ended_same kind _ _ _ _ rest (append_assoc before (place_of at k v ∷ []) (attribute_places to xs)) (omega arith)
 
 -- the tag
-pub behind-name : (xs : List Attr) (kind : ℕ) (rest : Text) → is_name (first (written_attributes xs ++ (tag_end kind ++ rest))) ≡ false
-unfolding written_attributes tag_end first is_name is_name_start is_letter between bytes
+pub behind-name : (xs : List Attr) (kind : ℕ) (rest : Text) → begins is_name (written_attributes xs ++ (tag_end kind ++ rest)) ≡ false
+unfolding written_attributes tag_end first is_name is_name_start is_letter is_pair is_byte_of is_pair_of begins between bytes
 behind-name [] kind rest = bool_cases (eqb kind 1) (λ y. rw y) (λ y. rw y)
 behind-name (x ∷ xs) kind rest = refl
 
@@ -316,7 +322,7 @@ tagged-same kind p q xs n m a b r e f g = rw (e, f, g)
 
 pub tag-written : (at kind : ℕ) (t : Tag) (rest : Text) → 1 ≤ kind → kind ≤ 2 → is_name_text t.name ≡ true → every attribute_ok t.attributes ≡ true → new_keys [] t.attributes ≡ true
     → tag at (written_tag kind t ++ rest) ≡ tagged_as at kind t rest
-unfolding attributes is_name_text
+unfolding attributes
 tag-written at kind t rest low high n ok new =
     let xs = t.attributes in
     let w = written_attributes xs ++ (tag_end kind ++ rest) in
@@ -324,6 +330,6 @@ tag-written at kind t rest low high n ok new =
     let none = behind-name xs kind rest in
     let turns : length xs < suc (length w) = omega (arith, written-long xs, length-append (written_attributes xs) (tag_end kind ++ rest)) in
     ap (tag at) (tag-more kind t rest)
-    ∙ tag-found at (60 ∷ (t.name ++ w)) (less-written at (t.name ++ w)) (name-written (at + 1) t.name w n none) (attributes-written xs (suc (length w)) [] [] e kind rest ok new low high turns)
+    ∙ tag-found at (60 ∷ (t.name ++ w)) (less-written at (t.name ++ w)) (name-written t.name n (at + 1) w none) (attributes-written xs (suc (length w)) [] [] e kind rest ok new low high turns)
     ∙ tagged-same kind _ _ (attribute_places e xs) _ _ _ _ rest (pair_same _ _ _ _ refl (omega arith))
-    (name_of-written t.name w (two (is_name_start (first t.name)) (every is_name t.name) n).1 none) (omega (arith, tag-size kind t))
+    (name_of-written t.name w (name-is-whole t.name n) none) (omega (arith, tag-size kind t))

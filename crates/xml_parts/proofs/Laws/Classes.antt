@@ -15,7 +15,7 @@ use Rattle.text.proofs.Laws.Table.{passes, at}
 use Rattle.text.proofs.Laws.Tests.{and-true-left, and-true-right}
 use Rattle.xml.proofs.Laws.Grammar.Basics.{class-in}
 use Rattle.plain_bytes.specs.Scan.{is_text_run, is_value_run, is_comment_run, is_section_run}
-use Rattle.xml.specs.Classes.{is_char, is_letter, is_name_start, is_name, is_encoding}
+use Rattle.xml.specs.Classes.{is_char, is_letter, is_name_start, is_name, is_encoding, is_byte_of}
 use Rattle.xml.specs.Values.{is_quote, is_in_text, is_in_value}
 use Rattle.xml_parts.specs.Answers.{Before, class_of, class_table, has_bit}
 use Rattle.xml_parts.specs.contracts.classes.Class.{the_type}
@@ -35,7 +35,7 @@ abbrev bit_of : Class → ℕ
 bit_of class = tag_of the_type class
 
 all-bits : (class : Class) → passes (λ (k : ℕ). agree (has_bit (get_or class_table k 0) (bit_of class)) (class_of class k)) 256 ≡ true
-unfolding class_table has_bit is_white_space is_letter is_name_start is_name is_encoding is_char is_quote is_in_text is_in_value between
+unfolding class_table has_bit is_byte_of is_white_space is_letter is_name_start is_name is_encoding is_char is_quote is_in_text is_in_value between
 all-bits Class.Space = refl
 all-bits Class.NameStart = refl
 all-bits Class.Name = refl

@@ -86,14 +86,14 @@ module _ (rows names : List ℕ) where
 
     module _ (h : parts_fit z.rows_used z.names_used (length rows) (length names) ≡ true) where
       -- of the results that the code's calls give
-      pub bare-tests : (s : Scan) {f b n l r g k x v : Bool} {t : Ten} → f ≡ row0_form z → b ≡ zeros rows names z → n ≡ texts names z → l ≡ limits z → r ≡ root_test z
+      pub bare-tests : (s : Scan) {f b n l r g k x v : Bool} {t : Ten} → f ≡ row0_form z → b ≡ zeros rows names z → n ≡ texts names z (t ∷ rest rows z) → l ≡ limits z → r ≡ root_test z
           → g ≡ nesting_test z → k ≡ context_test z.context s.head → x ≡ extension_test z s.head → v ≡ events_test z.events (tens (z.rows_used - 1) (drop 10 rows))
           → t ≡ ten (drop 10 (bare_rows rows)) → Some s ≡ scanned_sheet schema_tests z.names_used (t ∷ rest rows z)
           → f && eqb s.end z.names_used && b && n && l && r && g && k && x && v ≡ bare_good (bare (sheet rows names))
       unfolding bare with_count
       bare-tests s f b n l r g k x v t d =
           let behind = drop-count rows 0 (10 * z.rows_used) (omega (arith, parts-inside z.rows_used z.names_used (length rows) (length names) h)) in
-          good-tests (bare_rows rows) names z (row0-bare rows e) (fit-bare h) s f (b ∙ ap (λ (y : List ℕ). all_zero y && all_zero (drop z.names_used names)) (sym behind)) n l r g k x
+          good-tests (bare_rows rows) names z (row0-bare rows e) (fit-bare h) s f (b ∙ ap (λ (y : List ℕ). all_zero y && all_zero (drop z.names_used names)) (sym behind)) (rw (← (drop-count rows 0 20 (omega arith))) at n) l r g k x
           (v ∙ sym (events-bare z.events (z.rows_used - 1) rows)) t (rw (← (drop-count rows 0 20 (omega arith))) at d)
 
       pub bare-fails : {t : Ten} → t ≡ ten (drop 10 (bare_rows rows)) → None ≡ scanned_sheet schema_tests z.names_used (t ∷ rest rows z) → false ≡ bare_good (bare (sheet rows names))

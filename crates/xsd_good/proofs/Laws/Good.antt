@@ -1,24 +1,25 @@
 -- Laws of the test of a good sheet: the used parts are looked at first, and where they lie inside the buffers
 -- the other parts of `good` are those of row 0, of the pass over the rows and of the two buffers. Assumes nothing.
 use mathlib.Core.Path.{◌≡◌, refl, sym, ap, ◌∙◌}
-use mathlib.Core.Bool.{Bool, true, false, ◌&&◌, and_assoc, and-false}
+use mathlib.Core.Bool.{Bool, true, false, ◌&&◌, ◌||◌, and_assoc, and-false}
 use mathlib.Core.List.{List, ◌∷◌}
 use Prim.Native.Nat.{ℕ, ◌-◌, ◌*◌, ◌<◌}
 use native.Mathlib.Omega.{arith}
 use lib.Dec.{eqb}
 use lib.ListN.{length, take, drop}
 use Rattle.std.specs.Prelude.{None, Some}
-use Rattle.text.specs.Text.{is_plain, between}
+use Rattle.text.specs.Text.{every, is_plain, is_text, between}
 use Rattle.text.proofs.Laws.Tests.{not-true-false}
 use Rattle.sheet.specs.Rows.{Ten, ten, tens, all_zero}
 use Rattle.sheet.specs.Calls.{sheet}
-use Rattle.sheet.specs.Form.{row0_of, tens_of, used_parts, zeros_behind}
+use Rattle.sheet.specs.Form.{row0_of, tens_of, used_parts, zeros_behind, texts_pass}
+use Rattle.sheet.proofs.Laws.Sheets.{each-row}
 use Rattle.xsd_types.specs.Row0.{Row0, row0_from}
-use Rattle.xsd_types.specs.Good.{row0_form, rows_form, names_form, limits, root_test, nesting_test, context_test, extension_test, head_of, events_test, bare_good}
+use Rattle.xsd_types.specs.Good.{used_pairs, row0_form, rows_form, names_form, names_test, limits, root_test, nesting_test, context_test, extension_test, head_of, events_test, bare_good}
 use Rattle.xsd_types.proofs.Laws.Whole.{good-whole}
 use Rattle.rows.specs.declared.scan.Scan.{Scan}
 use Rattle.rows.specs.Lengths.{parts_fit}
-use Rattle.rows.specs.Scan.{scanned_sheet}
+use Rattle.rows.specs.Scan.{scanned_sheet, row_texts}
 use Rattle.rows.proofs.Laws.Room.{parts-inside}
 use Rattle.rows.proofs.Laws.Tens.{tens-two}
 use Rattle.rows.proofs.Laws.Scan.{ends}
@@ -29,14 +30,14 @@ use Rattle.xsd_good.proofs.Laws.Scan.{sheet-scanned}
 abbrev pub zeros : List ℕ → List ℕ → Row0 → Bool
 zeros rows names z = all_zero (drop (10 * z.rows_used) rows) && all_zero (drop z.names_used names)
 
-abbrev pub texts : List ℕ → Row0 → Bool
-texts names z = is_plain (take z.names_used names)
+abbrev pub texts : List ℕ → Row0 → List Ten → Bool
+texts names z ts = is_plain (take z.names_used names) || every (row_texts schema_tests names) ts
 
 -- all that is asked behind the pass over the rows, of the last head that the pass found
 abbrev pub behind : List ℕ → List ℕ → Row0 → ℕ → Bool
 behind rows names z head =
     zeros rows names z
-    && (texts names z
+    && (texts names z (tens_of (sheet rows names))
     && (limits z && (root_test z &&
     (nesting_test z && (context_test z.context head && (extension_test z head && events_test z.events (tens (z.rows_used - 1) (drop 10 rows))))))))
 
@@ -59,11 +60,16 @@ module _ (rows names : List ℕ) where
       let z = row0_from (ten rows) in
       outside z refl (not-true-false _ (λ e. omega (arith, parts-inside z.rows_used z.names_used (length rows) (length names) e)))
 
+  -- the names are asked row by row
+  each-text : names_test (sheet rows names) ≡ every (row_texts schema_tests names) (tens_of (sheet rows names))
+  unfolding names_test texts_pass row_texts
+  each-text = sym (each-row is_text used_pairs names (tens_of (sheet rows names)))
+
   good-inside : parts_fit (ten rows).at0 (ten rows).len0 (length rows) (length names) ≡ true
       → row0_form (row0_from (ten rows)) && (rows_form (tens_of (sheet rows names))
       && (names_form (ten rows).len0 (tens_of (sheet rows names)) && behind rows names (row0_from (ten rows)) (head_of (tens_of (sheet rows names))))) ≡ bare_good (sheet rows names)
   unfolding used_parts row0_of parts_fit zeros_behind tens_of
-  good-inside h = rw (good-whole (sheet rows names), h) (simp and_assoc)
+  good-inside h = rw (good-whole (sheet rows names), h, each-text) (simp and_assoc)
 
   good-scanned : parts_fit (ten rows).at0 (ten rows).len0 (length rows) (length names) ≡ true
       → row0_form (row0_from (ten rows)) && ends (ten rows).len0 (behind rows names (row0_from (ten rows))) (scanned_sheet schema_tests (ten rows).len0 (tens_of (sheet rows names)))
@@ -81,13 +87,14 @@ module _ (rows names : List ℕ) where
 
   -- of the results that the code's calls give, in the code's order
   module _ (z : Row0) (e : z ≡ row0_from (ten rows)) (h : parts_fit z.rows_used z.names_used (length rows) (length names) ≡ true) where
-    pub good-tests : (s : Scan) {f b n l r g k x v : Bool} {t : Ten} → f ≡ row0_form z → b ≡ zeros rows names z → n ≡ texts names z → l ≡ limits z → r ≡ root_test z
+    pub good-tests : (s : Scan) {f b n l r g k x v : Bool} {t : Ten} → f ≡ row0_form z → b ≡ zeros rows names z → n ≡ texts names z (t ∷ rest rows z) → l ≡ limits z → r ≡ root_test z
         → g ≡ nesting_test z → k ≡ context_test z.context s.head → x ≡ extension_test z s.head → v ≡ events_test z.events (tens (z.rows_used - 1) (drop 10 rows))
         → t ≡ ten (drop 10 rows) → Some s ≡ scanned_sheet schema_tests z.names_used (t ∷ rest rows z)
         → f && eqb s.end z.names_used && b && n && l && r && g && k && x && v ≡ bare_good (sheet rows names)
     good-tests s f b n l r g k x v t d =
         let ended = rw (all-rows z _ e h t, e) at d in
-        rw (f, b, n, l, r, g, k, x, v, e) (simp and_assoc (simp and_assoc at (rw (← ended) at (good-scanned (rw e at h)))))
+        let each = rw (all-rows z _ e h t) at n in
+        rw (f, b, each, l, r, g, k, x, v, e) (simp and_assoc (simp and_assoc at (rw (← ended) at (good-scanned (rw e at h)))))
 
     -- where a row fails
     pub good-fails : {t : Ten} → t ≡ ten (drop 10 rows) → None ≡ scanned_sheet schema_tests z.names_used (t ∷ rest rows z) → false ≡ bare_good (sheet rows names)

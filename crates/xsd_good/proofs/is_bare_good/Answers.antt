@@ -15,10 +15,10 @@ returns-then-not-parts_fit c =
 pub returns-in_default : goal.returns-in_default
 returns-in_default c =
     bare-fails c.args.rows.now c.args.names.now (as_row0 c.row0_at-z.result) c.row0_at-z.ensures (sym c.parts_fit.ensures.fits ∙ c.if-not-parts_fit.false)
-    c.bare_row1.ensures c.in_default.ensures
+    c.bare_row1-row1.ensures c.in_default.ensures
 
 pub returns : goal.returns
 returns c =
     bare-tests c.args.rows.now c.args.names.now (as_row0 c.row0_at-z.result) c.row0_at-z.ensures (sym c.parts_fit.ensures.fits ∙ c.if-not-parts_fit.false)
     c.in-Some.s c.row0_form.ensures c.zeros_behind.ensures c.names_test.ensures c.limits.ensures c.root_test.ensures c.nesting_test.ensures
-    c.context_test.ensures c.extension_test.ensures c.events_test.ensures c.bare_row1.ensures c.in-Some.ensures
+    c.context_test.ensures c.extension_test.ensures c.events_test.ensures c.bare_row1-row1.ensures c.in-Some.ensures

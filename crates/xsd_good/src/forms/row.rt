@@ -96,4 +96,8 @@ impl RowTests for SchemaRow {
     fn head_after(head: u32, tag: u32) -> u32 {
         head_after(head, tag)
     }
+
+    fn is_text(s: &[u8]) -> bool {
+        text::is_text(s)
+    }
 }

@@ -144,7 +144,7 @@ two-events :
 unfolding taped
 two-events = refl
 
--- ---- 5: "byte above 127 under a pair"
+-- ---- 5: a byte above 127 under a pair that is of no character, and, by order 12, one "of a character cut by an end of its pair"
 
 -- under a tag name
 high-tag : read (blank 20 0) (200 ∷ bytes "schema") (1 ∷ 0 ∷ 0 ∷ 7 ∷ []) ≡ gives 5 0 (blank 20 0)
@@ -170,6 +170,36 @@ byte-127 :
 unfolding taped
 byte-127 = refl
 
+-- order 12: é, C3 A9, under a value that no lookup reads
+accented :
+    read (blank 20 0) (bytes "ak" ++ 195 ∷ 169 ∷ []) (2 ∷ 1 ∷ 0 ∷ 1 ∷ 1 ∷ 1 ∷ 2 ∷ 2 ∷ [])
+    ≡ gives 0 1 (sheet 20 0 (line 0 2 0 0 0 0 1 0 0 0 ∷ no_namespace ∷ []) "")
+unfolding taped
+accented = refl
+
+-- its lead alone, its tail alone
+lead-alone : read (blank 20 0) (bytes "ak" ++ 195 ∷ 169 ∷ []) (2 ∷ 1 ∷ 0 ∷ 1 ∷ 1 ∷ 1 ∷ 2 ∷ 1 ∷ []) ≡ gives 5 0 (blank 20 0)
+unfolding taped
+lead-alone = refl
+
+tail-alone : read (blank 20 0) (bytes "ak" ++ 195 ∷ 169 ∷ []) (2 ∷ 1 ∷ 0 ∷ 1 ∷ 1 ∷ 1 ∷ 3 ∷ 1 ∷ []) ≡ gives 5 0 (blank 20 0)
+unfolding taped
+tail-alone = refl
+
+-- key and value share it
+shared-character : read (blank 20 0) (bytes "a" ++ 195 ∷ 169 ∷ []) (2 ∷ 1 ∷ 0 ∷ 1 ∷ 1 ∷ 1 ∷ 2 ∷ 1 ∷ []) ≡ gives 5 0 (blank 20 0)
+unfolding taped
+shared-character = refl
+
+-- U+039C, which only a graph may hold, and U+0301, a combining accent
+graph-character : read (blank 20 0) (bytes "ak" ++ 206 ∷ 156 ∷ []) (2 ∷ 1 ∷ 0 ∷ 1 ∷ 1 ∷ 1 ∷ 2 ∷ 2 ∷ []) ≡ gives 5 0 (blank 20 0)
+unfolding taped
+graph-character = refl
+
+combining-accent : read (blank 20 0) (bytes "ake" ++ 204 ∷ 129 ∷ []) (2 ∷ 1 ∷ 0 ∷ 1 ∷ 1 ∷ 1 ∷ 2 ∷ 3 ∷ []) ≡ gives 5 0 (blank 20 0)
+unfolding taped
+combining-accent = refl
+
 -- control bytes and `<` pass (T8)
 control-bytes :
     read (blank 20 0) (0 ∷ 10 ∷ 60 ∷ []) (2 ∷ 1 ∷ 0 ∷ 1 ∷ 1 ∷ 1 ∷ 2 ∷ 1 ∷ [])
@@ -190,6 +220,11 @@ high-second = refl
 four-before-five : read (blank 20 0) (200 ∷ bytes "abc") (2 ∷ 1 ∷ 0 ∷ 1 ∷ 2 ∷ 1 ∷ 1 ∷ 1 ∷ []) ≡ gives 4 0 (blank 20 0)
 unfolding taped
 four-before-five = refl
+
+-- a cut character under the first pair, the third out of order
+four-before-cut : read (blank 20 0) (195 ∷ bytes "abc") (2 ∷ 1 ∷ 0 ∷ 1 ∷ 2 ∷ 1 ∷ 1 ∷ 1 ∷ []) ≡ gives 4 0 (blank 20 0)
+unfolding taped
+four-before-cut = refl
 
 -- a pair outside, the record cut short
 three-before-four : read (blank 20 0) (bytes "schema") (2 ∷ 1 ∷ 9 ∷ 9 ∷ 9 ∷ 9 ∷ []) ≡ gives 3 0 (blank 20 0)

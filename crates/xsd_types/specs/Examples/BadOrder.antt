@@ -1,5 +1,5 @@
 -- Bad sheets, continued: the order of rows, the pairs, and what stands past the used parts.
-use Rattle.std.specs.Prelude.{◌≡◌, refl, [], ◌∷◌}
+use Rattle.std.specs.Prelude.{ℕ, ◌-◌, ◌≡◌, refl, [], ◌∷◌}
 use Rattle.sheet.specs.Rows.{Sheet}
 use Rattle.xsd_types.specs.Examples.Sheets.{line, no_namespace, sheet}
 use Rattle.xsd_types.specs.Examples.Judging.{Part, verdict, bad_by, bad_by_both, judged}
@@ -128,7 +128,7 @@ names-one-less : verdict (sheet 30 2 (line 0 3 1 0 0 1 0 0 0 0 ∷ no_namespace 
 unfolding judged
 names-one-less = refl
 
--- ---- "and all past the used parts, are zero"; "all names are bytes below 128"
+-- ---- "and all past the used parts, are zero"; order 12: "each used pair by itself holds such text"
 
 -- rows
 rows_behind :
@@ -146,6 +146,27 @@ byte-128-sheet : Sheet
 byte-128-sheet = record { rows = (sheet 20 0 (line 0 2 1 0 0 1 0 0 0 0 ∷ line 1 0 1 0 0 0 0 0 0 0 ∷ []) "").rows; names = 128 ∷ [] }
 
 -- byte 128 (127 is in GoodSheets)
-byte-128 : verdict byte-128-sheet ≡ bad_by Part.ascii
+byte-128 : verdict byte-128-sheet ≡ bad_by Part.names
 unfolding byte-128-sheet judged
 byte-128 = refl
+
+-- the names as a whole are a text, é and ß, but the first pair ends in the middle of é
+cut_sheet : ℕ → Sheet
+cut_sheet k =
+    record { rows = (sheet 30 0 (line 0 3 4 1 0 1 0 1 0 0 ∷ no_namespace ∷ line 2 0 k k (4 - k) 0 0 0 0 0 ∷ []) "").rows; names = 195 ∷ 169 ∷ 195 ∷ 159 ∷ [] }
+
+shared-character : verdict (cut_sheet 1) ≡ bad_by Part.names
+unfolding cut_sheet judged
+shared-character = refl
+
+shared-second : verdict (cut_sheet 3) ≡ bad_by Part.names
+unfolding cut_sheet judged
+shared-second = refl
+
+-- U+039C is a graph's alone
+graph-character_sheet : Sheet
+graph-character_sheet = record { rows = (sheet 20 0 (line 0 2 2 0 0 1 0 0 0 0 ∷ line 1 0 2 0 0 0 0 0 0 0 ∷ []) "").rows; names = 206 ∷ 156 ∷ [] }
+
+graph-character : verdict graph-character_sheet ≡ bad_by Part.names
+unfolding graph-character_sheet judged
+graph-character = refl

@@ -55,7 +55,7 @@ room-to-spare : verdict (sheet 50 9 (line 0 3 2 1 0 1 0 1 0 0 ∷ no_namespace �
 unfolding judged
 room-to-spare = refl
 
--- "all names are bytes below 128": 127 is
+-- order 12: "each used pair by itself holds such text": 127 is one
 
 byte-127-sheet : Sheet
 byte-127-sheet = record { rows = (sheet 20 0 (line 0 2 1 0 0 1 0 0 0 0 ∷ line 1 0 1 0 0 0 0 0 0 0 ∷ []) "").rows; names = 127 ∷ [] }
@@ -63,6 +63,15 @@ byte-127-sheet = record { rows = (sheet 20 0 (line 0 2 1 0 0 1 0 0 0 0 ∷ line 
 byte-127 : verdict byte-127-sheet ≡ fine
 unfolding byte-127-sheet judged
 byte-127 = refl
+
+-- so are é and ß, C3 A9 and C3 9F, a character to each pair
+accented-sheet : Sheet
+accented-sheet =
+    record { rows = (sheet 30 0 (line 0 3 4 1 0 1 0 1 0 0 ∷ no_namespace ∷ line 2 0 2 2 2 0 0 0 0 0 ∷ []) "").rows; names = 195 ∷ 169 ∷ 195 ∷ 159 ∷ [] }
+
+accented : verdict accented-sheet ≡ fine
+unfolding accented-sheet judged
+accented = refl
 
 -- ---- order 5, event numbers
 

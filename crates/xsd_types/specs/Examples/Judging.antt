@@ -18,7 +18,7 @@ use Rattle.xsd_types.specs.Good.{used_pairs, in_order, row0_form, ten_form, name
 use Rattle.xsd_types.specs.Examples.Sheets.{written}
 
 pub data Part : Type 0 where
-  lent row0 row1 numbers order pairs names_used zeros ascii counts root nesting context extension events count : Part
+  lent row0 row1 numbers order pairs names_used zeros names counts root nesting context extension events count : Part
 
 unfoldable pub unless : Bool → Part → List Part → List Part
 unless true p ps = ps
@@ -45,7 +45,7 @@ broken x =
     (unless (covers used_pairs 0 ts) pairs
     (unless (eqb (covered 0 ts) z.names_used) names_used
     (unless (zeros_behind y) zeros
-    (unless (names_test y) ascii
+    (unless (names_test y) names
     (unless (limits z) counts
     (unless (root_test z) root
     (unless (nesting_test z) nesting

@@ -19,13 +19,14 @@ use Rattle.xml.specs.Tags.{tag}
 use Rattle.xml.specs.Root.{Piece, on, opened, level_of_tag, close, markup, piece, turn, rooted, add_events, on_level, inside, root}
 use Rattle.xml.specs.Document.{well_formed, to_end, document_from, document}
 use Rattle.xml.specs.Written.{is_name_text, attribute_ok, new_keys, written_tag, written_event, written_attributes, tag_end}
-use Rattle.xml.proofs.Laws.Written.{name-written, name_of-written, name-start, start-other, starts-not, spaces-stop, tag-more, tag-written}
+use Rattle.xml.proofs.Laws.Names.{may_start, begins-low}
+use Rattle.xml.proofs.Laws.Written.{name-written, name_of-written, name-is-whole, name-start, start-other, starts-not, spaces-stop, tag-more, tag-written}
 use Rattle.xsd_written.specs.Markup.{Markup, starts, empties, ends, markup_text, markups_text}
 use Rattle.xsd_written.specs.Reads.{tag_ok, markup_ok, open_behind, closes, nested, placed_one, placed}
 
 -- at the `<` of a tag, whose name follows
-module _ (at : ℕ) (s : Text) (n : is_name_start (first s) ≡ true) where
-  no_word : (w : ℕ) (word : Text) → is_name_start w ≡ false → eqb 0 w ≡ false → starts_with (60 ∷ w ∷ word) (60 ∷ s) ≡ false
+module _ (at : ℕ) (s : Text) (n : may_start (first s) ≡ true) where
+  no_word : (w : ℕ) (word : Text) → may_start w ≡ false → eqb 0 w ≡ false → starts_with (60 ∷ w ∷ word) (60 ∷ s) ≡ false
   unfolding starts_with
   no_word w word h z = starts-not w word s (start-other (first s) w n h) z
 
@@ -37,9 +38,9 @@ module _ (at : ℕ) (s : Text) (n : is_name_start (first s) ≡ true) where
   unfolding turn piece char_data
   turn-tag names = rw markup-tag
 
-tag-name : (kind : ℕ) (t : Tag) (rest : Text) → is_name_text t.name ≡ true → (s : Text) × (written_tag kind t ++ rest ≡ 60 ∷ s) × (is_name_start (first s) ≡ true)
+tag-name : (kind : ℕ) (t : Tag) (rest : Text) → is_name_text t.name ≡ true → (s : Text) × (written_tag kind t ++ rest ≡ 60 ∷ s) × (may_start (first s) ≡ true)
 tag-name kind t rest n =
-    (t.name ++ (written_attributes t.attributes ++ (tag_end kind ++ rest)), tag-more kind t rest, name-start t.name (written_attributes t.attributes ++ (tag_end kind ++ rest)) n)
+    (t.name ++ (written_attributes t.attributes ++ (tag_end kind ++ rest)), tag-more kind t rest, name-start t.name n (written_attributes t.attributes ++ (tag_end kind ++ rest)))
 
 turn-written : (names : List Text) (at kind : ℕ) (t : Tag) (rest : Text) → 1 ≤ kind → kind ≤ 2 → tag_ok t ≡ true
     → turn names at (written_tag kind t ++ rest) ≡ on (opened kind t.name names) (written_event at kind t ∷ []) (at + length (written_tag kind t)) rest
@@ -52,11 +53,11 @@ turn-written names at kind t rest low high ok =
 -- an end tag
 module _ (at : ℕ) (n rest : Text) (ok : is_name_text n ≡ true) where
   close-written : close at (60 ∷ 47 ∷ (n ++ 62 ∷ rest)) ≡ Piece.ending n (at + 2 + length n + 1) rest
-  unfolding close literal starts_with bytes is_name_text is_name is_name_start is_letter between is_white_space first
+  unfolding close literal starts_with bytes is_name is_name_start is_letter between is_white_space first
   close-written =
       rw (
-        name_of-written n (62 ∷ rest) (and-true-right (is_name_start (first n)) (every is_name n) ok) refl,
-        name-written (at + 2) n (62 ∷ rest) ok refl,
+        name_of-written n (62 ∷ rest) (name-is-whole n ok) (begins-low is_name 62 rest (omega arith) refl),
+        name-written n ok (at + 2) (62 ∷ rest) (begins-low is_name 62 rest (omega arith) refl),
         spaces-stop (at + 2 + length n)
             (62 ∷ rest) refl,
       )
@@ -106,7 +107,7 @@ markups-long [] = omega arith
 markups-long (m ∷ ms) = omega (arith, markups-long ms, markup-some m, length-append (markup_text m) (markups_text ms))
 
 -- no prolog stands before a tag
-no-prolog : (s : Text) → is_name_start (first s) ≡ true → document (60 ∷ s) ≡ document_from 0 (60 ∷ s)
+no-prolog : (s : Text) → may_start (first s) ≡ true → document (60 ∷ s) ≡ document_from 0 (60 ∷ s)
 unfolding document prolog is_declaration misc misc_from is_misc bytes is_name_start is_letter between is_white_space first
 no-prolog s n =
     rw (

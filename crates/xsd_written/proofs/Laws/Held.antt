@@ -24,7 +24,8 @@ use Rattle.xsd_types.specs.Types.{Facet, MaxOccurs, SequenceElement, ChoiceVaria
 use Rattle.xsd_types.specs.State.{element_ok, facet_ok, max_occurs_ok, sequence_element_ok, choice_variant_ok, attribute_ok, namespace_ok, content_ok, started, item_ok, schema_ok}
 use Rattle.xsd_types.specs.Rows.{facet_row, occurs_row, element_row, variant_row, attribute_row, simple_type_rows, complex_type_rows, item_rows, items_rows}
 use Rattle.xsd_parser.specs.Event.{Attr}
-use Rattle.xml.specs.Classes.{is_char, is_letter, is_name_start, is_name}
+use Rattle.xml.specs.Classes.{is_char, is_letter, is_name_start, is_name, is_byte_of, begins}
+use Rattle.xml.specs.Steps.{name_of}
 use Rattle.xml.specs.Grammar.{is_among}
 use Rattle.xml.specs.Values.{is_plain}
 use Rattle.xml.specs.Written.{is_name_text, is_value, quote_of, new_keys}
@@ -105,7 +106,7 @@ around-fine word xs ms t h =
 
 -- quoted words compute
 unfoldable words : Unit {0}
-unfolding computes name_fine is_name_text is_name_start is_name is_letter prefixed attr new_keys is_among
+unfolding computes name_fine is_name_text begins is_byte_of name_of is_name_start is_name is_letter prefixed attr new_keys is_among
 words = tt
 
 one-fine : (word key : String) (v : Text) → name_fine (prefixed word) ≡ true → name_fine (bytes key) ≡ true → value_fine v ≡ true → tag_fine (tag_of word (attr key v ∷ [])) ≡ true

@@ -6,10 +6,10 @@ use mathlib.Core.Bool.{true, false, not, ◌&&◌, false≢true}
 use native.Mathlib.Omega.{arith}
 use lib.Dec.{eqb}
 use lib.ListN.{length, drop, length-append}
-use Rattle.text.specs.Text.{Text, bytes, first, between, lower}
+use Rattle.text.specs.Text.{Text, bytes, between, lower}
 use Rattle.text.specs.Trim.{is_white_space}
 use Rattle.text.proofs.Laws.Tests.{bool_cases, or-false-right}
-use Rattle.xml.specs.Classes.{is_letter, is_name_start, is_name}
+use Rattle.xml.specs.Classes.{is_letter, is_name_start, is_name, is_byte_of, begins}
 use Rattle.xml.specs.Steps.{behind, starts_with, name_of}
 use Rattle.xml.specs.Grammar.{is_xml, absent, present, Many, none, more, run, PITarget, PI, declares, XMLDecl, xml_decl, Misc, misc_comment, misc_pi, misc_s, Prolog}
 use Rattle.xml.specs.Prolog.{declaration, is_misc, misc, is_declaration, prolog}
@@ -34,15 +34,15 @@ prolog-sound at s e r h =
 
 -- a declaration begins a text with a declaration
 declaration-is : {v : Text} → XMLDecl v → (r : Text) → is_declaration (v ++ r) ≡ true
-unfolding is_declaration bytes starts_with first
-declaration-is (xml_decl (declares (run {b} y h) c d) e f o) r = rw (white-no-name b y)
+unfolding is_declaration bytes starts_with
+declaration-is (xml_decl (declares (run {b} y h) c d) e f o) r = ap not (white-no-name b y _)
 
 -- and Misc* with what may stand behind it does not
 white-no-less : (b : ℕ) → is_white_space b ≡ true → eqb b 60 ≡ false
 white-no-less = white-is (λ (b : ℕ). eqb b 60 ≡ false) refl refl refl refl
 
-name-xml : (n : Text) (s : Text) → name_of s ≡ n → starts_with (bytes "xml") s ≡ true → is_name (first (drop 3 s)) ≡ false → is_xml n ≡ true
-unfolding is_xml bytes lower between is_name is_name_start is_letter
+name-xml : (n : Text) (s : Text) → name_of s ≡ n → starts_with (bytes "xml") s ≡ true → begins is_name (drop 3 s) ≡ false → is_xml n ≡ true
+unfolding is_xml bytes lower between is_byte_of is_name is_name_start is_letter
 name-xml n s h k f =
     let w = word-starts (bytes "xml") s k in
     let e : n ≡ bytes "xml" =
@@ -50,10 +50,10 @@ name-xml n s h k f =
     ∙ ap (λ (t : Text). 120 ∷ t) (name_of-some 109 _ refl ∙ ap (λ (t : Text). 109 ∷ t) (name_of-some 108 _ refl ∙ ap (λ (t : Text). 108 ∷ t) (name_of-none (drop 3 s) f))) in
     ap is_xml e
 
-target-no-xml : {n : Text} → PITarget n → (s : Text) → is_name (first s) ≡ false → starts_with (bytes "xml") (n ++ s) && not (is_name (first (drop 3 (n ++ s)))) ≡ false
+target-no-xml : {n : Text} → PITarget n → (s : Text) → begins is_name s ≡ false → starts_with (bytes "xml") (n ++ s) && not (begins is_name (drop 3 (n ++ s))) ≡ false
 target-no-xml {n} (grammar.target m x) s f =
     bool_cases (starts_with (bytes "xml") (n ++ s))
-    (λ y. bool_cases (is_name (first (drop 3 (n ++ s))))
+    (λ y. bool_cases (begins is_name (drop 3 (n ++ s)))
     (λ z. rw (y, z))
     (λ z. absurd (false≢true (sym x ∙ name-xml n (n ++ s) (name_of-complete m s f) y z))))
     (λ y. rw y)

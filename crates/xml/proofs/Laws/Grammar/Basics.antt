@@ -6,20 +6,22 @@ use mathlib.Core.List.{[], ◌∷◌, ◌++◌, append_assoc}
 use mathlib.Core.Bool.{Bool, true, false, not, ◌||◌, false≢true}
 use native.Mathlib.Omega.{arith}
 use lib.Dec.{eqb}
-use lib.ListN.{length, take, drop, length-append}
+use lib.ListN.{length, take, drop, length-append, take-append-drop}
 use lib.Seq.{drop-append_seam, take-append_seam}
 use borrow.Author.Tests.{eqb-true, eq-eqb}
 use Rattle.text.specs.Text.{Text, bytes, first, every, between}
 use Rattle.text.specs.Trim.{is_white_space}
 use Rattle.text.proofs.Laws.Tests.{bool_cases, two}
 use Rattle.text.proofs.Laws.Table.{passes, at as at_place}
-use Rattle.xml.specs.Classes.{is_char, is_letter, is_name_start, is_name}
+use Rattle.xml.specs.Classes.{is_char, is_letter, is_name_start, is_name, begins}
 use Rattle.xml.specs.Steps.{Step, behind, ◌and_then◌, starts_with, literal, many, one_then, spaces, space, name, name_of}
-use Rattle.xml.specs.Grammar.{Opt, absent, present, Run, run, S, Name, Eq, equals}
+use Rattle.xml.specs.Grammar.{Opt, absent, present, Many, none, more, Run, run, CharOf, one_byte, two_bytes, S, Name, Eq, equals}
+use Rattle.xml.specs.Grammar as grammar
 use Rattle.xml.specs.Prolog.{eq}
-use Rattle.xml.proofs.Laws.Names.{behind-at, behind-rest, bad-not, name_of-some, name_of-take, name-size, start-is-name}
+use Rattle.xml.proofs.Laws.Names.{behind-at, behind-rest, bad-not, name_of-none, name_of-some, name_of-pair, name_of-take, by_name, name-size, name-read, name-begun}
+use Rattle.xml.proofs.Laws.Names.{start-is-name, byte-inside, pair-inside, begins-cases, begins-byte, begins-pair, begins-low, may_start, byte-may-start, pair-may-start}
 use Rattle.xml.proofs.Laws.Moves.{Moves, moves, then-ends, eq-passes}
-use Rattle.xml.proofs.Laws.Written.{many-written, name_of-written}
+use Rattle.xml.proofs.Laws.Written.{many-written}
 
 -- a derivation of what stands before the rest, and where it ends
 abbrev pub Splits : (Text → Type 0) → ℕ → Text → ℕ → Text → Type 0
@@ -95,16 +97,52 @@ pub run-complete : (p q : ℕ → Bool) {v : Text} → Run p q v → (at : ℕ) 
 unfolding one_then
 run-complete p q (run {b} {s} y h) at r n = rw y (many-written q (suc at) s r h n ∙ behind-same (omega arith))
 
+-- names
+name-chars : (s : Text) → Many (CharOf is_name) (name_of s)
+name-chars s =
+    by_name (λ u. Many (CharOf is_name) (name_of u))
+    (λ u e. rw (name_of-none u e) none)
+    (λ b u e m. rw (name_of-some b u e) (more (one_byte e) m))
+    (λ b t u e m. rw (name_of-pair b t u e) (more (two_bytes e) m))
+    s
+
+pub name-made : (s : Text) → begins is_name_start s ≡ true → Name (name_of s)
+name-made s e =
+    begins-cases is_name_start (λ u. Name (name_of u)) s e
+    (λ b u h. rw (name_of-some b u (byte-inside is_name_start is_name start-is-name b h)) (grammar.name (one_byte h) (name-chars u)))
+    (λ b t u h. rw (name_of-pair b t u (pair-inside is_name_start is_name start-is-name b t h)) (grammar.name (two_bytes h) (name-chars u)))
+
 pub name-sound : Sound Name name
-unfolding name
-name-sound = run_sound is_name_start is_name
+name-sound at s e r q =
+    let n = name-read at s e r q in (
+      name_of s,
+      name-made s n.0,
+      sym (take-append-drop (length (name_of s)) s) ∙ ap (λ (t : Text). t ++ drop (length (name_of s)) s) (name_of-take s) ∙ ap (λ (t : Text). name_of s ++ t) (sym n.2),
+      n.1,
+    )
 
-pub name-complete : {v : Text} → Name v → (at : ℕ) (r : Text) → is_name (first r) ≡ false → name at (v ++ r) ≡ behind (at + length v) r
-unfolding name
-name-complete n = run-complete is_name_start is_name n
+chars-complete : {v : Text} → Many (CharOf is_name) v → (r : Text) → begins is_name r ≡ false → name_of (v ++ r) ≡ v
+chars-complete none r n = name_of-none r n
+chars-complete (more {t} (one_byte {b} e) m) r n = name_of-some b (t ++ r) e ∙ ap (λ (u : Text). b ∷ u) (chars-complete m r n)
+chars-complete (more {t} (two_bytes {b} {t = c} e) m) r n = name_of-pair b c (t ++ r) e ∙ ap (λ (u : Text). b ∷ c ∷ u) (chars-complete m r n)
 
-pub name_of-complete : {v : Text} → Name v → (r : Text) → is_name (first r) ≡ false → name_of (v ++ r) ≡ v
-name_of-complete (run {b} {s} y h) r n = name_of-some b (s ++ r) (start-is-name b y) ∙ ap (λ (t : Text). b ∷ t) (name_of-written s r h n)
+pub name_of-complete : {v : Text} → Name v → (r : Text) → begins is_name r ≡ false → name_of (v ++ r) ≡ v
+name_of-complete (grammar.name {t} (one_byte {b} e) m) r n =
+    name_of-some b (t ++ r) (byte-inside is_name_start is_name start-is-name b e) ∙ ap (λ (u : Text). b ∷ u) (chars-complete m r n)
+name_of-complete (grammar.name {t} (two_bytes {b} {t = c} e) m) r n =
+    name_of-pair b c (t ++ r) (pair-inside is_name_start is_name start-is-name b c e) ∙ ap (λ (u : Text). b ∷ c ∷ u) (chars-complete m r n)
+
+name-begins : {v : Text} → Name v → (r : Text) → begins is_name_start (v ++ r) ≡ true
+name-begins (grammar.name {t} (one_byte {b} e) m) r = begins-byte is_name_start b (t ++ r) e
+name-begins (grammar.name {t} (two_bytes {b} {t = c} e) m) r = begins-pair is_name_start b c (t ++ r) e
+
+pub name-complete : {v : Text} → Name v → (at : ℕ) (r : Text) → begins is_name r ≡ false → name at (v ++ r) ≡ behind (at + length v) r
+name-complete {v} n at r h = name-begun at (v ++ r) (name-begins n r) ∙ (rw (name_of-complete n r h, drop-append_seam v r))
+
+-- its first byte
+pub name-first : {v : Text} → Name v → (b : ℕ) × (u : Text) × (v ≡ b ∷ u) × (may_start b ≡ true)
+name-first (grammar.name {t} (one_byte {b} e) m) = (b, t, refl, byte-may-start b e)
+name-first (grammar.name {t} (two_bytes {b} {t = c} e) m) = (b, c ∷ t, refl, pair-may-start b c e)
 
 pub name-whole : (at : ℕ) (s : Text) (e : ℕ) (r v : Text) → name at s ≡ behind e r → s ≡ v ++ r → e ≡ at + length v → name_of s ≡ v
 name-whole at s e r v q h k =
@@ -122,9 +160,11 @@ white-is P p q r t b h =
     (λ x. bool_cases (eqb b 32) (λ w. subst P (sym (eqb-true b 32 w)) t)
     (λ w. absurd (false≢true (rw (y, z, x, w) at h))))))
 
-pub white-no-name : (b : ℕ) → is_white_space b ≡ true → is_name b ≡ false
+pub white-no-name : (b : ℕ) → is_white_space b ≡ true → (s : Text) → begins is_name (b ∷ s) ≡ false
 unfolding is_name is_name_start is_letter between
-white-no-name = white-is (λ (b : ℕ). is_name b ≡ false) refl refl refl refl
+white-no-name =
+    white-is (λ (b : ℕ). (s : Text) → begins is_name (b ∷ s) ≡ false) (λ s. begins-low is_name 9 s (omega arith) refl) (λ s. begins-low is_name 10 s (omega arith) refl)
+    (λ s. begins-low is_name 13 s (omega arith) refl) (λ s. begins-low is_name 32 s (omega arith) refl)
 
 pub white-char : (b : ℕ) → is_white_space b ≡ true → is_char b ≡ true
 unfolding is_char between

@@ -12,7 +12,7 @@ use Rattle.text.specs.Text.{Text, bytes, first, same, between}
 use Rattle.text.proofs.Laws.Tests.{bool_cases, if-either}
 use Rattle.text.proofs.Laws.Texts.{same_refl, same-eq}
 use Rattle.xsd_parser.specs.Tape.{Pair}
-use Rattle.xml.specs.Classes.{is_letter, is_name_start, is_name}
+use Rattle.xml.specs.Classes.{is_letter, is_name_start, is_name, begins}
 use Rattle.xml.specs.Steps.{Step, bad, behind, ◌and_then◌, starts_with, literal, spaces, name, name_of, comment, instruction, section}
 use Rattle.xml.specs.Values.{char_data}
 use Rattle.xml.specs.Tape.{AttributePairs, TapeEvent}
@@ -22,10 +22,11 @@ use Rattle.xml.specs.Root.{turn, Rooted, unrooted, rooted, add_events, on_level,
 use Rattle.xml.specs.Grammar.{Opt, absent, present, run, S, Reference, CharData, Comment, PI, CDSect, STag, EmptyElemTag, ETag, end_tag, Element, empty_element}
 use Rattle.xml.specs.Grammar.{whole_element, Content, content, Items, no_item, one_item, Item, item_element, item_reference, item_section, item_pi, item_comment}
 use Rattle.xml.specs.Grammar as grammar
+use Rattle.xml.proofs.Laws.Names.{may_start}
 use Rattle.xml.proofs.Laws.Moves.{then-ends, char-data-moves}
 use Rattle.xml.proofs.Laws.Written.{start-other}
 use Rattle.xml.proofs.Laws.Root.{closing, close_of, add_none, add-add}
-use Rattle.xml.proofs.Laws.Grammar.Basics.{ends_at, literal-sound, name-sound, name-complete, name-whole, name_of-complete, white-no-name, spaces-sound, spaces-complete}
+use Rattle.xml.proofs.Laws.Grammar.Basics.{ends_at, literal-sound, name-sound, name-complete, name-whole, name_of-complete, name-first, white-no-name, spaces-sound, spaces-complete}
 use Rattle.xml.proofs.Laws.Grammar.Markup.{comment-sound, comment-complete, comment-some, section-sound, section-complete, section-some, instruction-sound}
 use Rattle.xml.proofs.Laws.Grammar.Markup.{instruction-complete, instruction-some}
 use Rattle.xml.proofs.Laws.Grammar.References.{reference-bytes}
@@ -63,10 +64,9 @@ close-sound at s m a r h =
       omega (arith, size, w.1, n.3, o.3, g.1),
     )
 
-behind-close : {t : Text} → Opt S t → (r : Text) → is_name (first (t ++ (62 ∷ r))) ≡ false
-unfolding first
-behind-close absent r = greater-no-name
-behind-close (present (run {b} y h)) r = white-no-name b y
+behind-close : {t : Text} → Opt S t → (r : Text) → begins is_name (t ++ (62 ∷ r)) ≡ false
+behind-close absent r = greater-no-name r
+behind-close (present (run {b} y h)) r = white-no-name b y _
 
 ending-same : {n m : Text} {a b : ℕ} {r : Text} → n ≡ m → a ≡ b → ending n a r ≡ ending m b r
 ending-same p q = cc
@@ -340,21 +340,21 @@ passed-goes v at r (w, p, h) z m tags turns l =
     (g.0, omega (arith, g.1, length-append v r), g.2)
 
 -- a tag
-tag-markup : (at b : ℕ) (s : Text) → is_name_start b ≡ true → markup at (60 ∷ b ∷ s) ≡ starting at (60 ∷ b ∷ s)
+tag-markup : (at b : ℕ) (s : Text) → may_start b ≡ true → markup at (60 ∷ b ∷ s) ≡ starting at (60 ∷ b ∷ s)
 unfolding markup bytes starts_with is_name_start is_letter between
 tag-markup at b s h = rw (start-other b 47 h refl, start-other b 33 h refl, start-other b 63 h refl)
 
-turn-tag : (tags : List Text) (at b : ℕ) (s : Text) → is_name_start b ≡ true → turn tags at (60 ∷ b ∷ s) ≡ level_of_tag tags (tag at (60 ∷ b ∷ s))
+turn-tag : (tags : List Text) (at b : ℕ) (s : Text) → may_start b ≡ true → turn tags at (60 ∷ b ∷ s) ≡ level_of_tag tags (tag at (60 ∷ b ∷ s))
 turn-tag tags at b s h = turn-less tags at (b ∷ s) ∙ ap (level_of tags) (tag-markup at b s h)
 
-body-first : {at : ℕ} {s n : Text} {xs : List AttributePairs} → grammar.TagBody at s n xs → (r : Text) → (b : ℕ) × (w : Text) × (is_name_start b ≡ true) × (s ++ r ≡ 60 ∷ b ∷ w)
+body-first : {at : ℕ} {s n : Text} {xs : List AttributePairs} → grammar.TagBody at s n xs → (r : Text) → (b : ℕ) × (w : Text) × (may_start b ≡ true) × (s ++ r ≡ 60 ∷ b ∷ w)
 unfolding bytes
-body-first (grammar.tag_body {s} {t} (run {b} {s = v} y h) ds k o) r = (b, (v ++ (s ++ t)) ++ r, y, refl)
+body-first (grammar.tag_body {s} {t} n ds k o) r = let f = name-first n in (f.0, (f.1 ++ (s ++ t)) ++ r, f.3, ap (λ (v : Text). 60 ∷ ((v ++ (s ++ t)) ++ r)) f.2)
 
-start_first : {at : ℕ} {s n : Text} {e : TapeEvent} → STag at s n e → (r : Text) → (b : ℕ) × (w : Text) × (is_name_start b ≡ true) × (s ++ r ≡ 60 ∷ b ∷ w)
+start_first : {at : ℕ} {s n : Text} {e : TapeEvent} → STag at s n e → (r : Text) → (b : ℕ) × (w : Text) × (may_start b ≡ true) × (s ++ r ≡ 60 ∷ b ∷ w)
 start_first (grammar.start_tag {s} d) r = let f = body-first d (bytes ">" ++ r) in (f.0, f.1, f.2, append_assoc s (bytes ">") r ∙ f.3)
 
-empty-first : {at : ℕ} {s : Text} {e : TapeEvent} → EmptyElemTag at s e → (r : Text) → (b : ℕ) × (w : Text) × (is_name_start b ≡ true) × (s ++ r ≡ 60 ∷ b ∷ w)
+empty-first : {at : ℕ} {s : Text} {e : TapeEvent} → EmptyElemTag at s e → (r : Text) → (b : ℕ) × (w : Text) × (may_start b ≡ true) × (s ++ r ≡ 60 ∷ b ∷ w)
 empty-first (grammar.empty_tag {s} d) r = let f = body-first d (bytes "/>" ++ r) in (f.0, f.1, f.2, append_assoc s (bytes "/>") r ∙ f.3)
 
 turn-start : {at : ℕ} {s n : Text} {e : TapeEvent} → STag at s n e → (tags : List Text) (r : Text) → turn tags at (s ++ r) ≡ on (n ∷ tags) (e ∷ []) (at + length s) r
@@ -394,7 +394,7 @@ less-stops : (s w : Text) → s ≡ 60 ∷ w → Stops s
 unfolding first
 less-stops s w e = inl (ap first e)
 
-pub element-first : {at : ℕ} {s : Text} {es : List TapeEvent} → Element at s es → (r : Text) → (b : ℕ) × (w : Text) × (is_name_start b ≡ true) × (s ++ r ≡ 60 ∷ b ∷ w)
+pub element-first : {at : ℕ} {s : Text} {es : List TapeEvent} → Element at s es → (r : Text) → (b : ℕ) × (w : Text) × (may_start b ≡ true) × (s ++ r ≡ 60 ∷ b ∷ w)
 element-first (empty_element d) r = empty-first d r
 element-first (whole_element {s} {t} {u} d c e q) r = let f = start_first d ((t ++ u) ++ r) in (f.0, f.1, f.2, append_assoc s (t ++ u) r ∙ f.3)
 

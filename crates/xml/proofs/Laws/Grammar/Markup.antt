@@ -12,11 +12,11 @@ use Rattle.text.specs.Text.{Text, bytes, first, every, between}
 use Rattle.text.specs.Trim.{is_white_space}
 use Rattle.text.proofs.Laws.Tests.{bool_cases, two}
 use Rattle.text.proofs.Laws.Every.{every-cons, every-append-true, every-weaken}
-use Rattle.xml.specs.Classes.{is_char, is_letter, is_name_start, is_name}
+use Rattle.xml.specs.Classes.{is_char, is_letter, is_name_start, is_name, begins}
 use Rattle.xml.specs.Steps.{behind, ◌and_then◌, starts_with, literal, until, comment, name_of, target, instruction_end, instruction, section}
 use Rattle.xml.specs.Grammar.{is_xml, Opt, absent, present, Many, none, more, run, Without, S, CommentPart, no_hyphen, one_hyphen, Comment, PITarget, PIText, behind_target, PI, CDSect}
 use Rattle.xml.specs.Grammar as grammar
-use Rattle.xml.proofs.Laws.Names.{bad-not}
+use Rattle.xml.proofs.Laws.Names.{bad-not, begins-low}
 use Rattle.xml.proofs.Laws.Moves.{moves, then-ends, comment-passes, section-passes, instruction-passes}
 use Rattle.xml.proofs.Laws.Grammar.Basics.{Sound, ends_at, behind-same, starts-word, literal-sound, literal-complete, name-sound, name-complete, name_of-complete}
 use Rattle.xml.proofs.Laws.Grammar.Basics.{name-whole, white-is, white-no-name, white-char, s-white, regroup, regroup4}
@@ -173,7 +173,7 @@ target_sound at s e r q =
     let h = name-sound at s e r p in
     (h.0, grammar.target h.1 (rw (name-whole at s e r h.0 p h.2 h.3) at y), h.2, h.3))
 
-pub target-complete : {v : Text} → PITarget v → (at : ℕ) (r : Text) → is_name (first r) ≡ false → target at (v ++ r) ≡ behind (at + length v) r
+pub target-complete : {v : Text} → PITarget v → (at : ℕ) (r : Text) → begins is_name r ≡ false → target at (v ++ r) ≡ behind (at + length v) r
 unfolding target
 target-complete (grammar.target n x) at r h = rw (name_of-complete n r h, x) (name-complete n at r h)
 
@@ -226,14 +226,13 @@ instruction-sound at s e r q =
     a.0 ∙ ap (λ (t : Text). bytes "<?" ++ t) (b.2 ∙ ap (λ (t : Text). b.0 ++ t) c.2) ∙ sym (regroup4 (bytes "<?") b.0 c.0 (bytes "?>") r) in
     (v, grammar.instruction b.1 c.1, split, ends_at instruction (moves instruction-passes) at s e r v q split)
 
-mark-no-name : is_name 63 ≡ false
+mark-no-name : (r : Text) → begins is_name (63 ∷ r) ≡ false
 unfolding is_name is_name_start is_letter between
-mark-no-name = refl
+mark-no-name r = begins-low is_name 63 r (omega arith) refl
 
-pub behind-target : {s : Text} → Opt PIText s → (r : Text) → is_name (first (s ++ (63 ∷ r))) ≡ false
-unfolding first
-behind-target absent r = mark-no-name
-behind-target (present (behind_target (run {b} y h) c n)) r = white-no-name b y
+pub behind-target : {s : Text} → Opt PIText s → (r : Text) → begins is_name (s ++ (63 ∷ r)) ≡ false
+behind-target absent r = mark-no-name r
+behind-target (present (behind_target (run {b} y h) c n)) r = white-no-name b y _
 
 pub instruction-complete : {v : Text} → PI v → (at : ℕ) (r : Text) → instruction at (v ++ r) ≡ behind (at + length v) r
 unfolding instruction bytes literal starts_with

@@ -12,11 +12,11 @@ use Rattle.text.specs.Text.{Text, bytes, every, between, is_digit}
 use Rattle.text.proofs.Laws.Tests.{bool_cases, and-true, two, four}
 use Rattle.text.proofs.Laws.Texts.{between-low, between-high}
 use Rattle.text.proofs.Laws.Every.{every-append-true, every-weaken}
-use Rattle.xml.specs.Classes.{is_char, is_letter, is_name_start, is_name}
-use Rattle.xml.specs.Steps.{starts_with}
+use Rattle.xml.specs.Classes.{is_char, is_letter, is_name_start, is_name, is_byte_of, begins}
+use Rattle.xml.specs.Steps.{starts_with, name_of}
 use Rattle.xml.specs.Grammar.{digit_of, Run, run, is_hex_digit, number_of, decimal, hex, amp, lt, gt, apos, quot, entity, Reference, entity_ref, char_ref}
 use Rattle.xml.specs.Values.{is_number, is_entity, is_reference, is_quote, is_in_text, is_in_value}
-use Rattle.xml.proofs.Laws.Grammar.Basics.{class-in, word-starts, regroup}
+use Rattle.xml.proofs.Laws.Grammar.Basics.{class-in, word-starts, regroup, name-made}
 
 -- a digit of a base
 digit-decimal : (b : ℕ) → is_digit b ≡ true → digit_of b < 10
@@ -91,13 +91,13 @@ entity-split : (w s : Text) → Reference w → starts_with w s ≡ true → (v 
 entity-split w s d h = (w, drop (length w) s, d, word-starts w s h)
 
 entity-sound : (s : Text) → is_entity s ≡ true → (v : Text) × (r : Text) × Reference v × (s ≡ v ++ r)
-unfolding is_entity bytes is_name_start is_name is_letter between every
+unfolding is_entity bytes begins is_byte_of name_of is_name_start is_name is_letter between every
 entity-sound s h =
-    bool_cases (starts_with (bytes "&amp;") s) (λ y. entity-split (bytes "&amp;") s (entity_ref (entity (run refl refl) amp)) y)
-    (λ y. bool_cases (starts_with (bytes "&lt;") s) (λ z. entity-split (bytes "&lt;") s (entity_ref (entity (run refl refl) lt)) z)
-    (λ z. bool_cases (starts_with (bytes "&gt;") s) (λ x. entity-split (bytes "&gt;") s (entity_ref (entity (run refl refl) gt)) x)
-    (λ x. bool_cases (starts_with (bytes "&apos;") s) (λ w. entity-split (bytes "&apos;") s (entity_ref (entity (run refl refl) apos)) w)
-    (λ w. bool_cases (starts_with (bytes "&quot;") s) (λ u. entity-split (bytes "&quot;") s (entity_ref (entity (run refl refl) quot)) u)
+    bool_cases (starts_with (bytes "&amp;") s) (λ y. entity-split (bytes "&amp;") s (entity_ref (entity (name-made (bytes "amp") refl) amp)) y)
+    (λ y. bool_cases (starts_with (bytes "&lt;") s) (λ z. entity-split (bytes "&lt;") s (entity_ref (entity (name-made (bytes "lt") refl) lt)) z)
+    (λ z. bool_cases (starts_with (bytes "&gt;") s) (λ x. entity-split (bytes "&gt;") s (entity_ref (entity (name-made (bytes "gt") refl) gt)) x)
+    (λ x. bool_cases (starts_with (bytes "&apos;") s) (λ w. entity-split (bytes "&apos;") s (entity_ref (entity (name-made (bytes "apos") refl) apos)) w)
+    (λ w. bool_cases (starts_with (bytes "&quot;") s) (λ u. entity-split (bytes "&quot;") s (entity_ref (entity (name-made (bytes "quot") refl) quot)) u)
     (λ u. absurd (false≢true (rw (y, z, x, w, u) at h)))))))
 
 -- [67]

@@ -12,7 +12,7 @@ use Rattle.text.specs.Text.{Text, bytes, first, between}
 use Rattle.text.specs.Trim.{is_white_space}
 use Rattle.text.proofs.Laws.Tests.{bool_cases, two}
 use Rattle.xsd_parser.specs.Tape.{Pair}
-use Rattle.xml.specs.Classes.{is_letter, is_name_start, is_name}
+use Rattle.xml.specs.Classes.{is_letter, is_name_start, is_name, begins}
 use Rattle.xml.specs.Steps.{Step, bad, behind, starts_with, literal, spaces, name, name_of}
 use Rattle.xml.specs.Values.{value}
 use Rattle.xml.specs.Prolog.{eq}
@@ -22,10 +22,10 @@ use Rattle.xml.specs.Tags.{ended, on_part, attributes_from, attributes, untagged
 use Rattle.xml.specs.Grammar.{is_among, Opt, absent, present, run, S, Name, Eq, equals, AttValue, double_quoted, single_quoted, Attribute, Attributes, no_attribute}
 use Rattle.xml.specs.Grammar.{one_more, new_key, TagBody, tag_body, STag, start_tag, EmptyElemTag, empty_tag}
 use Rattle.xml.specs.Grammar as grammar
-use Rattle.xml.proofs.Laws.Names.{behind-at}
+use Rattle.xml.proofs.Laws.Names.{behind-at, may_start, begins-low}
 use Rattle.xml.proofs.Laws.Written.{pair_same, attribute-same, start-other, start-no-space, less-written, equals-no-name, tagged-same}
 use Rattle.xml.proofs.Laws.Tags.{attributes-last, tag-found}
-use Rattle.xml.proofs.Laws.Grammar.Basics.{literal-sound, word-starts, name-sound, name-complete, name-whole, name_of-complete, white-no-name, spaces-sound}
+use Rattle.xml.proofs.Laws.Grammar.Basics.{literal-sound, word-starts, name-sound, name-complete, name-whole, name_of-complete, name-first, white-no-name, spaces-sound}
 use Rattle.xml.proofs.Laws.Grammar.Basics.{spaces-complete, eq-sound, eq-complete}
 use Rattle.xml.proofs.Laws.Grammar.Texts.{value-sound, value-complete}
 
@@ -79,10 +79,10 @@ attribute-sound at s x key a r h =
     )
 
 -- [41], the other way
-eq-no-name : {e : Text} → Eq e → (r : Text) → is_name (first (e ++ r)) ≡ false
-unfolding first bytes
-eq-no-name (equals absent b) r = equals-no-name
-eq-no-name (equals (present (run {b} y h)) c) r = white-no-name b y
+eq-no-name : {e : Text} → Eq e → (r : Text) → begins is_name (e ++ r) ≡ false
+unfolding bytes
+eq-no-name (equals absent b) r = equals-no-name _
+eq-no-name (equals (present (run {b} y h)) c) r = white-no-name b y _
 
 value-no-white : {v w : Text} → AttValue v w → (r : Text) → is_white_space (first (w ++ r)) ≡ false
 unfolding first bytes is_white_space
@@ -291,18 +291,18 @@ tag-sound at s kind pair xs n a r h =
     (ends-from (m.0 + length d.2) (at + 1 + length k.0 + length d.2) d.3 kind a r (omega arith) d.8))
 
 -- the other way: the parts of a tag
-attribute-first : {at : ℕ} {w k : Text} {x : AttributePairs} → Attribute at w k x → (b : ℕ) × (v : Text) × (w ≡ b ∷ v) × (is_name_start b ≡ true)
-attribute-first (grammar.attribute {e} {w} (run {b} {s} y h) q u) = (b, s ++ (e ++ w), refl, y)
+attribute-first : {at : ℕ} {w k : Text} {x : AttributePairs} → Attribute at w k x → (b : ℕ) × (v : Text) × (w ≡ b ∷ v) × (may_start b ≡ true)
+attribute-first (grammar.attribute {e} {v = v} {w} n q u) = let f = name-first n in (f.0, f.1 ++ (e ++ w), ap (λ (t : Text). t ++ (e ++ w)) f.2, f.3)
 
-slash-no-start : is_name_start 47 ≡ false
+slash-no-start : may_start 47 ≡ false
 unfolding is_name_start is_letter between
 slash-no-start = refl
 
-greater-no-start : is_name_start 62 ≡ false
+greater-no-start : may_start 62 ≡ false
 unfolding is_name_start is_letter between
 greater-no-start = refl
 
-part-behind : (at a b : ℕ) (v : Text) → is_name_start b ≡ true → at < a → part_behind at (behind a (b ∷ v)) ≡ attribute a (b ∷ v)
+part-behind : (at a b : ℕ) (v : Text) → may_start b ≡ true → at < a → part_behind at (behind a (b ∷ v)) ≡ attribute a (b ∷ v)
 unfolding bytes starts_with
 part-behind at a b v y h = rw (start-other b 47 y slash-no-start, start-other b 62 y greater-no-start, ne_eqb a at (λ (e : a ≡ at). omega arith))
 
@@ -351,15 +351,14 @@ attributes-complete {at} (one_more {s} {t = w} {u} {k} {x} {ks} {xs} c d ds) (su
     (attributes-complete ds turns (k ∷ keys) (before ++ x ∷ []) f.1 (omega arith) t kind a r (ap (λ (z : ℕ). part_of z t) (omega arith) ∙ h)
     ∙ ap (λ (z : List AttributePairs). ended kind z a r) (append_assoc before (x ∷ []) xs))
 
-attributes-no-name : {at : ℕ} {u : Text} {ks : List Text} {xs : List AttributePairs} → Attributes at u ks xs → {t : Text} → Opt S t → (r : Text) → is_name (first r) ≡ false
-    → is_name (first (u ++ (t ++ r))) ≡ false
-unfolding first
+attributes-no-name : {at : ℕ} {u : Text} {ks : List Text} {xs : List AttributePairs} → Attributes at u ks xs → {t : Text} → Opt S t → (r : Text) → begins is_name r ≡ false
+    → begins is_name (u ++ (t ++ r)) ≡ false
 attributes-no-name no_attribute absent r h = h
-attributes-no-name no_attribute (present (run {b} y e)) r h = white-no-name b y
-attributes-no-name (one_more (run {b} y e) d ds) o r h = white-no-name b y
+attributes-no-name no_attribute (present (run {b} y e)) r h = white-no-name b y _
+attributes-no-name (one_more (run {b} y e) d ds) o r h = white-no-name b y _
 
 -- [40] and [44], the other way
-body-complete : {at : ℕ} {s n : Text} {xs : List AttributePairs} → TagBody at s n xs → (end : Text) (kind : ℕ) (r : Text) → is_name (first (end ++ r)) ≡ false
+body-complete : {at : ℕ} {s n : Text} {xs : List AttributePairs} → TagBody at s n xs → (end : Text) (kind : ℕ) (r : Text) → begins is_name (end ++ r) ≡ false
     → ((t : Text) → Opt S t → (p : ℕ) → part_of p (t ++ (end ++ r)) ≡ last kind (p + length t + length end) r)
     → tag at ((s ++ end) ++ r) ≡ tagged kind (record { offset = at + 1; size = length n }) xs n (at + length (s ++ end)) r
 unfolding bytes attributes
@@ -374,22 +373,22 @@ body-complete {at} (tag_body {n} {s} {t} {ks} {xs} m ds k o) end kind r h p =
     (p t o (at + 1 + length n + length s)))
     ∙ tagged-same kind _ _ xs _ n _ _ r (pair_same _ _ _ _ refl (omega arith)) (name_of-complete m (s ++ (t ++ (end ++ r))) c) (omega arith))
 
-pub greater-no-name : is_name 62 ≡ false
+pub greater-no-name : (r : Text) → begins is_name (62 ∷ r) ≡ false
 unfolding is_name is_name_start is_letter between
-greater-no-name = refl
+greater-no-name r = begins-low is_name 62 r (omega arith) refl
 
-slash-no-name : is_name 47 ≡ false
+slash-no-name : (r : Text) → begins is_name (47 ∷ r) ≡ false
 unfolding is_name is_name_start is_letter between
-slash-no-name = refl
+slash-no-name r = begins-low is_name 47 r (omega arith) refl
 
 pub start-complete : {at : ℕ} {s n : Text} {e : TapeEvent} → STag at s n e → (r : Text)
     → (pair : Pair) × (xs : List AttributePairs) × (e ≡ TapeEvent.tag 1 pair xs) × (tag at (s ++ r) ≡ tagged 1 pair xs n (at + length s) r)
 unfolding bytes first
 start-complete {at} (start_tag {s} {n} {xs} b) r =
-    (record { offset = at + 1; size = length n }, xs, refl, body-complete b (62 ∷ []) 1 r greater-no-name (λ t o p. start-end o p r))
+    (record { offset = at + 1; size = length n }, xs, refl, body-complete b (62 ∷ []) 1 r (greater-no-name r) (λ t o p. start-end o p r))
 
 pub empty-complete : {at : ℕ} {s : Text} {e : TapeEvent} → EmptyElemTag at s e → (r : Text)
     → (pair : Pair) × (xs : List AttributePairs) × (n : Text) × (e ≡ TapeEvent.tag 2 pair xs) × (tag at (s ++ r) ≡ tagged 2 pair xs n (at + length s) r)
 unfolding bytes first
 empty-complete {at} (empty_tag {s} {n} {xs} b) r =
-    (record { offset = at + 1; size = length n }, xs, n, refl, body-complete b (47 ∷ 62 ∷ []) 2 r slash-no-name (λ t o p. empty-end o p r))
+    (record { offset = at + 1; size = length n }, xs, n, refl, body-complete b (47 ∷ 62 ∷ []) 2 r (slash-no-name (62 ∷ r)) (λ t o p. empty-end o p r))

@@ -1,30 +1,49 @@
--- `xml_parts::steps::name` meets its contract: the first byte decides. Assumes nothing.
-use mathlib.Core.Path.{sym, ap, ◌∙◌}
-use native.Mathlib.Numerals.{add-one}
+-- `xml_parts::steps::name` meets its contract: behind a first byte below 128 stand the characters of names. Assumes nothing.
+use Prim.Native.Nat.{ℕ, ◌+◌}
+use native.Mathlib.Omega.{arith}
 use native.Mathlib.Nat.{le_refl}
-use Rattle.xml.specs.Classes.{is_name_start, is_name}
-use Rattle.xml.specs.Steps.{name}
-use Rattle.xml.proofs.Laws.Steps.{one-past, one-wrong, one_on}
+use mathlib.Core.Path.{◌≡◌, refl, sym, ap, ◌∙◌}
+use mathlib.Core.List.{[]}
+use mathlib.Core.Bool.{true, false}
+use lib.ListN.{length, drop, drop_of_length-le}
+use lib.Seq.{drop-drop}
+use Rattle.text.specs.Text.{Text, first}
+use Rattle.text.proofs.Laws.Texts.{first-drop}
+use Rattle.xml.specs.Classes.{is_name_start, is_byte_of, begins}
+use Rattle.xml.specs.Steps.{behind, name, name_of}
+use Rattle.xml.proofs.Laws.Names.{begins-place, name-begun, name-no-start, zero-no-start}
+use Rattle.xml_parts.specs.Answers.{start_width}
+use Rattle.xml_parts.proofs.Laws.Letters.{width-begins, width-some}
 use Rattle.xml_parts.proofs.steps.name.Goals as goal
 
+nothing-begins : begins is_name_start [] ≡ false
+unfolding begins
+nothing-begins = refl
+
+-- a name whose first character is one byte
+one-byte : (text : Text) (at end : ℕ) → is_byte_of is_name_start (first (drop at text)) ≡ true → end ≡ at + 1 + length (name_of (drop (at + 1) text))
+    → behind end (drop end text) ≡ name at (drop at text)
+unfolding start_width
+one-byte text at end e h =
+    let s = drop at text in
+    let one : start_width s ≡ 1 = rw (begins-place is_name_start text at zero-no-start, e) in
+    let b = width-begins s (λ z. omega (arith, one, z)) in
+    let rest : length (name_of (drop 1 s)) ≡ length (name_of (drop (at + 1) text)) = ap (λ (t : Text). length (name_of t)) (drop-drop 1 at text) in
+    let whole : 1 + length (name_of (drop 1 s)) ≡ length (name_of s) = rw one at (width-some s b).1 in
+    let k : end ≡ at + length (name_of s) = omega (arith, h, rest, whole) in
+    ap (λ (n : ℕ). behind n (drop n text)) k ∙ sym (name-begun at s b ∙ ap (behind (at + length (name_of s))) (drop-drop (length (name_of s)) at text))
+
 pub returns-in_err-get : goal.returns-in_err-get
-unfolding name
 returns-in_err-get c =
-    let a = c.args in
-    rw c.from_residual.ensures (sym (one-past is_name_start is_name a.text.now a.at a.at c.in_err-get.ensures.lookup.3))
+    let past = drop_of_length-le c.args.text.now c.in_err-get.ensures.lookup.3 in
+    rw c.from_residual.ensures (sym (name-no-start c.args.at _ (ap (begins is_name_start) past ∙ nothing-begins)))
 
-pub returns-then-not-in_class : goal.returns-then-not-in_class
-unfolding name
-returns-then-not-in_class c =
-    let a = c.args in
-    let l = c.in_ok-get.ensures.lookup in
-    sym (one-wrong is_name_start is_name a.text.now a.at a.at l.3.0
-    (ap is_name_start (sym (l.4 (le_refl a.at) 0)) ∙ sym c.in_class.ensures ∙ c.if-not-in_class.true))
+pub name_end-requires : goal.name_end-requires
+name_end-requires c = omega (arith, c.in_ok-get.ensures.lookup.3.0)
 
-pub returns : goal.returns
-unfolding name
-returns c =
-    let a = c.args in
+pub returns-then-in_class : goal.returns-then-in_class
+returns-then-in_class c =
+    let text = c.args.text.now in
+    let at = c.args.at in
     let l = c.in_ok-get.ensures.lookup in
-    (rw (add-one a.at) at c.name_end.ensures) ∙ sym (one_on is_name_start is_name a.text.now a.at a.at l.3.0
-    (ap is_name_start (sym (l.4 (le_refl a.at) 0)) ∙ sym c.in_class.ensures ∙ c.if-not-in_class.false))
+    one-byte text at c.name_end.result (ap (is_byte_of is_name_start) (first-drop text at ∙ sym (l.4 (le_refl at) 0)) ∙ sym c.in_class.ensures ∙ c.if-in_class.true) c.name_end.ensures

@@ -1,0 +1,44 @@
+// The texts under the used pairs of a sheet's rows: each by itself has to be a text, and plain names are texts wherever they are cut.
+ghost use Rattle.std.specs.Prelude.{◌≡◌, ◌∷◌, ◌||◌, ◌-◌, ◌*◌, ◌≤◌, true, length, take, drop, if◌then◌else◌};
+ghost use Rattle.text.specs.Text.{every, is_plain};
+ghost use Rattle.sheet.specs.Rows.{tens, text_at};
+ghost use Rattle.rows.specs.Ten.{as_ten};
+ghost use Rattle.rows.specs.Scan.{row_texts};
+
+use crate::numbers::wide;
+use crate::part::SheetPart;
+use crate::parts::part_of;
+use crate::scan::RowTests;
+use crate::ten::Ten;
+
+// Whether the text under a pair is one, if the pair is used.
+fn pair_is_text<R: RowTests>(used: bool, names: &[u8], at: u32, len: u32) -> bool
+    ensures { result ≡ (if used then R.tests.text (text_at names.now at len) else true) }
+{
+    !used || R::is_text(part_of(names, wide(at), wide(len)))
+}
+
+fn row_is_text<R: RowTests>(names: &[u8], t: Ten) -> bool
+    ensures { result ≡ row_texts R.tests names.now (as_ten t) }
+{
+    let used = R::used_pairs(t.tag, t.a);
+    pair_is_text::<R>(1 <= used, names, t.at0, t.len0)
+        & pair_is_text::<R>(2 <= used, names, t.at1, t.len1)
+        & pair_is_text::<R>(3 <= used, names, t.at2, t.len2)
+}
+
+// Row 1 is handed in, as to `scan_sheet`.
+fn rows_are_text<R: RowTests>(part: &SheetPart, row1: Ten) -> bool
+    ensures { result ≡ every (row_texts R.tests part.now.names.now) (as_ten row1 ∷ tens (part.now.end - 2) (drop 20 part.now.rows.now)) }
+{
+    row_is_text::<R>(part.names, row1)
+        & (2..part.end).all(|place| row_is_text::<R>(part.names, part.ten(place)))
+}
+
+// Whether the used names are plain, or else the text under each used pair is one.
+pub fn names_test<R: RowTests>(part: &SheetPart, row1: Ten, names_used: usize) -> bool
+    requires { names_used ≤ length part.now.names.now }
+    ensures { result ≡ (is_plain (take names_used part.now.names.now) || every (row_texts R.tests part.now.names.now) (as_ten row1 ∷ tens (part.now.end - 2) (drop 20 part.now.rows.now))) }
+{
+    text::is_plain(&part.names[..names_used]) || rows_are_text::<R>(part, row1)
+}

@@ -1,0 +1,7 @@
+-- `text::is_text` meets its contract: a plain text is a text. Assumes nothing.
+use Rattle.std.proofs.Common.{sym, ◌∙◌}
+use Rattle.text.proofs.Laws.Class.{plain-text}
+use Rattle.text.proofs.is_text.Goals as goal
+
+pub returns-then-is_plain : goal.returns-then-is_plain
+returns-then-is_plain c = c.if-is_plain.true ∙ sym (plain-text c.args.s.now (sym c.is_plain.ensures ∙ c.if-is_plain.true))
