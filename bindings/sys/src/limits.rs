@@ -1,7 +1,7 @@
 //! The version, and the lengths that the library takes.
 
 /// The version of the header and of this crate: 10,000 for the first number, 100 for the second, 1 for the third.
-pub const LUBIKSAN_VERSION: u32 = 400;
+pub const LUBIKSAN_VERSION: u32 = 500;
 
 /// Numbers of one row.
 pub const LUBIKSAN_ROW: usize = 10;

@@ -21,7 +21,7 @@ extern "C" {
 
 /* The version of this header: 10,000 for the first number, 100 for the second, 1 for the third. An archive of another version gives
    another number by lubiksan_version. */
-#define LUBIKSAN_VERSION 400
+#define LUBIKSAN_VERSION 500
 
 /* Limits. Other lengths of a sheet or a tape give LUBIKSAN_LENGTHS. The numbers of rows are a multiple of LUBIKSAN_ROW and at
    least LUBIKSAN_ROWS_MIN. */

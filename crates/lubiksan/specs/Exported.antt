@@ -8,9 +8,9 @@ use Rattle.number.specs.Number.{Parsed, parsed, refused}
 use Rattle.sheet.specs.Rows.{bit}
 use Rattle.ir_types.specs.Label.{Labelled}
 
--- 0.4.0
+-- 0.5.0
 abbrev pub version : ℕ
-version = 400
+version = 500
 
 abbrev pub number_of : Parsed → ℕ
 number_of (parsed v) = 0
