@@ -48,8 +48,6 @@ pub struct TextForm {
 pub struct Shown {
     /// Without events, files and lines.
     pub no_places: bool,
-    /// The path of the source from the folder of the file.
-    pub relative: bool,
     /// In `dot` a node for every type.
     pub all_nodes: bool,
     /// In `dot` this part alone.
@@ -156,8 +154,6 @@ pub struct Diff {
     pub exit_code: bool,
     /// Breaking changes alone.
     pub breaking: bool,
-    /// The path of each source from the folder of its file.
-    pub relative: bool,
 }
 
 /// The arguments of `shelf`.
@@ -274,7 +270,6 @@ fn graph() -> Parser {
             "no-places",
             "Without events, files and lines, so that two outputs can be compared",
         ))
-        .arg(relative().conflicts_with("no-places"))
         .arg(flag(
             "all-nodes",
             "In dot a node for every type, newtypes and code lists too",
@@ -288,13 +283,6 @@ fn graph() -> Parser {
         .arg(number("depth").help("In dot so many steps from the root"))
         .arg(as_original())
         .arg(strict())
-}
-
-fn relative() -> Arg {
-    flag(
-        "relative",
-        "Paths from the folder of the file on, so that the output is the same wherever that stands",
-    )
 }
 
 fn names() -> Parser {
@@ -389,7 +377,6 @@ fn diff() -> Parser {
             "End with 1 where they differ; with --breaking with 2 where a change is breaking",
         ))
         .arg(flag("breaking", "Breaking changes alone"))
-        .arg(relative())
         .arg(as_original())
 }
 
@@ -529,7 +516,6 @@ fn action(name: &str, matches: &ArgMatches) -> Action {
             partial: matches.get_flag("partial"),
             shown: Shown {
                 no_places: matches.get_flag("no-places"),
-                relative: matches.get_flag("relative"),
                 all_nodes: matches.get_flag("all-nodes"),
                 part: Part {
                     root: matches.get_one::<String>("root").cloned(),
@@ -565,7 +551,6 @@ fn action(name: &str, matches: &ArgMatches) -> Action {
             json: matches.get_one::<String>("format").map(String::as_str) == Some("json"),
             exit_code: matches.get_flag("exit-code"),
             breaking: matches.get_flag("breaking"),
-            relative: matches.get_flag("relative"),
         }),
         "shelf" => Action::Shelf(shelf_of(matches)),
         "check" => Action::Check {

@@ -7,7 +7,6 @@ use lubiksan::{Builtin, Graph, Refusal, TypeDef};
 
 use super::bases::base;
 use super::model::{Code, Field, Group, Kind, Many, Occurs, Part, Root, Schema, Type};
-use super::own::Own;
 use super::reach::{references_of, used_types};
 use super::rules;
 use super::tree::{unescaped, Node};
@@ -51,19 +50,11 @@ pub fn schema(
     maker.finished(graph, &root, roots, types)
 }
 
-/// Names that no type may have: what serde derives has `usize` without a path, and the others are those of the variables in the made code, which
-/// can't have the name of a tuple struct.
-const TAKEN: [&str; 13] = [
-    "usize", "code", "f", "faults", "field", "found", "from", "inside", "number", "path", "text",
-    "to", "value",
-];
-
 pub(super) struct Maker<'d> {
     source: &'d Source,
     nodes: HashMap<usize, &'d Node<'d>>,
     used: BTreeSet<String>,
     known: BTreeSet<String>,
-    own: Own<'d>,
     wanted: Wanted,
     /// The built-in types that fields have, and their Rust names.
     builtins: Vec<(String, String)>,
@@ -94,16 +85,11 @@ impl<'d> Maker<'d> {
             .filter_map(|found| Some((found.name(), node_of(&found)?)))
             .collect();
         // An element that the graph does not keep may be the only one of its type.
-        let own = Own::of(source.document());
-        let named = |kind: &str| type_of(kind, &own, &known);
-        let roots = graph.roots().filter_map(|root| named(root.type_name));
-        used.extend(roots);
         let mut rest: Vec<String> = used.iter().cloned().collect();
         while let Some(name) = rest.pop() {
             let node = by_name.get(name.as_str());
-            let kinds = node.map(|node| references_of(node)).unwrap_or_default();
-            for name in kinds.into_iter().filter_map(named) {
-                if used.insert(name.clone()) {
+            for name in node.map(|node| references_of(node)).unwrap_or_default() {
+                if known.contains(&name) && used.insert(name.clone()) {
                     rest.push(name);
                 }
             }
@@ -113,7 +99,6 @@ impl<'d> Maker<'d> {
             nodes,
             used,
             known,
-            own,
             wanted,
             builtins: Vec::new(),
             followed: Vec::new(),
@@ -149,7 +134,7 @@ impl<'d> Maker<'d> {
             };
             let kind = self.kind(&found, node);
             types.push(Type {
-                rust: self.type_word(found.name()),
+                rust: spelled(found.name()),
                 xml: node.attribute("name").unwrap_or_default().to_owned(),
                 line: Some(self.line(node)),
                 docs: node.documentation(),
@@ -258,16 +243,6 @@ impl<'d> Maker<'d> {
 
     /// The Rust type of a type's name in the schema.
     fn reference(&mut self, tag: &Node<'d>, kind: &str) -> String {
-        if let Some(name) = self.own.named(kind, &self.known) {
-            let words = format!(
-                "the type {} is the schema's own {}, the graph has none of that name",
-                quoted(kind),
-                quoted(&name)
-            );
-            self.followed
-                .push((tag.at(), self.source.at(tag.at(), &words)));
-            return self.type_word(&name);
-        }
         if let Some(builtin) = map_builtin(kind) {
             return self.builtin(local_name(kind), builtin);
         }
@@ -275,19 +250,7 @@ impl<'d> Maker<'d> {
         if !self.known.contains(&name) {
             self.refuse(tag.at(), &format!("the type {} is not there", quoted(kind)));
         }
-        self.type_word(&name)
-    }
-
-    /// The Rust name of a type; one of [`TAKEN`] gets `_` behind it.
-    fn type_word(&self, name: &str) -> String {
-        let mut word = spelled(name);
-        if TAKEN.contains(&word.as_str()) {
-            word.push('_');
-            while self.known.iter().any(|known| spelled(known) == word) {
-                word.push('_');
-            }
-        }
-        word
+        spelled(&name)
     }
 
     fn builtin(&mut self, name: &str, builtin: Builtin) -> String {
@@ -480,16 +443,6 @@ impl<'d> Maker<'d> {
             lost,
         })
     }
-}
-
-/// The name in the graph of the type that a reference means; none where that is built-in or not there.
-fn type_of(kind: &str, own: &Own<'_>, known: &BTreeSet<String>) -> Option<String> {
-    own.named(kind, known).or_else(|| {
-        let named = map_builtin(kind)
-            .is_none()
-            .then(|| normalize_type_name(kind));
-        named.filter(|name| known.contains(name))
-    })
 }
 
 /// `Abc` of `abc`

@@ -5,7 +5,6 @@
 //! | `tree` | the tags of a schema as a tree, with the texts of its annotations |
 //! | `reach` | the types that a root reaches; where a circle of types is broken |
 //! | `model`, `make` | the types as the bindings have them, by the schema where the graph is not the schema |
-//! | `own` | references by a prefix of the schema's own namespace |
 //! | `bases`, `rules`, `regexes` | built-in types, facets, patterns as regular expressions |
 //! | `write`, `package` | the source of a module; the files of a crate |
 //! | `run` | the command |
@@ -14,7 +13,6 @@
 mod bases;
 mod make;
 mod model;
-mod own;
 mod package;
 mod reach;
 mod regexes;

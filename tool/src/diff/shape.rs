@@ -1,7 +1,6 @@
 //! What `diff` compares of a schema: its roots and types, each with its place.
 
 use std::collections::BTreeMap;
-use std::path::{Path, PathBuf};
 
 use lubiksan::names::{map_builtin, normalize_type_name};
 use lubiksan::{Cardinality, Facet, Graph, TypeDef, TypeRef};
@@ -12,8 +11,8 @@ use crate::identifier::spelled;
 /// A schema.
 #[derive(Debug, Default)]
 pub struct Shape {
-    /// The file as it was given, or its path from another file.
-    pub path: PathBuf,
+    /// The file as it was given.
+    pub file: String,
     pub namespace: String,
     pub roots: Vec<Piece>,
     /// The types by their Rust names.
@@ -94,7 +93,7 @@ impl std::fmt::Display for Groups {
 
 impl Shape {
     /// The shape of a schema whose tags are at hand.
-    pub fn of_schema(file: &Path, schema: &Schema) -> Shape {
+    pub fn of_schema(file: String, schema: &Schema) -> Shape {
         let roots = schema.roots.iter().map(|root| Piece {
             xml: root.xml.clone(),
             holds: root.holds.clone(),
@@ -104,7 +103,7 @@ impl Shape {
         });
         let types = schema.types.iter().filter(|found| found.line.is_some());
         Shape {
-            path: file.to_owned(),
+            file,
             namespace: schema.namespace.clone(),
             roots: roots.collect(),
             types: types
@@ -114,7 +113,7 @@ impl Shape {
     }
 
     /// The shape of a graph alone.
-    pub fn of_graph(file: &Path, graph: &Graph<'_>) -> Shape {
+    pub fn of_graph(file: String, graph: &Graph<'_>) -> Shape {
         let roots = graph.roots().map(|root| Piece {
             xml: root.xml_name.to_owned(),
             holds: named(root.type_name),
@@ -123,7 +122,7 @@ impl Shape {
             line: None,
         });
         Shape {
-            path: file.to_owned(),
+            file,
             namespace: graph.namespace().to_owned(),
             roots: roots.collect(),
             types: graph
