@@ -1,7 +1,8 @@
-//! Reading, not in the gate: `cargo bench --bench reading -- pain.001.001.09.xsd` in this folder (with the flags of source.sh, which cargo is given again).
+//! Reading, not in the gate: `cargo bench --bench reading -- pain.001.001.09.xsd [PAYMENTS..]` in this folder (with the flags of source.sh, which cargo is
+//! given again).
 //!
-//! The bindings of the schema are made and built, and a message of 1 MB is read by them: against the events of quick-xml alone, and by xsdata where that is
-//! installed (PYTHON names the interpreter that has it); processor time, medians.
+//! The bindings of the schema are made and built, and a message of 1 MB, or one for each number of payments, is read by them: against the events of
+//! quick-xml alone, and by xsdata where that is installed (PYTHON names the interpreter that has it); processor time, medians.
 
 use std::error::Error;
 use std::fmt::Write;
@@ -24,20 +25,27 @@ const BEFORE: &str = "<Document xmlns=\"urn:iso:std:iso:20022:tech:xsd:pain.001.
 const BEHIND: &str = "</PmtInf></CstmrCdtTrfInitn></Document>";
 
 fn main() -> Result<(), Box<dyn Error>> {
-    let named = std::env::args()
-        .skip(1)
-        .find(|argument| !argument.starts_with("--"));
+    let arguments = std::env::args().skip(1);
+    let mut arguments = arguments.filter(|argument| !argument.starts_with("--"));
+    let named = arguments.next();
     let Some(file) = named.filter(|file| file.contains("pain.001.001.09")) else {
         println!("name the file pain.001.001.09.xsd");
         return Ok(());
     };
+    let mut counts = Vec::new();
+    for count in arguments {
+        counts.push(count.parse()?);
+    }
+    if counts.is_empty() {
+        counts.push(PAYMENTS);
+    }
     let folder = std::env::temp_dir().join(format!("lubiksan-reading-{}", std::process::id()));
-    let done = measured(&file, &folder);
+    let done = measured(&file, &folder, &counts);
     fs::remove_dir_all(&folder)?;
     done
 }
 
-fn measured(file: &str, folder: &Path) -> Result<(), Box<dyn Error>> {
+fn measured(file: &str, folder: &Path, counts: &[usize]) -> Result<(), Box<dyn Error>> {
     let made = folder.join("messages");
     let program = env!("CARGO_BIN_EXE_lubiksan");
     Command::new(program)
@@ -51,18 +59,26 @@ fn measured(file: &str, folder: &Path) -> Result<(), Box<dyn Error>> {
         .replace("::ROOT::", "::Document::");
     fs::write(made.join("src/bin/reading.rs"), source)?;
     let message = folder.join("message.xml");
-    fs::write(&message, text())?;
+    for &count in counts {
+        fs::write(&message, text(count))?;
+        by_bindings(folder, &made, &message)?;
+        by_xsdata(&fs::canonicalize(file)?, folder, &message)?;
+    }
+    Ok(())
+}
+
+fn by_bindings(folder: &Path, made: &Path, message: &Path) -> Result<(), Box<dyn Error>> {
     let mut cargo = Command::new("cargo");
     cargo
         .args(["run", "--quiet", "--release"])
         .args(sources())
         .arg("--")
-        .arg(&message);
+        .arg(message);
     cargo
-        .current_dir(&made)
+        .current_dir(made)
         .env("CARGO_TARGET_DIR", folder.join("target"))
         .status()?;
-    by_xsdata(&fs::canonicalize(file)?, folder, &message)
+    Ok(())
 }
 
 /// The classes that xsdata makes of the schema read the message.
@@ -85,10 +101,10 @@ fn by_xsdata(schema: &Path, folder: &Path, message: &Path) -> Result<(), Box<dyn
     Ok(())
 }
 
-/// A message of 1 MB.
-fn text() -> String {
+/// A message with so many payments.
+fn text(payments: usize) -> String {
     let mut text = BEFORE.to_owned();
-    for number in 1..=PAYMENTS {
+    for number in 1..=payments {
         let _ = write!(text, "{}", PAYMENT.replace("NUMBER", &number.to_string()));
     }
     text + BEHIND

@@ -48,6 +48,8 @@ pub struct TextForm {
 pub struct Shown {
     /// Without events, files and lines.
     pub no_places: bool,
+    /// The path of the source from the folder of the file.
+    pub relative: bool,
     /// In `dot` a node for every type.
     pub all_nodes: bool,
     /// In `dot` this part alone.
@@ -154,6 +156,8 @@ pub struct Diff {
     pub exit_code: bool,
     /// Breaking changes alone.
     pub breaking: bool,
+    /// The path of each source from the folder of its file.
+    pub relative: bool,
 }
 
 /// The arguments of `shelf`.
@@ -270,6 +274,7 @@ fn graph() -> Parser {
             "no-places",
             "Without events, files and lines, so that two outputs can be compared",
         ))
+        .arg(relative().conflicts_with("no-places"))
         .arg(flag(
             "all-nodes",
             "In dot a node for every type, newtypes and code lists too",
@@ -283,6 +288,13 @@ fn graph() -> Parser {
         .arg(number("depth").help("In dot so many steps from the root"))
         .arg(as_original())
         .arg(strict())
+}
+
+fn relative() -> Arg {
+    flag(
+        "relative",
+        "Paths from the folder of the file on, so that the output is the same wherever that stands",
+    )
 }
 
 fn names() -> Parser {
@@ -377,6 +389,7 @@ fn diff() -> Parser {
             "End with 1 where they differ; with --breaking with 2 where a change is breaking",
         ))
         .arg(flag("breaking", "Breaking changes alone"))
+        .arg(relative())
         .arg(as_original())
 }
 
@@ -516,6 +529,7 @@ fn action(name: &str, matches: &ArgMatches) -> Action {
             partial: matches.get_flag("partial"),
             shown: Shown {
                 no_places: matches.get_flag("no-places"),
+                relative: matches.get_flag("relative"),
                 all_nodes: matches.get_flag("all-nodes"),
                 part: Part {
                     root: matches.get_one::<String>("root").cloned(),
@@ -551,6 +565,7 @@ fn action(name: &str, matches: &ArgMatches) -> Action {
             json: matches.get_one::<String>("format").map(String::as_str) == Some("json"),
             exit_code: matches.get_flag("exit-code"),
             breaking: matches.get_flag("breaking"),
+            relative: matches.get_flag("relative"),
         }),
         "shelf" => Action::Shelf(shelf_of(matches)),
         "check" => Action::Check {
@@ -572,6 +587,7 @@ fn bindings_of(matches: &ArgMatches) -> Bindings {
         wanted: Wanted {
             all: matches.get_flag("all"),
             lossy: matches.get_flag("lossy"),
+            whole: false,
         },
     }
 }

@@ -384,6 +384,7 @@ fn shown(
     let notes = not_kept.map(NotKept::notes).unwrap_or_default();
     let origins = match how.no_places {
         true => Origins::hidden(),
+        false if how.relative => Origins::of(source).from_beside(file),
         false => Origins::of(source),
     };
     match format {

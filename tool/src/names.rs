@@ -34,6 +34,8 @@ pub struct Meeting {
     pub row: usize,
     /// What it is in words.
     pub words: String,
+    /// The type that is not there, where it is a reference.
+    pub missing: Option<String>,
 }
 
 /// The names of a schema.
@@ -224,7 +226,11 @@ impl Names {
             "two {what}{owner} have the Rust name {}: {both}",
             quoted(word)
         );
-        self.meetings.push(Meeting { row, words });
+        self.meetings.push(Meeting {
+            row,
+            words,
+            missing: None,
+        });
     }
 
     /// A reference from the entry `at`, in the row `row`; it must be to a type that is there.
@@ -250,7 +256,11 @@ impl Names {
 
     fn missing(&mut self, row: usize, here: &str, name: &str) {
         let words = format!("{here} has the type {}, which is not there", quoted(name));
-        self.meetings.push(Meeting { row, words });
+        self.meetings.push(Meeting {
+            row,
+            words,
+            missing: Some(name.to_owned()),
+        });
     }
 }
 

@@ -20,12 +20,10 @@ fn data(name: &str) -> PathBuf {
         .join(name)
 }
 
-/// The schemas that bindings are made of: those of ISO 20022 at hand and some of the tests, but those that are refused for their names.
+/// The schemas that bindings are made of: those of ISO 20022 at hand and some of the tests.
 fn taken() -> Vec<PathBuf> {
     let mut files = schemas();
-    files.retain(|file| {
-        file.to_string_lossy().contains("iso20022") && !file.to_string_lossy().contains("container")
-    });
+    files.retain(|file| file.to_string_lossy().contains("iso20022"));
     files.push(data("bindings/constructs.xsd"));
     files.push(data("payment.xsd"));
     files.push(data("account.xsd"));
@@ -79,7 +77,44 @@ fn module(file: &Path) -> String {
         .to_lowercase()
 }
 
-/// The crate of some schemas with the driver in it.
+/// Names of Rust's own, of the variables in the made code and of what is made beside types.
+const RUST: &str = "usize u8 u16 u32 u64 i32 i64 isize str bool char f64 Option Vec String Result Box Self Some None Ok Err \
+    Default Clone Copy Send Sync Sized Fn From Into Iterator Drop PartialEq Eq Ord Debug Hash ToString Serialize Deserialize \
+    Serializer Place Check Fault Path Root Rules AnyContent core std serde alloc regex support self super crate type union dyn \
+    Inside usize_ text_ A D E S T W RULES PATTERN ROOT ALL code f faults field found from inside number other path state text to value";
+
+/// Kinds of types, with NAME for the name.
+const KINDS: [&str; 6] = [
+    "<xs:simpleType name=\"NAME\"><xs:restriction base=\"xs:string\"><xs:maxLength value=\"3\"/><xs:pattern value=\"a*\"/></xs:restriction></xs:simpleType>",
+    "<xs:simpleType name=\"NAME\"><xs:restriction base=\"xs:string\"><xs:enumeration value=\"Self\"/><xs:enumeration value=\"None\"/></xs:restriction></xs:simpleType>",
+    "<xs:simpleType name=\"NAME\"><xs:restriction base=\"xs:boolean\"/></xs:simpleType>",
+    "<xs:complexType name=\"NAME\"><xs:sequence><xs:element name=\"usize\" type=\"xs:string\" minOccurs=\"0\"/><xs:element name=\"self\" type=\"xs:string\" maxOccurs=\"3\"/></xs:sequence></xs:complexType>",
+    "<xs:complexType name=\"NAME\"><xs:choice><xs:element name=\"usize\" type=\"xs:string\"/><xs:element name=\"Self\" type=\"xs:date\"/></xs:choice></xs:complexType>",
+    "<xs:complexType name=\"NAME\"><xs:simpleContent><xs:extension base=\"xs:decimal\"><xs:attribute name=\"Ccy\" type=\"xs:string\" use=\"required\"/></xs:extension></xs:simpleContent></xs:complexType>",
+];
+
+/// A schema for each kind, with a type of that kind for each of these names.
+fn named_as_rust(folder: &Folder) -> Vec<PathBuf> {
+    let schema = |(number, kind): (usize, &&str)| {
+        let (mut fields, mut types) = (String::new(), String::new());
+        for (at, name) in RUST.split_whitespace().enumerate() {
+            let _ = write!(
+                fields,
+                "<xs:element name=\"f{at}\" type=\"{name}\" minOccurs=\"{}\"/>",
+                at % 2
+            );
+            types += &kind.replace("NAME", name);
+        }
+        let text = format!(
+            "<xs:schema xmlns:xs=\"http://www.w3.org/2001/XMLSchema\"><xs:element name=\"Doc\" type=\"Doc\"/>\
+             <xs:complexType name=\"Doc\"><xs:sequence>{fields}</xs:sequence></xs:complexType>{types}</xs:schema>"
+        );
+        folder.put(&format!("rust{number}.xsd"), text)
+    };
+    KINDS.iter().enumerate().map(schema).collect()
+}
+
+/// The crate of some schemas with the driver in it, and schemas whose names are those of Rust.
 fn made(folder: &Folder, files: &[PathBuf]) -> PathBuf {
     let made = folder.path("messages");
     let mut args: Vec<&std::ffi::OsStr> = vec![
@@ -89,7 +124,8 @@ fn made(folder: &Folder, files: &[PathBuf]) -> PathBuf {
         "--output".as_ref(),
         made.as_ref(),
     ];
-    args.extend(files.iter().map(|file| file.as_os_str()));
+    let more = named_as_rust(folder);
+    args.extend(files.iter().chain(&more).map(|file| file.as_os_str()));
     let ran = lubiksan(args);
     assert_eq!((ran.status, ran.err.as_str()), (Some(0), ""));
     let mut arms = String::new();
@@ -318,9 +354,14 @@ fn messages_go_through_the_bindings_and_back() {
     let mut broken = 0;
     for (schema, sent) in files.iter().zip(&sent) {
         // What `--lossy` leaves out is not in these messages, and an envelope without it is not valid.
-        let lossy = fs::read_to_string(schema).unwrap().contains("<xs:any ");
+        let text = fs::read_to_string(schema).unwrap();
+        let lossy = text.contains("<xs:any ") || text.contains(" ref=");
+        let by_xmllint = |files: &[PathBuf]| match lossy {
+            true => None,
+            false => valid(schema, files),
+        };
         let given: Vec<PathBuf> = sent.iter().map(|sent| sent.file.clone()).collect();
-        let by_xmllint = valid(schema, &given).filter(|_| !lossy);
+        let valid_given = by_xmllint(&given);
         for one in sent {
             let words = &told[&one.file];
             let good = words == "good";
@@ -331,7 +372,7 @@ fn messages_go_through_the_bindings_and_back() {
                 one.file.display(),
                 one.broken
             );
-            if let Some(valid) = &by_xmllint {
+            if let Some(valid) = &valid_given {
                 assert_eq!(
                     good,
                     valid[&one.file],
@@ -351,7 +392,7 @@ fn messages_go_through_the_bindings_and_back() {
             .filter(|one| one.broken.is_none())
             .map(|one| one.file.with_extension("xml.out"))
             .collect();
-        if let Some(valid) = valid(schema, &written).filter(|_| !lossy) {
+        if let Some(valid) = by_xmllint(&written) {
             assert!(valid.values().all(|&valid| valid), "{}", schema.display());
         }
     }
@@ -667,6 +708,43 @@ fn what_can_not_be_followed_is_refused_with_its_place() {
 }
 
 #[test]
+fn a_reference_by_the_own_prefix_is_followed_and_listed() {
+    let folder = Folder::new();
+    let schema = |kind: &str| {
+        format!(
+            "<xs:schema xmlns:xs=\"http://www.w3.org/2001/XMLSchema\" xmlns:o=\"urn:o\" xmlns:p=\"urn:p\" targetNamespace=\"urn:o\">\n\
+             <xs:element name=\"D\" type=\"o:D\"/>\n\
+             <xs:complexType name=\"D\"><xs:sequence>\n\
+             <xs:element name=\"E\" type=\"{kind}\"/></xs:sequence></xs:complexType>\n\
+             <xs:simpleType name=\"string\"><xs:restriction base=\"xs:string\"><xs:maxLength value=\"3\"/></xs:restriction></xs:simpleType>\n\
+             </xs:schema>"
+        )
+    };
+    let file = folder.put("own.xsd", schema("o:string"));
+    let ran = lubiksan(["bindings".as_ref(), file.as_os_str(), "--module".as_ref()]);
+    assert_eq!(ran.status, Some(0), "{}", ran.err);
+    let place = format!(
+        "{}:4:1: the type \"o:string\" is the schema's own \"string\"",
+        file.display()
+    );
+    assert!(ran.err.contains(&place), "{}", ran.err);
+    assert!(
+        ran.err.contains("2 places where the bindings follow"),
+        "{}",
+        ran.err
+    );
+    assert!(ran.out.contains("pub e: string,"));
+    let other = folder.put("other.xsd", schema("p:Other"));
+    let ran = module_of(&other, &["--lossy"]);
+    assert_eq!(ran.status, Some(1));
+    let place = format!(
+        "{}:4:1: the field \"E\" of struct \"D\" has the type \"p:Other\"",
+        other.display()
+    );
+    assert!(ran.err.starts_with(&place), "{}", ran.err);
+}
+
+#[test]
 fn a_circle_is_broken_once() {
     let out = module_of(&data("bindings/constructs.xsd"), &[]).out;
     let boxes: Vec<&str> = out
@@ -683,6 +761,38 @@ fn a_circle_is_broken_once() {
             "pub of: ::std::option::Option<::std::boxed::Box<Party>>,"
         ]
     );
+}
+
+#[test]
+fn what_is_large_and_may_be_missing_is_boxed() {
+    let folder = Folder::new();
+    let fields = |count: usize| -> String {
+        let field = |at: usize| format!("<xs:element name=\"f{at}\" type=\"xs:string\"/>");
+        (0..count).map(field).collect()
+    };
+    let (small, large) = (fields(5), fields(6));
+    let text = format!(
+        "<xs:schema xmlns:xs=\"http://www.w3.org/2001/XMLSchema\"><xs:element name=\"D\" type=\"D\"/>
+         <xs:complexType name=\"D\"><xs:sequence>
+         <xs:element name=\"once\" type=\"Large\"/><xs:element name=\"maybe\" type=\"Large\" minOccurs=\"0\"/>
+         <xs:element name=\"list\" type=\"Large\" maxOccurs=\"unbounded\"/>
+         <xs:element name=\"small\" type=\"Small\" minOccurs=\"0\"/><xs:element name=\"one\" type=\"One\"/>
+         </xs:sequence></xs:complexType>
+         <xs:complexType name=\"One\"><xs:choice><xs:element name=\"L\" type=\"Large\"/><xs:element name=\"S\" type=\"Small\"/></xs:choice></xs:complexType>
+         <xs:complexType name=\"Small\"><xs:sequence>{small}</xs:sequence></xs:complexType>
+         <xs:complexType name=\"Large\"><xs:sequence>{large}</xs:sequence></xs:complexType></xs:schema>"
+    );
+    let out = module_of(&folder.put("large.xsd", text), &[]).out;
+    for line in [
+        "pub once: Large,",
+        "pub maybe: ::std::option::Option<::std::boxed::Box<Large>>,",
+        "pub list: ::std::vec::Vec<Large>,",
+        "pub small: ::std::option::Option<Small>,",
+        "L(::std::boxed::Box<Large>),",
+        "S(Small),",
+    ] {
+        assert!(out.contains(line), "{line}");
+    }
 }
 
 #[test]

@@ -3,6 +3,7 @@
 mod common;
 
 use std::fs;
+use std::ops::Range;
 use std::path::{Path, PathBuf};
 
 use common::{cases, large_schemas, lubiksan, schemas, Folder, Random};
@@ -24,7 +25,7 @@ fn changes(old: &Path, new: &Path) -> Vec<Value> {
     found["changes"].as_array().unwrap().clone()
 }
 
-/// The large schemas whose tags are all followed, types inside elements left aside.
+/// The large schemas that bindings can be made of with `--lossy`.
 fn followed() -> Vec<PathBuf> {
     let mut files = large_schemas();
     files.retain(|file| {
@@ -307,6 +308,231 @@ fn each_random_change_is_told_and_nothing_else() {
     );
 }
 
+/// A tag of a schema, an annotation left aside: where it stands, and its attributes with their values.
+struct Tag {
+    at: Range<usize>,
+    attributes: Vec<(String, Range<usize>)>,
+}
+
+/// The tags of a schema, the first one of `elementFormDefault` alone.
+fn tags(text: &str) -> Vec<Tag> {
+    let (mut found, mut end, mut open) = (Vec::new(), 0, 0);
+    while let Some(start) = text[end..].find('<').map(|next| end + next) {
+        let close = if text[start..].starts_with("<!--") {
+            "-->"
+        } else {
+            ">"
+        };
+        end = start + text[start..].find(close).unwrap() + close.len();
+        let tag = &text[start..end];
+        if tag.starts_with("<!") || tag.starts_with("<?") {
+            continue;
+        }
+        let mut attributes = attributes(tag, start);
+        if found.is_empty() {
+            attributes.retain(|(key, _)| key == "elementFormDefault");
+        }
+        let is_annotation = tag
+            .split([' ', '>'])
+            .next()
+            .unwrap()
+            .ends_with("annotation");
+        match (is_annotation && !tag.ends_with("/>"), tag.starts_with("</")) {
+            (true, true) => open -= 1,
+            (true, false) => open += 1,
+            _ => {}
+        }
+        let at = start..end;
+        if open == 0 && !is_annotation && !tag.starts_with("</") {
+            found.push(Tag { at, attributes });
+        }
+    }
+    found
+}
+
+fn attributes(tag: &str, start: usize) -> Vec<(String, Range<usize>)> {
+    let (mut found, mut at) = (Vec::new(), 0);
+    while let Some(quote) = tag[at..].find(['"', '\'']).map(|next| at + next) {
+        let mark = tag[quote..].chars().next().unwrap();
+        let end = quote + 1 + tag[quote + 1..].find(mark).unwrap();
+        let key = tag[at..quote].trim_end_matches(['=', ' ']);
+        let key = key.rsplit([' ', '\t', '\n']).next().unwrap();
+        found.push((key.to_owned(), start + quote + 1..start + end));
+        at = end + 1;
+    }
+    found
+}
+
+/// Another value for an attribute; none where it says nothing of messages, or where a name is declared.
+fn other_value(key: &str, value: &str, random: &mut Random) -> Option<String> {
+    let new = match key {
+        "id" | "version" | "schemaLocation" | "processContents" => return None,
+        key if key.starts_with("xml") => return None,
+        "minOccurs" => if value == "0" { "1" } else { "0" }.to_owned(),
+        "maxOccurs" => if value == "1" { "2" } else { "1" }.to_owned(),
+        "use" => if value == "required" {
+            "optional"
+        } else {
+            "required"
+        }
+        .to_owned(),
+        "elementFormDefault" | "form" => match value {
+            "qualified" => "unqualified".to_owned(),
+            _ => "qualified".to_owned(),
+        },
+        "mixed" | "abstract" | "nillable" => match value {
+            "true" | "1" => "false".to_owned(),
+            _ => "true".to_owned(),
+        },
+        "type" | "base" => match value.rsplit_once(':') {
+            Some((prefix, "string")) => format!("{prefix}:boolean"),
+            Some((prefix, _)) => format!("{prefix}:string"),
+            None => return None,
+        },
+        "value" if value == "collapse" => "preserve".to_owned(),
+        _ => format!("{value}{}", ["7", "x", "x7"][random.below(3)]),
+    };
+    Some(new)
+}
+
+/// The text with one tag left out, or one attribute changed; and where.
+fn changed(text: &str, random: &mut Random) -> Option<(String, usize)> {
+    let tags = tags(text);
+    let tag = &tags[random.below(tags.len())];
+    let (mut new, line) = (
+        text.to_owned(),
+        text[..tag.at.start].matches('\n').count() + 1,
+    );
+    if text[tag.at.clone()].ends_with("/>") && random.below(4) == 0 {
+        new.replace_range(tag.at.clone(), "");
+        return Some((new, line));
+    }
+    let (key, at) = tag
+        .attributes
+        .get(random.below(tag.attributes.len().max(1)))?;
+    let other = other_value(key, &text[at.clone()], random)?;
+    new.replace_range(at.clone(), &other);
+    Some((new, line))
+}
+
+#[test]
+fn no_change_is_passed_over() {
+    let folder = Folder::new();
+    let mut files = schemas();
+    files.retain(|file| takes(file));
+    let (mut random, mut told) = (Random(36), 0);
+    for _ in 0..cases(300) {
+        let file = &files[random.below(files.len())];
+        let text = fs::read_to_string(file).unwrap();
+        let Some((new, line)) = changed(&text, &mut random) else {
+            continue;
+        };
+        let new = folder.put("new.xsd", new);
+        // Some are no schemas any more.
+        if takes(&new) {
+            let found = changes(file, &new);
+            assert!(!found.is_empty(), "{}:{line}", file.display());
+            told += 1;
+        }
+    }
+    assert!(told > cases(300) / 2, "{told}");
+}
+
+/// What the bindings have no type for.
+const REST: &str = r###"<xs:schema xmlns:xs="http://www.w3.org/2001/XMLSchema" xmlns:o="urn:o" xmlns:p="urn:p" targetNamespace="urn:o" elementFormDefault="qualified">
+<xs:element name="D" type="o:D"/>
+<xs:element name="G" type="Code" abstract="true"/>
+<xs:complexType name="D"><xs:sequence>
+<xs:element name="Own"><xs:complexType><xs:sequence>
+<xs:element name="Deep" minOccurs="0"><xs:simpleType><xs:restriction base="xs:string"><xs:maxLength value="9"/></xs:restriction></xs:simpleType></xs:element>
+</xs:sequence></xs:complexType></xs:element>
+<xs:element ref="o:G"/>
+<xs:element ref="p:G" minOccurs="0"/>
+<xs:element name="N" type="Code" nillable="true"/>
+<xs:element name="V" type="xs:token" default="a"/>
+<xs:sequence maxOccurs="4"><xs:element name="R" type="More"/></xs:sequence>
+<xs:element name="Open" type="Open"/>
+</xs:sequence><xs:attribute name="at" type="Code" use="required"/></xs:complexType>
+<xs:complexType name="Base"><xs:sequence><xs:element name="B" type="Code"/></xs:sequence></xs:complexType>
+<xs:complexType name="More"><xs:complexContent><xs:extension base="Base"><xs:sequence><xs:element name="M" type="xs:string"/></xs:sequence></xs:extension></xs:complexContent></xs:complexType>
+<xs:complexType name="Open"><xs:sequence><xs:any namespace="##any"/></xs:sequence></xs:complexType>
+<xs:simpleType name="Code"><xs:restriction base="xs:string"><xs:enumeration value="A"/><xs:enumeration value="B"/></xs:restriction></xs:simpleType>
+</xs:schema>"###;
+
+#[test]
+fn what_no_type_has_is_compared_all_the_same() {
+    let folder = Folder::new();
+    let old = folder.put("old.xsd", REST);
+    let all = [
+        ("value=\"9\"", "value=\"8\"", "facet", true, "Own.Deep"),
+        (
+            "\"Deep\" minOccurs=\"0\"",
+            "\"Deep\"",
+            "occurs",
+            true,
+            "Own.Deep",
+        ),
+        (
+            "ref=\"o:G\"",
+            "ref=\"o:G\" maxOccurs=\"2\"",
+            "occurs",
+            false,
+            "G",
+        ),
+        ("xmlns:p=\"urn:p\"", "xmlns:p=\"urn:q\"", "type", true, "G"),
+        (" nillable=\"true\"", "", "other", true, ""),
+        ("default=\"a\"", "default=\"b\"", "other", false, ""),
+        ("maxOccurs=\"4\"", "maxOccurs=\"5\"", "other", false, ""),
+        ("maxOccurs=\"4\"", "maxOccurs=\"3\"", "other", true, ""),
+        ("use=\"required\"", "", "other", true, ""),
+        ("name=\"M\"", "name=\"L\"", "other", true, "R"),
+        (
+            "name=\"M\" type=\"xs:string\"",
+            "name=\"M\" type=\"xs:date\"",
+            "other",
+            true,
+            "R",
+        ),
+        ("##any", "##other", "other", true, "Open"),
+        (" abstract=\"true\"", "", "other", false, ""),
+        ("\"qualified\"", "\"unqualified\"", "other", true, ""),
+        ("<xs:enumeration value=\"B\"/>", "", "code", true, ""),
+        ("\"Base\"", "\"Root\"", "type renamed", false, "R"),
+        ("xs:token", "xs:string", "type", false, "V"),
+    ];
+    for (sought, put, what, breaking, path) in all {
+        assert!(REST.contains(sought), "{sought}");
+        let found = changes(&old, &folder.put("new.xsd", REST.replace(sought, put)));
+        assert_eq!(found.len(), 1, "{sought} {found:#?}");
+        let told = (&found[0]["what"], &found[0]["breaking"]);
+        assert_eq!(told, (&what.into(), &breaking.into()), "{sought}");
+        let told = found[0]["path"].as_str().unwrap();
+        assert!(told.ends_with(path), "{sought}: {told}");
+    }
+}
+
+/// The text with another name for a type, where it is declared and where it is referred to, by a prefix too.
+fn renamed(text: &str, name: &str) -> String {
+    let mut new = text.to_owned();
+    for kind in ["complexType", "simpleType"] {
+        let tag = format!("{kind} name=\"{name}");
+        new = new.replace(&format!("{tag}\""), &format!("{tag}99\""));
+    }
+    for word in ["type", "base"] {
+        let separator = format!(" {word}=\"");
+        let parts = new.split(&separator).map(|part| {
+            let value = part.split('"').next().unwrap();
+            match value.rsplit(':').next() == Some(name) {
+                true => part.replacen(value, &format!("{value}99"), 1),
+                false => part.to_owned(),
+            }
+        });
+        let parts: Vec<String> = parts.collect();
+        new = parts.join(&separator);
+    }
+    new
+}
+
 #[test]
 fn a_type_that_is_only_renamed_breaks_nothing() {
     let folder = Folder::new();
@@ -318,11 +544,81 @@ fn a_type_that_is_only_renamed_breaks_nothing() {
             .map(|rest| rest.split('"').next().unwrap());
         let names: Vec<&str> = names.filter(|name| *name != "Document").collect();
         let name = names[(index * 7) % names.len()];
-        let new = text.replace(&format!("\"{name}\""), &format!("\"{name}99\""));
+        let new = renamed(&text, name);
         let found = changes(file, &folder.put("new.xsd", new));
         assert_eq!(found.len(), 1, "{file:?} {name} {found:#?}");
         assert_eq!(found[0]["breaking"], false);
     }
+}
+
+#[test]
+fn relative_paths_are_equal_wherever_the_files_stand() {
+    let (one, other) = (Folder::new(), Folder::new());
+    let text =
+        fs::read(Path::new(env!("CARGO_MANIFEST_DIR")).join("tests/data/account.xsd")).unwrap();
+    let placed = |folder: &Folder| {
+        fs::create_dir_all(folder.path("sheets")).unwrap();
+        let file = folder.put("account.xsd", &text);
+        let sheet = folder.path("sheets/account.sheet");
+        let ran = lubiksan([
+            "read".as_ref(),
+            file.as_os_str(),
+            "--sheet".as_ref(),
+            sheet.as_os_str(),
+        ]);
+        assert_eq!(ran.status, Some(0));
+        (file, sheet)
+    };
+    let (one, other) = (placed(&one), placed(&other));
+    for format in ["text", "json", "html"] {
+        let of = |file: &Path| {
+            let args = [
+                "graph",
+                file.to_str().unwrap(),
+                "--format",
+                format,
+                "--relative",
+            ];
+            lubiksan(args).out
+        };
+        let (file, sheet) = (of(&one.0), of(&one.1));
+        assert_eq!((&file, &sheet), (&of(&other.0), &of(&other.1)));
+        assert!(
+            file.contains("account.xsd") && sheet.contains("../account.xsd"),
+            "{format}"
+        );
+        let folder = one.0.parent().unwrap().to_str().unwrap();
+        assert!(
+            !file.contains(folder) && !sheet.contains(folder),
+            "{format}"
+        );
+        assert_eq!(file, sheet.replace("../account.xsd", "account.xsd"));
+    }
+    let given = one.0.to_str().unwrap();
+    let both = lubiksan(["graph", given, "--relative", "--no-places"]);
+    assert_eq!(both.status, Some(2));
+    let changed = String::from_utf8(text.clone()).unwrap();
+    let changed = changed.replacen("minOccurs=\"0\"", "minOccurs=\"1\"", 1);
+    let folder = Folder::new();
+    let new = folder.put("new.xsd", changed);
+    let ran = lubiksan(["diff", given, new.to_str().unwrap(), "--relative"]);
+    let line = ran.out.lines().next().unwrap();
+    assert!(
+        line.contains(" (account.xsd:") && line.contains(", new.xsd:"),
+        "{}",
+        ran.out
+    );
+    let ran = lubiksan([
+        "diff",
+        given,
+        new.to_str().unwrap(),
+        "--relative",
+        "--format",
+        "json",
+    ]);
+    assert!(
+        ran.out.contains("\"old\": \"account.xsd\"") && ran.out.contains("\"new\": \"new.xsd\"")
+    );
 }
 
 #[test]

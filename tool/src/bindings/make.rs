@@ -6,7 +6,8 @@ use lubiksan::names::{local_name, map_builtin, normalize_type_name, parse_u32, x
 use lubiksan::{Builtin, Graph, Refusal, TypeDef};
 
 use super::bases::base;
-use super::model::{Code, Field, Group, Kind, Many, Occurs, Part, Root, Schema, Type};
+use super::model::{Code, Field, Group, Kind, Many, Occurs, Part, Rest, Root, Schema, Type};
+use super::own::Own;
 use super::reach::{references_of, used_types};
 use super::rules;
 use super::tree::{unescaped, Node};
@@ -22,6 +23,8 @@ pub struct Wanted {
     pub all: bool,
     /// What can't be followed is left out.
     pub lossy: bool,
+    /// For comparing: elements with types inside and references to elements too, and the text of all that is left out.
+    pub whole: bool,
 }
 
 /// The model of a schema.
@@ -46,20 +49,36 @@ pub fn schema(
     let types = maker.types(graph);
     maker.sort_places(not_kept);
     let roots = maker.roots(graph);
+    if wanted.whole {
+        maker.beside(graph);
+    }
     let types = maker.with_builtins(types);
     maker.finished(graph, &root, roots, types)
 }
 
+/// Names that no type may have: what serde derives has `usize` without a path, and the others are those of the variables in the made code, which
+/// can't have the name of a tuple struct.
+const TAKEN: [&str; 13] = [
+    "usize", "code", "f", "faults", "field", "found", "from", "inside", "number", "path", "text",
+    "to", "value",
+];
+
 pub(super) struct Maker<'d> {
     source: &'d Source,
-    nodes: HashMap<usize, &'d Node<'d>>,
+    pub(super) root: &'d Node<'d>,
+    pub(super) nodes: HashMap<usize, &'d Node<'d>>,
     used: BTreeSet<String>,
-    known: BTreeSet<String>,
-    wanted: Wanted,
+    pub(super) known: BTreeSet<String>,
+    pub(super) own: Own<'d>,
+    pub(super) wanted: Wanted,
     /// The built-in types that fields have, and their Rust names.
     builtins: Vec<(String, String)>,
     followed: Vec<(usize, String)>,
     refused: Vec<(usize, String)>,
+    /// For comparing: types inside elements, the numbers of the tags of these and of references, and what is left out.
+    pub(super) inner: Vec<Type>,
+    pub(super) held: BTreeSet<usize>,
+    pub(super) rest: Vec<Rest>,
 }
 
 impl<'d> Maker<'d> {
@@ -85,28 +104,38 @@ impl<'d> Maker<'d> {
             .filter_map(|found| Some((found.name(), node_of(&found)?)))
             .collect();
         // An element that the graph does not keep may be the only one of its type.
+        let own = Own::of(source.document());
+        let named = |kind: &str| type_of(kind, &own, &known);
+        let roots = graph.roots().filter_map(|root| named(root.type_name));
+        used.extend(roots);
         let mut rest: Vec<String> = used.iter().cloned().collect();
         while let Some(name) = rest.pop() {
             let node = by_name.get(name.as_str());
-            for name in node.map(|node| references_of(node)).unwrap_or_default() {
-                if known.contains(&name) && used.insert(name.clone()) {
+            let kinds = node.map(|node| references_of(node)).unwrap_or_default();
+            for name in kinds.into_iter().filter_map(named) {
+                if used.insert(name.clone()) {
                     rest.push(name);
                 }
             }
         }
         Ok(Maker {
             source,
+            root,
             nodes,
             used,
             known,
+            own,
             wanted,
             builtins: Vec::new(),
             followed: Vec::new(),
             refused: Vec::new(),
+            inner: Vec::new(),
+            held: BTreeSet::new(),
+            rest: Vec::new(),
         })
     }
 
-    fn line(&self, node: &Node<'_>) -> usize {
+    pub(super) fn line(&self, node: &Node<'_>) -> usize {
         self.source.line(node.at())
     }
 
@@ -134,19 +163,22 @@ impl<'d> Maker<'d> {
             };
             let kind = self.kind(&found, node);
             types.push(Type {
-                rust: spelled(found.name()),
+                rust: self.type_word(found.name()),
                 xml: node.attribute("name").unwrap_or_default().to_owned(),
                 line: Some(self.line(node)),
                 docs: node.documentation(),
+                inner: false,
                 kind,
             });
         }
+        types.append(&mut self.inner);
         types
     }
 
     fn kind(&mut self, found: &TypeDef<'_>, node: &Node<'d>) -> Kind {
         match found {
             TypeDef::CodeList(it) => {
+                self.rest_of_base(found.name(), node);
                 let tags = node
                     .child("restriction")
                     .map(|node| node.children.as_slice());
@@ -182,18 +214,18 @@ impl<'d> Maker<'d> {
                 any.at(),
                 &format!("in type {} any content can stand", quoted(name)),
             );
+            self.rest_of_content(name, node);
             return Kind::Any;
         }
-        match tags
-            .iter()
-            .any(|tag| matches!(tag.name(), "complexContent" | "all"))
-        {
-            true => Kind::Any,
-            false => self.content(node, &HashMap::new()),
+        let mut tags = tags.iter();
+        if tags.any(|tag| matches!(tag.name(), "complexContent" | "all")) {
+            self.rest_of_content(name, node);
+            return Kind::Any;
         }
+        self.content(node, &HashMap::new())
     }
 
-    fn value(&mut self, node: &Node<'d>) -> Kind {
+    pub(super) fn value(&mut self, node: &Node<'d>) -> Kind {
         let extension = node
             .child("simpleContent")
             .and_then(|node| node.child("extension"));
@@ -228,12 +260,18 @@ impl<'d> Maker<'d> {
     }
 
     fn field(&mut self, tag: &Node<'d>, name: &str, kind: &str, many: Many) -> Field {
+        let holds = self.reference(tag, kind);
+        self.field_of(tag, name, holds, many)
+    }
+
+    fn field_of(&self, tag: &Node<'d>, name: &str, holds: String, many: Many) -> Field {
         Field {
             rust: spelled(&xml_to_snake_case(name)),
             xml: name.to_owned(),
-            holds: self.reference(tag, kind),
+            holds,
             many,
             occurs: Occurs::ONCE,
+            inside: Occurs::ONCE,
             certain: true,
             line: self.line(tag),
             docs: tag.documentation(),
@@ -242,7 +280,17 @@ impl<'d> Maker<'d> {
     }
 
     /// The Rust type of a type's name in the schema.
-    fn reference(&mut self, tag: &Node<'d>, kind: &str) -> String {
+    pub(super) fn reference(&mut self, tag: &Node<'d>, kind: &str) -> String {
+        if let Some(name) = self.own.named(kind, &self.known) {
+            let words = format!(
+                "the type {} is the schema's own {}, the graph has none of that name",
+                quoted(kind),
+                quoted(&name)
+            );
+            self.followed
+                .push((tag.at(), self.source.at(tag.at(), &words)));
+            return self.type_word(&name);
+        }
         if let Some(builtin) = map_builtin(kind) {
             return self.builtin(local_name(kind), builtin);
         }
@@ -250,10 +298,25 @@ impl<'d> Maker<'d> {
         if !self.known.contains(&name) {
             self.refuse(tag.at(), &format!("the type {} is not there", quoted(kind)));
         }
-        spelled(&name)
+        self.type_word(&name)
+    }
+
+    /// The Rust name of a type; one of [`TAKEN`] gets `_` behind it.
+    pub(super) fn type_word(&self, name: &str) -> String {
+        let mut word = spelled(name);
+        if TAKEN.contains(&word.as_str()) {
+            word.push('_');
+            while self.known.iter().any(|known| spelled(known) == word) {
+                word.push('_');
+            }
+        }
+        word
     }
 
     fn builtin(&mut self, name: &str, builtin: Builtin) -> String {
+        if self.wanted.whole {
+            return format!("xs:{name}");
+        }
         if builtin != Builtin::Bool && base(name).is_free() {
             return super::write::STRING.to_owned();
         }
@@ -271,7 +334,7 @@ impl<'d> Maker<'d> {
     }
 
     /// A sequence or choice: an enum where it is a choice of elements, each once; else a struct.
-    fn content(&mut self, node: &Node<'d>, variants: &HashMap<&str, &str>) -> Kind {
+    pub(super) fn content(&mut self, node: &Node<'d>, variants: &HashMap<&str, &str>) -> Kind {
         let top = ["sequence", "choice"]
             .iter()
             .find_map(|name| node.child(name));
@@ -340,6 +403,7 @@ impl<'d> Maker<'d> {
                 xml: format!("xs:{name}"),
                 line: None,
                 docs: Vec::new(),
+                inner: false,
                 kind: match name.as_str() {
                     "boolean" => Kind::Boolean,
                     _ => Kind::Text(rules::of_builtin(name)),
@@ -356,6 +420,9 @@ impl<'d> Maker<'d> {
             if name.is_some_and(|name| !self.used.contains(&name)) {
                 continue;
             }
+            if self.wanted.whole {
+                self.rest_of_place(place);
+            }
             let line = (place.at, self.source.at(place.at, &place.sentence()));
             match self.follows(place) {
                 true => self.followed.push(line),
@@ -364,7 +431,7 @@ impl<'d> Maker<'d> {
         }
     }
 
-    fn follows(&self, place: &Place<'_>) -> bool {
+    pub(super) fn follows(&self, place: &Place<'_>) -> bool {
         let node = self.nodes.get(&place.event);
         match place.kind {
             Lost::ChoiceInSequence
@@ -411,7 +478,9 @@ impl<'d> Maker<'d> {
         roots: Vec<Root>,
         mut types: Vec<Type>,
     ) -> Result<Schema, Failure> {
-        self.refuse_endless(&mut types);
+        if !self.wanted.whole {
+            self.refuse_endless(&mut types);
+        }
         let lines = |places: &mut Vec<(usize, String)>| -> Vec<String> {
             places.sort();
             places.dedup();
@@ -427,6 +496,7 @@ impl<'d> Maker<'d> {
             )));
         }
         super::reach::break_circles(&mut types);
+        super::large::box_large(&mut types);
         let file = self
             .source
             .path()
@@ -441,8 +511,19 @@ impl<'d> Maker<'d> {
             types,
             followed,
             lost,
+            rest: self.rest,
         })
     }
+}
+
+/// The name in the graph of the type that a reference means; none where that is built-in or not there.
+pub(super) fn type_of(kind: &str, own: &Own<'_>, known: &BTreeSet<String>) -> Option<String> {
+    own.named(kind, known).or_else(|| {
+        let named = map_builtin(kind)
+            .is_none()
+            .then(|| normalize_type_name(kind));
+        named.filter(|name| known.contains(name))
+    })
 }
 
 /// `Abc` of `abc`
@@ -504,11 +585,16 @@ impl<'d> Content<'_, 'd> {
     }
 
     fn element(&mut self, node: &Node<'d>, certain: bool, repeated: bool) -> Option<Part> {
-        let (name, kind) = (node.attribute("name")?, node.attribute("type")?);
         let mut how = occurs(node);
         if how.most == Some(0) {
             return None;
         }
+        let inside = how;
+        let (name, holds) = match (node.attribute("name"), node.attribute("type")) {
+            (Some(name), Some(kind)) => (name, self.maker.reference(node, kind)),
+            _ if self.maker.wanted.whole => self.maker.held_otherwise(node)?,
+            _ => return None,
+        };
         if repeated {
             how = Occurs {
                 least: 0,
@@ -523,9 +609,10 @@ impl<'d> Content<'_, 'd> {
             Occurs { most: Some(1), .. } => Many::Maybe,
             _ => Many::List,
         };
-        let field = self.maker.field(node, name, kind, many);
+        let field = self.maker.field_of(node, name, holds, many);
         self.fields.push(Field {
             occurs: how,
+            inside,
             certain,
             ..field
         });

@@ -15,6 +15,21 @@ pub struct Schema {
     pub followed: Vec<String>,
     /// What is not kept, with `--lossy`, a line each.
     pub lost: Vec<String>,
+    /// What is in no type here, where it is asked for.
+    pub rest: Vec<Rest>,
+}
+
+/// A part of a schema that is in no type here, as text.
+pub struct Rest {
+    /// The Rust name of its type; none outside of the types.
+    pub owner: Option<String>,
+    /// What it is, by its tag or attribute.
+    pub name: String,
+    /// Its tags without annotations, with `*` in the place of the types of the schema.
+    pub text: String,
+    /// These types, by their Rust names.
+    pub types: Vec<String>,
+    pub line: usize,
 }
 
 /// A root element.
@@ -34,6 +49,8 @@ pub struct Type {
     /// None of a built-in type.
     pub line: Option<usize>,
     pub docs: Vec<String>,
+    /// It stands inside an element and has no name.
+    pub inner: bool,
     pub kind: Kind,
 }
 
@@ -63,6 +80,8 @@ pub struct Field {
     pub holds: String,
     pub many: Many,
     pub occurs: Occurs,
+    /// How often in the group around it.
+    pub inside: Occurs,
     /// All around it must be there.
     pub certain: bool,
     pub line: usize,

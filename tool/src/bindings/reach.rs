@@ -2,7 +2,6 @@
 
 use std::collections::{BTreeSet, HashMap};
 
-use lubiksan::names::{map_builtin, normalize_type_name};
 use lubiksan::{Graph, Refusal};
 
 use super::model::{Field, Kind, Many, Type};
@@ -21,14 +20,13 @@ pub fn used_types(graph: &Graph<'_>) -> Result<BTreeSet<String>, Refusal> {
         .collect())
 }
 
-/// The named types that the tags of a type refer to.
-pub fn references_of(node: &Node<'_>) -> Vec<String> {
+/// What the tags of a type refer to, as it is written.
+pub fn references_of<'d>(node: &Node<'d>) -> Vec<&'d str> {
     let tags = node.all();
     let kinds = tags
         .iter()
         .flat_map(|tag| [tag.attribute("type"), tag.attribute("base")]);
-    let named = kinds.flatten().filter(|kind| map_builtin(kind).is_none());
-    named.map(normalize_type_name).collect()
+    kinds.flatten().collect()
 }
 
 /// Boxes the fields by which a type would hold itself: of each circle the one that closes it.

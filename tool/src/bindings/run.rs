@@ -6,6 +6,7 @@ use std::path::{Path, PathBuf};
 use lubiksan::{Graph, SchemaSheet};
 
 use super::make::Wanted;
+use super::own::Own;
 use super::package::{crate_of, module_of, Made, Modules};
 use crate::args::{Bindings, Command};
 use crate::commands::{most, say_way, warn};
@@ -61,8 +62,15 @@ fn added(
     modules.add(&source, &graph, &not_kept, wanted)
 }
 
+/// Names that meet are a refusal; a reference by a prefix of the schema's own namespace, whose type the graph does not find, is none.
 fn do_not_meet(source: &Source, sheet: &SchemaSheet<'_>, graph: &Graph<'_>) -> Result<(), Failure> {
-    let names = Names::of(sheet, graph);
+    let mut names = Names::of(sheet, graph);
+    let known = graph.types().map(|found| found.name().to_owned()).collect();
+    let own = Own::of(source.document());
+    let is_own = |name: &String| own.named(name, &known).is_some();
+    names
+        .meetings
+        .retain(|meeting| !meeting.missing.as_ref().is_some_and(is_own));
     if names.meetings.is_empty() {
         return Ok(());
     }

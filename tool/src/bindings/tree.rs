@@ -66,6 +66,12 @@ impl<'d> Node<'d> {
         found.map(|(value, _)| value)
     }
 
+    /// Its attributes as they are written.
+    pub fn attributes(&self) -> impl Iterator<Item = (&'d str, &'d str)> {
+        let found = self.document.attributes(self.event);
+        found.map(|(key, value, _)| (key, value))
+    }
+
     /// The first child of this name.
     pub fn child(&self, name: &str) -> Option<&Node<'d>> {
         self.children.iter().find(|child| child.name() == name)

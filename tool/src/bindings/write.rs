@@ -490,15 +490,18 @@ fn put_inside(out: &mut String, name: &str) {
     let _ = writeln!(
         out,
         "\nimpl ::serde::Serialize for {name} {{
-    fn serialize<S: ::serde::Serializer>(&self, to: S) -> {RESULT}<S::Ok, S::Error> {{
+    fn serialize<{to}: ::serde::Serializer>(&self, to: {to}) -> {RESULT}<{to}::Ok, {to}::Error> {{
         #[derive(::serde::Serialize)]
-        struct Inside<'a> {{
+        struct {inside}<'a> {{
             #[serde(rename = \"$value\", serialize_with = \"{name}::serialize\")]
             value: &'a {name},
         }}
-        ::serde::Serialize::serialize(&Inside {{ value: self }}, to)
+        ::serde::Serialize::serialize(&{inside} {{ value: self }}, to)
     }}
-}}"
+}}",
+        // These hide other types of their names, but never this one.
+        to = if name == "S" { "W" } else { "S" },
+        inside = format_args!("{}Inside", name.trim_start_matches("r#"))
     );
 }
 

@@ -3,7 +3,7 @@
 use std::cmp::Ordering;
 use std::collections::{BTreeMap, BTreeSet, VecDeque};
 
-use super::shape::{Groups, Piece, Shape, TypeShape};
+use super::shape::{Groups, Piece, RestShape, Shape, TypeShape};
 
 /// A change.
 #[derive(Clone, Debug, PartialEq, Eq)]
@@ -27,10 +27,11 @@ pub fn changes(old: &Shape, new: &Shape) -> Vec<Change> {
         new,
         changes: Vec::new(),
         pairs: BTreeSet::new(),
-        rest: VecDeque::new(),
+        waiting: VecDeque::new(),
     };
     found.namespaces();
     found.roots();
+    found.rest((&old.rest, &new.rest), "");
     found.pairs();
     found.unreached();
     let mut changes = found.changes;
@@ -45,7 +46,7 @@ struct Changes<'s> {
     /// The pairs of types that were met.
     pairs: BTreeSet<(&'s str, &'s str)>,
     /// Those that are still to be compared, with the way to them.
-    rest: VecDeque<(&'s str, &'s str, String)>,
+    waiting: VecDeque<(&'s str, &'s str, String)>,
 }
 
 /// What a change is about: the path, and the lines of both sides.
@@ -114,21 +115,25 @@ impl<'s> Changes<'s> {
             self.new.types.contains_key(new),
         );
         match known {
-            (true, true) => {
-                if self.pairs.insert((old, new)) {
-                    self.rest.push_back((old, new, path));
-                }
-            }
+            (true, true) => self.meet((old, new), path),
             (false, false) if old == new => {}
             _ => {
                 let words = format!("its type was {old}, it is {new}");
-                self.put("type", true, (&path, (before.line, after.line)), words);
+                let breaking = !(old.starts_with("xs:") && new == "xs:string");
+                self.put("type", breaking, (&path, (before.line, after.line)), words);
             }
         }
     }
 
+    /// A pair of types that are there, to be compared once.
+    fn meet(&mut self, pair: (&'s str, &'s str), path: String) {
+        if self.pairs.insert(pair) {
+            self.waiting.push_back((pair.0, pair.1, path));
+        }
+    }
+
     fn pairs(&mut self) {
-        while let Some((old, new, path)) = self.rest.pop_front() {
+        while let Some((old, new, path)) = self.waiting.pop_front() {
             let (old, new) = (self.old.types.get(old), self.new.types.get(new));
             if let (Some(before), Some(after)) = (old, new) {
                 self.types((before, after), &path);
@@ -144,14 +149,10 @@ impl<'s> Changes<'s> {
         for (name, before) in old
             .types
             .iter()
-            .filter(|(name, _)| !seen_old.contains(name.as_str()))
+            .filter(|(name, found)| !found.inner && !seen_old.contains(name.as_str()))
         {
             match new.types.get_key_value(name) {
-                Some((other, _)) => {
-                    if self.pairs.insert((name, other)) {
-                        self.rest.push_back((name, other, before.xml.clone()));
-                    }
-                }
+                Some((other, _)) => self.meet((name, other), before.xml.clone()),
                 None => self.put(
                     "type",
                     false,
@@ -163,7 +164,7 @@ impl<'s> Changes<'s> {
         for (name, after) in new
             .types
             .iter()
-            .filter(|(name, _)| !seen_new.contains(name.as_str()))
+            .filter(|(name, found)| !found.inner && !seen_new.contains(name.as_str()))
         {
             if !old.types.contains_key(name) {
                 self.put(
@@ -180,8 +181,12 @@ impl<'s> Changes<'s> {
     fn types(&mut self, (before, after): (&'s TypeShape, &'s TypeShape), path: &str) {
         let at: At<'_> = (path, (before.line, after.line));
         if before.xml != after.xml {
-            let words = format!("its type was called {}, it is {}", before.xml, after.xml);
-            self.put("type renamed", false, at, words);
+            let words = match (before.inner, after.inner) {
+                (false, false) => format!("was called {}, it is {}", before.xml, after.xml),
+                (true, _) => format!("had no name, it is called {}", after.xml),
+                (_, true) => format!("was called {}, it has no name", before.xml),
+            };
+            self.put("type renamed", false, at, format!("its type {words}"));
         }
         if before.kind != after.kind {
             let words = format!("it was {}, it is {}", before.kind, after.kind);
@@ -192,6 +197,7 @@ impl<'s> Changes<'s> {
         self.groups((before, after), at);
         self.codes((before, after), at);
         self.facets((before, after), at);
+        self.rest((&before.rest, &after.rest), path);
     }
 
     fn pieces(&mut self, (before, after): (&'s TypeShape, &'s TypeShape), path: &str) {
@@ -200,9 +206,9 @@ impl<'s> Changes<'s> {
             (true, _) => piece.xml.clone(),
             (false, _) => format!("{path}.{}", piece.xml),
         };
-        for old in &before.parts {
+        for (at, old) in before.parts.iter().enumerate() {
             let path = below(old);
-            let Some(new) = after.parts.iter().find(|new| new.xml == old.xml) else {
+            let Some(new) = same_of(&after.parts, &before.parts, at) else {
                 let words = format!("{} is gone", what_of(old, before));
                 self.put(kind_of(old), true, (&path, (old.line, after.line)), words);
                 continue;
@@ -210,8 +216,8 @@ impl<'s> Changes<'s> {
             self.occurs((old, new), &path);
             self.pair((old, new), path);
         }
-        for new in &after.parts {
-            if before.parts.iter().any(|old| old.xml == new.xml) {
+        for (at, new) in after.parts.iter().enumerate() {
+            if same_of(&before.parts, &after.parts, at).is_some() {
                 continue;
             }
             let required = new.least > 0;
@@ -226,17 +232,24 @@ impl<'s> Changes<'s> {
         }
     }
 
+    /// How often in the type, and where that is the same, how often in the group around it.
     fn occurs(&mut self, (old, new): (&Piece, &Piece), path: &str) {
-        if (old.least, old.most) == (new.least, new.most) {
+        let (before, after) = ((old.least, old.most), (new.least, new.most));
+        let (before, after, where_) = match before == after {
+            true => (old.inside, new.inside, " in its group"),
+            false => (before, after, ""),
+        };
+        if before == after {
             return;
         }
-        let lowered = match (old.most, new.most) {
+        let lowered = match (before.1, after.1) {
             (Some(old), Some(new)) => new < old,
             (None, Some(_)) => true,
             (_, None) => false,
         };
-        let breaking = new.least > old.least || lowered;
-        let words = format!("it stood there {}, now {}", times(old), times(new));
+        let breaking = after.0 > before.0 || lowered;
+        let (was, is) = (times(before), times(after));
+        let words = format!("it stood there {was}{where_}, now {is}");
         self.put("occurs", breaking, (path, (old.line, new.line)), words);
     }
 
@@ -286,6 +299,26 @@ impl<'s> Changes<'s> {
         }
     }
 
+    /// What is compared by its text; types in equal texts belong together.
+    fn rest(&mut self, (before, after): (&'s [RestShape], &'s [RestShape]), path: &str) {
+        for (old, new) in matched(before, after) {
+            if let (Some(old), Some(new)) = (old, new) {
+                if old.text == new.text {
+                    self.types_in((old, new), path);
+                    continue;
+                }
+            }
+            let lines = (old.map(|old| old.line), new.map(|new| new.line));
+            self.put("other", may_break(old, new), (path, lines), told(old, new));
+        }
+    }
+
+    fn types_in(&mut self, (old, new): (&'s RestShape, &'s RestShape), path: &str) {
+        for pair in old.types.iter().zip(&new.types) {
+            self.meet((pair.0, pair.1), path.to_owned());
+        }
+    }
+
     fn facets(&mut self, (before, after): (&TypeShape, &TypeShape), at: At<'_>) {
         let (old, new) = (by_name(&before.facets), by_name(&after.facets));
         let names: BTreeSet<&str> = old.keys().chain(new.keys()).copied().collect();
@@ -309,6 +342,75 @@ impl<'s> Changes<'s> {
         }
     }
 }
+
+/// Of some parts that of the name of the part `at` of others; the second one of a name is that of the second one.
+fn same_of<'p>(parts: &'p [Piece], others: &[Piece], at: usize) -> Option<&'p Piece> {
+    let xml = &others.get(at)?.xml;
+    let before = others.iter().take(at).filter(|other| other.xml == *xml);
+    let mut same = parts.iter().filter(|part| part.xml == *xml);
+    same.nth(before.count())
+}
+
+/// The same of one name: equal ones first.
+type Matched<'s> = Vec<(Option<&'s RestShape>, Option<&'s RestShape>)>;
+
+fn matched<'s>(before: &'s [RestShape], after: &'s [RestShape]) -> Matched<'s> {
+    let mut left: Vec<&RestShape> = after.iter().collect();
+    let mut take = |fits: &dyn Fn(&RestShape) -> bool| {
+        let at = left.iter().position(|new| fits(new))?;
+        Some(left.remove(at))
+    };
+    let equal = |old: &'s RestShape| take(&|new| (&new.name, &new.text) == (&old.name, &old.text));
+    let mut found: Vec<_> = before.iter().map(equal).collect();
+    for (old, new) in before.iter().zip(&mut found) {
+        if new.is_none() {
+            *new = take(&|new| new.name == old.name);
+        }
+    }
+    let of_old = before.iter().map(Some).zip(found);
+    let of_new = left.into_iter().map(|new| (None, Some(new)));
+    of_old.chain(of_new).collect()
+}
+
+/// Of an old message it can't be told whether it stays valid, or it does not.
+fn may_break(old: Option<&RestShape>, new: Option<&RestShape>) -> bool {
+    let name = old.or(new).map_or("", |rest| rest.name.as_str());
+    let word = name.split(' ').next().unwrap_or_default();
+    match word {
+        "default" | "import" | "include" | "notation" => false,
+        "base" => new.is_none_or(|new| new.text != "xs:string"),
+        "fixed" | "abstract" | "key" | "keyref" | "unique" | "block" | "blockDefault" => {
+            new.is_some()
+        }
+        "nillable" | "mixed" => new.is_none(),
+        "maxOccurs" => most_of(new) < most_of(old),
+        "attribute" => {
+            old.is_some() || new.is_some_and(|new| new.text.contains(" use=\"required\""))
+        }
+        _ => true,
+    }
+}
+
+/// maxOccurs by its text.
+fn most_of(found: Option<&RestShape>) -> u64 {
+    found.map_or(1, |found| found.text.trim().parse().unwrap_or(u64::MAX))
+}
+
+/// `maxOccurs of sequence was 2, it is 3`; a long text is not shown.
+fn told(old: Option<&RestShape>, new: Option<&RestShape>) -> String {
+    let short = |found: &RestShape| found.text.len() <= MOST_SHOWN;
+    match (old, new) {
+        (Some(old), Some(new)) if short(old) && short(new) => {
+            format!("{} was {}, it is {}", old.name, old.text, new.text)
+        }
+        (Some(old), Some(_)) => format!("{} is another one", old.name),
+        (Some(old), None) => format!("{} is gone", old.name),
+        (None, new) => format!("{} is new", new.map_or("", |new| new.name.as_str())),
+    }
+}
+
+/// The longest text that is shown, in bytes.
+const MOST_SHOWN: usize = 80;
 
 /// The new type takes every code of the old one as a text.
 fn takes_codes(before: &TypeShape, after: &TypeShape) -> bool {
@@ -395,8 +497,8 @@ impl<'t> Decimal<'t> {
     }
 }
 
-fn times(piece: &Piece) -> String {
-    match (piece.least, piece.most) {
+fn times(occurs: (u32, Option<u32>)) -> String {
+    match occurs {
         (1, Some(1)) => "once".to_owned(),
         (0, Some(1)) => "at most once".to_owned(),
         (0, None) => "any number of times".to_owned(),

@@ -9,7 +9,8 @@ use std::path::Path;
 use crate::args::{Command, Diff};
 use crate::bindings::{schema, Wanted};
 use crate::commands::{input, Input};
-use crate::failure::{named, though_unread, Failure};
+use crate::failure::{though_unread, Failure};
+use crate::origins::beside;
 use crate::output::write_output;
 use changes::{changes, Change};
 use shape::Shape;
@@ -20,7 +21,7 @@ use shape::Shape;
 ///
 /// [`Failure`]; [`Failure::Differ`] where the exit status is asked for and they differ.
 pub fn run(command: &Command, arguments: &Diff) -> Result<(), Failure> {
-    let (old, new) = shapes(command, &arguments.old, &arguments.new)?;
+    let (old, new) = shapes(command, arguments)?;
     let mut found = changes(&old, &new);
     if arguments.breaking {
         found.retain(|change| change.breaking);
@@ -48,13 +49,19 @@ fn status(arguments: &Diff, found: &[Change]) -> u8 {
 }
 
 /// Both shapes: by the tags where those of both are at hand, else by the graphs.
-fn shapes(command: &Command, old: &Path, new: &Path) -> Result<(Shape, Shape), Failure> {
+fn shapes(command: &Command, arguments: &Diff) -> Result<(Shape, Shape), Failure> {
+    let (old, new) = (&arguments.old, &arguments.new);
     let (before, after) = (input(command, old, false)?, input(command, new, false)?);
     let by_tags = (tagged(&before, old)?, tagged(&after, new)?);
-    match by_tags {
-        (Some(before), Some(after)) => Ok((before, after)),
-        _ => Ok((graphed(&before, old)?, graphed(&after, new)?)),
+    let (mut before, mut after) = match by_tags {
+        (Some(before), Some(after)) => (before, after),
+        _ => (graphed(&before, old)?, graphed(&after, new)?),
+    };
+    if arguments.relative {
+        before.path = beside(&before.path, old);
+        after.path = beside(&after.path, new);
     }
+    Ok((before, after))
 }
 
 /// The shape by the tags of the source; none where it is not at hand.
@@ -62,6 +69,7 @@ fn tagged(input: &Input, file: &Path) -> Result<Option<Shape>, Failure> {
     let wanted = Wanted {
         all: true,
         lossy: true,
+        whole: true,
     };
     input.with_graph(file, |graph| {
         input.with_source(|source| {
@@ -70,11 +78,11 @@ fn tagged(input: &Input, file: &Path) -> Result<Option<Shape>, Failure> {
             };
             let not_kept = input.not_kept(source);
             let schema = schema(source, graph, &not_kept, wanted)?;
-            Ok(Some(Shape::of_schema(named(source.path()), &schema)))
+            Ok(Some(Shape::of_schema(source.path(), &schema)))
         })
     })
 }
 
 fn graphed(input: &Input, file: &Path) -> Result<Shape, Failure> {
-    input.with_graph(file, |graph| Ok(Shape::of_graph(named(file), graph)))
+    input.with_graph(file, |graph| Ok(Shape::of_graph(file, graph)))
 }

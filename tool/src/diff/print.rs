@@ -7,7 +7,7 @@ use serde::{Serialize, Serializer};
 
 use super::changes::Change;
 use super::shape::Shape;
-use crate::failure::escaped;
+use crate::failure::{escaped, named};
 
 /// The version of the shape of the JSON.
 const VERSION: u32 = 1;
@@ -44,8 +44,9 @@ pub fn text(old: &Shape, new: &Shape, changes: &[Change]) -> String {
 
 /// ` (OLD:LINE, NEW:LINE)`, as far as these are known.
 fn places(old: &Shape, new: &Shape, change: &Change) -> String {
-    let place =
-        |shape: &Shape, line: Option<usize>| line.map(|line| format!("{}:{line}", shape.file));
+    let place = |shape: &Shape, line: Option<usize>| {
+        line.map(|line| format!("{}:{line}", named(&shape.path)))
+    };
     let known: Vec<String> = [place(old, change.lines.0), place(new, change.lines.1)]
         .into_iter()
         .flatten()
@@ -79,8 +80,8 @@ impl Serialize for List<'_> {
         let breaking = self.changes.iter().filter(|change| change.breaking).count();
         let mut out = out.serialize_struct("diff", 5)?;
         out.serialize_field("version", &VERSION)?;
-        out.serialize_field("old", &self.old.file)?;
-        out.serialize_field("new", &self.new.file)?;
+        out.serialize_field("old", &named(&self.old.path))?;
+        out.serialize_field("new", &named(&self.new.path))?;
         out.serialize_field("breaking", &breaking)?;
         let changes: Vec<Shown<'_>> = self.changes.iter().map(Shown).collect();
         out.serialize_field("changes", &changes)?;

@@ -1,22 +1,35 @@
 //! What `diff` compares of a schema: its roots and types, each with its place.
 
 use std::collections::BTreeMap;
+use std::path::{Path, PathBuf};
 
 use lubiksan::names::{map_builtin, normalize_type_name};
 use lubiksan::{Cardinality, Facet, Graph, TypeDef, TypeRef};
 
-use crate::bindings::{Check, Field, Group, Kind, Many, Part, Schema, Type};
+use crate::bindings::{Check, Field, Group, Kind, Many, Part, Rest, Schema, Type};
 use crate::identifier::spelled;
 
 /// A schema.
 #[derive(Debug, Default)]
 pub struct Shape {
-    /// The file as it was given.
-    pub file: String,
+    /// The file as it was given, or its path from another file.
+    pub path: PathBuf,
     pub namespace: String,
     pub roots: Vec<Piece>,
     /// The types by their Rust names.
     pub types: BTreeMap<String, TypeShape>,
+    /// What stands beside these, by its text.
+    pub rest: Vec<RestShape>,
+}
+
+/// What is compared by its text, and the types in it.
+#[derive(Debug)]
+pub struct RestShape {
+    /// What it is, by its tag or attribute.
+    pub name: String,
+    pub text: String,
+    pub types: Vec<String>,
+    pub line: usize,
 }
 
 /// A root, or a part of a type.
@@ -28,6 +41,8 @@ pub struct Piece {
     pub least: u32,
     /// None where there is no bound.
     pub most: Option<u32>,
+    /// The same in the group around it.
+    pub inside: (u32, Option<u32>),
     pub line: Option<usize>,
 }
 
@@ -45,6 +60,10 @@ pub struct TypeShape {
     pub groups: Option<Groups>,
     pub codes: Vec<String>,
     pub facets: Vec<(String, String)>,
+    /// It stands inside an element and has no name.
+    pub inner: bool,
+    /// All else, by its text.
+    pub rest: Vec<RestShape>,
 }
 
 /// Elements by name, and groups of them.
@@ -93,44 +112,63 @@ impl std::fmt::Display for Groups {
 
 impl Shape {
     /// The shape of a schema whose tags are at hand.
-    pub fn of_schema(file: String, schema: &Schema) -> Shape {
+    pub fn of_schema(file: &Path, schema: &Schema) -> Shape {
         let roots = schema.roots.iter().map(|root| Piece {
             xml: root.xml.clone(),
             holds: root.holds.clone(),
             least: 1,
             most: Some(1),
+            inside: (1, Some(1)),
             line: Some(root.line),
         });
         let types = schema.types.iter().filter(|found| found.line.is_some());
+        let of = |found: &Type| TypeShape {
+            rest: rest(schema, Some(&found.rust)),
+            ..of_type(found)
+        };
         Shape {
-            file,
+            path: file.to_owned(),
             namespace: schema.namespace.clone(),
             roots: roots.collect(),
-            types: types
-                .map(|found| (found.rust.clone(), of_type(found)))
-                .collect(),
+            types: types.map(|found| (found.rust.clone(), of(found))).collect(),
+            rest: rest(schema, None),
         }
     }
 
     /// The shape of a graph alone.
-    pub fn of_graph(file: String, graph: &Graph<'_>) -> Shape {
+    pub fn of_graph(file: &Path, graph: &Graph<'_>) -> Shape {
         let roots = graph.roots().map(|root| Piece {
             xml: root.xml_name.to_owned(),
             holds: named(root.type_name),
             least: 1,
             most: Some(1),
+            inside: (1, Some(1)),
             line: None,
         });
         Shape {
-            file,
+            path: file.to_owned(),
             namespace: graph.namespace().to_owned(),
             roots: roots.collect(),
             types: graph
                 .types()
                 .map(|found| (spelled(found.name()), of_typedef(&found)))
                 .collect(),
+            rest: Vec::new(),
         }
     }
+}
+
+/// What of a type, or beside all types, is compared by its text.
+fn rest(schema: &Schema, owner: Option<&String>) -> Vec<RestShape> {
+    let rest = schema.rest.iter();
+    let rest = rest.filter(|rest| rest.owner.as_ref() == owner);
+    let shape = |rest: &Rest| RestShape {
+        name: rest.name.clone(),
+        text: rest.text.clone(),
+        types: rest.types.clone(),
+        line: rest.line,
+    };
+    rest.map(shape).collect()
 }
 
 /// The name of a root's type.
@@ -145,6 +183,7 @@ fn of_type(found: &Type) -> TypeShape {
     let mut shape = TypeShape {
         xml: found.xml.clone(),
         line: found.line,
+        inner: found.inner,
         ..TypeShape::default()
     };
     match &found.kind {
@@ -214,6 +253,7 @@ fn part(field: &Field, mark: &str, in_choice: bool) -> Piece {
         holds: field.holds.clone(),
         least: if certain { field.occurs.least } else { 0 },
         most: field.occurs.most,
+        inside: (field.inside.least, field.inside.most),
         line: Some(field.line),
     }
 }
@@ -257,6 +297,8 @@ fn of_typedef(found: &TypeDef<'_>) -> TypeShape {
             _ => Vec::new(),
         },
         parts,
+        inner: false,
+        rest: Vec::new(),
     }
 }
 
@@ -304,6 +346,7 @@ fn piece(xml: &str, reference: TypeRef<'_>, (least, most): (u32, Option<u32>)) -
         },
         least,
         most,
+        inside: (least, most),
         line: None,
     }
 }

@@ -78,6 +78,21 @@ fn tree(file: &Path) -> Tag {
     }
 }
 
+/// Leaves out prefixes of the schema's own namespace before names of types, and elements that name no type, which no bindings have.
+fn follow(tag: &mut Tag, own: &[String]) {
+    for key in ["type", "base"] {
+        if let Some(kind) = tag.attributes.get_mut(key) {
+            let local = own
+                .iter()
+                .find_map(|prefix| kind.strip_prefix(prefix.as_str()));
+            *kind = local.unwrap_or(kind).to_owned();
+        }
+    }
+    tag.children
+        .retain(|inner| inner.name != "element" || inner.get("type").is_some());
+    tag.children.iter_mut().for_each(|inner| follow(inner, own));
+}
+
 /// What stands where the schema leaves a choice.
 #[derive(Clone, Copy, Debug, PartialEq, Eq)]
 pub enum Mode {
@@ -127,7 +142,14 @@ const MANY: usize = 3;
 
 impl Messages {
     pub fn of(file: &Path, seed: u64) -> Messages {
-        let schema = tree(file);
+        let mut schema = tree(file);
+        let namespace = schema.get("targetNamespace").unwrap_or_default().to_owned();
+        let bound = schema.attributes.iter();
+        let own = bound.filter(|(key, value)| key.starts_with("xmlns:") && **value == namespace);
+        let own: Vec<String> = own
+            .map(|(key, _)| key.replace("xmlns:", "") + ":")
+            .collect();
+        follow(&mut schema, &own);
         let named = |name: &'static str| {
             schema
                 .children
@@ -142,7 +164,7 @@ impl Messages {
                 root.get("name").unwrap().to_owned(),
                 root.get("type").unwrap().to_owned(),
             ),
-            namespace: schema.get("targetNamespace").unwrap_or_default().to_owned(),
+            namespace,
             qualified: schema.get("elementFormDefault") == Some("qualified"),
             random: Random(seed),
             turns: HashMap::new(),
