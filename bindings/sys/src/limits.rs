@@ -33,7 +33,7 @@ pub const LUBIKSAN_TAPE_STACK: usize = 45056;
 /// Bytes of stack that `lubiksan_clear` takes.
 pub const LUBIKSAN_CLEAR_STACK: usize = 1024;
 /// Bytes of stack that `lubiksan_read` takes.
-pub const LUBIKSAN_READ_STACK: usize = 2048;
+pub const LUBIKSAN_READ_STACK: usize = 1024;
 /// Bytes of stack that `lubiksan_lower` takes.
 pub const LUBIKSAN_LOWER_STACK: usize = 1024;
 /// Bytes of stack that `lubiksan_reduce` takes.

@@ -2,4 +2,6 @@
 pub mod Places
 pub mod Inverse
 pub mod Filled
+pub mod Squares
+pub mod Rests
 pub mod Calls

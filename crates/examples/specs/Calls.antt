@@ -1,11 +1,11 @@
 -- Calls on buffers with something in them, for the examples.
---     lowers x r n k    the lowering of the sheet x into a graph of r numbers and n bytes with a scratch of k numbers
---     lowered           its number and place, with the graph and a scratch of k zeros
---     unchanged         a refusal under which graph and scratch keep what they held
---     zeroed            a graph of zeros
---     compiles tags r n k    clear, read the tape of the tags, lower: both calls' answers, the graph and the scratch
---     compiled e        the same where reading accepts e events
---     called            one name that unfolds all that the examples compute with
+--     lowers x r n k       the lowering of the sheet x into a graph of r numbers and n bytes with a scratch of k numbers
+--     lowered_by_call      its number and place, with the graph and a scratch of k zeros
+--     junk_kept            a refusal under which graph and scratch keep what they held
+--     zeros_graph          a graph of zeros
+--     compiles tags r n k  clear, read the tape of the tags, lower: both calls' answers, the graph and the scratch
+--     compiled e           the same where reading accepts e events
+--     called               one name that unfolds all that the examples compute with
 use Rattle.std.specs.Prelude.{ℕ, List, [], replicate}
 use Rattle.builtin.specs.Unfold.{computes as builtins}
 use Rattle.names.specs.Unfold.{computes as conversions}
@@ -21,14 +21,14 @@ use Rattle.ir_lower.specs.Unfold.{computes as lowerings}
 unfoldable pub lowers : Sheet → ℕ → ℕ → ℕ → Lowered
 lowers x r n k = lowering x (junk r n) (replicate k 7)
 
-unfoldable pub lowered : ℕ → ℕ → Sheet → ℕ → Lowered
-lowered number place graph k = record { answer = answer number place; graph = graph; scratch = replicate k 0 }
+unfoldable pub lowered_by_call : ℕ → ℕ → Sheet → ℕ → Lowered
+lowered_by_call number place graph k = record { answer = answer number place; graph = graph; scratch = replicate k 0 }
 
-unfoldable pub unchanged : ℕ → ℕ → ℕ → ℕ → Lowered
-unchanged number r n k = record { answer = answer number 0; graph = junk r n; scratch = replicate k 7 }
+unfoldable pub junk_kept : ℕ → ℕ → ℕ → ℕ → Lowered
+junk_kept number r n k = record { answer = answer number 0; graph = junk r n; scratch = replicate k 7 }
 
-unfoldable pub zeroed : ℕ → ℕ → Sheet
-zeroed r n = sheet r n [] ""
+unfoldable pub zeros_graph : ℕ → ℕ → Sheet
+zeros_graph r n = sheet r n [] ""
 
 pub record Compiled : Type 0 where
   pub reading : Answer
@@ -44,5 +44,5 @@ unfoldable pub compiled : ℕ → Lowered → Compiled
 compiled events x = record { reading = answer 0 events; lowering = x }
 
 unfoldable pub called : Unit {0}
-unfolding lowers lowered unchanged zeroed both compiles compiled taped builtins conversions graphs lowerings
+unfolding lowers lowered_by_call junk_kept zeros_graph both compiles compiled taped builtins conversions graphs lowerings
 called = tt

@@ -2,7 +2,7 @@
 use Rattle.std.specs.Prelude.{◌≡◌, refl, [], ◌∷◌}
 use Rattle.xsd_types.specs.Examples.Sheets.{line, no_namespace, sheet}
 use Rattle.xsd_parser.specs.Examples.Tapes.{start, empty, close, typed, based, schema, simple_type, complex_type}
-use Rattle.examples.specs.Calls.{lowered, zeroed, compiles, compiled, called}
+use Rattle.examples.specs.Calls.{lowered_by_call, zeros_graph, compiles, compiled, called}
 
 -- ---- 20: "Lowering refuses when two finished types normalise to the same name"; "graph and scratch zero"
 
@@ -10,7 +10,7 @@ use Rattle.examples.specs.Calls.{lowered, zeroed, compiles, compiled, called}
 second-of-a-name :
     compiles (schema ∷ simple_type "A" ∷ empty "restriction" (based "string") ∷ close ∷ complex_type "C" ∷ start "sequence" []
     ∷ empty "element" (typed "e" "t") ∷ close ∷ close ∷ complex_type "A" ∷ close ∷ []) 40 9 64
-    ≡ compiled 11 (lowered 20 5 (zeroed 40 9) 64)
+    ≡ compiled 11 (lowered_by_call 20 5 (zeros_graph 40 9) 64)
 unfolding called
 second-of-a-name = refl
 
@@ -18,49 +18,49 @@ second-of-a-name = refl
 complex-came-first :
     compiles (schema ∷ complex_type "A" ∷ close ∷ simple_type "B" ∷ empty "restriction" (based "string") ∷ close ∷ simple_type "A"
     ∷ empty "restriction" (based "string") ∷ close ∷ []) 40 2 64
-    ≡ compiled 9 (lowered 20 2 (zeroed 40 2) 64)
+    ≡ compiled 9 (lowered_by_call 20 2 (zeros_graph 40 2) 64)
 unfolding called
 complex-came-first = refl
 
 -- "normalise to the same name"
 normalised-name :
     compiles (schema ∷ complex_type "a_b" ∷ close ∷ complex_type "AB" ∷ close ∷ []) 30 2 64
-    ≡ compiled 5 (lowered 20 3 (zeroed 30 2) 64)
+    ≡ compiled 5 (lowered_by_call 20 3 (zeros_graph 30 2) 64)
 unfolding called
 normalised-name = refl
 
 -- "`_` gives empty text": `_` and the empty name are one
 empty_name :
     compiles (schema ∷ complex_type "_" ∷ close ∷ complex_type "" ∷ close ∷ []) 30 0 64
-    ≡ compiled 5 (lowered 20 3 (zeroed 30 0) 64)
+    ≡ compiled 5 (lowered_by_call 20 3 (zeros_graph 30 0) 64)
 unfolding called
 empty_name = refl
 
 -- "20, between 13 and 15"
 twenty-before-fifteen :
     compiles (schema ∷ complex_type "A" ∷ close ∷ complex_type "A" ∷ close ∷ []) 20 0 64
-    ≡ compiled 5 (lowered 20 3 (zeroed 20 0) 64)
+    ≡ compiled 5 (lowered_by_call 20 3 (zeros_graph 20 0) 64)
 unfolding called
 twenty-before-fifteen = refl
 
 -- "two finished types": an open one is none
 open-apart :
     compiles (schema ∷ complex_type "A" ∷ close ∷ complex_type "A" ∷ []) 30 1 64
-    ≡ compiled 4 (lowered 0 3 (sheet 30 1 (line 0 3 1 0 1 0 0 0 0 0 ∷ no_namespace ∷ line 8 0 1 0 0 0 0 0 0 1 ∷ []) "A") 64)
+    ≡ compiled 4 (lowered_by_call 0 3 (sheet 30 1 (line 0 3 1 0 1 0 0 0 0 0 ∷ no_namespace ∷ line 8 0 1 0 0 0 0 0 0 1 ∷ []) "A") 64)
 unfolding called
 open-apart = refl
 
 -- an element and a type of one name
 element-apart :
     compiles (schema ∷ empty "element" (typed "A" "A") ∷ complex_type "A" ∷ close ∷ []) 40 3 64
-    ≡ compiled 4 (lowered 0 4 (sheet 40 3 (line 0 4 3 1 1 0 0 0 0 0 ∷ no_namespace ∷ line 2 0 1 1 1 0 0 0 0 1 ∷ line 8 2 1 0 0 0 0 0 0 2 ∷ []) "AAA") 64)
+    ≡ compiled 4 (lowered_by_call 0 4 (sheet 40 3 (line 0 4 3 1 1 0 0 0 0 0 ∷ no_namespace ∷ line 2 0 1 1 1 0 0 0 0 1 ∷ line 8 2 1 0 0 0 0 0 0 2 ∷ []) "AAA") 64)
 unfolding called
 element-apart = refl
 
 -- roots of one name are two
 same-roots :
     compiles (schema ∷ empty "element" (typed "D" "T") ∷ empty "element" (typed "D" "T") ∷ []) 40 4 64
-    ≡ compiled 3 (lowered 0 4 (sheet 40 4 (line 0 4 4 2 0 0 0 0 0 0 ∷ no_namespace ∷ line 2 0 1 1 1 0 0 0 0 1
+    ≡ compiled 3 (lowered_by_call 0 4 (sheet 40 4 (line 0 4 4 2 0 0 0 0 0 0 ∷ no_namespace ∷ line 2 0 1 1 1 0 0 0 0 1
     ∷ line 2 2 1 3 1 0 0 0 0 2 ∷ []) "DTDT") 64)
 unfolding called
 same-roots = refl
@@ -71,14 +71,14 @@ same-roots = refl
 bad-then-good :
     compiles (schema ∷ simple_type "S" ∷ empty "restriction" (based "QName") ∷ close ∷ simple_type "S" ∷ empty "restriction" (based "string")
     ∷ close ∷ []) 40 9 64
-    ≡ compiled 7 (lowered 13 2 (zeroed 40 9) 64)
+    ≡ compiled 7 (lowered_by_call 13 2 (zeros_graph 40 9) 64)
 unfolding called
 bad-then-good = refl
 
 -- a complex type of the name
 bad-then-complex :
     compiles (schema ∷ simple_type "S" ∷ empty "restriction" (based "QName") ∷ close ∷ complex_type "S" ∷ close ∷ []) 40 9 64
-    ≡ compiled 6 (lowered 13 2 (zeroed 40 9) 64)
+    ≡ compiled 6 (lowered_by_call 13 2 (zeros_graph 40 9) 64)
 unfolding called
 bad-then-complex = refl
 
@@ -86,6 +86,6 @@ bad-then-complex = refl
 good-then-bad :
     compiles (schema ∷ simple_type "S" ∷ empty "restriction" (based "string") ∷ close ∷ simple_type "S" ∷ empty "restriction" (based "QName")
     ∷ close ∷ []) 40 9 64
-    ≡ compiled 7 (lowered 13 3 (zeroed 40 9) 64)
+    ≡ compiled 7 (lowered_by_call 13 3 (zeros_graph 40 9) 64)
 unfolding called
 good-then-bad = refl

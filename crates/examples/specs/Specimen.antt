@@ -7,7 +7,7 @@ use Rattle.xsd_parser.specs.Read.{ReadAnswer, read}
 use Rattle.xsd_parser.specs.Examples.Tapes.{gives}
 use Rattle.ir_types.specs.Form.{graph_form}
 use Rattle.ir_lower.specs.Call.{Lowered, lowering}
-use Rattle.examples.specs.Calls.{lowered, zeroed, called}
+use Rattle.examples.specs.Calls.{lowered_by_call, zeros_graph, called}
 
 text : Text
 text = bytes "schemaelementnameDtypeT"
@@ -34,7 +34,7 @@ unfolding text marks clearing reading called
 reads-it = refl
 
 -- "lower 0 3", "the graph's used rows, its used names": the three rows and DT, zeros behind them, the scratch zero
-lowers-it : graph ≡ lowered 0 3 (sheet 40 10 (line 0 3 2 1 0 0 0 0 0 0 ∷ line 1 0 0 0 0 0 0 0 0 0 ∷ line 2 0 1 1 1 0 0 0 0 1 ∷ []) "DT") 64
+lowers-it : graph ≡ lowered_by_call 0 3 (sheet 40 10 (line 0 3 2 1 0 0 0 0 0 0 ∷ line 1 0 0 0 0 0 0 0 0 0 ∷ line 2 0 1 1 1 0 0 0 0 1 ∷ []) "DT") 64
 unfolding text marks clearing reading graph called
 lowers-it = refl
 
@@ -53,6 +53,6 @@ empty-tape : (read clearing.sheet [] []).answer ≡ answer 0 0
 unfolding clearing called
 empty-tape = refl
 
-empty-tape-lowers : lowering (read clearing.sheet [] []).sheet (junk 40 10) (replicate 64 7) ≡ lowered 12 0 (zeroed 40 10) 64
+empty-tape-lowers : lowering (read clearing.sheet [] []).sheet (junk 40 10) (replicate 64 7) ≡ lowered_by_call 12 0 (zeros_graph 40 10) 64
 unfolding clearing called
 empty-tape-lowers = refl

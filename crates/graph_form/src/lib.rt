@@ -4,6 +4,7 @@
 pub mod count;
 pub mod row;
 pub mod row0;
+pub mod rules;
 
 ghost use Rattle.std.specs.Prelude.{◌≡◌};
 ghost use Rattle.sheet.specs.Results.{returned_number};
@@ -49,7 +50,7 @@ pub fn is_form(rows: &[u32], names: &[u8]) -> bool
         & (roots == count_roots(&part))
         & (types == count_types(&part))
         & behind::zeros_behind(rows, names, part.end, names_end)
-        & used::names_test::<GraphRow>(&part, row1, names_end)
+        & used::names_test::<GraphRow>(&part, names_end)
 }
 
 // Whether the lengths are those of a sheet and it is in the form.

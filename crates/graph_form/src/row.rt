@@ -1,11 +1,14 @@
 // The tests of a row of a graph sheet behind row 1.
 // The numbers of a row one by one, as in the definitions: each test asks for two or three of them.
-ghost use Rattle.std.specs.Prelude.{◌≡◌, ◌+◌, ◌≤◌, eqb, if◌then◌else◌};
-ghost use Rattle.ir_types.specs.Form.{used_pairs, is_type_tag, form_a, form_b, form_c, is_child};
+ghost use Rattle.std.specs.Prelude.{◌≡◌, ◌+◌, ◌≤◌, ◌&&◌, ◌||◌, eqb, leb, if◌then◌else◌};
+ghost use Rattle.ir_types.specs.Tags.{field_tag};
+ghost use Rattle.rows.specs.Ten.{as_ten};
+ghost use Rattle.ir_types.specs.Form.{used_pairs, is_type_tag, ten_form, may_follow};
 ghost use Rattle.graph_form.specs.Tests.{graph_tests};
 
+use crate::rules::rule_of;
 use ir_types::tags;
-use rows::form::{in_range, is_flag};
+use rows::form::{in_heads, in_range, is_zero_by, pairs_by};
 use rows::numbers::wide;
 use rows::scan::RowTests;
 use rows::ten::Ten;
@@ -15,42 +18,6 @@ pub fn is_type(tag: u32) -> bool
     ensures { result ≡ is_type_tag tag }
 {
     in_range(tags::STRUCT, tags::OPAQUE, tag)
-}
-
-#[tactic(auto, unfolding(ir_types::specs::Form::form_a, text::specs::Text::between))]
-fn form_a(tag: u32, a: u32) -> bool
-    ensures { result ≡ form_a tag a }
-{
-    match tag {
-        tags::NEWTYPE => in_range(1, 5, a),
-        tags::VALUE_WITH_ATTRIBUTES | tags::FIELD..=tags::VARIANT | tags::ATTRIBUTE => a <= 5,
-        tags::OPAQUE => is_flag(a),
-        tags::MIN_LENGTH..=tags::MAX_LENGTH | tags::TOTAL_DIGITS..=tags::FRACTION_DIGITS => true,
-        _ => a == 0,
-    }
-}
-
-#[tactic(auto, unfolding(ir_types::specs::Form::form_b, text::specs::Text::between))]
-fn form_b(tag: u32, b: u32) -> bool
-    ensures { result ≡ form_b tag b }
-{
-    match tag {
-        tags::FIELD => b <= 3,
-        tags::ATTRIBUTE => is_flag(b),
-        tags::MIN_LENGTH..=tags::MAX_LENGTH => true,
-        _ => b == 0,
-    }
-}
-
-#[tactic(auto, unfolding(ir_types::specs::Form::form_c, text::specs::Text::between))]
-fn form_c(tag: u32, b: u32, c: u32) -> bool
-    ensures { result ≡ form_c tag b c }
-{
-    match tag {
-        tags::ROOT..=tags::OPAQUE => true,
-        tags::FIELD if b == 3 => 2 <= c,
-        _ => c == 0,
-    }
 }
 
 // The pairs of a row that has a reference: its own, and the reference's where a is 0.
@@ -76,18 +43,35 @@ pub fn used_pairs(tag: u32, a: u32) -> usize
     }
 }
 
-#[tactic(auto, unfolding(ir_types::specs::Form::is_child, text::specs::Text::between))]
-fn is_child(head: u32, tag: u32) -> bool
-    ensures { result ≡ is_child head tag }
+// c: of a field that is bounded the bound, above 1; else 0 where the table asks it.
+fn c_form(no_c: u32, t: Ten) -> bool
+    requires { no_c ≤ 1 }
+    ensures { result ≡ (if eqb t.tag field_tag && eqb t.b 3 then leb 2 t.c else (eqb no_c 0 || eqb t.c 0)) }
 {
-    match head {
-        tags::STRUCT => tag == tags::FIELD,
-        tags::ENUM => tag == tags::VARIANT,
-        tags::NEWTYPE => in_range(tags::PATTERN, tags::FRACTION_DIGITS, tag),
-        tags::CODE_ENUM => tag == tags::CODE,
-        tags::VALUE_WITH_ATTRIBUTES => tag == tags::ATTRIBUTE,
-        _ => false,
+    if (t.tag == tags::FIELD) & (t.b == 3) {
+        2 <= t.c
+    } else {
+        is_zero_by(no_c, t.c)
     }
+}
+
+// The tag is known, and a, b and c are as the table has it. The inner type of a newtype is never 0.
+pub fn row_form(t: Ten) -> bool
+    ensures { result ≡ ten_form (as_ten t) }
+{
+    let inner_missing = (t.tag == tags::NEWTYPE) & (t.a == 0);
+    if !in_range(tags::ROOT, tags::ATTRIBUTE, t.tag) | inner_missing {
+        return false;
+    }
+    let rule = rule_of(t.tag, t.a);
+    (t.a <= rule.most_a) & (t.b <= rule.most_b) & c_form(rule.no_c, t)
+}
+
+// Which tag may stand behind which head, by the table. a makes no difference, so the rule of an a of 1 is asked.
+pub fn may_follow(head: u32, tag: u32) -> bool
+    ensures { result ≡ may_follow head tag }
+{
+    (tag <= tags::ATTRIBUTE) && in_heads(rule_of(tag, 1).heads, head)
 }
 
 // The rows of a graph sheet.
@@ -96,21 +80,16 @@ pub struct GraphRow;
 impl RowTests for GraphRow {
     ghost tests = { graph_tests };
 
-    #[tactic(auto, unfolding(ir_types::specs::Form::ten_form, text::specs::Text::between))]
-    fn row_form(t: Ten) -> bool {
-        in_range(tags::ROOT, tags::ATTRIBUTE, t.tag)
-            & form_a(t.tag, t.a)
-            & form_b(t.tag, t.b)
-            & form_c(t.tag, t.b, t.c)
+    fn passes(head: u32, k: usize, t: Ten) -> bool {
+        if !(row_form(t) & may_follow(head, t.tag)) {
+            return false;
+        }
+        let rule = rule_of(t.tag, t.a);
+        pairs_by(rule.first, rule.second, rule.third, k, t)
     }
 
     fn used_pairs(tag: u32, a: u32) -> usize {
         used_pairs(tag, a)
-    }
-
-    #[tactic(auto, unfolding(ir_types::specs::Form::may_follow))]
-    fn may_follow(head: u32, tag: u32) -> bool {
-        is_type(tag) | is_child(head, tag) | ((head <= tags::ROOT) & (tag == tags::ROOT))
     }
 
     #[tactic(auto, unfolding(ir_types::specs::Form::head_after))]

@@ -6,7 +6,7 @@
 pub mod row0;
 pub mod writer;
 
-ghost use Rattle.std.specs.Prelude.{if◌then◌else◌, ◌≡◌, ◌+◌, ◌≤◌, length};
+ghost use Rattle.std.specs.Prelude.{if◌then◌else◌, Some, ◌≡◌, ◌+◌, ◌≤◌, length};
 ghost use Rattle.names.specs.Answers.{Put};
 ghost use Rattle.sheet.specs.Limits.{names_limit};
 ghost use Rattle.ir_append.specs.Spelled.{spelled_text};
@@ -38,21 +38,34 @@ pub struct Recipe {
     pub third: Option<Spelling>,
 }
 
+// Never inlined: `put_spelled` is inlined for each of a row's three texts, and each would hold the loops of all spellings.
+#[inline(never)]
+fn put_text(part: &mut [u8], how: Spelling, first: &[u8], second: &[u8]) -> Option<usize>
+    ensures { Put (spelled_text (Some how) first.now second.now) part.old result part.new }
+{
+    match how {
+        Spelling::First => put_same(first, part),
+        Spelling::FirstNormalized => normalize_type_name(first, part),
+        Spelling::FirstSnake => xml_to_snake_case(first, part),
+        Spelling::FirstPascal => code_to_pascal_case(first, part),
+        Spelling::Second => put_same(second, part),
+        Spelling::SecondNormalized => normalize_type_name(second, part),
+    }
+}
+
+// Inlined, down from `append_spelled`: a row asks for three texts, and has one or two.
+#[inline(always)]
 fn put_spelled(part: &mut [u8], how: Option<Spelling>, first: &[u8], second: &[u8]) -> Option<usize>
     ensures { Put (spelled_text how first.now second.now) part.old result part.new }
 {
     match how {
         None => Some(0),
-        Some(Spelling::First) => put_same(first, part),
-        Some(Spelling::FirstNormalized) => normalize_type_name(first, part),
-        Some(Spelling::FirstSnake) => xml_to_snake_case(first, part),
-        Some(Spelling::FirstPascal) => code_to_pascal_case(first, part),
-        Some(Spelling::Second) => put_same(second, part),
-        Some(Spelling::SecondNormalized) => normalize_type_name(second, part),
+        Some(how) => put_text(part, how, first, second),
     }
 }
 
 // The text stored in the names from `at`.
+#[inline(always)]
 fn put_behind(
     names: &mut [u8],
     at: usize,
@@ -67,6 +80,7 @@ fn put_behind(
 }
 
 // How long each of the row's three texts is; they stand in the names one behind the other.
+#[inline(always)]
 fn put_texts(
     names: &mut [u8],
     at: usize,
@@ -92,6 +106,7 @@ pub fn offset(used: bool, at: usize) -> u32
 }
 
 // `n`, `m`, `k`: how long the three texts are, not the used part of a buffer.
+#[inline(always)]
 fn spelled_row(recipe: Recipe, at: usize, n: usize, m: usize, k: usize) -> [u32; 10]
     requires { at + (n + (m + k)) ≤ names_limit }
     ensures { result ≡ row_numbers recipe at n m k }

@@ -47,7 +47,8 @@ impl<'a> GraphWriter<'a> {
         GraphWriter { rows, names, used }
     }
 
-    // Adds the row of a recipe with its texts, or answers `None` where there is no room.
+    // Adds the row of a recipe with its texts, or answers `None` where there is no room. Inlined, so that no recipe is stored and read again.
+    #[inline(always)]
     pub fn append_spelled(&mut self, recipe: Recipe, first: &[u8], second: &[u8]) -> Option<()>
         requires { orderly recipe ≡ true }
         ensures { Grows self.old (recipe_row recipe first.now second.now ∷ []) self.new result }

@@ -1,10 +1,10 @@
 -- The steps of a lowering.
---     Sized         the lengths of a sheet's buffers are in the paper's bounds
---     lowered       what a lowering leaves, as one value
---     Finished      the rows of a schema sheet's finished items, for which the sheet's count is right
---     GraphOf       they are lowered to the graph g
---     Lowers        they are those of the state s
---     GraphWritten  the graph g written into a sheet of zeros, or that it has no room
+--     SizedSheet      the lengths of a sheet's buffers are in the paper's bounds
+--     lowered_sheets  what a lowering leaves, as one value
+--     Finished        the rows of a schema sheet's finished items, for which the sheet's count is right
+--     GraphOf         they are lowered to the graph g
+--     LowersState     they are those of the state s
+--     GraphWritten    the graph g written into a sheet of zeros, or that it has no room
 use Rattle.std.specs.Prelude.{ℕ, Option, MatchOption, ◌≤◌, ◌≡◌, Bool, true, false, List, [], length, get_or}
 use Rattle.std.proofs.Math.Option.{none, some}
 use Rattle.sheet.specs.Limits.{least_rows, rows_limit, names_limit}
@@ -23,13 +23,13 @@ use Rattle.ir_lower.specs.Call.{Lowered}
 use Rattle.ir_rows.specs.Lowered.{root_rows}
 use Rattle.ir_rows.specs.Parts.{part_rows, part_places, part_heads, part_graph}
 
-pub record Sized (rows names : List ℕ) : Type 0 where
+pub record SizedSheet (rows names : List ℕ) : Type 0 where
   pub some_rows : least_rows ≤ length rows
   pub few_rows : length rows ≤ rows_limit
   pub few_names : length names ≤ names_limit
 
-abbrev pub lowered : Answer → List ℕ → List ℕ → List ℕ → Lowered
-lowered answer rows names scratch = record { answer = answer; graph = sheet rows names; scratch = scratch }
+abbrev pub lowered_sheets : Answer → List ℕ → List ℕ → List ℕ → Lowered
+lowered_sheets answer rows names scratch = record { answer = answer; graph = sheet rows names; scratch = scratch }
 
 pub record Finished (part : SheetPart) : Type 0 where
   pub at_least : 2 ≤ part.end
@@ -41,7 +41,7 @@ pub record GraphOf (part : SheetPart) (g : TypeGraph) : Type 0 where
   pub roots : length (root_rows (part_rows part 2)) ≡ length g.root_elements
   pub types : length (part_places part) ≡ length g.types
 
-pub record Lowers (part : SheetPart) (root_seen : Bool) (s : State) : Type 0 where
+pub record LowersState (part : SheetPart) (root_seen : Bool) (s : State) : Type 0 where
   pub root : root_seen ≡ s.reader.root_seen
   pub place : refused_place 2 (part_rows part 2) ≡ unknown_row 2 s.reader.schema.items
   pub refuses : lower s.reader.schema ≡ none → 1 ≤ refused_place 2 (part_rows part 2)

@@ -10,11 +10,11 @@ ghost use Rattle.xsd_types.specs.Count.{good, state_of};
 ghost use Rattle.xsd_types.specs.Refused.{refused_place};
 ghost use Rattle.ir_types.specs.Types.{TypeGraph};
 ghost use Rattle.ir_lower.specs.Repeated.{first_repeated};
-ghost use Rattle.ir_lower.specs.Call.{LowerIs, zeros, written, repeated_or_written, scratch_least, lower_finished, lower_state};
+ghost use Rattle.ir_lower.specs.Call.{LowerIs, zeros, graph_written, repeated_or_written, scratch_least, lower_finished, lower_state};
 ghost use Rattle.ir_rows.specs.Parts.{part_rows, part_heads};
 ghost use Rattle.ir_index.specs.Blocks.{row_of};
 ghost use Rattle.ir_append.specs.Whole.{Cleared};
-ghost use Rattle.ir_call.specs.Steps.{Sized, lowered, Finished, Lowers, GraphOf, GraphWritten};
+ghost use Rattle.ir_call.specs.Steps.{SizedSheet, lowered_sheets, Finished, LowersState, GraphOf, GraphWritten};
 
 use ir_append::writer::{GraphWriter, zero_graph};
 use ir_checks::{count_roots, count_types};
@@ -49,7 +49,8 @@ fn write_graph(
 // From 15 on. The scratch is left to be cleared, as in the steps that lead here.
 fn lower_distinct(part: &SheetPart<'_>, graph_rows: &mut [u32], graph_names: &mut [u8]) -> Answer
     requires { Finished part.now × Cleared graph_rows.old graph_names.old }
-    ensures { (g : TypeGraph) (scratch : List ℕ) → GraphOf part.now g → lowered (answer_of result) graph_rows.new graph_names.new (zeros scratch) ≡ written g (sheet graph_rows.old graph_names.old) scratch }
+    ensures { (g : TypeGraph) (scratch : List ℕ) → GraphOf part.now g
+        → lowered_sheets (answer_of result) graph_rows.new graph_names.new (zeros scratch) ≡ graph_written g (sheet graph_rows.old graph_names.old) scratch }
 {
     let Some(used) = write_graph(part, graph_rows, graph_names) else {
         zero_graph(graph_rows, graph_names);
@@ -91,7 +92,8 @@ fn lower_known(
     scratch: &mut [u32],
 ) -> Answer
     requires { Finished part.now × Cleared graph_rows.old graph_names.old × (scratch_least ≤ length scratch.old) }
-    ensures { (g : TypeGraph) → GraphOf part.now g → lowered (answer_of result) graph_rows.new graph_names.new (zeros scratch.old) ≡ repeated_or_written (first_repeated [] (part_heads part.now)) g (sheet graph_rows.old graph_names.old) scratch.old }
+    ensures { (g : TypeGraph) → GraphOf part.now g → lowered_sheets (answer_of result) graph_rows.new graph_names.new (zeros scratch.old)
+        ≡ repeated_or_written (first_repeated [] (part_heads part.now)) g (sheet graph_rows.old graph_names.old) scratch.old }
 {
     if let Some(place) = search(part, graph_rows, scratch) {
         return Err(Refused {
@@ -122,7 +124,8 @@ fn lower_cleared(
     scratch: &mut [u32],
 ) -> Answer
     requires { Finished part.now × Cleared graph_rows.old graph_names.old × (scratch_least ≤ length scratch.old) }
-    ensures { (s : State) → Lowers part.now root_seen s → lowered (answer_of result) graph_rows.new graph_names.new (zeros scratch.old) ≡ lower_finished s (sheet graph_rows.old graph_names.old) scratch.old }
+    ensures { (s : State) → LowersState part.now root_seen s → lowered_sheets (answer_of result) graph_rows.new graph_names.new (zeros scratch.old)
+        ≡ lower_finished s (sheet graph_rows.old graph_names.old) scratch.old }
 {
     if !root_seen {
         return Err(Refusal::NoRoot.into());
@@ -144,8 +147,9 @@ fn lower_finished(
     graph_names: &mut [u8],
     scratch: &mut [u32],
 ) -> Answer
-    requires { Finished part.now × Sized graph_rows.old graph_names.old × (scratch_least ≤ length scratch.old) }
-    ensures { (s : State) → Lowers part.now root_seen s → lowered (answer_of result) graph_rows.new graph_names.new scratch.new ≡ lower_finished s (sheet graph_rows.old graph_names.old) scratch.old }
+    requires { Finished part.now × SizedSheet graph_rows.old graph_names.old × (scratch_least ≤ length scratch.old) }
+    ensures { (s : State) → LowersState part.now root_seen s → lowered_sheets (answer_of result) graph_rows.new graph_names.new scratch.new
+        ≡ lower_finished s (sheet graph_rows.old graph_names.old) scratch.old }
 {
     zero_graph(graph_rows, graph_names);
     let answer = lower_cleared(part, root_seen, graph_rows, graph_names, scratch);
@@ -161,8 +165,8 @@ fn lower_good(
     graph_names: &mut [u8],
     scratch: &mut [u32],
 ) -> Answer
-    requires { (good (sheet rows.now names.now) ≡ true) × Sized rows.now names.now × Sized graph_rows.old graph_names.old }
-    ensures { lowered (answer_of result) graph_rows.new graph_names.new scratch.new ≡ lower_state (state_of (sheet rows.now names.now)) (sheet graph_rows.old graph_names.old) scratch.old }
+    requires { (good (sheet rows.now names.now) ≡ true) × SizedSheet rows.now names.now × SizedSheet graph_rows.old graph_names.old }
+    ensures { lowered_sheets (answer_of result) graph_rows.new graph_names.new scratch.new ≡ lower_state (state_of (sheet rows.now names.now)) (sheet graph_rows.old graph_names.old) scratch.old }
 {
     let z = row0::row0_at(rows);
     let end = scan::finished_end(rows, z.context, z.rows_used as usize);
@@ -181,7 +185,7 @@ pub fn lower(
     graph_names: &mut [u8],
     scratch: &mut [u32],
 ) -> Answer
-    ensures { LowerIs (sheet rows.now names.now) (sheet graph_rows.old graph_names.old) scratch.old (lowered (answer_of result) graph_rows.new graph_names.new scratch.new) }
+    ensures { LowerIs (sheet rows.now names.now) (sheet graph_rows.old graph_names.old) scratch.old (lowered_sheets (answer_of result) graph_rows.new graph_names.new scratch.new) }
 {
     if !both_sheet_lengths(rows.len(), names.len(), graph_rows.len(), graph_names.len()) {
         return Err(Refusal::BadLength.into());

@@ -12,12 +12,12 @@ abbrev pub in_words : Buffer → Bool
 in_words Names = false
 in_words Words = true
 
-pub record Stands (l : Labelled) (s : Spot) : Type 0 where
+pub record LabelStands (l : Labelled) (s : Spot) : Type 0 where
   pub number : l.number ≡ 0
   pub buffer : l.in_words ≡ in_words s.buffer
   pub at : l.at ≡ s.at
   pub len : length l.text ≡ s.len
 
 abbrev pub IsSpot : Labelled → Result Spot Refusal → Type 0
-IsSpot l (Ok s) = Stands l s
+IsSpot l (Ok s) = LabelStands l s
 IsSpot l (Err refusal) = (l ≡ no_label) × (refusal ≡ Refusal.BadLabel)

@@ -3,7 +3,7 @@
 --     zeros             as many zeros as the list is long
 --     unchanged         a refusal that changes nothing
 --     cleared           a refusal that clears graph and scratch
---     written           the graph, or 15
+--     graph_written           the graph, or 15
 --     repeated_or_written 20, or the graph
 --     refused_or_written  13, or what follows it
 --     scratch_least      how many numbers a scratch must have
@@ -46,8 +46,8 @@ cleared r place graph scratch =
     }
 
 -- 15: "graph needs more rows or names than lent"; 0: "place is .. rows used"
-unfoldable pub written : TypeGraph → Sheet → List ℕ → Lowered
-written g graph scratch =
+unfoldable pub graph_written : TypeGraph → Sheet → List ℕ → Lowered
+graph_written g graph scratch =
     if graph_fits (length graph.rows) (length graph.names) g
     then record {
       answer = record { number = returned.accepted; place = rows_used g };
@@ -59,7 +59,7 @@ written g graph scratch =
 -- 20: "the place is the row of the first head, in lowering's order, whose name came before"
 abbrev pub repeated_or_written : Option ℕ → TypeGraph → Sheet → List ℕ → Lowered
 repeated_or_written (some row) g graph scratch = cleared returned.repeated_name row graph scratch
-repeated_or_written none g graph scratch = written g graph scratch
+repeated_or_written none g graph scratch = graph_written g graph scratch
 
 -- 13: "`UnknownBase`; place is the row of the first such simple type"
 abbrev pub refused_or_written : Schema → Option TypeGraph → Sheet → List ℕ → Lowered

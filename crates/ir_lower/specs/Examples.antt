@@ -51,7 +51,8 @@ unfolding schema complex graph texts builtin_names conversions schemas graphs lo
 field = refl
 
 -- a variant keeps its name: no snake form; its reference by itself, a built-in name after its last colon
-variant : lower (schema (complex (bytes "E") (ComplexContent.choice (record { name = bytes "OrgId"; type_name = bytes "xs:date" } ∷ record { name = bytes "PrvtId"; type_name = bytes "Id" } ∷ [])) ∷ []))
+variant : lower (schema (complex (bytes "E")
+    (ComplexContent.choice (record { name = bytes "OrgId"; type_name = bytes "xs:date" } ∷ record { name = bytes "PrvtId"; type_name = bytes "Id" } ∷ [])) ∷ []))
     ≡ graph (TypeDef.enum 7 (bytes "E") (record { xml_name = bytes "OrgId"; rust_name = bytes "OrgId"; type_ref = TypeRef.builtin RustType.date }
     ∷ record { xml_name = bytes "PrvtId"; rust_name = bytes "PrvtId"; type_ref = TypeRef.named (bytes "Id") } ∷ []) ∷ [])
 unfolding schema complex graph texts builtin_names conversions schemas graphs lowerings
@@ -183,7 +184,7 @@ unfolding call sevens state_in state schema simple s texts builtin_names convers
 elements-apart = refl
 
 opened : State
-opened = state_in (Context.in_complex_type (record { name = bytes "AB"; content = ComplexContentBuilder.empty; nesting_depth = 0; event = 0 })) 2 (s (bytes "AB") ∷ [])
+opened = state_in (Context.in_complex_type (record { head = record { name = bytes "AB"; event = 0 }; content = ComplexContentBuilder.empty; nesting_depth = 0 })) 2 (s (bytes "AB") ∷ [])
 
 open-apart : (call opened 30 2 64).answer ≡ record { number = 0; place = 3 }
 unfolding call sevens opened state_in schema simple s texts builtin_names conversions sheets schemas graphs lowerings

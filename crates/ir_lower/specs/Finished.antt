@@ -1,6 +1,6 @@
 -- The finished types in lowering's order. Paper 01, "Graph sheet": "Only finished types are lowered, simple ones before complex."
 --     finished_names    their normalised names
---     references       the references of a definition; type_names_in: the type names of a content
+--     references_of       the references of a definition; type_names_in: the type names of a content
 use Rattle.std.specs.Prelude.{List, [], ◌∷◌, ◌++◌, map}
 use Rattle.text.specs.Text.{Text}
 use Rattle.names.specs.Names.{normalize_type_name}
@@ -17,13 +17,13 @@ unfoldable pub finished_names : Schema → List Text
 finished_names s = map simple_name (simple_types s.items) ++ map complex_name (complex_types s.items)
 
 -- the references of a definition: of its fields, its variants, its value and its attributes
-unfoldable pub references : TypeDef → List TypeRef
-references (TypeDef.struct event n fs) = map (λ (f : FieldDef). f.type_ref) fs
-references (TypeDef.enum event n vs) = map (λ (v : VariantDef). v.type_ref) vs
-references (TypeDef.newtype event n i cs) = []
-references (TypeDef.code_enum event n cs) = []
-references (TypeDef.value_with_attr event n v xs) = v ∷ map (λ (x : AttrDef). x.type_ref) xs
-references (TypeDef.opaque event n ns) = []
+unfoldable pub references_of : TypeDef → List TypeRef
+references_of (TypeDef.struct event n fs) = map (λ (f : FieldDef). f.type_ref) fs
+references_of (TypeDef.enum event n vs) = map (λ (v : VariantDef). v.type_ref) vs
+references_of (TypeDef.newtype event n i cs) = []
+references_of (TypeDef.code_enum event n cs) = []
+references_of (TypeDef.value_with_attr event n v xs) = v ∷ map (λ (x : AttrDef). x.type_ref) xs
+references_of (TypeDef.opaque event n ns) = []
 
 -- the type names that a complex type's content holds
 unfoldable pub type_names_in : ComplexContent → List Text

@@ -109,14 +109,14 @@ simple_definitions (t ∷ ts) = with_definition (lower_simple_type t) (simple_de
 unfoldable pub finished_definitions : Schema → List TypeDef
 finished_definitions s = simple_definitions (simple_types s.items) ++ map lower_complex_type (complex_types s.items)
 
-unfoldable pub root_of : Element → RootElement
-root_of e = record { xml_name = e.name; type_name = e.type_name; event = e.event }
+unfoldable pub root_of_element : Element → RootElement
+root_of_element e = record { xml_name = e.name; type_name = e.type_name; event = e.event }
 
 unfoldable pub graph_of : Schema → TypeGraph
 graph_of s =
     record {
       namespace = s.target_namespace;
-      root_elements = map root_of (elements s.items);
+      root_elements = map root_of_element (elements s.items);
       types = finished_definitions s;
     }
 

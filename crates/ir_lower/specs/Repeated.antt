@@ -3,7 +3,7 @@
 --     Head          a finished type's head: its row in the schema sheet and the type's normalised name
 --     simple_head, complex_head    the head of an item that is a simple type, a complex one, at a row; no other item has one
 --     heads_of       the heads of the items, the first of which is at the row
---     heads         the finished types' heads in lowering's order; head_names: their names
+--     heads         the finished types' heads in lowering's order; type_head_names: their names
 --     first_repeated    the row of the first head whose name came before: among the names seen, or with an earlier head of the list
 --     repeated_row   that of a schema's types
 --     FirstRepeat   the same without a search: before a head of this row no name came twice, and its own name came there
@@ -37,8 +37,8 @@ heads_of head row (i ∷ is) = head row i ++ heads_of head (row + length (item_r
 unfoldable pub heads : ℕ → List Item → List Head
 heads row is = heads_of simple_head row is ++ heads_of complex_head row is
 
-unfoldable pub head_names : List Head → List Text
-head_names hs = map (λ (h : Head). h.name) hs
+unfoldable pub type_head_names : List Head → List Text
+type_head_names hs = map (λ (h : Head). h.name) hs
 
 unfoldable pub first_repeated : List Text → List Head → Option ℕ
 first_repeated seen [] = none
@@ -53,6 +53,6 @@ pub record FirstRepeat (seen : List Text) (hs : List Head) (row : ℕ) : Type 0 
   pub head : Head
   pub behind : List Head
   pub made : hs ≡ before ++ (head ∷ behind)
-  pub new : distinct_texts (seen ++ head_names before) ≡ true
-  pub came : among head.name (seen ++ head_names before) ≡ true
+  pub new : distinct_texts (seen ++ type_head_names before) ≡ true
+  pub came : among head.name (seen ++ type_head_names before) ≡ true
   pub place : head.row ≡ row

@@ -67,9 +67,9 @@ fn append_same(writer: &mut GraphWriter, part: &SheetPart, place: usize) -> Opti
     if writer.names.len() - at < size {
         return None;
     }
-    copy_text(writer.names, at, part_of(part.names, wide(t.at0), size));
     let row = moved_row(t, used_pairs(t.tag, t.a), at);
     put_row(writer.rows, n, row);
+    copy_text(writer.names, at, part_of(part.names, wide(t.at0), size));
     writer.used = Used {
         rows: n + 1,
         names: at + size,

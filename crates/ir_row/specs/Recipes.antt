@@ -13,7 +13,8 @@ use Rattle.std.specs.Prelude.{ℕ, Option, Some, None, ◌≡◌, ◌⊎◌, Lis
 use Rattle.text.specs.Text.{Text, between}
 use Rattle.builtin.specs.Builtin.{map_builtin, reference}
 use Rattle.sheet.specs.Rows.{Row, text_at}
-use Rattle.xsd_types.specs.Tags.{namespace_tag, simple_type_tag, enumeration_tag, min_length_tag, max_length_tag, total_digits_tag, fraction_digits_tag, simple_content_tag, no_content_tag, bound_element_tag, attribute_tag}
+use Rattle.xsd_types.specs.Tags.{namespace_tag, simple_type_tag, enumeration_tag, min_length_tag, max_length_tag, total_digits_tag}
+use Rattle.xsd_types.specs.Tags.{fraction_digits_tag, simple_content_tag, no_content_tag, bound_element_tag, attribute_tag}
 use Rattle.rows.specs.declared.ten.Ten.{Ten}
 use Rattle.ir_types.specs.Types.{Cardinality}
 use Rattle.ir_rows.specs.Lowered.{lowered_as}

@@ -58,7 +58,7 @@ mixed-rows = (refl, refl, refl)
 
 -- the open type, which stands last, is not lowered: the finished items end at its head
 opened : Context
-opened = Context.in_simple_type (record { name = bytes "O"; base = bytes "QName"; facets = Facet.pattern (bytes "p") ∷ []; nesting_depth = 0; event = 8 })
+opened = Context.in_simple_type (record { head = record { name = bytes "O"; event = 8 }; base = bytes "QName"; facets = Facet.pattern (bytes "p") ∷ []; nesting_depth = 0 })
 
 values : List Item
 values = complex (bytes "V") (ComplexContent.simple_content (bytes "decimal") (record { name = bytes "Ccy"; type_name = bytes "Cur"; required = true } ∷ [])) ∷ []

@@ -33,8 +33,8 @@ unfoldable pub opaque_row : ℕ → ℕ → Text → Text → Row
 opaque_row a c t u = row graph.opaque_tag (normalize_type_name t ∷ (if eqb a 1 then u ∷ [] else [])) a 0 c
 
 -- "9 field (xml, Rust name, reference; b cardinality 0 required, 1 optional, 2 vec, 3 bounded with c the bound, above 1)"
-unfoldable pub field_row : Cardinality → Text → Text → Row
-field_row k t u = row graph.field_tag (t ∷ xml_to_snake_case t ∷ reference_texts u) (reference (map_builtin u)) (cardinality_b k) (cardinality_c k)
+unfoldable pub lowered_field_row : Cardinality → Text → Text → Row
+lowered_field_row k t u = row graph.field_tag (t ∷ xml_to_snake_case t ∷ reference_texts u) (reference (map_builtin u)) (cardinality_b k) (cardinality_c k)
 
 -- a simple type's head: code enum or newtype
 unfoldable pub simple_row : Bool → ℕ → Text → Text → Row
@@ -65,8 +65,8 @@ lowered_as code_enum tag a b c t u =
     if eqb tag schema.choice_tag then row graph.enum_tag (normalize_type_name t ∷ []) 0 0 c ∷ [] else
     if eqb tag schema.simple_content_tag then value_row c t u ∷ [] else
     if eqb tag schema.any_tag then opaque_row a c t u ∷ [] else
-    if eqb tag schema.bound_element_tag then field_row (lower_cardinality a (MaxOccurs.bounded b)) t u ∷ [] else
-    if eqb tag schema.unbounded_element_tag then field_row (lower_cardinality a MaxOccurs.unbounded) t u ∷ [] else
+    if eqb tag schema.bound_element_tag then lowered_field_row (lower_cardinality a (MaxOccurs.bounded b)) t u ∷ [] else
+    if eqb tag schema.unbounded_element_tag then lowered_field_row (lower_cardinality a MaxOccurs.unbounded) t u ∷ [] else
     if eqb tag schema.choice_variant_tag then row graph.variant_tag (t ∷ t ∷ reference_texts u) (reference (map_builtin u)) 0 0 ∷ [] else
     if eqb tag schema.attribute_tag then row graph.attribute_tag (t ∷ xml_to_snake_case t ∷ reference_texts u) (reference (map_builtin u)) a 0 ∷ [] else []
 

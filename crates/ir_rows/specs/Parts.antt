@@ -11,7 +11,7 @@ use Rattle.xsd_types.specs.Places.{row_at, rows_from}
 use Rattle.rows.specs.declared.part.SheetPart.{SheetPart}
 use Rattle.ir_lower.specs.Repeated.{Head}
 use Rattle.ir_rows.specs.Places.{name_at}
-use Rattle.ir_rows.specs.Types.{head_at, finished_places, heads_at, types_rows, graph_row_list}
+use Rattle.ir_rows.specs.Types.{type_head_at, finished_places, heads_at, types_graph_rows, graph_row_list}
 
 abbrev pub part_row : SheetPart → ℕ → Row
 part_row part p = row_at part.rows.now part.names.now p
@@ -23,7 +23,7 @@ abbrev pub part_name : SheetPart → ℕ → Text
 part_name part p = name_at part.rows.now part.names.now p
 
 abbrev pub part_head : SheetPart → ℕ → Head
-part_head part p = head_at part.rows.now part.names.now p
+part_head part p = type_head_at part.rows.now part.names.now p
 
 abbrev pub part_places : SheetPart → List ℕ
 part_places part = finished_places part.rows.now part.names.now part.end
@@ -32,7 +32,7 @@ abbrev pub part_heads : SheetPart → List Head
 part_heads part = heads_at part.rows.now part.names.now part.end
 
 abbrev pub part_types : SheetPart → List ℕ → List Row
-part_types part places = types_rows part.rows.now part.names.now part.end places
+part_types part places = types_graph_rows part.rows.now part.names.now part.end places
 
 abbrev pub part_graph : SheetPart → List ℕ → List Row
 part_graph part places = graph_row_list part.rows.now part.names.now part.end places

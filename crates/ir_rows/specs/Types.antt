@@ -3,8 +3,8 @@
 --     places_of          the places of the rows whose tag passes a test; the list's first row is at place p
 --     type_places        the places of the finished types' heads in lowering's order
 --     finished_places    those of the rows from row 2 up to a place
---     head_at            the head at a place, for order 4; heads_at: those of the finished types
---     types_rows         the graph's rows for the types at the given places
+--     type_head_at            the head at a place, for order 4; heads_at: those of the finished types
+--     types_graph_rows         the graph's rows for the types at the given places
 --     graph_row_list         the graph's rows behind row 0
 use Rattle.std.specs.Prelude.{ℕ, ◌+◌, List, [], ◌∷◌, ◌++◌, map, Bool, false, ◌||◌, eqb, if◌then◌else◌}
 use Rattle.text.specs.Text.{between}
@@ -34,17 +34,17 @@ type_places p rs = places_of is_simple p rs ++ places_of is_complex p rs
 abbrev pub finished_places : List ℕ → List ℕ → ℕ → List ℕ
 finished_places rows names end = type_places 2 (rows_from rows names 2 end)
 
-unfoldable pub head_at : List ℕ → List ℕ → ℕ → Head
-head_at rows names p = record { row = p; name = name_at rows names p }
+unfoldable pub type_head_at : List ℕ → List ℕ → ℕ → Head
+type_head_at rows names p = record { row = p; name = name_at rows names p }
 
 abbrev pub heads_at : List ℕ → List ℕ → ℕ → List Head
-heads_at rows names end = map (head_at rows names) (finished_places rows names end)
+heads_at rows names end = map (type_head_at rows names) (finished_places rows names end)
 
-unfoldable pub types_rows : List ℕ → List ℕ → ℕ → List ℕ → List Row
-types_rows rows names end [] = []
-types_rows rows names end (p ∷ ps) = type_rows_of (rows_from rows names p end) ++ types_rows rows names end ps
+unfoldable pub types_graph_rows : List ℕ → List ℕ → ℕ → List ℕ → List Row
+types_graph_rows rows names end [] = []
+types_graph_rows rows names end (p ∷ ps) = type_rows_of (rows_from rows names p end) ++ types_graph_rows rows names end ps
 
 -- "Row 1: tag 1, namespace. Then roots, then types"
 unfoldable pub graph_row_list : List ℕ → List ℕ → ℕ → List ℕ → List Row
 graph_row_list rows names end places =
-    lowered_row false (row_at rows names 1) ++ (root_rows (rows_from rows names 2 end) ++ types_rows rows names end places)
+    lowered_row false (row_at rows names 1) ++ (root_rows (rows_from rows names 2 end) ++ types_graph_rows rows names end places)

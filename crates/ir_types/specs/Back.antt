@@ -12,7 +12,8 @@ use Rattle.text.specs.Text.{Text, between}
 use Rattle.builtin.specs.Builtin.{RustType}
 use Rattle.sheet.specs.Rows.{Row, Sheet, unpack_row}
 use Rattle.sheet.specs.Form.{tens_of}
-use Rattle.ir_types.specs.Tags.{root_tag, struct_tag, enum_tag, newtype_tag, code_enum_tag, value_with_attributes_tag, opaque_tag, pattern_tag, min_length_tag, max_length_tag, min_inclusive_tag, max_inclusive_tag, total_digits_tag}
+use Rattle.ir_types.specs.Tags.{root_tag, struct_tag, enum_tag, newtype_tag, code_enum_tag, value_with_attributes_tag, opaque_tag, pattern_tag}
+use Rattle.ir_types.specs.Tags.{min_length_tag, max_length_tag, min_inclusive_tag, max_inclusive_tag, total_digits_tag}
 use Rattle.ir_types.specs.Types.{TypeRef, Cardinality, FieldDef, VariantDef, Constraint, CodeValue, AttrDef, TypeDef, RootElement, TypeGraph}
 use Rattle.ir_types.specs.Form.{used_pairs}
 

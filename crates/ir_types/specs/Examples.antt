@@ -138,16 +138,19 @@ unfolding one_row refused in_words word words texts sheets graphs
 bad-length = (refl, refl, refl)
 
 -- a is 0 to 5, for tag 5 from 1 on
-bad-a : (label (one_row 9 0 0 0 0 6) [] words 0 ≡ refused) × (label (one_row 5 0 0 0 0 6) [] words 0 ≡ refused) × (label (one_row 5 0 0 0 0 0) [] words 0 ≡ refused) × (label (one_row 10 0 0 0 0 5) [] words 0 ≡ in_words 25 (bytes "DateTime"))
+bad-a : (label (one_row 9 0 0 0 0 6) [] words 0 ≡ refused) × (label (one_row 5 0 0 0 0 6) [] words 0 ≡ refused) × (label (one_row 5 0 0 0 0 0) [] words 0 ≡ refused)
+    × (label (one_row 10 0 0 0 0 5) [] words 0 ≡ in_words 25 (bytes "DateTime"))
 unfolding one_row refused in_words word words texts sheets graphs
 bad-a = (refl, refl, refl, refl)
 
 -- with a 0 the reference's pair: the second of 7, the third of 9, 10, 19, within the names; the other pairs are not looked at, nor is the word list
-pair_inside : (label (one_row 7 1 2 9 9 0) (bytes "abc") [] 0 ≡ in_names 1 (bytes "bc")) × (label (one_row 10 9 9 1 2 0) (bytes "abc") [] 0 ≡ in_names 1 (bytes "bc")) × (label (one_row 19 9 9 3 0 0) (bytes "abc") [] 0 ≡ in_names 3 [])
+pair_inside : (label (one_row 7 1 2 9 9 0) (bytes "abc") [] 0 ≡ in_names 1 (bytes "bc")) × (label (one_row 10 9 9 1 2 0) (bytes "abc") [] 0 ≡ in_names 1 (bytes "bc"))
+    × (label (one_row 19 9 9 3 0 0) (bytes "abc") [] 0 ≡ in_names 3 [])
 unfolding one_row in_names texts sheets graphs
 pair_inside = (refl, refl, refl)
 
-pair-outside : (label (one_row 7 2 2 0 0 0) (bytes "abc") words 0 ≡ refused) × (label (one_row 9 0 0 4 0 0) (bytes "abc") words 0 ≡ refused) × (label (one_row 19 0 0 4294967295 4294967295 0) (bytes "abc") words 0 ≡ refused)
+pair-outside : (label (one_row 7 2 2 0 0 0) (bytes "abc") words 0 ≡ refused) × (label (one_row 9 0 0 4 0 0) (bytes "abc") words 0 ≡ refused)
+    × (label (one_row 19 0 0 4294967295 4294967295 0) (bytes "abc") words 0 ≡ refused)
 unfolding one_row refused word words texts sheets graphs
 pair-outside = (refl, refl, refl)
 
@@ -155,7 +158,8 @@ pair-outside = (refl, refl, refl)
 with_words : List ℕ → Labelled
 with_words ws = label (one_row 9 0 0 0 0 1) [] ws 0
 
-bad-words : (with_words [] ≡ refused) × (with_words (bytes "a") ≡ refused) × (with_words (10 ∷ 10 ∷ 10 ∷ 10 ∷ []) ≡ refused) × (with_words (10 ∷ 10 ∷ 10 ∷ 10 ∷ 10 ∷ 10 ∷ []) ≡ refused) × (with_words (words ++ bytes "x") ≡ refused)
+bad-words : (with_words [] ≡ refused) × (with_words (bytes "a") ≡ refused) × (with_words (10 ∷ 10 ∷ 10 ∷ 10 ∷ []) ≡ refused)
+    × (with_words (10 ∷ 10 ∷ 10 ∷ 10 ∷ 10 ∷ 10 ∷ []) ≡ refused) × (with_words (words ++ bytes "x") ≡ refused)
 unfolding with_words one_row refused word words texts sheets graphs
 bad-words = (refl, refl, refl, refl, refl)
 

@@ -11,7 +11,8 @@ use Rattle.std.specs.Prelude.{ℕ, suc, ◌+◌, List, [], ◌∷◌, map, Bool,
 use Rattle.text.specs.Text.{every, is_graph_text, between}
 use Rattle.sheet.specs.Rows.{Ten, Sheet}
 use Rattle.sheet.specs.Form.{is_flag, covers, covered, tens_of, used_parts, zeros_behind, texts_pass}
-use Rattle.ir_types.specs.Tags.{namespace_tag, root_tag, struct_tag, enum_tag, newtype_tag, code_enum_tag, value_with_attributes_tag, opaque_tag, field_tag, variant_tag, pattern_tag, min_length_tag, max_length_tag, total_digits_tag, fraction_digits_tag, code_tag, attribute_tag}
+use Rattle.ir_types.specs.Tags.{namespace_tag, root_tag, struct_tag, enum_tag, newtype_tag, code_enum_tag, value_with_attributes_tag, opaque_tag, field_tag}
+use Rattle.ir_types.specs.Tags.{variant_tag, pattern_tag, min_length_tag, max_length_tag, total_digits_tag, fraction_digits_tag, code_tag, attribute_tag}
 use Rattle.ir_types.specs.Row0.{GraphRow0, graph_row0_in}
 
 -- none for lengths and digits; of a value, a field, a variant and an attribute the last one where the reference is named; of an opaque type the

@@ -12,7 +12,8 @@ use Rattle.std.proofs.Math.Option.{some, none}
 use Rattle.text.specs.Text.{Text}
 use Rattle.builtin.specs.Builtin.{rust_type_number}
 use Rattle.sheet.specs.Rows.{Row, names_of, row, bit}
-use Rattle.ir_types.specs.Tags.{namespace_tag, root_tag, struct_tag, enum_tag, newtype_tag, code_enum_tag, value_with_attributes_tag, opaque_tag, field_tag, variant_tag, pattern_tag, min_length_tag, max_length_tag, min_inclusive_tag, max_inclusive_tag, total_digits_tag, fraction_digits_tag, code_tag, attribute_tag}
+use Rattle.ir_types.specs.Tags.{namespace_tag, root_tag, struct_tag, enum_tag, newtype_tag, code_enum_tag, value_with_attributes_tag, opaque_tag, field_tag, variant_tag, pattern_tag}
+use Rattle.ir_types.specs.Tags.{min_length_tag, max_length_tag, min_inclusive_tag, max_inclusive_tag, total_digits_tag, fraction_digits_tag, code_tag, attribute_tag}
 use Rattle.ir_types.specs.Row0.{GraphRow0, graph_row0_of}
 use Rattle.ir_types.specs.Types.{TypeRef, Cardinality, FieldDef, VariantDef, Constraint, CodeValue, AttrDef, TypeDef, RootElement, TypeGraph}
 

@@ -6,7 +6,8 @@ use Rattle.ir_types.specs.Last.{insert, insert_all}
 use Rattle.ir_types.specs.Ok.{ref_ok, cardinality_ok, field_ok, variant_ok, constraint_ok, code_ok, attr_ok, type_ok, root_ok, graph_ok, row_form, is_small, row_small, row_ok}
 use Rattle.ir_types.specs.Refuses.{has_tag, row_refuses, refuses}
 use Rattle.ir_types.specs.Unnumbered.{unnumbered_root, unnumbered_type, unnumbered_graph}
-use Rattle.ir_types.specs.Rows.{ref_a, ref_text, cardinality_b, cardinality_c, field_row, variant_row, constraint_row, code_row, attr_row, type_rows, types_rows, root_row, rows_of, rows_used, names_used, row0}
+use Rattle.ir_types.specs.Rows.{ref_a, ref_text, cardinality_b, cardinality_c, field_row, variant_row, constraint_row, code_row}
+use Rattle.ir_types.specs.Rows.{attr_row, type_rows, types_rows, root_row, rows_of, rows_used, names_used, row0}
 use Rattle.ir_types.specs.Sheet.{graph_fits, graph_sheet}
 use Rattle.ir_types.specs.Types.{name_of}
 

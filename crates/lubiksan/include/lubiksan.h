@@ -43,7 +43,7 @@ extern "C" {
 /* Bytes of stack that a call takes below the frame that calls it, as measured on x86-64 Linux and rounded up to 1,024. */
 #define LUBIKSAN_TAPE_STACK 45056
 #define LUBIKSAN_CLEAR_STACK 1024
-#define LUBIKSAN_READ_STACK 2048
+#define LUBIKSAN_READ_STACK 1024
 #define LUBIKSAN_LOWER_STACK 1024
 #define LUBIKSAN_REDUCE_STACK 70656
 #define LUBIKSAN_WRITE_STACK 1024

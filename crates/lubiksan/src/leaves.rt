@@ -6,14 +6,14 @@ ghost use Rattle.number.specs.Number.{number};
 ghost use Rattle.builtin.specs.Builtin.{map_builtin, reference};
 ghost use Rattle.names.specs.Names.{normalize_type_name, xml_to_snake_case, code_to_pascal_case};
 ghost use Rattle.names.specs.Answers.{written, placed};
-ghost use Rattle.lubiksan.specs.Exported.{Exported, count_of};
+ghost use Rattle.lubiksan.specs.Exported.{Exported, stored_count};
 
 use names::{same, snake};
 use sheet::refusal::{ACCEPTED, Refusal};
 
 // The bytes written, or the largest number where the part is shorter than the conversion.
 fn count_of(written: Option<usize>) -> usize
-    ensures { result ≡ count_of written }
+    ensures { result ≡ stored_count written }
 {
     written.unwrap_or(usize::MAX)
 }
@@ -65,21 +65,21 @@ pub extern "C" fn lubiksan_map_builtin(name: &[u8]) -> u32
 // out holds the first bytes of the conversion, as far as it reaches, and behind them what it held.
 #[unsafe(no_mangle)]
 pub extern "C" fn lubiksan_normalize_type_name(name: &[u8], out: &mut [u8]) -> usize
-    ensures { (result ≡ count_of (written (normalize_type_name name.now) (length out.old))) × (out.new ≡ placed (normalize_type_name name.now) out.old) }
+    ensures { (result ≡ stored_count (written (normalize_type_name name.now) (length out.old))) × (out.new ≡ placed (normalize_type_name name.now) out.old) }
 {
     count_of(names::normalize_type_name(name, out))
 }
 
 #[unsafe(no_mangle)]
 pub extern "C" fn lubiksan_xml_to_snake_case(name: &[u8], out: &mut [u8]) -> usize
-    ensures { (result ≡ count_of (written (xml_to_snake_case name.now) (length out.old))) × (out.new ≡ placed (xml_to_snake_case name.now) out.old) }
+    ensures { (result ≡ stored_count (written (xml_to_snake_case name.now) (length out.old))) × (out.new ≡ placed (xml_to_snake_case name.now) out.old) }
 {
     count_of(snake::xml_to_snake_case(name, out))
 }
 
 #[unsafe(no_mangle)]
 pub extern "C" fn lubiksan_code_to_pascal_case(value: &[u8], out: &mut [u8]) -> usize
-    ensures { (result ≡ count_of (written (code_to_pascal_case value.now) (length out.old))) × (out.new ≡ placed (code_to_pascal_case value.now) out.old) }
+    ensures { (result ≡ stored_count (written (code_to_pascal_case value.now) (length out.old))) × (out.new ≡ placed (code_to_pascal_case value.now) out.old) }
 {
     count_of(names::code_to_pascal_case(value, out))
 }

@@ -14,7 +14,8 @@ pub extern "C" fn lubiksan_lower(
     scratch: &mut [u32],
     place: &mut usize,
 ) -> u32
-    ensures { LowerIs (sheet rows.now names.now) (sheet graph_rows.old graph_names.old) scratch.old (record { answer = answered result place.new; graph = sheet graph_rows.new graph_names.new; scratch = scratch.new }) }
+    ensures { LowerIs (sheet rows.now names.now) (sheet graph_rows.old graph_names.old) scratch.old
+        (record { answer = answered result place.new; graph = sheet graph_rows.new graph_names.new; scratch = scratch.new }) }
 {
     let answer = ir_call::lower(rows, names, graph_rows, graph_names, scratch);
     told(answer, place)

@@ -297,6 +297,8 @@ fn letter_at(lead: u8, tail: u8) -> Letter
     entry_at(64 * (lead as usize).saturating_sub(194) + (tail as usize).saturating_sub(128))
 }
 
+// It differs from `lower_of` in a byte's form and in the kind of the entry that is asked for, as `is_upper` does from `is_lower` below: two words, which one
+// function would be handed. Were a byte made an entry too, so that all four look at its kind alone, the proof that such an entry is right would be longer.
 #[tactic(auto, unfolding(crate::specs::Cases::upper_of, crate::specs::Cases::raised))]
 pub fn upper_of(c: Short) -> Short
     ensures { short_text result ≡ upper_of (short_text c) }

@@ -2,6 +2,7 @@
 // compared as they normalise. Each answers how many bytes it wrote, or `None` where the part is shorter than the conversion.
 #![tactic(auto)]
 
+mod bytes;
 pub mod cases;
 pub mod characters;
 pub mod reading;
@@ -15,6 +16,7 @@ ghost use Rattle.names.specs.Names.{normalize_type_name, code_to_pascal_case};
 ghost use Rattle.names.specs.Answers.{Put};
 ghost use Rattle.names.specs.Scans.{segments};
 
+use bytes::put_bytes;
 use reading::Reading;
 use segments::{SegmentBytes, cased_byte};
 use text::has_byte;
@@ -32,15 +34,7 @@ fn put_characters(s: &[u8], separator: u8, lowers: bool, out: &mut [u8]) -> Opti
         lowers,
         up: true,
     };
-    let mut n = 0;
-    for b in bytes {
-        if out.len() <= n {
-            return None;
-        }
-        out[n] = b;
-        n += 1;
-    }
-    Some(n)
+    put_bytes(bytes, out)
 }
 
 // The segments of s between separators, put together, each with its first character in the upper form: byte by byte, or from the start again where a byte is not

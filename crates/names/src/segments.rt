@@ -4,6 +4,7 @@ ghost use Rattle.names.specs.Scans.{cased};
 ghost use Rattle.names.specs.Begun.{Begun};
 ghost use Rattle.names.specs.Short.{short_text};
 
+use crate::bytes::TextBytes;
 use crate::cases::{lower_of, upper_of};
 use crate::characters::{Short, character};
 use crate::reading::{Reading, behind};
@@ -21,7 +22,7 @@ fn cased(c: Short, up: bool, lowers: bool) -> Short
     if lowers { lower_of(c) } else { c }
 }
 
-// The same of a byte by itself.
+// The same of a byte by itself. One function over both would go by a trait of bytes and characters that have an upper and a lower form, which is longer.
 #[tactic(auto, unfolding(crate::specs::Scans::cased, crate::specs::Cases::upper_of, crate::specs::Cases::lower_of))]
 pub fn cased_byte(b: u8, up: bool, lowers: bool) -> u8
     ensures { cased up lowers (b ∷ []) ≡ result ∷ [] }
@@ -98,4 +99,14 @@ impl Iterator for SegmentBytes<'_> {
         }
         None
     }
+}
+
+impl TextBytes for SegmentBytes<'_> {
+    ghost use Rattle.names.specs.Same.{bytes_left};
+
+    ghost left = { bytes_left };
+
+    ghost ends = { λ s. (tt, tt) };
+
+    ghost gives = { λ s b t steps. steps };
 }

@@ -6,6 +6,7 @@ ghost use Rattle.names.specs.Answers.{Put};
 ghost use Rattle.names.specs.Short.{short_text, bytes_of};
 ghost use Rattle.names.specs.Same.{snake_left};
 
+use crate::bytes::{TextBytes, put_bytes};
 use crate::cases::{first_lower, is_lower, is_upper};
 use crate::characters::{Short, first_character, split_character};
 use text::{ascii, byte_at};
@@ -56,8 +57,17 @@ impl Iterator for SnakeBytes<'_> {
     }
 }
 
+impl TextBytes for SnakeBytes<'_> {
+    ghost left = { snake_left };
+
+    ghost ends = { λ s. (tt, tt) };
+
+    ghost gives = { λ s b t steps. steps };
+}
+
 // Character by character. Never inlined: only a name with a byte from 128 on asks for it.
 #[inline(never)]
+#[tactic(auto, unfolding(crate::specs::Names::xml_to_snake_case))]
 fn put_characters(name: &[u8], out: &mut [u8]) -> Option<usize>
     ensures { Put (xml_to_snake_case name.now) out.old result out.new }
 {
@@ -66,15 +76,7 @@ fn put_characters(name: &[u8], out: &mut [u8]) -> Option<usize>
         before: None,
         rest: name,
     };
-    let mut n = 0;
-    for b in bytes {
-        if out.len() <= n {
-            return None;
-        }
-        out[n] = b;
-        n += 1;
-    }
-    Some(n)
+    put_bytes(bytes, out)
 }
 
 // The same test of bytes below 128, where 0 stands for no byte.

@@ -12,7 +12,8 @@ unfolding texts numbers
 around = (refl, refl, refl, refl)
 
 -- one sign at most, a minus before zeros alone
-signs : (number 32 (bytes "+7") ≡ parsed 7) × (number 32 (bytes "+-0") ≡ refused 10) × (number 32 (bytes "-+0") ≡ refused 10) × (number 32 (bytes "-7") ≡ refused 10) × (number 32 (bytes "+") ≡ refused 10)
+signs : (number 32 (bytes "+7") ≡ parsed 7) × (number 32 (bytes "+-0") ≡ refused 10) × (number 32 (bytes "-+0") ≡ refused 10)
+    × (number 32 (bytes "-7") ≡ refused 10) × (number 32 (bytes "+") ≡ refused 10)
     × (number 32 (bytes "-") ≡ refused 10)
 unfolding texts numbers
 signs = (refl, refl, refl, refl, refl, refl)

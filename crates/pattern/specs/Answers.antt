@@ -2,12 +2,13 @@
 --     Goes          the scan from a place goes on at another; Ends: where a part of a pattern ends, in the terms of the scan
 --     is_close, is_tail, is_bracket    a byte that ends an expression, a branch, a class; any_byte: no test
 --     Judged        whether the whole is an expression
---     has_byte       a byte is in a set of bytes
-use Rattle.std.specs.Prelude.{ℕ, ◌/◌, ◌%◌, ◌^◌, ◌≤◌, ◌<◌, ◌≡◌, Bool, true, false, ◌||◌, Option, Some, None, eqb, length, drop, get_or}
+--     classes       the classes of each byte, a bit for each class; has_class: a byte has the bit k; class_bit: the bit of a `Class`
+use Rattle.std.specs.Prelude.{ℕ, List, [], ◌∷◌, ◌/◌, ◌%◌, ◌^◌, ◌≤◌, ◌<◌, ◌≡◌, Bool, true, false, ◌||◌, Option, Some, None, eqb, length, drop, get_or}
 use Prim.Native.Char.{code}
 use Rattle.text.specs.Text.{Text}
 use Rattle.pattern.specs.Grammar.{Derives, reg_exp}
 use Rattle.pattern.specs.Scan.{Mode, go, scan}
+use Rattle.pattern.specs.declared.tests.Class.{Class}
 
 -- the scan from `at` on, in the mode m, goes on at e, not before `least`, in the mode n, with the byte there under the test P
 pub record Goes (s : Text) (m : Mode) (at : ℕ) (n : Mode) (least e : ℕ) (P : ℕ → Bool) : Type 0 where
@@ -38,6 +39,24 @@ abbrev pub Judged : Text → Bool → Type 0
 Judged s true = Derives reg_exp s
 Judged s false = Derives reg_exp s → ⊥
 
--- a set of bytes below 64, a bit for each
-abbrev pub has_byte : ℕ → ℕ → Bool
-has_byte set k = eqb (set / 2 ^ k % 2) 1
+-- bit 0: a character that stands for itself or the dot; bit 1: what may stand in a class by itself; bit 2: what may stand behind a backslash; bit 3: a
+-- quantifier of one byte
+unfoldable pub classes : List ℕ
+classes =
+    0 ∷ 0 ∷ 0 ∷ 0 ∷ 0 ∷ 0 ∷ 0 ∷ 0 ∷ 0 ∷ 3 ∷ 3 ∷ 0 ∷ 0 ∷ 3 ∷ 0 ∷ 0 ∷ 0 ∷ 0 ∷ 0 ∷ 0 ∷ 0 ∷ 0 ∷ 0 ∷ 0 ∷ 0 ∷ 0 ∷ 0 ∷ 0 ∷ 0 ∷ 0 ∷ 0 ∷ 0 ∷
+    3 ∷ 3 ∷ 3 ∷ 3 ∷ 3 ∷ 3 ∷ 3 ∷ 3 ∷ 6 ∷ 6 ∷ 14 ∷ 14 ∷ 3 ∷ 7 ∷ 7 ∷ 3 ∷ 3 ∷ 3 ∷ 3 ∷ 3 ∷ 3 ∷ 3 ∷ 3 ∷ 3 ∷ 3 ∷ 3 ∷ 3 ∷ 3 ∷ 3 ∷ 3 ∷ 3 ∷ 14 ∷
+    3 ∷ 3 ∷ 3 ∷ 7 ∷ 7 ∷ 3 ∷ 3 ∷ 3 ∷ 3 ∷ 7 ∷ 3 ∷ 3 ∷ 3 ∷ 3 ∷ 3 ∷ 3 ∷ 3 ∷ 3 ∷ 3 ∷ 7 ∷ 3 ∷ 3 ∷ 3 ∷ 7 ∷ 3 ∷ 3 ∷ 3 ∷ 4 ∷ 4 ∷ 4 ∷ 7 ∷ 3 ∷
+    3 ∷ 3 ∷ 3 ∷ 7 ∷ 7 ∷ 3 ∷ 3 ∷ 3 ∷ 3 ∷ 7 ∷ 3 ∷ 3 ∷ 3 ∷ 3 ∷ 7 ∷ 3 ∷ 3 ∷ 3 ∷ 7 ∷ 7 ∷ 7 ∷ 3 ∷ 3 ∷ 7 ∷ 3 ∷ 3 ∷ 3 ∷ 7 ∷ 6 ∷ 7 ∷ 3 ∷ 3 ∷
+    3 ∷ 3 ∷ 3 ∷ 3 ∷ 3 ∷ 3 ∷ 3 ∷ 3 ∷ 3 ∷ 3 ∷ 3 ∷ 3 ∷ 3 ∷ 3 ∷ 3 ∷ 3 ∷ 3 ∷ 3 ∷ 3 ∷ 3 ∷ 3 ∷ 3 ∷ 3 ∷ 3 ∷ 3 ∷ 3 ∷ 3 ∷ 3 ∷ 3 ∷ 3 ∷ 3 ∷ 3 ∷
+    3 ∷ 3 ∷ 3 ∷ 3 ∷ 3 ∷ 3 ∷ 3 ∷ 3 ∷ 3 ∷ 3 ∷ 3 ∷ 3 ∷ 3 ∷ 3 ∷ 3 ∷ 3 ∷ 3 ∷ 3 ∷ 3 ∷ 3 ∷ 3 ∷ 3 ∷ 3 ∷ 3 ∷ 3 ∷ 3 ∷ 3 ∷ 3 ∷ 3 ∷ 3 ∷ 3 ∷ 3 ∷
+    3 ∷ 3 ∷ 3 ∷ 3 ∷ 3 ∷ 3 ∷ 3 ∷ 3 ∷ 3 ∷ 3 ∷ 3 ∷ 3 ∷ 3 ∷ 3 ∷ 3 ∷ 3 ∷ 3 ∷ 3 ∷ 3 ∷ 3 ∷ 3 ∷ 3 ∷ 3 ∷ 3 ∷ 3 ∷ 3 ∷ 3 ∷ 3 ∷ 3 ∷ 3 ∷ 3 ∷ 3 ∷
+    3 ∷ 3 ∷ 3 ∷ 3 ∷ 3 ∷ 3 ∷ 3 ∷ 3 ∷ 3 ∷ 3 ∷ 3 ∷ 3 ∷ 3 ∷ 3 ∷ 3 ∷ 3 ∷ 3 ∷ 3 ∷ 3 ∷ 3 ∷ 3 ∷ 3 ∷ 3 ∷ 3 ∷ 3 ∷ 3 ∷ 3 ∷ 3 ∷ 3 ∷ 3 ∷ 3 ∷ 3 ∷ []
+
+unfoldable pub has_class : ℕ → ℕ → Bool
+has_class k b = eqb (get_or classes b 0 / 2 ^ k % 2) 1
+
+abbrev pub class_bit : Class → ℕ
+class_bit Class.Plain = 0
+class_bit Class.InClass = 1
+class_bit Class.Escaped = 2
+class_bit Class.Mark = 3

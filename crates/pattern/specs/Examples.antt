@@ -3,7 +3,8 @@
 use Rattle.std.specs.Prelude.{ℕ, ◌≡◌, refl, Bool, true, not, [], ◌∷◌}
 use Prim.Native.Char.{code}
 use Rattle.text.specs.Text.{Text, bytes, every}
-use Rattle.pattern.specs.Grammar.{is_normal, digit, exact, mark, counted, single, single_esc, multi_esc, xml_char, se_range, char_inc_dash, range_item, item, positive, negative, class_esc, class_expr, wildcard, reg_exp, piece, Derives, one, or, none, more, once, times, char, class, group}
+use Rattle.pattern.specs.Grammar.{is_normal, digit, exact, mark, counted, single, single_esc, multi_esc, xml_char, se_range, char_inc_dash, range_item, item, positive}
+use Rattle.pattern.specs.Grammar.{negative, class_esc, class_expr, wildcard, reg_exp, piece, Derives, one, or, none, more, once, times, char, class, group}
 use Rattle.pattern.specs.Scan.{start, go, scan}
 use Rattle.pattern.specs.Call.{is_aside}
 use Rattle.pattern.specs.Unfold.{computes}
@@ -72,7 +73,8 @@ either = one (more (once (group (or (more (one_char (code "a") refl) none) (one 
 refuses : Text → Bool
 refuses s = not (scan (go 0 start) s)
 
-not-derived : every refuses (bytes "a**" ∷ bytes "*" ∷ bytes "a|+" ∷ bytes "(?:a)" ∷ bytes "[]" ∷ bytes "[[a]]" ∷ bytes "[a" ∷ bytes "(" ∷ bytes "a)" ∷ bytes "\\0" ∷ bytes "\\" ∷ bytes "[\\]" ∷ (1 ∷ []) ∷ []) ≡ true
+not-derived : every refuses (bytes "a**" ∷ bytes "*" ∷ bytes "a|+" ∷ bytes "(?:a)" ∷ bytes "[]" ∷ bytes "[[a]]" ∷ bytes "[a"
+    ∷ bytes "(" ∷ bytes "a)" ∷ bytes "\\0" ∷ bytes "\\" ∷ bytes "[\\]" ∷ (1 ∷ []) ∷ []) ≡ true
 unfolding computes every refuses
 not-derived = refl
 

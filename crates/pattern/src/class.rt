@@ -1,24 +1,32 @@
 // A class in brackets.
-ghost use Rattle.std.specs.Prelude.{◌≡◌, ◌+◌, ◌≤◌, ◌<◌, length, get_or, false};
+ghost use Rattle.std.specs.Prelude.{not, ◌≡◌, ◌+◌, ◌≤◌, ◌<◌, length, get_or, false};
 ghost use Rattle.pattern.specs.Scan.{atom, opened, class};
-ghost use Rattle.pattern.specs.Answers.{Ends, is_bracket, any_byte};
+ghost use Rattle.pattern.specs.Grammar.{is_in_class};
+ghost use Rattle.pattern.specs.Answers.{Goes, Ends, is_bracket, any_byte};
 
 use crate::tests::{is_escaped, is_in_class};
 use text::byte_at;
 
-// An item: a character or an escape.
-fn item(s: &[u8], at: usize) -> Option<usize>
-    requires { (at < length s.now) × (is_bracket (get_or s.now at 0) ≡ false) }
+// Where a run of characters in a class ends.
+fn in_class_end(s: &[u8], at: usize) -> usize
+    requires { at ≤ length s.now }
+    ensures { Goes s.now class at class at result (λ b. not (is_in_class b)) }
+{
+    (at..s.len())
+        .find(|i| !is_in_class(s[*i]))
+        .unwrap_or(s.len())
+}
+
+// An escape, where the byte is none that may stand in a class by itself.
+fn escape(s: &[u8], at: usize) -> Option<usize>
+    requires { (at < length s.now) × (is_bracket (get_or s.now at 0) ≡ false) × (is_in_class (get_or s.now at 0) ≡ false) }
     ensures { Ends s.now class at class (at + 1) any_byte result }
 {
-    if s[at] == b'\\' {
-        if is_escaped(byte_at(s, at + 1)) {
-            return Some(at + 2);
-        }
+    if s[at] != b'\\' {
         return None;
     }
-    if is_in_class(s[at]) {
-        return Some(at + 1);
+    if is_escaped(byte_at(s, at + 1)) {
+        return Some(at + 2);
     }
     None
 }
@@ -31,13 +39,17 @@ pub fn class_end(s: &[u8], at: usize) -> Option<usize>
     if byte_at(s, at) == b']' {
         return None;
     }
-    // No `for`: an item has one byte or two.
+    // No `for`: characters up to an escape are any number of bytes.
     let mut i = at;
     while i < s.len() {
-        if s[i] == b']' {
-            return Some(i + 1);
+        let e = in_class_end(s, i);
+        if s.len() <= e {
+            return None;
         }
-        i = item(s, i)?;
+        if s[e] == b']' {
+            return Some(e + 1);
+        }
+        i = escape(s, e)?;
     }
     None
 }

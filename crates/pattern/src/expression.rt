@@ -38,7 +38,8 @@ fn branch(s: &[u8], at: usize) -> Option<usize>
     // No `for`: a piece has any number of bytes.
     let mut i = at;
     while i < s.len() {
-        if (s[i] == b'|') | (s[i] == b')') {
+        // A character first, since most bytes are one: what follows asks the table again, which the compiler makes one test of.
+        if !is_plain(s[i]) && ((s[i] == b'|') | (s[i] == b')')) {
             return Some(i);
         }
         i = piece(s, i)?;
@@ -59,13 +60,16 @@ fn piece(s: &[u8], at: usize) -> Option<usize>
     if is_mark(s[e]) { Some(e + 1) } else { Some(e) }
 }
 
-// A class, an expression in parentheses, or a character; characters that follow it are taken with it, since only the last can have a quantifier.
+// A character, an expression in parentheses, or a class; characters that follow a character are taken with it, since only the last can have a quantifier.
 #[cycle(atom_branch_expression_piece)]
 fn atom(s: &[u8], at: usize) -> Option<usize>
     requires { (at < length s.now) × (is_tail (get_or s.now at 0) ≡ false) }
     ensures { Ends s.now start at atom (at + 1) any_byte result }
 {
     let b = s[at];
+    if is_plain(b) {
+        return Some(plain_end(s, at + 1));
+    }
     if b == b'(' {
         let e = expression(s, at + 1)?;
         if s.len() <= e {
@@ -82,13 +86,11 @@ fn atom(s: &[u8], at: usize) -> Option<usize>
         }
         return None;
     }
-    if is_plain(b) {
-        return Some(plain_end(s, at + 1));
-    }
     None
 }
 
-// Where a run of characters ends.
+// Where a run of characters ends. It differs from `in_class_end` in its test and in the mode that the scan is in: a function that is handed the test would promise
+// the same of a test and a mode, and both would stay as the calls of it, each with this contract.
 fn plain_end(s: &[u8], at: usize) -> usize
     requires { at ≤ length s.now }
     ensures { Goes s.now atom at atom at result any_byte }

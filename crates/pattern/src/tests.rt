@@ -1,60 +1,64 @@
 // The characters of a pattern.
-ghost use Rattle.std.specs.Prelude.{◌≡◌, ◌<◌};
+ghost use Rattle.std.specs.Prelude.{◌≡◌};
 ghost use Rattle.pattern.specs.Grammar.{is_mark, is_in_class};
 ghost use Rattle.pattern.specs.Scan.{is_plain, is_escaped};
-ghost use Rattle.pattern.specs.Answers.{has_byte};
+ghost use Rattle.pattern.specs.Answers.{class_bit, has_class};
 
-// A quantifier of one byte.
-#[tactic(auto, unfolding(crate::specs::Grammar::is_mark, text::specs::Text::contains, text::specs::Text::bytes))]
-pub fn is_mark(b: u8) -> bool
-    ensures { result ≡ is_mark b }
-{
-    matches!(b, b'?' | b'*' | b'+')
+// The classes of each byte: 1 for a character that stands for itself or the dot, 2 for what may stand in a class by itself, 4 for what may stand behind a
+// backslash, 8 for a quantifier of one byte. A run over characters looks into memory once for each. A `static`, since an index into a `const` array copies all of it to the stack.
+static CLASSES: [u8; 256] = [
+    0, 0, 0, 0, 0, 0, 0, 0, 0, 3, 3, 0, 0, 3, 0, 0, 0, 0, 0, 0, 0, 0, 0, 0, 0, 0, 0, 0, 0, 0, 0, 0,
+    3, 3, 3, 3, 3, 3, 3, 3, 6, 6, 14, 14, 3, 7, 7, 3, 3, 3, 3, 3, 3, 3, 3, 3, 3, 3, 3, 3, 3, 3, 3,
+    14, 3, 3, 3, 7, 7, 3, 3, 3, 3, 7, 3, 3, 3, 3, 3, 3, 3, 3, 3, 7, 3, 3, 3, 7, 3, 3, 3, 4, 4, 4,
+    7, 3, 3, 3, 3, 7, 7, 3, 3, 3, 3, 7, 3, 3, 3, 3, 7, 3, 3, 3, 7, 7, 7, 3, 3, 7, 3, 3, 3, 7, 6, 7,
+    3, 3, 3, 3, 3, 3, 3, 3, 3, 3, 3, 3, 3, 3, 3, 3, 3, 3, 3, 3, 3, 3, 3, 3, 3, 3, 3, 3, 3, 3, 3, 3,
+    3, 3, 3, 3, 3, 3, 3, 3, 3, 3, 3, 3, 3, 3, 3, 3, 3, 3, 3, 3, 3, 3, 3, 3, 3, 3, 3, 3, 3, 3, 3, 3,
+    3, 3, 3, 3, 3, 3, 3, 3, 3, 3, 3, 3, 3, 3, 3, 3, 3, 3, 3, 3, 3, 3, 3, 3, 3, 3, 3, 3, 3, 3, 3, 3,
+    3, 3, 3, 3, 3, 3, 3, 3, 3, 3, 3, 3, 3, 3, 3, 3, 3, 3, 3, 3, 3, 3, 3, 3, 3, 3, 3, 3, 3, 3, 3, 3,
+    3, 3,
+];
+
+// The classes, in the order of their bits.
+#[derive(Clone, Copy)]
+pub enum Class {
+    Plain,
+    InClass,
+    Escaped,
+    Mark,
 }
 
-// Whether the byte k is in a set of bytes below 64, a bit for each: one test, where a list of bytes takes a compare for each.
-fn has_byte(set: u64, k: u8) -> bool
-    requires { k < 64 }
-    ensures { result ≡ has_byte set k }
+// Whether a byte is of a class.
+#[inline(always)]
+fn in_class(b: u8, class: Class) -> bool
+    ensures { result ≡ has_class (class_bit class) b }
 {
-    (set >> k) % 2 == 1
+    (CLASSES[b as usize] >> class as u8) % 2 == 1
 }
 
 // What may stand in a class by itself.
 pub fn is_in_class(b: u8) -> bool
     ensures { result ≡ is_in_class b }
 {
-    ((32 <= b) | (b == 9) | (b == 10) | (b == 13)) & (b != b'\\') & (b != b'[') & (b != b']')
+    in_class(b, Class::InClass)
 }
-
-// 9, 10, 13, and of 32 to 63 all but ( ) * + ?
-const PLAIN: u64 = 0x7ffff0ff00002600;
 
 // A character that stands for itself, or the dot.
 pub fn is_plain(b: u8) -> bool
     ensures { result ≡ is_plain b }
 {
-    if b < 64 {
-        return has_byte(PLAIN, b);
-    }
-    ((b < b'[') | (b']' < b)) & (b != b'|')
+    in_class(b, Class::Plain)
 }
-
-// ( ) * + - . ?
-const ESCAPED: u64 = 0x80006f0000000000;
-
-// C D I S W [ \ ] ^ c d i n r s t w { | }, counted from 64
-const ESCAPED_HIGH: u64 = 0x389c421878880218;
 
 // What may stand behind a backslash.
 pub fn is_escaped(b: u8) -> bool
     ensures { result ≡ is_escaped b }
 {
-    if b < 64 {
-        return has_byte(ESCAPED, b);
-    }
-    if b < 128 {
-        return has_byte(ESCAPED_HIGH, b - 64);
-    }
-    false
+    in_class(b, Class::Escaped)
+}
+
+// A quantifier of one byte.
+pub fn is_mark(b: u8) -> bool
+    ensures { result ≡ is_mark b }
+{
+    in_class(b, Class::Mark)
 }

@@ -5,7 +5,7 @@
 --     empty_sheet           the buffers of a sheet as the program begins
 --     Worked                the answers and the graph are those of the work on a tape, begun with empty buffers
 --     TapePrinted           what is printed of a tape: bytes that are known grow by the text of such answers and such a graph
---     numbers_of count s    so many numbers of the bytes s, each of four, the first of them the lowest
+--     numbers_read count s    so many numbers of the bytes s, each of four, the first of them the lowest
 --     PrintedAs             what is printed of an input that is such a one
 --     InputPrinted          what is printed of an input
 use Rattle.std.specs.Prelude.{ℕ, ◌/◌, List, [], ◌++◌, codes, Result, Ok, Err, length, take, drop, map, replicate}
@@ -47,13 +47,13 @@ abbrev pub TapePrinted : Text → List ℕ → Option Text → Option Text → T
 TapePrinted text marks old new =
     (read : Result ℕ Refused) × (lowered : Result ℕ Refused) × (graph : Sheet) × Worked text marks read lowered graph × Appends old new (made_text read lowered graph)
 
-unfoldable pub numbers_of : ℕ → List ℕ → List ℕ
-numbers_of count bytes = map (from_le_bytes w32) (take count (first_chunks 4 (length bytes / 4) bytes))
+unfoldable pub numbers_read : ℕ → List ℕ → List ℕ
+numbers_read count bytes = map (from_le_bytes w32) (take count (first_chunks 4 (length bytes / 4) bytes))
 
 abbrev pub PrintedAs : Input → List ℕ → Option Text → Option Text → Type 0
 PrintedAs Input.TooLong input old new = Appends old new (codes "read 1 0\n")
 PrintedAs Input.Short input old new = Appends old new (codes "short\n")
-PrintedAs (Input.Tape text marks) input old new = TapePrinted (take text (drop 8 input)) (numbers_of marks (drop text (drop 8 input))) old new
+PrintedAs (Input.Tape text marks) input old new = TapePrinted (take text (drop 8 input)) (numbers_read marks (drop text (drop 8 input))) old new
 
 abbrev pub InputPrinted : List ℕ → Option Text → Option Text → Type 0
 InputPrinted input old new = PrintedAs (input_of input) input old new

@@ -8,7 +8,7 @@ ghost use Rattle.sheet.specs.Calls.{sheet};
 ghost use Rattle.rows.specs.Answers.{answer_of};
 ghost use Rattle.printing.specs.Work.{WorkIs};
 ghost use Rattle.printing.specs.Input.{number_at, too_long, input_of};
-ghost use Rattle.printing.specs.Print.{answer_text, lowered_text, made_text, Worked, TapePrinted, numbers_of, InputPrinted};
+ghost use Rattle.printing.specs.Print.{answer_text, lowered_text, made_text, Worked, TapePrinted, numbers_read, InputPrinted};
 
 use program::buffers::Buffers;
 use program::print;
@@ -46,7 +46,8 @@ pub fn work(
     graph_names: &mut [u8],
     scratch: &mut [u32],
 ) -> Made
-    ensures { WorkIs (sheet rows.old names.old) text.now marks.now (sheet graph_rows.old graph_names.old) scratch.old (answer_of result.read) (record { answer = answer_of result.lowered; graph = sheet graph_rows.new graph_names.new; scratch = scratch.new }) (sheet rows.new names.new) }
+    ensures { WorkIs (sheet rows.old names.old) text.now marks.now (sheet graph_rows.old graph_names.old) scratch.old (answer_of result.read)
+        (record { answer = answer_of result.lowered; graph = sheet graph_rows.new graph_names.new; scratch = scratch.new }) (sheet rows.new names.new) }
 {
     let _ = clear::clear(rows, names, 0);
     let read = xsd_read::read(rows, names, text, marks);
@@ -191,7 +192,7 @@ fn input_of(input: &[u8]) -> Input
 // The numbers of so many times four bytes, the first of each four the lowest, read into the space. A count, since what is read may be longer than the marks.
 fn numbers_of<'a>(bytes: &[u8], count: usize, space: &'a mut [u32]) -> &'a [u32]
     requires { count ≤ length space.old }
-    ensures { result.now ≡ numbers_of count bytes.now }
+    ensures { result.now ≡ numbers_read count bytes.now }
 {
     let (fours, _) = bytes.as_chunks();
     let count = fours.len().min(count);
@@ -204,7 +205,7 @@ fn numbers_of<'a>(bytes: &[u8], count: usize, space: &'a mut [u32]) -> &'a [u32]
 // The text and the marks of so many bytes and numbers behind the header.
 fn put_behind<W: Write>(out: &mut W, input: &[u8], text: usize, marks: usize) -> io::Result<()>
     requires { (8 + text ≤ length input.now) × (marks ≤ 16384) }
-    ensures { OnOk result (TapePrinted (take text (drop 8 input.now)) (numbers_of marks (drop text (drop 8 input.now))) (W.contents out.old) (W.contents out.new)) }
+    ensures { OnOk result (TapePrinted (take text (drop 8 input.now)) (numbers_read marks (drop text (drop 8 input.now))) (W.contents out.old) (W.contents out.new)) }
 {
     let (_, behind) = input.split_at(8);
     let (text, numbers) = behind.split_at(text);

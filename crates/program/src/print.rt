@@ -2,7 +2,7 @@
 ghost use Rattle.std.specs.Prelude.{◌≡◌, OnOk};
 ghost use Rattle.std.specs.Io.KnownBytes.{Appends};
 ghost use Rattle.sheet.specs.Calls.{sheet};
-ghost use Rattle.program.specs.Print.{gap, numbers_text, rows_text, used_names, names_text, sheet_text};
+ghost use Rattle.program.specs.Print.{gap, numbers_text, printed_rows, printed_names, names_text, sheet_text};
 
 use crate::stdout::Stdout;
 use rows::numbers::wide;
@@ -30,7 +30,7 @@ fn put_row<W: Write>(out: &mut W, row: &[u32]) -> io::Result<()>
 
 // The first rows, as many as are used. A count and no slice: more may be used than there are.
 fn put_rows<W: Write>(out: &mut W, rows: &[u32], used: usize) -> io::Result<()>
-    ensures { OnOk result (Appends (W.contents out.old) (W.contents out.new) (rows_text used rows.now)) }
+    ensures { OnOk result (Appends (W.contents out.old) (W.contents out.new) (printed_rows used rows.now)) }
 {
     for row in rows.chunks(ROW).take(used) {
         put_row(out, row)?;
@@ -39,9 +39,9 @@ fn put_rows<W: Write>(out: &mut W, rows: &[u32], used: usize) -> io::Result<()>
 }
 
 // The first names, as many as are used, or none where more are used than there are.
-#[tactic(auto, unfolding(crate::specs::Print::used_names))]
+#[tactic(auto, unfolding(crate::specs::Print::printed_names))]
 fn used_names(names: &[u8], used: usize) -> &[u8]
-    ensures { result.now ≡ used_names used names.now }
+    ensures { result.now ≡ printed_names used names.now }
 {
     names.get(..used).unwrap_or(&[])
 }

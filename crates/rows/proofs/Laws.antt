@@ -4,6 +4,7 @@ pub mod Tens
 pub mod Ends
 pub mod Scan
 pub mod Used
+pub mod Table
 pub mod Words
 pub mod Room
 pub mod Texts

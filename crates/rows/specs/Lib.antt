@@ -8,3 +8,4 @@ pub mod Writer
 pub mod Append
 pub mod Answers
 pub mod Scan
+pub mod Table

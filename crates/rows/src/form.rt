@@ -1,8 +1,9 @@
 // The form of a row's numbers: ranges, flags, and the pairs, which cover the names in row order.
-ghost use Rattle.std.specs.Prelude.{◌≡◌, ℕ, ◌+◌, ◌≤◌, ◌^◌};
+ghost use Rattle.std.specs.Prelude.{◌≡◌, ℕ, ◌+◌, ◌≤◌, ◌^◌, ◌||◌, eqb};
 ghost use Rattle.text.specs.Text.{between};
 ghost use Rattle.sheet.specs.Form.{is_flag, pair_form, row_covers, end_of};
 ghost use Rattle.rows.specs.Ten.{as_ten};
+ghost use Rattle.rows.specs.Table.{in_heads, PairsBy};
 
 use crate::numbers::wide;
 use crate::ten::Ten;
@@ -53,4 +54,42 @@ pub fn end_of(k: usize, t: Ten) -> usize
     ensures { result ≡ end_of k (as_ten t) }
 {
     k + wide(t.len0) + wide(t.len1) + wide(t.len2)
+}
+
+// The same by a table of tags. What is asked is told there by 0 and 1, by which is multiplied, so that neither a pair nor a zero takes a branch of its own. Each function
+// asks for a number of 0 or 1: (b), with tests by ranges of tags, told by flags, the test of a sheet took twice the time (docs/DECISIONS.md, 212).
+
+// Whether a number is 0, where that is asked.
+pub fn is_zero_by(asked: u32, x: u32) -> bool
+    requires { asked ≤ 1 }
+    ensures { result ≡ (eqb asked 0 || eqb x 0) }
+{
+    wide(asked) * wide(x) == 0
+}
+
+// A pair, by whether it is used.
+fn pair_by(used: u32, k: usize, at: u32, len: u32) -> bool
+    requires { (used ≤ 1) × (k ≤ 2 ^ 34) }
+    ensures { result ≡ pair_form (eqb used 1) k at len }
+{
+    (wide(at) == wide(used) * k) & ((1 - wide(used)) * wide(len) == 0)
+}
+
+// The pairs of a row, by which of them are used.
+pub fn pairs_by(first: u32, second: u32, third: u32, k: usize, t: Ten) -> bool
+    requires { (first ≤ 1) × (second ≤ 1) × (third ≤ 1) × (k ≤ 2 ^ 32) }
+    ensures { PairsBy first second third k (as_ten t) result }
+{
+    let at1 = k + wide(t.len0);
+    let at2 = at1 + wide(t.len1);
+    pair_by(first, k, t.at0, t.len0)
+        & pair_by(second, at1, t.at1, t.len1)
+        & pair_by(third, at2, t.at2, t.len2)
+}
+
+// Whether a head is in a set of heads, the last of which stands for all from 31 on.
+pub fn in_heads(heads: u32, head: u32) -> bool
+    ensures { result ≡ in_heads heads head }
+{
+    (heads >> head.min(31)) % 2 == 1
 }

@@ -1,7 +1,8 @@
 // One pass over the rows of a sheet behind row 0: each row's form and place in the order, the end of its pairs, and the last head. What is asked of a row is
 // a trait: each sheet has tests of its own.
-ghost use Rattle.std.specs.Prelude.{◌≡◌, ◌-◌, ◌≤◌, ◌^◌, ◌∷◌, drop};
+ghost use Rattle.std.specs.Prelude.{◌≡◌, ◌-◌, ◌≤◌, ◌^◌, ◌&&◌, ◌∷◌, drop};
 ghost use Rattle.sheet.specs.Rows.{tens};
+ghost use Rattle.sheet.specs.Form.{row_covers};
 ghost use Rattle.rows.specs.Ten.{as_ten};
 ghost use Rattle.rows.specs.Scan.{Tests, first_row, next_row, scanned_sheet};
 
@@ -17,17 +18,15 @@ const NAMESPACE: u32 = 1;
 pub trait RowTests {
     ghost tests: { Tests };
 
-    // Whether a row behind row 1 has its form.
-    fn row_form(t: Ten) -> bool
-        ensures { result ≡ tests.form (as_ten t) };
+    // Whether a row behind row 1 has its form, may stand behind a head, or behind row 1 where no head came, and has its pairs in the names from k on. One
+    // function, so that each sheet asks the table of its tags as it needs it.
+    fn passes(head: u32, k: usize, t: Ten) -> bool
+        requires { k ≤ 2 ^ 32 }
+        ensures { result ≡ (tests.form (as_ten t) && tests.follows head t.tag && row_covers tests.pairs k (as_ten t)) };
 
     // How many pairs a row uses.
     fn used_pairs(tag: u32, a: u32) -> usize
         ensures { result ≡ tests.pairs tag a };
-
-    // Whether a row may stand behind a head, or behind row 1 where no head came.
-    fn may_follow(head: u32, tag: u32) -> bool
-        ensures { result ≡ tests.follows head tag };
 
     // The head behind which the next row stands.
     fn head_after(head: u32, tag: u32) -> u32
@@ -67,8 +66,7 @@ fn next_row<R: RowTests>(limit: u32, s: Scan, t: Ten) -> Option<Scan>
     ensures { result ≡ next_row R.tests limit s (as_ten t) }
 {
     let end = end_of(s.end, t);
-    let form = R::row_form(t) & R::may_follow(s.head, t.tag);
-    if form & row_covers(R::used_pairs(t.tag, t.a), s.end, t) & (end <= wide(limit)) {
+    if R::passes(s.head, s.end, t) & (end <= wide(limit)) {
         Some(Scan {
             end,
             head: R::head_after(s.head, t.tag),

@@ -27,18 +27,19 @@ fn row_is_text<R: RowTests>(names: &[u8], t: Ten) -> bool
         & pair_is_text::<R>(3 <= used, names, t.at2, t.len2)
 }
 
-// Row 1 is handed in, as to `scan_sheet`.
-fn rows_are_text<R: RowTests>(part: &SheetPart, row1: Ten) -> bool
-    ensures { result ≡ every (row_texts R.tests part.now.names.now) (as_ten row1 ∷ tens (part.now.end - 2) (drop 20 part.now.rows.now)) }
+// Cold: the names of most sheets are plain, and the test of a sheet needs no room for this loop beside its frame.
+#[cold]
+#[inline(never)]
+fn rows_are_text<R: RowTests>(part: &SheetPart) -> bool
+    ensures { result ≡ every (row_texts R.tests part.now.names.now) (tens (part.now.end - 1) (drop 10 part.now.rows.now)) }
 {
-    row_is_text::<R>(part.names, row1)
-        & (2..part.end).all(|place| row_is_text::<R>(part.names, part.ten(place)))
+    (1..part.end).all(|place| row_is_text::<R>(part.names, part.ten(place)))
 }
 
 // Whether the used names are plain, or else the text under each used pair is one.
-pub fn names_test<R: RowTests>(part: &SheetPart, row1: Ten, names_used: usize) -> bool
+pub fn names_test<R: RowTests>(part: &SheetPart, names_used: usize) -> bool
     requires { names_used ≤ length part.now.names.now }
-    ensures { result ≡ (is_plain (take names_used part.now.names.now) || every (row_texts R.tests part.now.names.now) (as_ten row1 ∷ tens (part.now.end - 2) (drop 20 part.now.rows.now))) }
+    ensures { result ≡ (is_plain (take names_used part.now.names.now) || every (row_texts R.tests part.now.names.now) (tens (part.now.end - 1) (drop 10 part.now.rows.now))) }
 {
-    text::is_plain(&part.names[..names_used]) || rows_are_text::<R>(part, row1)
+    text::is_plain(&part.names[..names_used]) || rows_are_text::<R>(part)
 }

@@ -20,11 +20,11 @@ use Rattle.xsd_parser.specs.Tape.{Judged, event, refused}
 use Rattle.xsd_parser.specs.Step.{step}
 use Rattle.xsd_parser.specs.Read.{read_state}
 use Rattle.xsd_parser.specs.Accepted.{Accepted, none_left, one_more}
-use Rattle.xsd_parser.specs.Children.{direct_children, heads}
+use Rattle.xsd_parser.specs.Children.{direct_children, child_heads}
 use Rattle.xsd_parser.proofs.Laws.Outcomes.{outcome-cases}
 use Rattle.xsd_parser.proofs.Laws.Reads.{read_state-proper, read_state-fits}
 use Rattle.xsd_parser.proofs.Laws.ChildrenRead.{first-children}
-use Rattle.runs.specs.Runs.{Call, Held, hold, read_held, held_after, refused_with, run}
+use Rattle.runs.specs.Runs.{Call, RunHolds, hold, read_held, held_after, refused_with, run}
 use Rattle.runs.specs.Joined.{judged_in, judged_held, joined_from, joined, accepted_events, after_record, after_records}
 use Rattle.runs.proofs.Served.{lengths_of-sheet_of}
 use Rattle.runs.proofs.Joined.{after_record-ok, after_record-refuse, after_records-append, read_state-judged, last-joined-from}
@@ -44,7 +44,7 @@ after-accepted lent s (event e ∷ js) =
 -- what every reading keeps, a run keeps
 module _ (P : State → Type 0) (lent : Lengths) (keeps : (s : State) (text : Text) (marks : List ℕ) → P s → P (read_state lent s text marks).state) where
   abbrev pub AfterKeeps : List Call → Type 0
-  AfterKeeps calls = (s : State) → P s → P (after_records lent s (joined_from calls (Held.holding lent s)))
+  AfterKeeps calls = (s : State) → P s → P (after_records lent s (joined_from calls (RunHolds.holding lent s)))
 
   read_keeps : (text : Text) (marks : List ℕ) (calls : List Call) → AfterKeeps calls → AfterKeeps (Call.reading text marks ∷ calls)
   unfolding joined_from judged_held read_held held_after refused_with
@@ -61,7 +61,7 @@ module _ (P : State → Type 0) (lent : Lengths) (keeps : (s : State) (text : Te
 
 -- what a run from a cleared sheet begins with
 pub hold-first : (b : Bool) (x : Sheet) → sheet_lengths (length x.rows) (length x.names) ≡ true
-    → hold (sheet_of (first_state b) (length x.rows) (length x.names)) ≡ Held.holding (record { rows = length x.rows; names = length x.names }) (first_state b)
+    → hold (sheet_of (first_state b) (length x.rows) (length x.names)) ≡ RunHolds.holding (record { rows = length x.rows; names = length x.names }) (first_state b)
 unfolding hold good_lengths
 hold-first b x l =
     let r = length x.rows in
@@ -70,26 +70,26 @@ hold-first b x l =
     rw (lengths_of-sheet_of (first_state b) (record { rows = r; names = n }) f, l, good-sheet_of (first_state b) r n (first-proper b) f, state_of-sheet_of (first_state b) r n (first-proper b) f)
 
 hold-cleared : (x : Sheet) → sheet_lengths (length x.rows) (length x.names) ≡ true → (clear 1 x).sheet ≡ sheet_of (first_state true) (length x.rows) (length x.names)
-    → hold (clear 1 x).sheet ≡ Held.holding (record { rows = length x.rows; names = length x.names }) (first_state true)
+    → hold (clear 1 x).sheet ≡ RunHolds.holding (record { rows = length x.rows; names = length x.names }) (first_state true)
 hold-cleared x l e = rw e (hold-first true x l)
 
 children-of : (x : Sheet) (calls : List Call) → sheet_lengths (length x.rows) (length x.names) ≡ true
-    → let js = joined_from calls (Held.holding (lengths_of x) (first_state true)) in
-    heads (state_of (sheet_of (after_records (lengths_of x) (first_state true) js) (length x.rows) (length x.names))).reader
+    → let js = joined_from calls (RunHolds.holding (lengths_of x) (first_state true)) in
+    child_heads (state_of (sheet_of (after_records (lengths_of x) (first_state true) js) (length x.rows) (length x.names))).reader
     ≡ direct_children (map event (accepted_events (lengths_of x) (first_state true) js))
 unfolding lengths_of
 children-of x calls l =
     let lent = lengths_of x in
-    let js = joined_from calls (Held.holding lent (first_state true)) in
+    let js = joined_from calls (RunHolds.holding lent (first_state true)) in
     let p = joined_keeps (λ s. proper s ≡ true) lent (λ s text marks q. read_state-proper lent s text marks q) calls (first_state true) (first-proper true) in
     let f = joined_keeps (λ s. state_fits lent.rows lent.names s ≡ true) lent (λ s text marks q. read_state-fits lent s text marks q) calls (first_state true)
     (first_fits true (length x.rows) (length x.names) l) in
-    ap (λ (y : State). heads y.reader) (state_of-sheet_of (after_records lent (first_state true) js) (length x.rows) (length x.names) p f)
+    ap (λ (y : State). child_heads y.reader) (state_of-sheet_of (after_records lent (first_state true) js) (length x.rows) (length x.names) p f)
     ∙ first-children (after-accepted lent (first_state true) js)
 
 -- any calls, each over its own text
 pub run-children : (x : Sheet) (calls : List Call) → (clear 1 x).answer.number ≡ 0
-    → heads (state_of (run (clear 1 x).sheet calls).last).reader ≡ direct_children (map event (accepted_events (lengths_of x) (first_state true) (joined (clear 1 x).sheet calls)))
+    → child_heads (state_of (run (clear 1 x).sheet calls).last).reader ≡ direct_children (map event (accepted_events (lengths_of x) (first_state true) (joined (clear 1 x).sheet calls)))
 unfolding run joined lengths_of
 run-children x calls c =
     let e = cleared-with 1 x c in

@@ -37,7 +37,7 @@ use Rattle.xsd_parser.proofs.Laws.Accepts.{later, read_records-later}
 use Rattle.xsd_parser.proofs.Laws.Children.{depth_in, kept-context, handled-walked}
 use Rattle.xsd_parser.proofs.Laws.Choices.{Flat, NoOther, FlatIn, handled-same, handled-flat, standardly, step-chosen, reading_chosen, chosen-same}
 use Rattle.ir_lower.specs.Call.{lower_state, lower_finished}
-use Rattle.runs.specs.Runs.{Call, Answered, number_in_run, Held, sheet_held, read_held, lower_held, held_after, refused_with, Ran, answered_first, run_calls, run}
+use Rattle.runs.specs.Runs.{Call, Answered, number_in_run, RunHolds, sheet_held, read_held, lower_held, held_after, refused_with, Ran, answered_first, run_calls, run}
 use Rattle.runs.specs.Joined.{judged_in, judged_held, joined_from, joined, accepted_events, after_record, after_records}
 use Rattle.runs.proofs.Joined.{after_record-ok, after_record-refuse, read_state-judged}
 use Rattle.runs.proofs.Carried.{accepted-ok, accepted-refuse}
@@ -215,7 +215,8 @@ ran_chosen r = record { answers = r.answers; last = sheet_chosen true r.last }
 
 abbrev BothRun : List Call → Lengths → Type 0
 BothRun calls lent =
-    (s : State) → Ready s → Typed lent s (joined_from calls (Held.holding lent s)) → run_calls calls (Held.holding lent (chosen true s)) ≡ ran_chosen (run_calls calls (Held.holding lent s))
+    (s : State) → Ready s → Typed lent s (joined_from calls (RunHolds.holding lent s))
+    → run_calls calls (RunHolds.holding lent (chosen true s)) ≡ ran_chosen (run_calls calls (RunHolds.holding lent s))
 
 read-both : (text : Text) (marks : List ℕ) (calls : List Call) (lent : Lengths) → BothRun calls lent → BothRun (Call.reading text marks ∷ calls) lent
 unfolding run_calls answered_first joined_from judged_held read_held held_after refused_with chosen
@@ -223,7 +224,7 @@ read-both text marks calls lent ih s w t =
     bool_cases (tape_lengths (length text) (length marks))
     (λ l.
     let r = read_state lent s text marks in
-    let parts = split lent s (judged_in lent s text marks) (joined_from calls (Held.holding lent r.state)) w (rw l at t) in
+    let parts = split lent s (judged_in lent s text marks) (joined_from calls (RunHolds.holding lent r.state)) w (rw l at t) in
     let rest = ih r.state (rw (read_state-judged lent s text marks) at parts.ready) (rw (read_state-judged lent s text marks) at parts.after) in
     rw (l, reading-both lent s text marks w parts.before) (ap (λ (q : Ran). answered_first (Answered.read_as r.answer (number_in_run s.events r.answer)) q) rest))
     (λ l. rw l (ap (λ (q : Ran). answered_first (Answered.read_as (record { number = 1; place = 0 }) none) q) (ih s w (rw l at t))))
@@ -232,7 +233,7 @@ pub run-both : (calls : List Call) (lent : Lengths) → BothRun calls lent
 unfolding run_calls answered_first joined_from sheet_held lower_held lower_state lower_finished chosen
 run-both [] lent s w t = ap (λ (y : Sheet). record { answers = []; last = y }) (sheet-chosen true s lent.rows lent.names)
 run-both (Call.reading text marks ∷ calls) lent s w t = read-both text marks calls lent (run-both calls lent) s w t
-run-both (Call.lowering graph scratch ∷ calls) lent s w t = ap (λ (r : Ran). answered_first (Answered.lowered_as (lower_held (Held.holding lent s) graph scratch)) r) (run-both calls lent s w t)
+run-both (Call.lowering graph scratch ∷ calls) lent s w t = ap (λ (r : Ran). answered_first (Answered.lowered_as (lower_held (RunHolds.holding lent s) graph scratch)) r) (run-both calls lent s w t)
 
 -- from a cleared sheet
 pub cleared-runs : (x : Sheet) (calls : List Call) → (clear 0 x).answer.number ≡ 0 → only_types (map event (accepted_events (lengths_of x) (first_state false) (joined (clear 0 x).sheet calls))) ≡ true

@@ -12,13 +12,13 @@ use Rattle.text.proofs.Laws.Tests.{and-true, or_left, or_right}
 use Rattle.text.proofs.Laws.Texts.{same_refl}
 use Rattle.sheet.specs.Rows.{Sheet}
 use Rattle.sheet.specs.Lengths.{Lengths, lengths_of}
-use Rattle.xsd_types.specs.State.{Reader, State, first_state, heads_pass}
+use Rattle.xsd_types.specs.State.{HeadNumber, Reader, State, first_state, heads_pass}
 use Rattle.xsd_types.specs.Count.{sheet_of, state_of}
 use Rattle.xsd_parser.specs.Event.{Event}
 use Rattle.xsd_parser.specs.Tape.{Judged, event, refused}
 use Rattle.xsd_parser.specs.Handlers.{ok, refuse}
 use Rattle.xsd_parser.specs.Step.{step}
-use Rattle.xsd_parser.specs.Numbered.{HeadNumber, numbered_heads, open_number, given_by, heads_given, gave}
+use Rattle.xsd_parser.specs.Numbered.{numbered_heads, open_number, given_by, heads_given, gave}
 use Rattle.xsd_parser.proofs.Laws.Outcomes.{outcome-cases, gives-value}
 use Rattle.xsd_parser.proofs.Laws.Numbers.{handled-makes, given-behind, heads-numbered}
 use Rattle.xsd_parser.proofs.Laws.Steps.{step-events, step-reader}

@@ -17,12 +17,12 @@ use Rattle.xsd_types.specs.Clear.{clear}
 use Rattle.xsd_types.proofs.Laws.Count.{choice-again, choice-made}
 use Rattle.xsd_parser.specs.Read.{read_state}
 use Rattle.xsd_parser.proofs.Laws.Choices.{read_state-choice}
-use Rattle.runs.specs.Runs.{Call, Held, hold, sheet_held, read_held, held_after, refused_with, run_calls, answered_first, run}
+use Rattle.runs.specs.Runs.{Call, RunHolds, hold, sheet_held, read_held, held_after, refused_with, run_calls, answered_first, run}
 
 -- ---- no call changes the choice
 
 abbrev LastChoice : List Call → Lengths → State → Type 0
-LastChoice calls lent s = (row0_in (run_calls calls (Held.holding lent s)).last).choice ≡ bit s.by_standard
+LastChoice calls lent s = (row0_in (run_calls calls (RunHolds.holding lent s)).last).choice ≡ bit s.by_standard
 
 choice-read : (text : Text) (marks : List ℕ) (calls : List Call) (lent : Lengths) (s : State) → ((s' : State) → LastChoice calls lent s') → LastChoice (Call.reading text marks ∷ calls) lent s
 unfolding run_calls answered_first read_held held_after refused_with
@@ -38,13 +38,13 @@ choice-from (Call.reading text marks ∷ calls) lent s = choice-read text marks 
 choice-from (Call.lowering graph scratch ∷ calls) lent s = choice-from calls lent s
 
 -- a sheet that is not held as a state stays as it is
-lengths-last : (calls : List Call) (x : Sheet) → (run_calls calls (Held.bad_lengths x)).last ≡ x
+lengths-last : (calls : List Call) (x : Sheet) → (run_calls calls (RunHolds.bad_lengths x)).last ≡ x
 unfolding run_calls answered_first read_held refused_with sheet_held
 lengths-last [] x = refl
 lengths-last (Call.reading text marks ∷ calls) x = lengths-last calls x
 lengths-last (Call.lowering graph scratch ∷ calls) x = lengths-last calls x
 
-bad_last : (calls : List Call) (x : Sheet) → (run_calls calls (Held.not_good x)).last ≡ x
+bad_last : (calls : List Call) (x : Sheet) → (run_calls calls (RunHolds.not_good x)).last ≡ x
 unfolding run_calls answered_first read_held refused_with sheet_held
 bad_last [] x = refl
 bad_last (Call.reading text marks ∷ calls) x = bad_last calls x

@@ -62,7 +62,7 @@ use Rattle.xsd_parser.specs.Read.{read_records, read, read_state, ReadIs}
 use Rattle.xsd_parser.specs.Table.{ReadTable}
 use Rattle.xsd_parser.proofs.Laws.Table.{read_table}
 use Rattle.xsd_parser.specs.Numbered.{read_records_by, read_state_by, unknown_number, unnumbered_reading, numbered_heads, heads_given, gave}
-use Rattle.xsd_parser.specs.Children.{direct_children, heads, only_types}
+use Rattle.xsd_parser.specs.Children.{direct_children, child_heads, only_types}
 use Rattle.xsd_parser.proofs.Laws.Cleared.{read_state-unnumbered, read_records-numbered}
 use Rattle.xsd_parser.proofs.Laws.Occurs.{unbounded-exactly}
 use Rattle.xsd_parser.proofs.Laws.Steps.{step-proper}
@@ -71,7 +71,7 @@ use Rattle.xml.specs.Tape.{TapeEvent, tape_marks}
 use Rattle.xml.specs.Tags.{tag}
 use Rattle.xml.specs.Document.{well_formed, document, tape_of}
 use Rattle.xml.specs.Accepted.{EventsAt, few_attributes, event_read, records_read, ReadsThrough}
-use Rattle.xml.specs.Written.{is_name_text, attribute_ok, new_keys, written_tag, written_event, tagged_as}
+use Rattle.xml.specs.Written.{is_name_text, written_attribute_ok, new_keys, written_tag, written_event, tagged_as}
 use Rattle.xml.specs.Grammar.{AttValue, Derived, BegunByDoctype}
 use Rattle.xml.specs.Call.{Readable, TapeIs}
 use Rattle.xml.proofs.Laws.Grammar.Documents.{document-exactly, derived-once}
@@ -97,7 +97,7 @@ use Rattle.ir_lower.specs.Repeated.{heads as type_heads, FirstRepeat}
 use Rattle.ir_lower.specs.Call.{lowering, scratch_least}
 use Rattle.ir_lower.specs.Unnumbered.{unnumbered_lowered}
 use Rattle.ir_lower.proofs.Laws.Unnumbered.{lower-unnumbered}
-use Rattle.ir_lower.specs.Outcome.{Accepted, NameTwice}
+use Rattle.ir_lower.specs.Outcome.{LoweringAccepted, NameTwice}
 use Rattle.ir_lower.specs.Table.{LoweringTable, FirstUnknown, LoweredLabels}
 use Rattle.ir_lower.proofs.Laws.Table.{lowering-table, unknown-first, lowering-labels}
 use Rattle.ir_lower.proofs.Laws.Cardinality.{optional-exactly, vec-exactly, bounded-exactly, required-exactly}
@@ -142,7 +142,7 @@ use Rattle.runs.proofs.Accepted.{run-children}
 use Rattle.runs.proofs.Notes.{notes-nothing, notes-made}
 use Rattle.ir_types.specs.Rows.{rows_of as graph_rows_of}
 use Rattle.ir_types.specs.Unnumbered.{unnumbered_graph}
-use Rattle.runs.specs.Cleared.{cleared_graph_row, Stored, run_before, RunCleared}
+use Rattle.runs.specs.Cleared.{cleared_graph_row, StoredEarlier, run_before, RunCleared}
 use Rattle.runs.proofs.Cleared.{graph-cleared, sheet-cleared}
 use Rattle.runs.proofs.Stored.{stored-run}
 use mathlib.Core.Option.{some}
@@ -288,7 +288,8 @@ claim-tape-pairs = events-at
 
 -- order 1, "Over 32 attributes are written too, for reading to refuse": such a tape, read whole with its text, is read as its events; with at most 32 attributes
 -- it meets none of 3, 4 and 5
-pub claim-tape-records : (text : Text) (es : List TapeEvent) → document text ≡ well_formed es → is_text text ≡ true → every few_attributes es ≡ true → records text (tape_marks es) ≡ records_read text es
+pub claim-tape-records : (text : Text) (es : List TapeEvent) → document text ≡ well_formed es → is_text text ≡ true
+    → every few_attributes es ≡ true → records text (tape_marks es) ≡ records_read text es
 claim-tape-records = tape-records
 
 -- order 1, "The text must be whole; unclosed tags .. are malformed here": nor does it meet 6, from any state, and where it is accepted as many tags are open as before
@@ -298,7 +299,7 @@ claim-tape-read = tape-reads
 
 -- order 8, "Read into a cleared sheet through order 1": a tag written by the productions is read as that tag, whatever stands behind it
 pub claim-tag-written : (at kind : ℕ) (t : Tag) (rest : Text) → start_kind ≤ kind → kind ≤ empty_kind → is_name_text t.name ≡ true
-    → every attribute_ok t.attributes ≡ true → new_keys [] t.attributes ≡ true → tag at (written_tag kind t ++ rest) ≡ tagged_as at kind t rest
+    → every written_attribute_ok t.attributes ≡ true → new_keys [] t.attributes ≡ true → tag at (written_tag kind t ++ rest) ≡ tagged_as at kind t rest
 claim-tag-written = tag-written
 
 -- order 1, "a tape whose pairs point into it": the pairs of what such a tag is read as stand for the tag's own texts
@@ -343,7 +344,7 @@ claim-choice-kept = run-choice
 -- order 3, with choice 1 "only its direct children become elements or types": of the accepted events of every run from a cleared sheet, in any pieces, refused events
 -- and refused calls among them
 pub claim-children : (x : Sheet) (calls : List Call) → (clear 1 x).answer.number ≡ 0
-    → heads (state_of (run (clear 1 x).sheet calls).last).reader ≡ direct_children (map event (accepted_events (lengths_of x) (first_state true) (joined (clear 1 x).sheet calls)))
+    → child_heads (state_of (run (clear 1 x).sheet calls).last).reader ≡ direct_children (map event (accepted_events (lengths_of x) (first_state true) (joined (clear 1 x).sheet calls)))
 claim-children = run-children
 
 -- order 3, "any close there leads to context 0. Part 1 has the schema end at its own tag": where of the accepted events of a run only types are started directly below
@@ -385,7 +386,7 @@ claim-cleared-run x calls g = sheet-cleared x calls g.lengths g.is_good
 -- zeros kept": from every good sheet the last sheet of a run is good; its heads are those of the first one, each with the c that it had there, 0 too, and behind
 -- them those that the run's events gave, each with its event's number in the run, which is not below the events done
 pub claim-stored : (x : Sheet) (calls : List Call) → words x.rows ≡ true → GoodStart x
-    → Stored x (run x calls).last (heads_given (lengths_of x) (state_of x).events (state_of x) (joined x calls))
+    → StoredEarlier x (run x calls).last (heads_given (lengths_of x) (state_of x).events (state_of x) (joined x calls))
 claim-stored = stored-run
 
 -- order 5, "Every head .. carries in c the number in the run of the event that gave it its name": the heads of the last sheet of a run from a cleared one, in order,
@@ -417,7 +418,7 @@ claim-vec = vec-exactly
 
 -- order 4, "Lowering refuses when two finished types normalise to the same name": in an accepted lowering the names are distinct, and the types are all
 -- finished types in lowering's order
-pub claim-types : (x graph : Sheet) (scratch : List ℕ) → (lowering x graph scratch).answer.number ≡ 0 → Accepted (state_of x).reader.schema graph (lowering x graph scratch)
+pub claim-types : (x graph : Sheet) (scratch : List ℕ) → (lowering x graph scratch).answer.number ≡ 0 → LoweringAccepted (state_of x).reader.schema graph (lowering x graph scratch)
 claim-types = lowering-accepted
 
 -- order 4, "The last-definition rule then touches no accepted sheet": by paper 01's rule the types would be the same

@@ -26,9 +26,9 @@ use Rattle.ir_types.specs.Unnumbered.{unnumbered_root, unnumbered_type, unnumber
 use Rattle.ir_lower.specs.Lower.{lower, unknown_row}
 use Rattle.ir_lower.specs.Repeated.{repeated_row}
 use Rattle.ir_lower.specs.Unnumbered.{unnumbered_lowered}
-use Rattle.ir_lower.specs.Call.{Lowered, unchanged, cleared, written, repeated_or_written, refused_or_written, lower_finished, lower_state, scratch_least}
+use Rattle.ir_lower.specs.Call.{Lowered, unchanged, cleared, graph_written, repeated_or_written, refused_or_written, lower_finished, lower_state, scratch_least}
 use Rattle.ir_lower.proofs.Laws.Unnumbered.{lower-unnumbered, unknown_row-unnumbered, repeated_row-unnumbered}
-use Rattle.runs.specs.Runs.{Call, number_in_run, Held, sheet_held, refused_with, held_after, read_held, lower_held, answered_first, run_calls, hold, run}
+use Rattle.runs.specs.Runs.{Call, number_in_run, RunHolds, sheet_held, refused_with, held_after, read_held, lower_held, answered_first, run_calls, hold, run}
 use Rattle.runs.specs.Cleared.{cleared_graph_row, GraphCleared, LoweringCleared, read_before, run_before, AnswersCleared, RunCleared}
 
 -- ---- the rows of a graph
@@ -94,8 +94,8 @@ module _ (graph : Sheet) (scratch : List ℕ) where
   if-cleared true x y = x
   if-cleared false x y = y
 
-  written-cleared : (g : TypeGraph) → LoweringCleared (written g graph scratch) (written (unnumbered_graph g) graph scratch)
-  unfolding written
+  written-cleared : (g : TypeGraph) → LoweringCleared (graph_written g graph scratch) (graph_written (unnumbered_graph g) graph scratch)
+  unfolding graph_written
   written-cleared g =
       rw (fits-cleared (length graph.rows) (length graph.names) g, used-cleared g)
       (if-cleared (graph_fits (length graph.rows) (length graph.names) g)
@@ -124,12 +124,12 @@ module _ (graph : Sheet) (scratch : List ℕ) where
 
 -- ---- the run
 held-cleared : (lent : Lengths) (s : State) (graph : Sheet) (scratch : List ℕ)
-    → LoweringCleared (lower_held (Held.holding lent s) graph scratch) (lower_held (Held.holding lent (unnumbered s)) graph scratch)
+    → LoweringCleared (lower_held (RunHolds.holding lent s) graph scratch) (lower_held (RunHolds.holding lent (unnumbered s)) graph scratch)
 unfolding lower_held
 held-cleared lent s graph scratch = if-cleared graph scratch (good_lengths (lengths_of graph)) (lowering-cleared graph scratch s) (alike graph scratch (unchanged 1 graph scratch))
 
 abbrev RunsCleared : List Call → Lengths → Type 0
-RunsCleared calls lent = (s : State) → RunCleared lent (run_calls calls (Held.holding lent s)) (run_before calls lent (unnumbered s))
+RunsCleared calls lent = (s : State) → RunCleared lent (run_calls calls (RunHolds.holding lent s)) (run_before calls lent (unnumbered s))
 
 read-cleared : (text : Text) (marks : List ℕ) (calls : List Call) (lent : Lengths) → RunsCleared calls lent → RunsCleared (Call.reading text marks ∷ calls) lent
 unfolding run_calls run_before answered_first read_held held_after refused_with read_before number_in_run between unnumbered unnumbered_reading
@@ -147,6 +147,7 @@ run-cleared (Call.lowering graph scratch ∷ calls) lent s =
     let rest = run-cleared calls lent s in
     record { answers = AnswersCleared.lower (held-cleared lent s graph scratch) rest.answers; state = rest.state; last = rest.last; last_before = rest.last_before }
 
-pub sheet-cleared : (x : Sheet) (calls : List Call) → good_lengths (lengths_of x) ≡ true → good x ≡ true → RunCleared (lengths_of x) (run x calls) (run_before calls (lengths_of x) (unnumbered (state_of x)))
+pub sheet-cleared : (x : Sheet) (calls : List Call) → good_lengths (lengths_of x) ≡ true → good x ≡ true
+    → RunCleared (lengths_of x) (run x calls) (run_before calls (lengths_of x) (unnumbered (state_of x)))
 unfolding run hold
 sheet-cleared x calls l g = rw (l, g) (run-cleared calls (lengths_of x) (state_of x))

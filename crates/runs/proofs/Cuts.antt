@@ -24,7 +24,7 @@ use Rattle.xsd_parser.proofs.Laws.Reads.{read_state-place, refused-place}
 use Rattle.xsd_parser.proofs.Laws.Accepts.{accepted-events}
 use Rattle.xsd_parser.proofs.Laws.Cut.{cut-records, cut-accepted, zero-accepted, accepted-place}
 use Rattle.xsd_parser.proofs.Laws.CutRefused.{cut-refused, whole-records}
-use Rattle.runs.specs.Runs.{Call, Answered, number_in_run, Held, sheet_held, Stepped, refused_with, held_after, read_held, Ran, answered_first, run_calls, run}
+use Rattle.runs.specs.Runs.{Call, Answered, number_in_run, RunHolds, sheet_held, AfterCall, refused_with, held_after, read_held, Ran, answered_first, run_calls, run}
 use Rattle.runs.specs.Joined.{judged_in, judged_held, joined_from, joined}
 use Rattle.runs.specs.Cuts.{Job, ended_first, tape_answer, jobs_done, jobs_judged, passes_by, held_behind, Pieces, CutInto, is_lowered, PassedBy, PiecesAnswer, Gathered, CutAlike}
 use Rattle.runs.specs.Trace.{Trace}
@@ -36,7 +36,7 @@ ran_on front r = record { answers = front ++ r.answers; last = r.last }
 
 -- ---- calls behind calls
 
-run_calls-append : (a b : List Call) (h : Held) → run_calls (a ++ b) h ≡ ran_on (run_calls a h).answers (run_calls b (held_behind a h))
+run_calls-append : (a b : List Call) (h : RunHolds) → run_calls (a ++ b) h ≡ ran_on (run_calls a h).answers (run_calls b (held_behind a h))
 unfolding run_calls answered_first held_behind
 run_calls-append [] b h = refl
 run_calls-append (Call.reading text marks ∷ a) b h =
@@ -44,13 +44,13 @@ run_calls-append (Call.reading text marks ∷ a) b h =
     ap (answered_first (Answered.read_as st.answer st.in_run)) (run_calls-append a b st.held)
 run_calls-append (Call.lowering graph scratch ∷ a) b h = ap (answered_first _) (run_calls-append a b h)
 
-held_behind-append : (a b : List Call) (h : Held) → held_behind (a ++ b) h ≡ held_behind b (held_behind a h)
+held_behind-append : (a b : List Call) (h : RunHolds) → held_behind (a ++ b) h ≡ held_behind b (held_behind a h)
 unfolding held_behind
 held_behind-append [] b h = refl
 held_behind-append (Call.reading text marks ∷ a) b h = held_behind-append a b (read_held h text marks).held
 held_behind-append (Call.lowering graph scratch ∷ a) b h = held_behind-append a b h
 
-joined_from-append : (a b : List Call) (h : Held) → joined_from (a ++ b) h ≡ joined_from a h ++ joined_from b (held_behind a h)
+joined_from-append : (a b : List Call) (h : RunHolds) → joined_from (a ++ b) h ≡ joined_from a h ++ joined_from b (held_behind a h)
 unfolding joined_from held_behind
 joined_from-append [] b h = refl
 joined_from-append (Call.reading text marks ∷ a) b h =
@@ -60,18 +60,18 @@ joined_from-append (Call.lowering graph scratch ∷ a) b h = joined_from-append 
 -- ---- one reading on a state
 
 read_held_lem : (lent : Lengths) (s : State) (text : Text) (marks : List ℕ) → tape_lengths (length text) (length marks) ≡ true
-    → read_held (Held.holding lent s) text marks ≡ held_after lent s (read_state lent s text marks)
+    → read_held (RunHolds.holding lent s) text marks ≡ held_after lent s (read_state lent s text marks)
 unfolding read_held
 read_held_lem lent s text marks t = rw t
 
 read-long : (lent : Lengths) (s : State) (text : Text) (marks : List ℕ) → tape_lengths (length text) (length marks) ≡ false
-    → read_held (Held.holding lent s) text marks ≡ refused_with 1 (Held.holding lent s)
+    → read_held (RunHolds.holding lent s) text marks ≡ refused_with 1 (RunHolds.holding lent s)
 unfolding read_held
 read-long lent s text marks t = rw t
 
 -- ---- calls that pass by
 
-passing-held : (lent : Lengths) (s : State) (calls : List Call) → every passes_by calls ≡ true → held_behind calls (Held.holding lent s) ≡ Held.holding lent s
+passing-held : (lent : Lengths) (s : State) (calls : List Call) → every passes_by calls ≡ true → held_behind calls (RunHolds.holding lent s) ≡ RunHolds.holding lent s
 unfolding every passes_by held_behind refused_with
 passing-held lent s [] e = refl
 passing-held lent s (Call.reading text marks ∷ calls) e =
@@ -79,7 +79,7 @@ passing-held lent s (Call.reading text marks ∷ calls) e =
     rw (read-long lent s text marks (not-true (tape_lengths (length text) (length marks)) both.0)) (passing-held lent s calls both.1)
 passing-held lent s (Call.lowering graph scratch ∷ calls) e = passing-held lent s calls e
 
-passing-answers : (lent : Lengths) (s : State) (calls : List Call) → every passes_by calls ≡ true → PassedBy (run_calls calls (Held.holding lent s)).answers
+passing-answers : (lent : Lengths) (s : State) (calls : List Call) → every passes_by calls ≡ true → PassedBy (run_calls calls (RunHolds.holding lent s)).answers
 unfolding every passes_by is_lowered run_calls answered_first refused_with
 passing-answers lent s [] e = PassedBy.none
 passing-answers lent s (Call.reading text marks ∷ calls) e =
@@ -87,7 +87,7 @@ passing-answers lent s (Call.reading text marks ∷ calls) e =
     rw (read-long lent s text marks (not-true (tape_lengths (length text) (length marks)) both.0)) (PassedBy.too_long (passing-answers lent s calls both.1))
 passing-answers lent s (Call.lowering graph scratch ∷ calls) e = PassedBy.lowering refl (passing-answers lent s calls e)
 
-passing-joined : (lent : Lengths) (s : State) (calls : List Call) → every passes_by calls ≡ true → joined_from calls (Held.holding lent s) ≡ []
+passing-joined : (lent : Lengths) (s : State) (calls : List Call) → every passes_by calls ≡ true → joined_from calls (RunHolds.holding lent s) ≡ []
 unfolding every passes_by joined_from judged_held refused_with
 passing-joined lent s [] e = refl
 passing-joined lent s (Call.reading text marks ∷ calls) e =
@@ -99,20 +99,20 @@ passing-joined lent s (Call.lowering graph scratch ∷ calls) e = passing-joined
 -- ---- one reading on a state that takes its marks
 
 held_behind-read : (lent : Lengths) (s : State) (text : Text) (marks : List ℕ) (calls : List Call) → tape_lengths (length text) (length marks) ≡ true
-    → held_behind (Call.reading text marks ∷ calls) (Held.holding lent s) ≡ held_behind calls (Held.holding lent (read_state lent s text marks).state)
+    → held_behind (Call.reading text marks ∷ calls) (RunHolds.holding lent s) ≡ held_behind calls (RunHolds.holding lent (read_state lent s text marks).state)
 unfolding held_behind held_after
-held_behind-read lent s text marks calls t = ap (λ (st : Stepped). held_behind calls st.held) (read_held_lem lent s text marks t)
+held_behind-read lent s text marks calls t = ap (λ (st : AfterCall). held_behind calls st.held) (read_held_lem lent s text marks t)
 
 joined_from-read : (lent : Lengths) (s : State) (text : Text) (marks : List ℕ) (calls : List Call) → tape_lengths (length text) (length marks) ≡ true
-    → joined_from (Call.reading text marks ∷ calls) (Held.holding lent s) ≡ judged_in lent s text marks ++ joined_from calls (Held.holding lent (read_state lent s text marks).state)
+    → joined_from (Call.reading text marks ∷ calls) (RunHolds.holding lent s) ≡ judged_in lent s text marks ++ joined_from calls (RunHolds.holding lent (read_state lent s text marks).state)
 unfolding joined_from judged_held held_after
 joined_from-read lent s text marks calls t = rw (read_held_lem lent s text marks t, t)
 
 -- what the calls of a tape leave: the answers, what is held, the records judged
 record Leaves (lent : Lengths) (text : Text) (s : State) (marks : List ℕ) (calls : List Call) (r : Reading) : Type 0 where
-  answers : PiecesAnswer r.answer.number (number_in_run s.events r.answer) r.answer.place (run_calls calls (Held.holding lent s)).answers
-  held : held_behind calls (Held.holding lent s) ≡ Held.holding lent r.state
-  events : joined_from calls (Held.holding lent s) ≡ judged_in lent s text marks
+  answers : PiecesAnswer r.answer.number (number_in_run s.events r.answer) r.answer.place (run_calls calls (RunHolds.holding lent s)).answers
+  held : held_behind calls (RunHolds.holding lent s) ≡ RunHolds.holding lent r.state
+  events : joined_from calls (RunHolds.holding lent s) ≡ judged_in lent s text marks
 
 one-leaves : (lent : Lengths) (text : Text) (s : State) (marks : List ℕ) → tape_lengths (length text) (length marks) ≡ true
     → Leaves lent text s marks (Call.reading text marks ∷ []) (read_state lent s text marks)
@@ -155,30 +155,30 @@ module _ (lent : Lengths) (text : Text) (s : State) (m₁ m₂ : List ℕ) (z : 
       rw k
 
   module _ (t : tape_lengths (length text) (length m₁) ≡ true) where
-    first-held : read_held (Held.holding lent s) text m₁ ≡ record { answer = record { number = 0; place = r₁.answer.place }; in_run = none; held = Held.holding lent r₁.state }
+    first-held : read_held (RunHolds.holding lent s) text m₁ ≡ record { answer = record { number = 0; place = r₁.answer.place }; in_run = none; held = RunHolds.holding lent r₁.state }
     unfolding held_after number_in_run between
     first-held =
         read_held_lem lent s text m₁ t
         ∙ ap (λ (n : ℕ). held_after lent s (record { answer = record { number = n; place = r₁.answer.place }; state = r₁.state })) z
 
     module _ (between calls : List Call) (o : every passes_by between ≡ true) where
-      passed-held : held_behind (between ++ calls) (Held.holding lent r₁.state) ≡ held_behind calls (Held.holding lent r₁.state)
-      passed-held = held_behind-append between calls (Held.holding lent r₁.state) ∙ rw (passing-held lent r₁.state between o)
+      passed-held : held_behind (between ++ calls) (RunHolds.holding lent r₁.state) ≡ held_behind calls (RunHolds.holding lent r₁.state)
+      passed-held = held_behind-append between calls (RunHolds.holding lent r₁.state) ∙ rw (passing-held lent r₁.state between o)
 
-      passed-ran : (run_calls (between ++ calls) (Held.holding lent r₁.state)).answers
-          ≡ (run_calls between (Held.holding lent r₁.state)).answers ++ (run_calls calls (Held.holding lent r₁.state)).answers
+      passed-ran : (run_calls (between ++ calls) (RunHolds.holding lent r₁.state)).answers
+          ≡ (run_calls between (RunHolds.holding lent r₁.state)).answers ++ (run_calls calls (RunHolds.holding lent r₁.state)).answers
       passed-ran =
-          ap (λ (r : Ran). r.answers) (run_calls-append between calls (Held.holding lent r₁.state))
+          ap (λ (r : Ran). r.answers) (run_calls-append between calls (RunHolds.holding lent r₁.state))
           ∙ rw (passing-held lent r₁.state between o)
 
-      passed-joined : joined_from (between ++ calls) (Held.holding lent r₁.state) ≡ joined_from calls (Held.holding lent r₁.state)
+      passed-joined : joined_from (between ++ calls) (RunHolds.holding lent r₁.state) ≡ joined_from calls (RunHolds.holding lent r₁.state)
       passed-joined =
-          joined_from-append between calls (Held.holding lent r₁.state)
+          joined_from-append between calls (RunHolds.holding lent r₁.state)
           ∙ rw (passing-joined lent r₁.state between o, passing-held lent r₁.state between o)
 
-      next-answers : PiecesAnswer r₂.answer.number (number_in_run r₁.state.events r₂.answer) r₂.answer.place (run_calls calls (Held.holding lent r₁.state)).answers
+      next-answers : PiecesAnswer r₂.answer.number (number_in_run r₁.state.events r₂.answer) r₂.answer.place (run_calls calls (RunHolds.holding lent r₁.state)).answers
           → PiecesAnswer r₂.answer.number (number_in_run r₁.state.events r₂.answer) (r₁.answer.place + r₂.answer.place)
-          (run_calls (Call.reading text m₁ ∷ (between ++ calls)) (Held.holding lent s)).answers
+          (run_calls (Call.reading text m₁ ∷ (between ++ calls)) (RunHolds.holding lent s)).answers
       unfolding run_calls answered_first
       next-answers a = rw (first-held, passed-ran) (PiecesAnswer.onward _ _ _ _ (passing-answers lent r₁.state between o) a)
 
@@ -210,9 +210,9 @@ pieces-leave {lent} {text} {s} (Pieces.dropped m₁ m₂ t w r) =
 -- ---- the calls
 
 record Ends (lent : Lengths) (s : State) (jobs : List Job) (calls : List Call) : Type 0 where
-  answers : Gathered (jobs_done lent s jobs).answers (run_calls calls (Held.holding lent s)).answers
-  last : (run_calls calls (Held.holding lent s)).last ≡ sheet_held (Held.holding lent (jobs_done lent s jobs).state)
-  events : joined_from calls (Held.holding lent s) ≡ jobs_judged lent s jobs
+  answers : Gathered (jobs_done lent s jobs).answers (run_calls calls (RunHolds.holding lent s)).answers
+  last : (run_calls calls (RunHolds.holding lent s)).last ≡ sheet_held (RunHolds.holding lent (jobs_done lent s jobs).state)
+  events : joined_from calls (RunHolds.holding lent s) ≡ jobs_judged lent s jobs
 
 cut-ends : {lent : Lengths} {s : State} {jobs : List Job} {calls : List Call} → CutInto lent s jobs calls → Ends lent s jobs calls
 unfolding jobs_done ended_first tape_answer jobs_judged run_calls answered_first joined_from is_lowered refused_with judged_held
@@ -221,9 +221,9 @@ cut-ends {lent} {s} (CutInto.tape ps calls p c) =
     let one = pieces-leave p in
     let rest = cut-ends c in
     record {
-      answers = rw (run_calls-append ps calls (Held.holding lent s), one.held) (Gathered.tape _ _ one.answers rest.answers);
-      last = rw (run_calls-append ps calls (Held.holding lent s), one.held) rest.last;
-      events = rw (joined_from-append ps calls (Held.holding lent s), one.held, one.events, rest.events);
+      answers = rw (run_calls-append ps calls (RunHolds.holding lent s), one.held) (Gathered.tape _ _ one.answers rest.answers);
+      last = rw (run_calls-append ps calls (RunHolds.holding lent s), one.held) rest.last;
+      events = rw (joined_from-append ps calls (RunHolds.holding lent s), one.held, one.events, rest.events);
     }
 cut-ends (CutInto.lowering c) =
     let rest = cut-ends c in

@@ -15,34 +15,35 @@ use Rattle.xsd_types.specs.State.{Reader, item_passes, heads_pass}
 use Rattle.xsd_types.specs.Refused.{all_enums}
 use Rattle.xsd_types.proofs.Laws.Events.{passing-parts}
 use Rattle.ir_types.specs.Types.{TypeDef, RootElement, TypeGraph, name_of}
-use Rattle.ir_lower.specs.Lower.{lower_newtype, lower_simple_type, lower_content, lower_complex_type, any_unknown, with_definition, simple_definitions, finished_definitions, root_of, graph_of, lower}
-use Rattle.runs.specs.Given.{event_of, TypePasses, TypesPass, GraphPasses}
+use Rattle.ir_lower.specs.Lower.{lower_newtype, lower_simple_type, lower_content, lower_complex_type, any_unknown, with_definition}
+use Rattle.ir_lower.specs.Lower.{simple_definitions, finished_definitions, root_of_element, graph_of, lower}
+use Rattle.runs.specs.Given.{type_event, TypePasses, TypesPass, GraphPasses}
 
 module _ (p : Text → ℕ → Bool) where
   abbrev Items : List Item → Type 0
   Items is = every (item_passes p) is ≡ true
 
-  roots-pass : (is : List Item) → Items is → every (λ (r : RootElement). p r.xml_name r.event) (map root_of (elements is)) ≡ true
-  unfolding every item_passes elements root_of
+  roots-pass : (is : List Item) → Items is → every (λ (r : RootElement). p r.xml_name r.event) (map root_of_element (elements is)) ≡ true
+  unfolding every item_passes elements root_of_element
   roots-pass [] h = refl
   roots-pass (Item.element e ∷ is) h = let w = two (p e.name e.event) _ h in and-true w.0 (roots-pass is w.1)
   roots-pass (Item.simple_type t ∷ is) h = roots-pass is (two (p t.name t.event) _ h).1
   roots-pass (Item.complex_type t ∷ is) h = roots-pass is (two (p t.name t.event) _ h).1
 
   newtype-passes : (t : SimpleType) (o : Option RustType) (ds : List TypeDef) → p t.name t.event ≡ true → TypesPass p ds → TypesPass p (with_definition (lower_newtype t o) ds)
-  unfolding with_definition lower_newtype name_of event_of
+  unfolding with_definition lower_newtype name_of type_event
   newtype-passes t none ds h on = on
   newtype-passes t (some inner) ds h on = TypesPass.more (record { name = t.name; normal = refl; passes = h }) on
 
   simple-passes : (t : SimpleType) (ds : List TypeDef) → p t.name t.event ≡ true → TypesPass p ds → TypesPass p (with_definition (lower_simple_type t) ds)
-  unfolding with_definition lower_simple_type name_of event_of
+  unfolding with_definition lower_simple_type name_of type_event
   simple-passes t ds h on =
       bool_cases (all_enums t.facets)
       (λ a. rw a (TypesPass.more (record { name = t.name; normal = refl; passes = h }) on))
       (λ a. rw a (newtype-passes t (map_builtin t.base) ds h on))
 
   content-passes : (event : ℕ) (name : Text) (c : ComplexContent) → p name event ≡ true → TypePasses p (lower_content event (normalize_type_name name) c)
-  unfolding lower_content name_of event_of
+  unfolding lower_content name_of type_event
   content-passes event name (ComplexContent.sequence es) h = record { name = name; normal = refl; passes = h }
   content-passes event name (ComplexContent.choice vs) h = record { name = name; normal = refl; passes = h }
   content-passes event name (ComplexContent.simple_content base xs) h = record { name = name; normal = refl; passes = h }

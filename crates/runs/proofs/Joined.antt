@@ -21,7 +21,7 @@ use Rattle.xsd_parser.specs.Read.{read_records, read_state}
 use Rattle.xsd_parser.proofs.Laws.Outcomes.{outcome-cases}
 use Rattle.xsd_parser.proofs.Laws.Reads.{read_ok, read-refuse}
 use Rattle.xsd_parser.proofs.Laws.Accepts.{read_records-later}
-use Rattle.runs.specs.Runs.{Call, Answered, Ran, run, Held, hold, sheet_held, run_calls, answered_first, read_held, held_after, refused_with}
+use Rattle.runs.specs.Runs.{Call, Answered, Ran, run, RunHolds, hold, sheet_held, run_calls, answered_first, read_held, held_after, refused_with}
 use Rattle.runs.specs.Joined.{judged_in, judged_held, joined_from, joined, after_record, after_records}
 use Rattle.runs.specs.Trace.{Trace}
 use Rattle.runs.proofs.Runs.{runs}
@@ -69,7 +69,7 @@ read_state-judged lent s text marks = after-judged lent s (records text marks)
 
 -- the last sheet of a run from a state
 abbrev LastJoined : List Call → Lengths → State → Type 0
-LastJoined calls lent s = (run_calls calls (Held.holding lent s)).last ≡ sheet_of (after_records lent s (joined_from calls (Held.holding lent s))) lent.rows lent.names
+LastJoined calls lent s = (run_calls calls (RunHolds.holding lent s)).last ≡ sheet_of (after_records lent s (joined_from calls (RunHolds.holding lent s))) lent.rows lent.names
 
 last-read : (text : Text) (marks : List ℕ) (calls : List Call) (lent : Lengths) (s : State) → ((s' : State) → LastJoined calls lent s') → LastJoined (Call.reading text marks ∷ calls) lent s
 unfolding run_calls answered_first joined_from judged_held read_held held_after refused_with
@@ -85,7 +85,7 @@ last-joined-from (Call.reading text marks ∷ calls) lent s = last-read text mar
 last-joined-from (Call.lowering graph scratch ∷ calls) lent s = last-joined-from calls lent s
 
 -- what a run holds of a good sheet with good lengths
-pub hold-good : (x : Sheet) → good_lengths (lengths_of x) ≡ true → good x ≡ true → hold x ≡ Held.holding (lengths_of x) (state_of x)
+pub hold-good : (x : Sheet) → good_lengths (lengths_of x) ≡ true → good x ≡ true → hold x ≡ RunHolds.holding (lengths_of x) (state_of x)
 unfolding hold
 hold-good x l g = rw (l, g)
 

@@ -24,10 +24,10 @@ use Rattle.ir_types.specs.Types.{TypeGraph}
 use Rattle.ir_types.specs.Sheet.{graph_fits}
 use Rattle.ir_lower.specs.Lower.{lower, unknown_row}
 use Rattle.ir_lower.specs.Repeated.{repeated_row}
-use Rattle.ir_lower.specs.Call.{Lowered, zeros, unchanged, cleared, written, repeated_or_written, refused_or_written, lower_finished, lower_state, scratch_least}
-use Rattle.runs.specs.Runs.{Call, Answered, Held, hold, sheet_held, Stepped, refused_with, held_after, read_held, lower_held, Ran, answered_first, run_calls, run}
+use Rattle.ir_lower.specs.Call.{Lowered, zeros, unchanged, cleared, graph_written, repeated_or_written, refused_or_written, lower_finished, lower_state, scratch_least}
+use Rattle.runs.specs.Runs.{Call, Answered, RunHolds, hold, sheet_held, AfterCall, refused_with, held_after, read_held, lower_held, Ran, answered_first, run_calls, run}
 use Rattle.runs.specs.Trace.{Trace}
-use Rattle.runs.specs.Notes.{AlikeRecords, AlikeCalls, meets, number_of, meets_none, AlikeAnswers, AlikeRuns, sheets_after, sheets_of, sheets_made}
+use Rattle.runs.specs.Notes.{AlikeRecords, AlikeCalls, meets, answered_number, meets_none, AlikeAnswers, AlikeRuns, sheets_after, sheets_of, sheets_made}
 use Rattle.runs.proofs.Handled.{step-alike}
 use Rattle.runs.proofs.Served.{Served, served-sheet, read-served}
 use Rattle.runs.proofs.Runs.{hold-served, runs}
@@ -57,25 +57,25 @@ one-met : not (meets 1) ≡ true → ⊥
 unfolding meets
 one-met m = false≢true m
 
-held-alike : (h : Held) (text text' : Text) (marks marks' : List ℕ) → AlikeRecords (records text marks) (records text' marks')
+held-alike : (h : RunHolds) (text text' : Text) (marks marks' : List ℕ) → AlikeRecords (records text marks) (records text' marks')
     → not (meets (read_held h text marks).answer.number) ≡ true → not (meets (read_held h text' marks').answer.number) ≡ true
     → read_held h text marks ≡ read_held h text' marks'
 unfolding read_held read_state held_after refused_with
-held-alike (Held.bad_lengths x) text text' marks marks' w m m' = refl
-held-alike (Held.not_good x) text text' marks marks' w m m' = lengths (tape_lengths (length text) (length marks)) (tape_lengths (length text') (length marks')) m m'
+held-alike (RunHolds.bad_lengths x) text text' marks marks' w m m' = refl
+held-alike (RunHolds.not_good x) text text' marks marks' w m m' = lengths (tape_lengths (length text) (length marks)) (tape_lengths (length text') (length marks')) m m'
   where
     lengths : (a b : Bool) → not (meets (if a then 2 else 1)) ≡ true → not (meets (if b then 2 else 1)) ≡ true
-        → refused_with (if a then 2 else 1) (Held.not_good x) ≡ refused_with (if b then 2 else 1) (Held.not_good x)
+        → refused_with (if a then 2 else 1) (RunHolds.not_good x) ≡ refused_with (if b then 2 else 1) (RunHolds.not_good x)
     lengths true true k k' = refl
     lengths false b k k' = absurd (one-met k)
     lengths true false k k' = absurd (one-met k')
-held-alike (Held.holding lent s) text text' marks marks' w m m' =
+held-alike (RunHolds.holding lent s) text text' marks marks' w m m' =
     lengths (tape_lengths (length text) (length marks)) (tape_lengths (length text') (length marks')) m m'
     (λ k. ap (held_after lent s) (records-alike lent 0 s (records text marks) (records text' marks') w k))
   where
-    lengths : {p q : Stepped} (a b : Bool) → not (meets (if a then p else refused_with 1 (Held.holding lent s)).answer.number) ≡ true
-        → not (meets (if b then q else refused_with 1 (Held.holding lent s)).answer.number) ≡ true → (not (meets p.answer.number) ≡ true → p ≡ q)
-        → (if a then p else refused_with 1 (Held.holding lent s)) ≡ (if b then q else refused_with 1 (Held.holding lent s))
+    lengths : {p q : AfterCall} (a b : Bool) → not (meets (if a then p else refused_with 1 (RunHolds.holding lent s)).answer.number) ≡ true
+        → not (meets (if b then q else refused_with 1 (RunHolds.holding lent s)).answer.number) ≡ true → (not (meets p.answer.number) ≡ true → p ≡ q)
+        → (if a then p else refused_with 1 (RunHolds.holding lent s)) ≡ (if b then q else refused_with 1 (RunHolds.holding lent s))
     lengths true true k k' f = f k
     lengths false b k k' f = absurd (one-met k)
     lengths true false k k' f = absurd (one-met k')
@@ -102,8 +102,8 @@ module _ (graph graph' : Sheet) (scratch scratch' : List ℕ) (e : lengths_of gr
   if-like true x y = x
   if-like false x y = y
 
-  written-like : (g : TypeGraph) → Like (written g graph scratch) (written g graph' scratch')
-  unfolding written
+  written-like : (g : TypeGraph) → Like (graph_written g graph scratch) (graph_written g graph' scratch')
+  unfolding graph_written
   written-like g = rw (← rows_alike, ← names-alike) (if-like (graph_fits (length graph.rows) (length graph.names) g) (record { answer = refl; graph = λ k. refl }) (cleared-like 15 0))
 
   repeated-like : (o : Option ℕ) (g : TypeGraph) → Like (repeated_or_written o g graph scratch) (repeated_or_written o g graph' scratch')
@@ -133,16 +133,16 @@ module _ (graph graph' : Sheet) (scratch scratch' : List ℕ) (e : lengths_of gr
   good-like true w m = w
   good-like false w m = absurd (one-met m)
 
-  lower-like : (h : Held) → not (meets (lower_held h graph scratch).answer.number) ≡ true → Like (lower_held h graph scratch) (lower_held h graph' scratch')
+  lower-like : (h : RunHolds) → not (meets (lower_held h graph scratch).answer.number) ≡ true → Like (lower_held h graph scratch) (lower_held h graph' scratch')
   unfolding lower_held unchanged
-  lower-like (Held.bad_lengths x) m = absurd (one-met m)
-  lower-like (Held.not_good x) m = rw (← e) (good-like (good_lengths (lengths_of graph)) bad-like m)
-  lower-like (Held.holding lent s) m = rw (← e) (good-like (good_lengths (lengths_of graph)) (state-like s) m)
+  lower-like (RunHolds.bad_lengths x) m = absurd (one-met m)
+  lower-like (RunHolds.not_good x) m = rw (← e) (good-like (good_lengths (lengths_of graph)) bad-like m)
+  lower-like (RunHolds.holding lent s) m = rw (← e) (good-like (good_lengths (lengths_of graph)) (state-like s) m)
 
 -- ---- the runs
-calls-alike : {cs cs' : List Call} (h : Held) → AlikeCalls cs cs' → meets_none (run_calls cs h).answers ≡ true → meets_none (run_calls cs' h).answers ≡ true
+calls-alike : {cs cs' : List Call} (h : RunHolds) → AlikeCalls cs cs' → meets_none (run_calls cs h).answers ≡ true → meets_none (run_calls cs' h).answers ≡ true
     → AlikeRuns (run_calls cs h) (run_calls cs' h) (sheets_after cs h) (sheets_after cs' h)
-unfolding run_calls meets_none every number_of answered_first sheets_after
+unfolding run_calls meets_none every answered_number answered_first sheets_after
 calls-alike h AlikeCalls.end m m' = record { answers = AlikeAnswers.end; last = refl; between = refl }
 calls-alike h (AlikeCalls.read {text} {text'} {marks} {marks'} {cs} {cs'} w on) m m' =
     let e = held-alike h text text' marks marks' w (and-true-left _ _ m) (and-true-left _ _ m') in
@@ -160,7 +160,7 @@ unfolding run sheets_of
 notes-nothing x w m m' = calls-alike (hold x) w m m'
 
 -- ---- the calls made: the sheet after each is that of the definition
-sheets-made : {x x' : Sheet} {h : Held} {calls : List Call} {answers : List Answered} → Served x h → (t : Trace x calls answers x') → sheets_made t ≡ sheets_after calls h
+sheets-made : {x x' : Sheet} {h : RunHolds} {calls : List Call} {answers : List Answered} → Served x h → (t : Trace x calls answers x') → sheets_made t ≡ sheets_after calls h
 unfolding sheets_made sheets_after
 sheets-made v Trace.done = refl
 sheets-made {h = h} v (Trace.read_next {text = text} {marks = marks} is t) =

@@ -11,12 +11,12 @@ use Rattle.xsd_types.specs.Count.{good, state_of}
 use Rattle.xsd_types.proofs.Laws.Count.{sheet_of-state_of, proper-state_of, fits-state_of}
 use Rattle.xsd_parser.specs.Read.{ReadAnswer}
 use Rattle.runs.specs.Trace.{Trace, events_done}
-use Rattle.runs.specs.Runs.{Call, Answered, Ran, number_in_run, run_calls, answered_first, run, Held, hold, read_held}
+use Rattle.runs.specs.Runs.{Call, Answered, Ran, number_in_run, run_calls, answered_first, run, RunHolds, hold, read_held}
 use Rattle.runs.proofs.Served.{Served, served_lengths, served_bad, served_state, served-sheet, read-served, lower-served}
 
 -- what a run begins with
 hold-cases : (x : Sheet) (l g : Bool) → words x.rows ≡ true → good_lengths (lengths_of x) ≡ l → good x ≡ g
-    → Served x (if l then if g then Held.holding (lengths_of x) (state_of x) else Held.not_good x else Held.bad_lengths x)
+    → Served x (if l then if g then RunHolds.holding (lengths_of x) (state_of x) else RunHolds.not_good x else RunHolds.bad_lengths x)
 unfolding lengths_of
 hold-cases x false g w e k = served_lengths e
 hold-cases x true false w e k = served_bad e k
@@ -32,7 +32,7 @@ abbrev as_made : Sheet → Answer → Answered
 as_made x a = Answered.read_as a (number_in_run (events_done x) a)
 
 -- the calls from a pair on
-pub runs-from : {x x' : Sheet} {h : Held} {calls : List Call} {answers : List Answered} → Served x h → Trace x calls answers x'
+pub runs-from : {x x' : Sheet} {h : RunHolds} {calls : List Call} {answers : List Answered} → Served x h → Trace x calls answers x'
     → ◌≡◌ {A = Ran} (record { answers = answers; last = x' }) (run_calls calls h)
 unfolding run_calls answered_first
 runs-from v Trace.done = λ i. record { answers = []; last = sym (served-sheet v) i }

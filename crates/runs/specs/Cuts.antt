@@ -1,7 +1,7 @@
 -- The same list, cut elsewhere. Paper 01: "where no reading meets 1, a tape may be cut between any events over the same text: up to its first refused event the
 -- sheet is the same, and that event has the same refusal and the same number in the run. Past it the cut counts, since it decides what is dropped."
 --     Job               a tape of any length, or a lowering
---     Ended             what jobs end with: an answer for each, and the state
+--     EndedJobs             what jobs end with: an answer for each, and the state
 --     jobs_done          the jobs in order, each tape read whole, with no word of pieces or of a tape's length
 --     jobs_judged        the records of the tapes that are judged, in order
 --     jobs_of            the jobs that calls do as they stand: a reading that meets 1 does none
@@ -24,29 +24,29 @@ use Rattle.xsd_types.specs.Count.{sheet_of}
 use Rattle.xsd_parser.specs.Tape.{Judged}
 use Rattle.xsd_parser.specs.Read.{Reading, read_state}
 use Rattle.xsd_parser.specs.Whole.{whole_records}
-use Rattle.runs.specs.Runs.{Call, Answered, number_in_run, Held, read_held, lower_held, Ran}
+use Rattle.runs.specs.Runs.{Call, Answered, number_in_run, RunHolds, read_held, lower_held, Ran}
 use Rattle.runs.specs.Joined.{judged_in}
 
 pub data Job : Type 0 where
   tape : Text → List ℕ → Job
   lowering : Sheet → List ℕ → Job
 
-pub record Ended : Type 0 where
+pub record EndedJobs : Type 0 where
   pub answers : List Answered
   pub state : State
 
-unfoldable pub ended_first : Answered → Ended → Ended
+unfoldable pub ended_first : Answered → EndedJobs → EndedJobs
 ended_first a e = record { answers = a ∷ e.answers; state = e.state }
 
 unfoldable pub tape_answer : State → Reading → Answered
 tape_answer s r = Answered.read_as r.answer (number_in_run s.events r.answer)
 
-unfoldable pub jobs_done : Lengths → State → List Job → Ended
+unfoldable pub jobs_done : Lengths → State → List Job → EndedJobs
 jobs_done lent s [] = record { answers = []; state = s }
 jobs_done lent s (Job.tape text marks ∷ jobs) =
     let r = read_state lent s text marks in
     ended_first (tape_answer s r) (jobs_done lent r.state jobs)
-jobs_done lent s (Job.lowering graph scratch ∷ jobs) = ended_first (Answered.lowered_as (lower_held (Held.holding lent s) graph scratch)) (jobs_done lent s jobs)
+jobs_done lent s (Job.lowering graph scratch ∷ jobs) = ended_first (Answered.lowered_as (lower_held (RunHolds.holding lent s) graph scratch)) (jobs_done lent s jobs)
 
 unfoldable pub jobs_judged : Lengths → State → List Job → List Judged
 jobs_judged lent s [] = []
@@ -62,7 +62,7 @@ unfoldable pub passes_by : Call → Bool
 passes_by (Call.reading text marks) = not (tape_lengths (length text) (length marks))
 passes_by (Call.lowering graph scratch) = true
 
-unfoldable pub held_behind : List Call → Held → Held
+unfoldable pub held_behind : List Call → RunHolds → RunHolds
 held_behind [] h = h
 held_behind (Call.reading text marks ∷ calls) h = held_behind calls (read_held h text marks).held
 held_behind (Call.lowering graph scratch ∷ calls) h = held_behind calls h
@@ -110,6 +110,6 @@ pub data Gathered : List Answered → List Answered → Type 0 where
   lowering : {a : Answered} {jobs calls : List Answered} → is_lowered a ≡ true → Gathered jobs calls → Gathered (a ∷ jobs) (a ∷ calls)
   too_long : {jobs calls : List Answered} → Gathered jobs calls → Gathered jobs (met_one ∷ calls)
 
-pub record CutAlike (lent : Lengths) (jobs : Ended) (calls : Ran) : Type 0 where
+pub record CutAlike (lent : Lengths) (jobs : EndedJobs) (calls : Ran) : Type 0 where
   pub answers : Gathered jobs.answers calls.answers
   pub sheet : calls.last ≡ sheet_of jobs.state lent.rows lent.names

@@ -16,18 +16,18 @@ use Rattle.xsd_parser.specs.Tape.{Judged, event, refused, records}
 use Rattle.xsd_parser.specs.Handlers.{ok, refuse}
 use Rattle.xsd_parser.specs.Step.{step}
 use Rattle.xsd_parser.specs.Read.{read_state}
-use Rattle.runs.specs.Runs.{Call, Held, hold, read_held}
+use Rattle.runs.specs.Runs.{Call, RunHolds, hold, read_held}
 
 -- "place is events read", or the refused event's number in the piece: as many records are accepted, and the one behind them, if there is one, is refused
 unfoldable pub judged_in : Lengths → State → Text → List ℕ → List Judged
 judged_in lent s text marks = take (suc (read_state lent s text marks).answer.place) (records text marks)
 
-unfoldable pub judged_held : Held → Text → List ℕ → List Judged
-judged_held (Held.bad_lengths x) text marks = []
-judged_held (Held.not_good x) text marks = []
-judged_held (Held.holding lent s) text marks = if tape_lengths (length text) (length marks) then judged_in lent s text marks else []
+unfoldable pub judged_held : RunHolds → Text → List ℕ → List Judged
+judged_held (RunHolds.bad_lengths x) text marks = []
+judged_held (RunHolds.not_good x) text marks = []
+judged_held (RunHolds.holding lent s) text marks = if tape_lengths (length text) (length marks) then judged_in lent s text marks else []
 
-unfoldable pub joined_from : List Call → Held → List Judged
+unfoldable pub joined_from : List Call → RunHolds → List Judged
 joined_from [] h = []
 joined_from (Call.reading text marks ∷ calls) h = judged_held h text marks ++ joined_from calls (read_held h text marks).held
 joined_from (Call.lowering graph scratch ∷ calls) h = joined_from calls h

@@ -17,7 +17,7 @@ use Rattle.sheet.specs.Lengths.{Answer, lengths_of}
 use Rattle.xsd_parser.specs.Event.{Attr, Tag, Event}
 use Rattle.xsd_parser.specs.Tape.{Judged, event, refused, records}
 use Rattle.ir_lower.specs.Call.{Lowered}
-use Rattle.runs.specs.Runs.{Call, Answered, Ran, Held, hold, sheet_held, read_held}
+use Rattle.runs.specs.Runs.{Call, Answered, Ran, RunHolds, hold, sheet_held, read_held}
 use Rattle.runs.specs.Trace.{Trace}
 
 unfoldable pub read_words : List String
@@ -48,25 +48,28 @@ pub data AlikeRecords : List Judged → List Judged → Type 0 where
 
 pub data AlikeCalls : List Call → List Call → Type 0 where
   end : AlikeCalls [] []
-  read : {text text' : Text} {marks marks' : List ℕ} {cs cs' : List Call} → AlikeRecords (records text marks) (records text' marks') → AlikeCalls cs cs' → AlikeCalls (Call.reading text marks ∷ cs) (Call.reading text' marks' ∷ cs')
-  lower : {graph graph' : Sheet} {scratch scratch' : List ℕ} {cs cs' : List Call} → lengths_of graph ≡ lengths_of graph' → length scratch ≡ length scratch' → AlikeCalls cs cs' → AlikeCalls (Call.lowering graph scratch ∷ cs) (Call.lowering graph' scratch' ∷ cs')
+  read : {text text' : Text} {marks marks' : List ℕ} {cs cs' : List Call} → AlikeRecords (records text marks) (records text' marks')
+      → AlikeCalls cs cs' → AlikeCalls (Call.reading text marks ∷ cs) (Call.reading text' marks' ∷ cs')
+  lower : {graph graph' : Sheet} {scratch scratch' : List ℕ} {cs cs' : List Call} → lengths_of graph ≡ lengths_of graph' → length scratch ≡ length scratch'
+      → AlikeCalls cs cs' → AlikeCalls (Call.lowering graph scratch ∷ cs) (Call.lowering graph' scratch' ∷ cs')
 
 -- "If neither run meets 1, 3, 4 or 5"
 unfoldable pub meets : ℕ → Bool
 meets n = eqb n 1 || between 3 5 n
 
-unfoldable pub number_of : Answered → ℕ
-number_of (Answered.read_as a in_run) = a.number
-number_of (Answered.lowered_as l) = l.answer.number
+unfoldable pub answered_number : Answered → ℕ
+answered_number (Answered.read_as a in_run) = a.number
+answered_number (Answered.lowered_as l) = l.answer.number
 
 unfoldable pub meets_none : List Answered → Bool
-meets_none xs = every (λ (x : Answered). not (meets (number_of x))) xs
+meets_none xs = every (λ (x : Answered). not (meets (answered_number x))) xs
 
 -- "numbers, places and sheets are equal at every step, and graphs unless lowering gives 2 or 14"
 pub data AlikeAnswers : List Answered → List Answered → Type 0 where
   end : AlikeAnswers [] []
   read : {a : Answer} {in_run : Option ℕ} {xs ys : List Answered} → AlikeAnswers xs ys → AlikeAnswers (Answered.read_as a in_run ∷ xs) (Answered.read_as a in_run ∷ ys)
-  lower : {l l' : Lowered} {xs ys : List Answered} → l.answer ≡ l'.answer → (eqb l.answer.number 2 || eqb l.answer.number 14 ≡ false → l.graph ≡ l'.graph) → AlikeAnswers xs ys → AlikeAnswers (Answered.lowered_as l ∷ xs) (Answered.lowered_as l' ∷ ys)
+  lower : {l l' : Lowered} {xs ys : List Answered} → l.answer ≡ l'.answer → (eqb l.answer.number 2 || eqb l.answer.number 14 ≡ false → l.graph ≡ l'.graph)
+      → AlikeAnswers xs ys → AlikeAnswers (Answered.lowered_as l ∷ xs) (Answered.lowered_as l' ∷ ys)
 
 -- .. of two runs with the sheets after each call
 pub record AlikeRuns (r r' : Ran) (sheets sheets' : List Sheet) : Type 0 where
@@ -74,7 +77,7 @@ pub record AlikeRuns (r r' : Ran) (sheets sheets' : List Sheet) : Type 0 where
   pub last : r.last ≡ r'.last
   pub between : sheets ≡ sheets'
 
-unfoldable pub sheets_after : List Call → Held → List Sheet
+unfoldable pub sheets_after : List Call → RunHolds → List Sheet
 sheets_after [] h = []
 sheets_after (Call.reading text marks ∷ calls) h = sheet_held (read_held h text marks).held ∷ sheets_after calls (read_held h text marks).held
 sheets_after (Call.lowering graph scratch ∷ calls) h = sheet_held h ∷ sheets_after calls h

@@ -17,5 +17,7 @@ events_done x = (row0_in x).events
 -- a refused event's number in the run: "Added to events done before the call"
 pub data Trace : Sheet → List Call → List Answered → Sheet → Type 0 where
   done : {x : Sheet} → Trace x [] [] x
-  read_next : {x x₁ x₂ : Sheet} {text : Text} {marks : List ℕ} {answer : Answer} {calls : List Call} {answers : List Answered} → ReadIs x text marks answer x₁ → Trace x₁ calls answers x₂ → Trace x (Call.reading text marks ∷ calls) (Answered.read_as answer (number_in_run (events_done x) answer) ∷ answers) x₂
-  lower_next : {x x₂ : Sheet} {graph : Sheet} {scratch : List ℕ} {after : Lowered} {calls : List Call} {answers : List Answered} → LowerIs x graph scratch after → Trace x calls answers x₂ → Trace x (Call.lowering graph scratch ∷ calls) (Answered.lowered_as after ∷ answers) x₂
+  read_next : {x x₁ x₂ : Sheet} {text : Text} {marks : List ℕ} {answer : Answer} {calls : List Call} {answers : List Answered} → ReadIs x text marks answer x₁
+      → Trace x₁ calls answers x₂ → Trace x (Call.reading text marks ∷ calls) (Answered.read_as answer (number_in_run (events_done x) answer) ∷ answers) x₂
+  lower_next : {x x₂ : Sheet} {graph : Sheet} {scratch : List ℕ} {after : Lowered} {calls : List Call} {answers : List Answered} → LowerIs x graph scratch after
+      → Trace x calls answers x₂ → Trace x (Call.lowering graph scratch ∷ calls) (Answered.lowered_as after ∷ answers) x₂

@@ -1,6 +1,6 @@
 -- Paper 01, "Specimens": the ones marked ● stand in one list, under one sentence: each holds, by computation on the definitions.
 --     Specimen      what a specimen says: a conversion's, a type's or a number's text, or an element's occurrences, and the answer
---     holds         the test of a specimen
+--     specimen_holds         the test of a specimen
 --     specimens     the list
 --     all_hold      the sentence
 use Rattle.std.specs.Prelude.{ℕ, ◌≡◌, refl, Bool, true, false, ◌&&◌, List, [], ◌∷◌, eqb}
@@ -38,13 +38,13 @@ same_parsed (refused r) (parsed n) = false
 unfoldable pub same_cardinality : Cardinality → Cardinality → Bool
 same_cardinality x y = eqb (cardinality_b x) (cardinality_b y) && eqb (cardinality_c x) (cardinality_c y)
 
-unfoldable pub holds : Specimen → Bool
-holds (snake name answer) = same (xml_to_snake_case (bytes name)) (bytes answer)
-holds (pascal value answer) = same (code_to_pascal_case (bytes value)) (bytes answer)
-holds (normalised name answer) = same (normalize_type_name (bytes name)) (bytes answer)
-holds (builtin name answer) = eqb (reference (map_builtin (bytes name))) answer
-holds (parse width s answer) = same_parsed (number width (bytes s)) answer
-holds (cardinality min max answer) = same_cardinality (lower_cardinality min max) answer
+unfoldable pub specimen_holds : Specimen → Bool
+specimen_holds (snake name answer) = same (xml_to_snake_case (bytes name)) (bytes answer)
+specimen_holds (pascal value answer) = same (code_to_pascal_case (bytes value)) (bytes answer)
+specimen_holds (normalised name answer) = same (normalize_type_name (bytes name)) (bytes answer)
+specimen_holds (builtin name answer) = eqb (reference (map_builtin (bytes name))) answer
+specimen_holds (parse width s answer) = same_parsed (number width (bytes s)) answer
+specimen_holds (cardinality min max answer) = same_cardinality (lower_cardinality min max) answer
 
 unfoldable pub specimens : List Specimen
 specimens =
@@ -85,6 +85,6 @@ specimens =
     ∷ parse 64 "4294967296" (parsed 4294967296)
     ∷ []
 
-pub all_hold : every holds specimens ≡ true
-unfolding texts numbers builtins conversions graphs lowerings same_parsed same_cardinality holds specimens
+pub all_hold : every specimen_holds specimens ≡ true
+unfolding texts numbers builtins conversions graphs lowerings same_parsed same_cardinality specimen_holds specimens
 all_hold = refl

@@ -3,7 +3,7 @@
 --     value_of       the text that an answer of the code holds, if it holds one
 --     value_at       the value whose pair stands at a place of the marks; 0 is no value's place
 --     value_under    the value that the code's record has for a key
---     or_else        a value, or another where there is none
+--     or_other        a value, or another where there is none
 --     kept_first     the places with one more, unless the key has one or is none of the nine
 --     PlacesOf      the places of the nine keys say what the lookups in these attributes give
 --     seen_at        what the code's record says is seen
@@ -34,9 +34,9 @@ value_at text marks (suc n) = some (pair_text text (pair_at marks (suc n)))
 unfoldable pub value_under : SeenTag → Key → Option Text
 value_under t key = value_at t.view.text.now t.view.marks.now (get_or t.places (key_number (Some key)) 0)
 
-unfoldable pub or_else : Option Text → Option Text → Option Text
-or_else none other = other
-or_else (some v) other = some v
+unfoldable pub or_other : Option Text → Option Text → Option Text
+or_other none other = other
+or_other (some v) other = some v
 
 unfoldable pub kept_first : List ℕ → ℕ → ℕ → List ℕ
 kept_first places key at = if ltb key key_count && eqb (get_or places key 0) 0 then set places key at else places

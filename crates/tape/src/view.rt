@@ -4,7 +4,7 @@ ghost use Rattle.xsd_parser.specs.Seen.{seen};
 ghost use Rattle.xsd_parser.specs.Tape.{pair_count};
 ghost use Rattle.tape.specs.Pairs.{TagInside, tag_at};
 ghost use Rattle.tape.specs.Lookup.{seen_at};
-ghost use Rattle.tape.specs.Marks.{event_marks};
+ghost use Rattle.tape.specs.Marks.{marks_of_tag};
 
 use crate::attributes::{SeenTag, find_seen};
 
@@ -35,7 +35,7 @@ pub fn in_view<'a, 'b>(text: &'a [u8], marks: &'b [u32], count: usize) -> SeenTa
 // The marks of the tag with so many attributes whose pairs start at a place.
 pub fn event_marks(marks: &[u32], pairs: usize, count: usize) -> &[u32]
     requires { pairs + 2 * pair_count count ≤ length marks.now }
-    ensures { result.now ≡ event_marks marks.now pairs count }
+    ensures { result.now ≡ marks_of_tag marks.now pairs count }
 {
     let end = pairs + (4 * count + 2);
     &marks[pairs..end]

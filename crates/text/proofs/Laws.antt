@@ -8,6 +8,7 @@ pub mod Characters
 pub mod Local
 pub mod Bits
 pub mod Table
+pub mod Agree
 pub mod Utf8
 pub mod Trim
 pub mod Std

@@ -1,10 +1,10 @@
 -- What holds of the events of a well-formed text, in the words of the productions, and what they are read as.
---     end_of         the offset behind a pair
+--     offset_behind         the offset behind a pair
 --     NameAt        the pair is the whole name that stands at its offset
 --     ValueAt       the pair is what stands between two equal quotes
 --     AttributesAt  attributes from an offset on: keys are names, values stand between quotes, each pair lies inside the text and behind the one before
 --     EventAt       the same for an event, whose name stands behind `<`; EventsAt: for each of a list
---     Closes        from so many open tags on, each close has its open tag, and none is left open
+--     ClosesTags        from so many open tags on, each close has its open tag, and none is left open
 --     few_attributes an event that reading does not refuse for its attributes
 --     event_read     the event that reading makes of the bytes under an event's pairs; records_read: the records of a list of events
 --     ReadsThrough  a reading that meets none of 3, 4, 5 and 6, and leaves so many tags open where it is accepted
@@ -22,8 +22,8 @@ use Rattle.xml.specs.Steps.{name_of}
 use Rattle.xml.specs.Values.{is_quote}
 use Rattle.xml.specs.Tape.{AttributePairs, TapeEvent}
 
-abbrev pub end_of : Pair → ℕ
-end_of p = p.offset + p.size
+abbrev pub offset_behind : Pair → ℕ
+offset_behind p = p.offset + p.size
 
 -- [5] Name ::= NameStartChar (NameChar)*
 pub record NameAt (text : Text) (p : Pair) : Type 0 where
@@ -42,12 +42,12 @@ pub record ValueAt (text : Text) (p : Pair) : Type 0 where
 abbrev pub AttributesAt : Text → ℕ → List AttributePairs → Type 0
 AttributesAt text end [] = Unit {0}
 AttributesAt text end (x ∷ xs) =
-    (end ≤ x.key.offset) × NameAt text x.key × (end_of x.key < x.value.offset) × ValueAt text x.value × (end_of x.value ≤ length text) × AttributesAt text (end_of x.value) xs
+    (end ≤ x.key.offset) × NameAt text x.key × (offset_behind x.key < x.value.offset) × ValueAt text x.value × (offset_behind x.value ≤ length text) × AttributesAt text (offset_behind x.value) xs
 
 -- [40] STag ::= '<' Name (S Attribute)* S? '>', [44] EmptyElemTag ::= '<' Name (S Attribute)* S? '/>'
 abbrev pub EventAt : Text → TapeEvent → Type 0
 EventAt text (TapeEvent.tag kind name xs) =
-    (start_kind ≤ kind) × (kind ≤ empty_kind) × (get_or text (name.offset - 1) 0 ≡ code "<") × NameAt text name × (end_of name ≤ length text) × AttributesAt text (end_of name) xs
+    (start_kind ≤ kind) × (kind ≤ empty_kind) × (get_or text (name.offset - 1) 0 ≡ code "<") × NameAt text name × (offset_behind name ≤ length text) × AttributesAt text (offset_behind name) xs
 EventAt text TapeEvent.close = Unit {0}
 
 abbrev pub EventsAt : Text → List TapeEvent → Type 0
@@ -55,11 +55,11 @@ EventsAt text [] = Unit {0}
 EventsAt text (e ∷ es) = EventAt text e × EventsAt text es
 
 -- [39] element ::= EmptyElemTag | STag content ETag
-abbrev pub Closes : ℕ → List TapeEvent → Type 0
-Closes n [] = n ≡ 0
-Closes n (TapeEvent.tag kind name xs ∷ es) = Closes (if eqb kind start_kind then suc n else n) es
-Closes zero (TapeEvent.close ∷ es) = ⊥
-Closes (suc n) (TapeEvent.close ∷ es) = Closes n es
+abbrev pub ClosesTags : ℕ → List TapeEvent → Type 0
+ClosesTags n [] = n ≡ 0
+ClosesTags n (TapeEvent.tag kind name xs ∷ es) = ClosesTags (if eqb kind start_kind then suc n else n) es
+ClosesTags zero (TapeEvent.close ∷ es) = ⊥
+ClosesTags (suc n) (TapeEvent.close ∷ es) = ClosesTags n es
 
 -- "Over 32 attributes are written too, for reading to refuse."
 unfoldable pub few_attributes : TapeEvent → Bool

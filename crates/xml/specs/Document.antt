@@ -51,8 +51,8 @@ unfoldable pub refused : ℕ → ℕ → Taken
 refused lent number = record { number = number; place = 0; marks = filled lent [] }
 
 -- "accepted, place is the marks used and the rest are zero"
-unfoldable pub written : ℕ → List ℕ → Taken
-written lent tape =
+unfoldable pub tape_written : ℕ → List ℕ → Taken
+tape_written lent tape =
     if leb (length tape) lent
     then record { number = accepted; place = length tape; marks = filled lent tape }
     else refused lent short_marks
@@ -60,7 +60,7 @@ written lent tape =
 unfoldable pub taken_of : ℕ → Document → Taken
 taken_of lent with_doctype = refused lent doctype
 taken_of lent not_well_formed = refused lent malformed
-taken_of lent (well_formed events) = written lent (tape_marks events)
+taken_of lent (well_formed events) = tape_written lent (tape_marks events)
 
 -- "order 1, 5 for any byte above 127, 18, 17, 19"
 unfoldable pub tape_of : Text → List ℕ → Taken

@@ -53,7 +53,8 @@ unfolding utf8 gives all_give texts sheets taken
 names-wrong = refl
 
 -- accented letters, and behind the first character U+00B7
-pub accents-right : all_give accepted ("<é/>" ∷ "<Größe></Größe>" ∷ "<a é='1' è='2' é1='ä'/>" ∷ "<À/>" ∷ "<Ö/>" ∷ "<Ø/>" ∷ "<ö/>" ∷ "<ø/>" ∷ "<ſ/>" ∷ "<Ĳ/>" ∷ "<ŉ/>" ∷ "<a·b/>" ∷ "<é·é/>" ∷ "<_é-é.1:é/>"
+pub accents-right : all_give accepted ("<é/>" ∷ "<Größe></Größe>" ∷ "<a é='1' è='2' é1='ä'/>" ∷ "<À/>" ∷ "<Ö/>" ∷ "<Ø/>"
+    ∷ "<ö/>" ∷ "<ø/>" ∷ "<ſ/>" ∷ "<Ĳ/>" ∷ "<ŉ/>" ∷ "<a·b/>" ∷ "<é·é/>" ∷ "<_é-é.1:é/>"
     ∷ "<a>×÷·¡¿ª</a>" ∷ "<a b='×÷·'/>" ∷ "<!--é×--><?é ×?><?xmlé?><a/>" ∷ []) ≡ true
 unfolding utf8 gives all_give texts sheets taken
 accents-right = refl

@@ -8,16 +8,17 @@ use Rattle.xml.specs.Prolog.{eq, quoted, version_number, encoding_name, yes_or_n
 use Rattle.xml.specs.Tape.{attribute_marks, event_marks, tape_marks}
 use Rattle.xml.specs.Tags.{attribute, part_of, attributes_from, attributes, tag}
 use Rattle.xml.specs.Root.{close, markup, piece, opened, turn, add_events, inside, root}
-use Rattle.xml.specs.Document.{to_end, document_from, document, refused, written, taken_of, tape_of}
+use Rattle.xml.specs.Document.{to_end, document_from, document, refused, tape_written, taken_of, tape_of}
 
 -- the parts that give no event
 unfoldable pub parts_compute : Unit {0}
-unfolding is_char is_white_space is_letter is_name_start is_name is_encoding point_of is_byte_of is_pair_of begins starts_with literal many one_then spaces space name name_of until comment is_xml target instruction_end
+unfolding is_char is_white_space is_letter is_name_start is_name is_encoding point_of is_byte_of is_pair_of begins starts_with literal many one_then
+    spaces space name name_of until comment is_xml target instruction_end
     instruction section digit_of is_number is_entity is_reference is_plain value_end is_quote value char_data eq quoted version_number encoding_name yes_or_no declared optional
     declaration is_misc misc_part misc_from misc is_declaration prolog
 parts_compute = tt
 
 unfoldable pub computes : Unit {0}
 unfolding parts_compute attribute_marks event_marks tape_marks attribute part_of is_among attributes_from attributes tag close markup piece opened turn add_events inside root
-    to_end document_from document refused written taken_of tape_of
+    to_end document_from document refused tape_written taken_of tape_of
 computes = tt

@@ -1,7 +1,7 @@
 -- Order 8 (and the law of order 1 that a written tag is read as that tag): a tag as a writer spells it.
 --     is_name_text         the text is a Name; is_value: it may stand between the quotes
 --     quote_of            the quote of a value: order 8's "quotes double unless the value has one"
---     attribute_ok        key and value may be written; new_keys: no key is among those before it
+--     written_attribute_ok        key and value may be written; new_keys: no key is among those before it
 --     written_attributes  the attributes, one space before each; tag_end: the end of a start or an empty tag; written_tag: the tag
 --     attribute_places    the pairs of written attributes that stand at an offset
 --     written_event       the event of a tag written at an offset; tagged_as: what it is read as, with what stands behind it
@@ -30,8 +30,8 @@ is_value quote (b ∷ s) = not (eqb b quote) && not (eqb b (code "<")) && is_pla
 unfoldable pub quote_of : Text → ℕ
 quote_of v = if contains 34 v then 39 else 34
 
-unfoldable pub attribute_ok : Attr → Bool
-attribute_ok x = is_name_text x.key && is_value (quote_of x.value) x.value
+unfoldable pub written_attribute_ok : Attr → Bool
+written_attribute_ok x = is_name_text x.key && is_value (quote_of x.value) x.value
 
 -- "Unique Att Spec"
 unfoldable pub new_keys : List Text → List Attr → Bool

@@ -44,7 +44,7 @@ const CLASSES: [u8; 256] = [
     192, 192, 192, 192, 192, 192, 192, 192, 192, 192, 192, 192, 192, 192, 192, 192,
 ];
 
-// The test of a set of 64 bits in `pattern` is a line of its own: neither crate stands on the other, and the definitions are of each width.
+// The test of a byte's class in `pattern` is a line of its own: neither crate stands on the other, and its table has other classes.
 fn has_bit(flags: u8, k: u8) -> bool
     requires { k < 8 }
     ensures { result ≡ has_bit flags k }

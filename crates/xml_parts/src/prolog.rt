@@ -15,6 +15,8 @@ pub enum Body {
     Standalone,
 }
 
+// Cold: most keys have `=` and a quote right behind them, where it is not called.
+#[cold]
 #[tactic(auto, unfolding(xml::specs::Prolog::eq, text::specs::Text::bytes))]
 pub fn eq(classes: &Classes, text: &[u8], at: usize) -> Option<usize>
     ensures { moved text.now result ≡ eq at (drop at text.now) }

@@ -111,11 +111,19 @@ fn value_stop(classes: &Classes, text: &[u8], at: usize, quote: u8) -> Option<us
     Some(i)
 }
 
+// Most values are a run up to their quote: then the table is not asked, nor `value_stop` (one of the steps of docs/DECISIONS.md, 231). Inlined: called from
+// xml_text's `attribute`, the tape of pain.001.001.09 took 673,907 instructions and not 616,533, and that of the mixed text of compare/benches/tape.c 632,916 and not
+// 622,684 (the bar: the tape is no slower in compare/CALLS.md).
+#[inline(always)]
 pub fn value_end(classes: &Classes, text: &[u8], at: usize, quote: u8) -> Option<usize>
     requires { is_quote quote ≡ true }
     ensures { moved text.now result ≡ value_end quote at (drop at text.now) }
 {
-    let stop = value_stop(classes, text, at, quote)?;
+    let end = skip::<ValueRun>(text, at);
+    if text::byte_at(text, end) == quote {
+        return Some(end + 1);
+    }
+    let stop = value_stop(classes, text, end, quote)?;
     if stop < text.len() {
         Some(stop + 1)
     } else {
@@ -130,6 +138,8 @@ pub fn is_quote(b: u8) -> bool
     matches!(b, b'"' | b'\'')
 }
 
+// Cold: most values stand right behind `=`, where `value_end` is called.
+#[cold]
 pub fn value(classes: &Classes, text: &[u8], at: usize) -> Option<usize>
     ensures { moved text.now result ≡ value at (drop at text.now) }
 {
@@ -140,7 +150,9 @@ pub fn value(classes: &Classes, text: &[u8], at: usize) -> Option<usize>
     value_end(classes, text, at + 1, b)
 }
 
-// Over lines eight bytes at a time, each with its carriage return: a tag is often followed by one.
+// Over lines eight bytes at a time, each with its carriage return: a tag is often followed by one. Inlined: called from `char_data` and `text_run` it made the tape of
+// a text a tenth longer (the bar: the tape is no slower in compare/CALLS.md).
+#[inline(always)]
 fn skip_lines(text: &[u8], at: usize) -> usize
     ensures { many is_in_text result (drop result text.now) ≡ many is_in_text at (drop at text.now) }
 {
@@ -165,8 +177,13 @@ fn text_run(classes: &Classes, text: &[u8], at: usize) -> usize
 pub fn char_data(classes: &Classes, text: &[u8], at: usize) -> Option<usize>
     ensures { moved text.now result ≡ char_data at (drop at text.now) }
 {
+    // Most runs end at a `<`, of which the table need not be asked.
+    let first = skip_lines(text, at);
+    if text::byte_at(text, first) == b'<' {
+        return Some(first);
+    }
     // A `while`: its steps are runs of any length.
-    let mut i = text_run(classes, text, at);
+    let mut i = many(classes, text, first, Class::InText);
     while i < text.len() {
         if text[i] == b'<' {
             return Some(i);

@@ -4,3 +4,4 @@ pub mod Marks
 pub mod Root
 pub mod Call
 pub mod Named
+pub mod Plain

@@ -1,13 +1,14 @@
 -- What the code's enums say in the terms of the definitions.
 --     next_part      the part of a tag of a `Next`; next_piece: the piece of content of a `Content`
+--     is_key_next    one space stands here, and behind it a byte above all white space and the bytes that end a tag
 --     names_up_to     the names at the offsets of the first slots, the last one first
 --     PartIn        where a part of a tag lies in a text of a length, from an offset on; PieceIn: where a piece of content lies
 --     EndsTag, IsTag, GoesOn, IsRoot, FoundIs    an answer with the marks before and behind it says what the definition gives, and where it lies
 --     fault_of      why a text that has no tape has none; taken, StoredIs: the call's answer, and what is stored for it
-use Rattle.std.specs.Prelude.{ℕ, Option, Some, None, Result, Ok, Err, zero, suc, ◌+◌, ◌-◌, ◌*◌, ◌≤◌, ◌<◌, ◌≡◌, List, [], ◌∷◌, length, get_or, take, drop, if◌then◌else◌, MatchResult, ⊤}
+use Rattle.std.specs.Prelude.{ℕ, Option, Some, None, Result, Ok, Err, zero, suc, ◌+◌, ◌-◌, ◌*◌, ◌≤◌, ◌<◌, ◌≡◌, List, [], ◌∷◌, length, get_or, take, drop, Bool, ◌&&◌, eqb, ltb, if◌then◌else◌, MatchResult, ⊤}
 use Rattle.sheet.specs.Rows.{filled}
 use Rattle.std.proofs.lemmas.List.Edits.{sets}
-use Rattle.text.specs.Text.{Text, is_text}
+use Rattle.text.specs.Text.{Text, is_text, first}
 use Rattle.xml.specs.Steps.{name_of}
 use Rattle.xsd_parser.specs.Tape.{Pair}
 use Rattle.xsd_parser.specs.Kinds.{kind_number}
@@ -34,6 +35,9 @@ next_piece text None = Piece.wrong
 next_piece text (Some (Content.Passed a)) = passed a (drop a text)
 next_piece text (Some (Content.Starting a)) = starting a (drop a text)
 
+unfoldable pub is_key_next : Text → Bool
+is_key_next s = eqb (first s) 32 && ltb 62 (first (drop 1 s))
+
 unfoldable pub names_up_to : Text → List ℕ → ℕ → List Text
 names_up_to text slots zero = []
 names_up_to text slots (suc k) = name_of (drop (get_or slots k 0) text) ∷ names_up_to text slots k
@@ -51,13 +55,16 @@ PieceIn n at (Some (Content.Starting a)) = at ≤ a
 abbrev pub EndsTag : Text → ℕ → List ℕ → ℕ → List ℕ → Option EndOfTag → Ended → Type 0
 EndsTag text at marks from after None d = d ≡ unended
 EndsTag text at marks from after (Some e) d =
-    (xs : List AttributePairs) × (d ≡ ended (kind_number e.kind) xs e.behind (drop e.behind text)) × (e.count ≡ length xs) × (after ≡ sets marks from (attribute_marks xs)) × (at + 3 * e.count < e.behind) × (e.behind ≤ length text)
+    (xs : List AttributePairs) × (d ≡ ended (kind_number e.kind) xs e.behind (drop e.behind text)) × (e.count ≡ length xs)
+    × (after ≡ sets marks from (attribute_marks xs)) × (at + 3 * e.count < e.behind) × (e.behind ≤ length text)
 
 abbrev pub IsTag : Text → ℕ → List ℕ → ℕ → List ℕ → Option WholeTag → Tagged → Type 0
 IsTag text at marks used after None d = d ≡ untagged
 IsTag text at marks used after (Some t) d =
-    (pair : Pair) × (xs : List AttributePairs) × (d ≡ tagged (kind_number t.kind) pair xs (name_of (drop t.start text)) t.behind (drop t.behind text)) × (t.used ≡ used + length (event_marks (TapeEvent.tag (kind_number t.kind) pair xs)))
-    × (after ≡ sets marks used (event_marks (TapeEvent.tag (kind_number t.kind) pair xs))) × (at < t.start) × (t.start < t.behind) × (t.behind ≤ length text) × (at + 3 ≤ t.behind) × (t.used ≤ used + 2 * (t.behind - at))
+    (pair : Pair) × (xs : List AttributePairs) × (d ≡ tagged (kind_number t.kind) pair xs (name_of (drop t.start text)) t.behind (drop t.behind text))
+    × (t.used ≡ used + length (event_marks (TapeEvent.tag (kind_number t.kind) pair xs)))
+    × (after ≡ sets marks used (event_marks (TapeEvent.tag (kind_number t.kind) pair xs))) × (at < t.start) × (t.start < t.behind)
+    × (t.behind ≤ length text) × (at + 3 ≤ t.behind) × (t.used ≤ used + 2 * (t.behind - at))
 
 abbrev pub GoesOn : Text → ℕ → List ℕ → List ℕ → ℕ → List ℕ → Option Onward → Level → Type 0
 GoesOn text at slots marks used after None d = d ≡ stop

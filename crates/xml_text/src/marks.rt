@@ -24,10 +24,26 @@ pub fn put_two(marks: &mut [u32], at: usize, first: u32, second: u32)
     }
 }
 
-// Stores the pair of the bytes from one offset up to another.
+// Stores the pair of the bytes from one offset up to another. A tag and an attribute store four numbers at once; this one stands for a pair alone.
 pub fn put_pair(marks: &mut [u32], at: usize, from: usize, to: usize)
     requires { (at < 1000000) × (from ≤ to) × (to ≤ 65536) }
     ensures { marks.new ≡ set (set marks.old at from) (at + 1) (to - from) }
 {
     put_two(marks, at, from as u32, (to - from) as u32);
+}
+
+// Stores four numbers, with one look at the length where all fit.
+pub fn put_four(marks: &mut [u32], at: usize, first: u32, second: u32, third: u32, fourth: u32)
+    requires { at + 2 < 1000000 }
+    ensures { marks.new ≡ set (set (set (set marks.old at first) (at + 1) second) (at + 2) third) (at + 2 + 1) fourth }
+{
+    if at + 3 < marks.len() {
+        marks[at] = first;
+        marks[at + 1] = second;
+        marks[at + 2] = third;
+        marks[at + 3] = fourth;
+    } else {
+        put_two(marks, at, first, second);
+        put_two(marks, at + 2, third, fourth);
+    }
 }

@@ -209,7 +209,11 @@ pub fn root(classes: &Classes, text: &[u8], marks: &mut [u32], at: usize) -> Opt
     match text.len() {
         ..3072 => root_of::<1024>(classes, text, marks, at),
         ..6144 => root_of::<2048>(classes, text, marks, at),
+        ..12288 => root_of::<4096>(classes, text, marks, at),
         ..24576 => root_of::<8192>(classes, text, marks, at),
+        ..36864 => root_of::<12288>(classes, text, marks, at),
+        ..49152 => root_of::<16384>(classes, text, marks, at),
+        ..57344 => root_of::<19115>(classes, text, marks, at),
         _ => root_of::<21846>(classes, text, marks, at),
     }
 }

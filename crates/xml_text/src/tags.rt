@@ -5,13 +5,13 @@ ghost use Rattle.xml.specs.Steps.{name_of};
 ghost use Rattle.xml.specs.Tape.{attribute_marks};
 ghost use Rattle.xml.specs.Tags.{attribute, part_of, attribute_from, attributes, tag};
 ghost use Rattle.xml.specs.Grammar.{is_among};
-ghost use Rattle.xml_text.specs.Answers.{next_part, PartIn, names_up_to, EndsTag, IsTag};
+ghost use Rattle.xml_text.specs.Answers.{next_part, PartIn, is_key_next, names_up_to, EndsTag, IsTag};
 
-use crate::marks::{put_pair, put_two};
+use crate::marks::put_four;
 use xml_parts::classes::Classes;
 use xml_parts::prolog::eq;
 use xml_parts::steps::{literal, name, same_name, spaces, starts};
-use xml_parts::values::value;
+use xml_parts::values::{is_quote, value, value_end};
 use xsd_parser::kinds::Kind;
 
 // Where the key of an attribute starts and ends, where the quote before its value stands, and the position behind the one that ends it.
@@ -30,10 +30,25 @@ pub enum Next {
     More(KeyValue),
 }
 
+// An attribute. Most keys have `=` and a quote right behind them, and then nothing else is asked of what stands there. Inlined: what a call of its own answers goes through
+// memory, which made the tape a tenth longer (the bar: the tape is no slower in compare/CALLS.md).
+#[inline(always)]
 pub fn attribute(classes: &Classes, text: &[u8], at: usize) -> Option<Next>
     ensures { (next_part text.now result ≡ attribute at (drop at text.now)) × PartIn (length text.now) at result }
 {
     let key_end = name(classes, text, at)?;
+    if starts(text, key_end, b"=") {
+        let around = text::byte_at(text, key_end + 1);
+        if is_quote(around) {
+            let value_behind = value_end(classes, text, key_end + 2, around)?;
+            return Some(Next::More(KeyValue {
+                key: at,
+                key_end,
+                quote: key_end + 1,
+                behind: value_behind,
+            }));
+        }
+    }
     let quote = eq(classes, text, key_end)?;
     let behind = value(classes, text, quote)?;
     Some(Next::More(KeyValue {
@@ -44,7 +59,17 @@ pub fn attribute(classes: &Classes, text: &[u8], at: usize) -> Option<Next>
     }))
 }
 
-pub fn part_of(classes: &Classes, text: &[u8], at: usize) -> Option<Next>
+// Whether one space stands at a position, and behind it a byte above all white space and the bytes that end a tag.
+fn is_key_next(text: &[u8], at: usize) -> bool
+    ensures { result ≡ is_key_next (drop at text.now) }
+{
+    text::byte_at(text, at) == b' ' && b'>' < text::byte_at(text, at + 1)
+}
+
+// What stands next in a tag, with any white space before it. It asks for `/>` and `>` as `part_of` does: what they answer is made in the place where it is asked. A
+// function of its own that answers it gave it through memory: tried with cold functions for a part (docs/DECISIONS.md, 234), pain.001.001.09 took 747,109
+// instructions and not 700,315 (the bar: the tape is no slower in compare/CALLS.md).
+fn spaced_part(classes: &Classes, text: &[u8], at: usize) -> Option<Next>
     ensures { (next_part text.now result ≡ part_of at (drop at text.now)) × PartIn (length text.now) at result }
 {
     let start = spaces(classes, text, at);
@@ -64,6 +89,29 @@ pub fn part_of(classes: &Classes, text: &[u8], at: usize) -> Option<Next>
         return None;
     }
     attribute(classes, text, start)
+}
+
+// The same, where most often one space and a key stand there, or the end of the tag. These are asked for before any white space is looked for: one
+// of the steps of docs/DECISIONS.md, 231, with which pain.001.001.09 took 616,469 instructions and not 700,315 (the bar as above).
+pub fn part_of(classes: &Classes, text: &[u8], at: usize) -> Option<Next>
+    ensures { (next_part text.now result ≡ part_of at (drop at text.now)) × PartIn (length text.now) at result }
+{
+    if is_key_next(text, at) {
+        return attribute(classes, text, at + 1);
+    }
+    if starts(text, at, b"/>") {
+        return Some(Next::Last {
+            kind: Kind::Empty,
+            behind: at + 2,
+        });
+    }
+    if starts(text, at, b">") {
+        return Some(Next::Last {
+            kind: Kind::Start,
+            behind: at + 1,
+        });
+    }
+    spaced_part(classes, text, at)
 }
 
 // Whether the name at a position is the name at one of the keys.
@@ -86,8 +134,17 @@ fn put_attribute(marks: &mut [u32], at: usize, it: KeyValue)
     requires { (at + 2 < 1000000) × (it.key ≤ it.key_end) × (it.key_end ≤ 65536) × (it.quote + 2 ≤ it.behind) × (it.behind ≤ 65536) }
     ensures { marks.new ≡ sets marks.old at (attribute_marks (attribute_from it.key it.key_end it.quote it.behind ∷ [])) }
 {
-    put_pair(marks, at, it.key, it.key_end);
-    put_pair(marks, at + 2, it.quote + 1, it.behind - 1);
+    let key_size = it.key_end - it.key;
+    let value = it.quote + 1;
+    let value_size = it.behind - 1 - value;
+    put_four(
+        marks,
+        at,
+        it.key as u32,
+        key_size as u32,
+        value as u32,
+        value_size as u32,
+    );
 }
 
 // The attributes of a tag, whose keys are kept while it is read, up to its end. A `loop` with a count: an attribute has any number of bytes, and how many there are
@@ -153,8 +210,15 @@ pub fn tag(
     let start = literal(text, at, b"<")?;
     let end = name(classes, text, start)?;
     let last = attributes(classes, text, end, keys, marks, used + 4)?;
-    put_two(marks, used, last.kind as u32, last.count as u32);
-    put_pair(marks, used + 2, start, end);
+    let size = end - start;
+    put_four(
+        marks,
+        used,
+        last.kind as u32,
+        last.count as u32,
+        start as u32,
+        size as u32,
+    );
     Some(WholeTag {
         kind: last.kind,
         start,

@@ -1,7 +1,7 @@
 -- What an event does to the rows of the reader's state, told apart from how it is done: 000's handlers as a few actions.
 --     Mode          what the handlers go by, beside the open head: row 0's context, nesting, root seen and extension flag (the code's struct)
 --     mode_of        the mode of a reader; head_tag: the tag of the open type's head, 0 where no type is open
---     behind        the rows behind row 1
+--     reader_rows        the rows behind row 1
 --     Action        keep: no row changes; root: the namespace set anew; open_simple, open_complex: a type opened by the event of a number; add: a row more;
 --                   content: the open type's content replaced by a tag, the texts behind the name and a; base: the open type's base set
 --     raises        whether a start raises nesting; opens_type: whether the action opens a type
@@ -40,8 +40,8 @@ head_tag (Context.in_schema n) = 0
 head_tag (Context.in_simple_type t) = simple_type_tag
 head_tag (Context.in_complex_type t) = content_tag t.content
 
-unfoldable pub behind : Reader → List Row
-behind r = items_rows r.schema.items ++ context_rows r.context
+unfoldable pub reader_rows : Reader → List Row
+reader_rows r = items_rows r.schema.items ++ context_rows r.context
 
 pub data Action : Type 0 where
   keep : Action
@@ -190,6 +190,6 @@ Fitting (Action.base v) last = BasedHead last
 pub record Acted (by_standard : Bool) (e : Event) (r : Reader) (a : Action) (r' : Reader) : Type 0 where
   pub mode : mode_of r' ≡ mode_after by_standard e a (mode_of r)
   pub namespace : r'.schema.target_namespace ≡ namespace_after a r.schema.target_namespace
-  pub rows : behind r' ≡ rows_after a (items_rows r.schema.items) (context_rows r.context)
+  pub rows : reader_rows r' ≡ rows_after a (items_rows r.schema.items) (context_rows r.context)
   pub items : simple_type_context ≤ context_number r'.context → r'.schema.items ≡ r.schema.items
   pub fitting : Fitting a (context_rows r.context)

@@ -1,5 +1,5 @@
 -- What the code decides says in the terms of Actions: a decision, an enum whose texts are parts of the text of the tape, or a refusal.
---     row_texts      no text, one or two: a second one counts behind a first alone
+--     new_texts      no text, one or two: a second one counts behind a first alone
 --     new_row        the row that the code's record stands for
 --     decision      the action, or the refusal
 use Rattle.std.specs.Prelude.{◌%◌, ◌/◌, ◌^◌, List, [], ◌∷◌, Option, Some, None, Result, Ok, Err}
@@ -14,12 +14,12 @@ use Rattle.xsd_actions.specs.declared.NewRow.{NewRow}
 use Rattle.xsd_actions.specs.declared.Decision.{Decision}
 use Rattle.xsd_actions.specs.Actions.{Action}
 
-abbrev pub row_texts : Option (Bor Text) → Option (Bor Text) → List Text
-row_texts None second = []
-row_texts (Some first) second = first.now ∷ listed second
+abbrev pub new_texts : Option (Bor Text) → Option (Bor Text) → List Text
+new_texts None second = []
+new_texts (Some first) second = first.now ∷ listed second
 
 unfoldable pub new_row : NewRow → Row
-new_row n = row n.tag (row_texts n.first n.second) n.a n.b n.c
+new_row n = row n.tag (new_texts n.first n.second) n.a n.b n.c
 
 unfoldable pub decision : Result Decision Refusal → Outcome Action
 decision (Err r) = refuse (refusal_number r)

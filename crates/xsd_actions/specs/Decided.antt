@@ -26,11 +26,11 @@ typed none type_name f = Action.keep
 typed (some name) none f = Action.keep
 typed (some name) (some type_name) f = Action.add (f name type_name)
 
-unfoldable pub named : Seen → (Text → Text → Row) → Action
-named t f = typed t.name t.type_name f
+unfoldable pub named_child : Seen → (Text → Text → Row) → Action
+named_child t f = typed t.name t.type_name f
 
 unfoldable pub top_element : ℕ → Seen → Action
-top_element n t = named t (λ name type_name. row element_tag (name ∷ type_name ∷ []) 0 0 n)
+top_element n t = named_child t (λ name type_name. row element_tag (name ∷ type_name ∷ []) 0 0 n)
 
 unfoldable pub root_found : Seen → Action
 root_found t = if tag_is t Word.Schema then Action.root (or_empty t.target_namespace) else Action.keep
@@ -50,13 +50,13 @@ occurs_added t (some name) (some type_name) =
 unfoldable pub element_inside : Seen → ℕ → Outcome Action
 element_inside t head =
     if eqb head sequence_tag then occurs_added t t.name t.type_name else
-    if eqb head choice_tag then ok (named t (λ name type_name. variant_row (record { name = name; type_name = type_name }))) else ok Action.keep
+    if eqb head choice_tag then ok (named_child t (λ name type_name. variant_row (record { name = name; type_name = type_name }))) else ok Action.keep
 
 -- 000, `on_attribute_inside_complex`
 unfoldable pub attribute_inside : Seen → Bool → Action
 attribute_inside t flag =
     if flag
-    then named t (λ name type_name. attribute_row (record { name = name; type_name = type_name; required = is_required t.usage }))
+    then named_child t (λ name type_name. attribute_row (record { name = name; type_name = type_name; required = is_required t.usage }))
     else Action.keep
 
 -- ---- on_start

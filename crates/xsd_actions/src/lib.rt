@@ -13,7 +13,8 @@ pub struct Mode {
     pub extension: bool,
 }
 
-// A row to add: its tag, its texts, none, one or two, of which the second stands behind a first, and its numbers. The numbers stand here and not in RowNumbers of `rows`: what is decided knows no buffers of a sheet.
+// A row to add: its tag, its texts, none, one or two, of which the second stands behind a first, and its numbers. The numbers stand here and not in RowNumbers of
+// `rows`: what is decided knows no buffers of a sheet.
 #[derive(Clone, Copy)]
 pub struct NewRow<'a> {
     pub tag: u32,

@@ -5,7 +5,7 @@ use Rattle.std.specs.Prelude.{ℕ, ◌%◌, ◌/◌, ◌^◌, [], ◌∷◌}
 use Rattle.text.specs.Text.{Text}
 use Rattle.sheet.specs.Rows.{row}
 use Rattle.xsd_parser.specs.declared.words.FacetWord.{FacetWord}
-use Rattle.xsd_parser.specs.Handlers.{Outcome, ok, ◌and_then◌, facet_of}
+use Rattle.xsd_parser.specs.Handlers.{Outcome, ok, ◌and_then◌, facet_by_word}
 use Rattle.xsd_actions.specs.Actions.{Action}
 use Rattle.xsd_actions.specs.Decided.{facet_added}
 
@@ -19,4 +19,4 @@ unfoldable pub digits_added : ℕ → ℕ → Action
 digits_added tag n = Action.add (row tag [] n 0 0)
 
 unfoldable pub facet_read : FacetWord → Text → Outcome Action
-facet_read w v = facet_of w v and_then λ f. ok (facet_added f)
+facet_read w v = facet_by_word w v and_then λ f. ok (facet_added f)

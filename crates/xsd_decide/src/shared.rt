@@ -4,7 +4,7 @@ ghost use Rattle.std.specs.Prelude.{◌≡◌, [], Ok};
 ghost use Rattle.xsd_parser.specs.Handlers.{ok};
 ghost use Rattle.xsd_actions.specs.Actions.{Action};
 ghost use Rattle.xsd_actions.specs.Answers.{decision};
-ghost use Rattle.xsd_actions.specs.Decided.{top_element, named, base_set, occurs_added, element_inside, attribute_inside};
+ghost use Rattle.xsd_actions.specs.Decided.{top_element, named_child, base_set, occurs_added, element_inside, attribute_inside};
 ghost use Rattle.tape.specs.Lookup.{seen_at};
 ghost use Rattle.xsd_decide.specs.Rows.{typed_row};
 
@@ -49,7 +49,7 @@ fn typed_row<'a>(p: NameAndType<'a>, tag: u32, a: u32, b: u32, c: u32) -> Decisi
 
 // A row without numbers but c for a tag that has name and type.
 fn named_row<'a>(t: &SeenTag<'a, '_>, tag: u32, c: u32) -> Decision<'a>
-    ensures { decision (Ok result) ≡ ok (named (seen_at t.now) (typed_row tag 0 0 c)) }
+    ensures { decision (Ok result) ≡ ok (named_child (seen_at t.now) (typed_row tag 0 0 c)) }
 {
     match name_and_type(t) {
         Some(p) => typed_row(p, tag, 0, 0, c),

@@ -4,7 +4,7 @@ ghost use Rattle.std.proofs.Math.Option.{some};
 ghost use Rattle.number.specs.Answers.{of_number};
 ghost use Rattle.xsd_parser.specs.Handlers.{parse_min_occurs, parse_max_occurs, is_required};
 ghost use Rattle.tape.specs.Lookup.{seen_at};
-ghost use Rattle.xsd_decide.specs.Reads.{both, typed_values, max_answer};
+ghost use Rattle.xsd_decide.specs.Reads.{both_values, typed_values, max_answer};
 
 use number::parse_u32;
 use tape::attributes::SeenTag;
@@ -27,7 +27,7 @@ pub enum MaxOccurs {
 
 // Name and type, if the tag has both.
 pub fn name_and_type<'a>(t: &SeenTag<'a, '_>) -> Option<NameAndType<'a>>
-    ensures { typed_values result ≡ both (seen_at t.now).name (seen_at t.now).type_name }
+    ensures { typed_values result ≡ both_values (seen_at t.now).name (seen_at t.now).type_name }
 {
     let name = t.value(Key::Name)?;
     let typ = t.value(Key::Type)?;

@@ -1,17 +1,18 @@
 // Order 7's count: a of row 1 is how many finished simple types lowering refuses by 13.
-ghost use Rattle.std.specs.Prelude.{◌≡◌, true, ◌*◌, ◌≤◌, ◌<◌, length, get_or};
+ghost use Rattle.std.specs.Prelude.{◌≡◌, true, false, ◌*◌, ◌≤◌, ◌<◌, length, get_or, MatchOption};
 ghost use Rattle.sheet.specs.Rows.{ten};
 ghost use Rattle.sheet.specs.Calls.{sheet};
 ghost use Rattle.sheet.specs.Form.{words, rows_used_in};
 ghost use Rattle.xsd_types.specs.Row0.{row0_from};
 ghost use Rattle.xsd_types.specs.Good.{bare_good};
-ghost use Rattle.xsd_types.specs.Count.{count_of, bare, state_of};
-ghost use Rattle.xsd_good.specs.End.{finished_end};
+ghost use Rattle.xsd_types.specs.Count.{count_of, bare, state_of, good};
+ghost use Rattle.xsd_good.specs.End.{finished_end, HeadIs, FinishedAt};
 
 use crate::{row0, scan};
 use rows::numbers::wide;
 use rows::part::SheetPart;
 use xsd_refused::count_refused;
+use xsd_types::contexts;
 
 // Where the count stands: row 1 begins behind ten numbers, and a is the eighth of a row.
 pub const COUNT: usize = 17;
@@ -34,13 +35,49 @@ pub fn finished_place(rows: &[u32]) -> usize
     scan::finished_end(rows, z.context, z.rows_used as usize)
 }
 
-// The count that a sheet should have, if it is good but for its count.
+// The same where the open type's head is known: it is not looked for again.
+#[tactic(auto, unfolding(crate::specs::End::finished_end))]
+pub fn finished_behind(rows: &[u32], head: usize) -> usize
+    requires { (10 ≤ length rows.now) × HeadIs rows.now head }
+    ensures { FinishedAt rows.now result }
+{
+    let z = row0::row0_at(rows);
+    if contexts::SIMPLE_TYPE <= z.context {
+        head
+    } else {
+        z.rows_used as usize
+    }
+}
+
+// The count that a sheet should have, if it is good but for its count, by where its finished items end.
+fn count_to(rows: &[u32], names: &[u8], end: usize) -> usize
+    requires { (bare_good (bare (sheet rows.now names.now)) ≡ true) × FinishedAt rows.now end }
+    ensures count { result ≡ count_of (state_of (sheet rows.now names.now)) }
+    ensures few { result ≤ length rows.now }
+{
+    let part = SheetPart { rows, names, end };
+    count_refused(&part, 2)
+}
+
+// The same with the place looked for.
 pub fn count_of(rows: &[u32], names: &[u8]) -> usize
     requires { bare_good (bare (sheet rows.now names.now)) ≡ true }
     ensures count { result ≡ count_of (state_of (sheet rows.now names.now)) }
     ensures few { result ≤ length rows.now }
 {
     let end = finished_place(rows);
-    let part = SheetPart { rows, names, end };
-    count_refused(&part, 2)
+    count_to(rows, names, end)
+}
+
+// Where the finished items end, if the count of a sheet that is good otherwise is right.
+pub fn counted_place(rows: &[u32], names: &[u8]) -> Option<usize>
+    requires { bare_good (bare (sheet rows.now names.now)) ≡ true }
+    ensures { MatchOption result (good (sheet rows.now names.now) ≡ false) (λ end. (good (sheet rows.now names.now) ≡ true) × FinishedAt rows.now end) }
+{
+    let end = finished_place(rows);
+    if count_in(rows) == count_to(rows, names, end) {
+        Some(end)
+    } else {
+        None
+    }
 }

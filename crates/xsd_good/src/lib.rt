@@ -9,10 +9,11 @@ pub mod forms;
 pub mod row0;
 pub mod scan;
 
-ghost use Rattle.std.specs.Prelude.{◌≡◌};
+ghost use Rattle.std.specs.Prelude.{◌≡◌, true, false, MatchOption};
 ghost use Rattle.sheet.specs.Calls.{sheet};
 ghost use Rattle.xsd_types.specs.Good.{bare_good};
 ghost use Rattle.xsd_types.specs.Count.{bare, good};
+ghost use Rattle.xsd_good.specs.End.{FinishedAt};
 
 use crate::forms::row::SchemaRow;
 use crate::row0::tests;
@@ -40,24 +41,37 @@ pub fn is_bare_good(rows: &[u32], names: &[u8]) -> bool
     };
     let names_end = z.names_used as usize;
     let row1 = scan::bare_row1(rows);
-    let Some(s) = scan_sheet::<SchemaRow>(&part, row1, z.names_used) else {
-        return false;
-    };
-    tests::row0_form(z)
-        & (s.end == names_end)
+    // What asks no row's form is asked before the pass over the rows, so that little is kept on the stack beside the pass: a reading, whose frame lies below this one, takes
+    // 1,056 bytes of stack otherwise, where the header says 1,024 (docs/DECISIONS.md, 192).
+    let apart = tests::row0_form(z)
         & behind::zeros_behind(rows, names, part.end, names_end)
-        & used::names_test::<SchemaRow>(&part, row1, names_end)
+        & used::names_test::<SchemaRow>(&part, names_end)
         & tests::limits(z)
         & tests::root_test(z)
         & tests::nesting_test(z)
+        & scan::events_test(&part, z.events);
+    let Some(s) = scan_sheet::<SchemaRow>(&part, row1, z.names_used) else {
+        return false;
+    };
+    apart
+        & (s.end == names_end)
         & tests::context_test(z.context, s.head)
         & tests::extension_test(z, s.head)
-        & scan::events_test(&part, z.events)
 }
 
-// Whether the sheet is good: its count is asked last, since counting needs the rest.
+// Where the finished items of a good sheet end, None where the sheet is not good: its count is asked last, since counting needs the rest.
+pub fn good_end(rows: &[u32], names: &[u8]) -> Option<usize>
+    ensures { MatchOption result (good (sheet rows.now names.now) ≡ false) (λ end. (good (sheet rows.now names.now) ≡ true) × FinishedAt rows.now end) }
+{
+    if !is_bare_good(rows, names) {
+        return None;
+    }
+    count::counted_place(rows, names)
+}
+
+// Whether the sheet is good.
 pub fn is_good(rows: &[u32], names: &[u8]) -> bool
     ensures { result ≡ good (sheet rows.now names.now) }
 {
-    is_bare_good(rows, names) && count::count_in(rows) == count::count_of(rows, names)
+    good_end(rows, names).is_some()
 }

@@ -31,13 +31,12 @@ pub fn events_test(part: &SheetPart, events: u32) -> bool
     requires { 2 ≤ part.now.end }
     ensures { result ≡ events_test events (tens (part.now.end - 1) (drop 10 part.now.rows.now)) }
 {
-    (1..part.end).all(|place| {
-        let c = part.ten(place).c;
-        (c == 0) | (c < events)
-    })
+    // 0 and the numbers below it: one test a row.
+    let limit = events.max(1);
+    (1..part.end).all(|place| part.ten(place).c < limit)
 }
 
-// The last row before row n that is a head, 0 if there is none: in contexts 2 and 3 of a good sheet, the head of the open type. Both callers keep the number,
+// The last row before row n that is a head, 0 if there is none: in contexts 2 and 3 of a good sheet, the head of the open type. Its callers keep the number,
 // with 0 for none, so an Option would be turned back at once. Rows and n are no part of a sheet: progress_of has no names.
 pub fn open_head(rows: &[u32], n: usize) -> usize
     requires { 10 * n ≤ length rows.now }

@@ -80,13 +80,13 @@ parse_max_occurs (some v) = if is_unbounded v then ok MaxOccurs.unbounded else o
 
 -- a builder with another base or one more facet; with another content
 unfoldable pub with_base : Text → SimpleTypeBuilder → SimpleTypeBuilder
-with_base base t = record { name = t.name; base = base; facets = t.facets; nesting_depth = t.nesting_depth; event = t.event }
+with_base base t = record { head = t.head; base = base; facets = t.facets; nesting_depth = t.nesting_depth }
 
 unfoldable pub with_facet : SimpleTypeBuilder → Facet → SimpleTypeBuilder
-with_facet t f = record { name = t.name; base = t.base; facets = t.facets ++ f ∷ []; nesting_depth = t.nesting_depth; event = t.event }
+with_facet t f = record { head = t.head; base = t.base; facets = t.facets ++ f ∷ []; nesting_depth = t.nesting_depth }
 
 unfoldable pub with_content : ComplexTypeBuilder → ComplexContentBuilder → ComplexTypeBuilder
-with_content t content = record { name = t.name; content = content; nesting_depth = t.nesting_depth; event = t.event }
+with_content t content = record { head = t.head; content = content; nesting_depth = t.nesting_depth }
 
 -- 000, `on_element_inside_complex`: "Occurs are read only in a sequence and only then, min before max, default 1"
 unfoldable pub sequence_element : Seen → Option Text → Option Text → List SequenceElement → Outcome ComplexContentBuilder
@@ -141,10 +141,10 @@ on_extension t (ComplexContentBuilder.any n) = ComplexContentBuilder.any n
 
 -- 000: `Some(Context::Schema)`. "start `simpleType` or `complexType` needs a name and opens a type"
 unfoldable pub open_simple_type : ℕ → Text → Context
-open_simple_type n name = Context.in_simple_type (record { name = name; base = []; facets = []; nesting_depth = 0; event = n })
+open_simple_type n name = Context.in_simple_type (record { head = record { name = name; event = n }; base = []; facets = []; nesting_depth = 0 })
 
 unfoldable pub open_complex_type : ℕ → Text → Context
-open_complex_type n name = Context.in_complex_type (record { name = name; content = ComplexContentBuilder.empty; nesting_depth = 0; event = n })
+open_complex_type n name = Context.in_complex_type (record { head = record { name = name; event = n }; content = ComplexContentBuilder.empty; nesting_depth = 0 })
 
 -- order 3: "In 1, nesting in context 1 counts the open tags below the schema"
 unfoldable pub below_schema : Bool → ℕ → Reader → Reader
@@ -163,7 +163,7 @@ on_start_in_schema by_standard n t depth r = if eqb depth 0 then on_direct_child
 
 -- "Simple type: each start raises nesting; `restriction` at nesting 1 .. sets the base"
 unfoldable pub raised_simple : SimpleTypeBuilder → SimpleTypeBuilder
-raised_simple t = record { name = t.name; base = t.base; facets = t.facets; nesting_depth = suc t.nesting_depth; event = t.event }
+raised_simple t = record { head = t.head; base = t.base; facets = t.facets; nesting_depth = suc t.nesting_depth }
 
 unfoldable pub on_start_in_simple_type : Seen → SimpleTypeBuilder → SimpleTypeBuilder
 on_start_in_simple_type t b =
@@ -171,7 +171,7 @@ on_start_in_simple_type t b =
 
 -- "Complex type: each start raises nesting; start `sequence`, `choice`, `simpleContent` at 1 replaces the content, flag 0"
 unfoldable pub raised_complex : ComplexTypeBuilder → ComplexTypeBuilder
-raised_complex t = record { name = t.name; content = t.content; nesting_depth = suc t.nesting_depth; event = t.event }
+raised_complex t = record { head = t.head; content = t.content; nesting_depth = suc t.nesting_depth }
 
 unfoldable pub content_started : Seen → ComplexContentBuilder → ComplexContentBuilder
 content_started t content =
@@ -204,19 +204,19 @@ on_start by_standard n t r (Context.in_complex_type b) =
 unfoldable pub facet_value : Seen → Text
 facet_value t = or_empty t.value
 
-unfoldable pub facet_of : FacetWord → Text → Outcome Facet
-facet_of FacetWord.Enumeration v = ok (Facet.enumeration v)
-facet_of FacetWord.Pattern v = ok (Facet.pattern v)
-facet_of FacetWord.MinLength v = on_parsed (number 64 v) Facet.min_length
-facet_of FacetWord.MaxLength v = on_parsed (number 64 v) Facet.max_length
-facet_of FacetWord.MinInclusive v = ok (Facet.min_inclusive v)
-facet_of FacetWord.MaxInclusive v = ok (Facet.max_inclusive v)
-facet_of FacetWord.TotalDigits v = on_parsed (number 32 v) Facet.total_digits
-facet_of FacetWord.FractionDigits v = on_parsed (number 32 v) Facet.fraction_digits
+unfoldable pub facet_by_word : FacetWord → Text → Outcome Facet
+facet_by_word FacetWord.Enumeration v = ok (Facet.enumeration v)
+facet_by_word FacetWord.Pattern v = ok (Facet.pattern v)
+facet_by_word FacetWord.MinLength v = on_parsed (number 64 v) Facet.min_length
+facet_by_word FacetWord.MaxLength v = on_parsed (number 64 v) Facet.max_length
+facet_by_word FacetWord.MinInclusive v = ok (Facet.min_inclusive v)
+facet_by_word FacetWord.MaxInclusive v = ok (Facet.max_inclusive v)
+facet_by_word FacetWord.TotalDigits v = on_parsed (number 32 v) Facet.total_digits
+facet_by_word FacetWord.FractionDigits v = on_parsed (number 32 v) Facet.fraction_digits
 
 unfoldable pub on_facet : {A : Type 0} → Option FacetWord → Text → (Facet → A) → A → Outcome A
 on_facet none v f other = ok other
-on_facet (some w) v f other = facet_of w v and_then λ x. ok (f x)
+on_facet (some w) v f other = facet_by_word w v and_then λ x. ok (f x)
 
 unfoldable pub on_empty_in_simple_type : Seen → SimpleTypeBuilder → Outcome SimpleTypeBuilder
 on_empty_in_simple_type t b =
@@ -242,15 +242,15 @@ on_empty n t r (Context.in_complex_type b) =
 -- "A close lowers nesting, or at 0 finishes the type, flag 0, and returns to context 1."
 unfoldable pub close_simple_type : SimpleTypeBuilder → ℕ → Reader → Reader
 close_simple_type b zero r =
-    in_context (Context.in_schema 0) (with_item (Item.simple_type (record { name = b.name; base = b.base; facets = b.facets; event = b.event })) r)
+    in_context (Context.in_schema 0) (with_item (Item.simple_type (record { name = b.head.name; base = b.base; facets = b.facets; event = b.head.event })) r)
 close_simple_type b (suc n) r =
-    in_context (Context.in_simple_type (record { name = b.name; base = b.base; facets = b.facets; nesting_depth = n; event = b.event })) r
+    in_context (Context.in_simple_type (record { head = b.head; base = b.base; facets = b.facets; nesting_depth = n })) r
 
 unfoldable pub close_complex_type : ComplexTypeBuilder → ℕ → Reader → Reader
 close_complex_type b zero r =
-    in_context (Context.in_schema 0) (with_item (Item.complex_type (record { name = b.name; content = finish b.content; event = b.event })) r)
+    in_context (Context.in_schema 0) (with_item (Item.complex_type (record { name = b.head.name; content = finish b.content; event = b.head.event })) r)
 close_complex_type b (suc n) r =
-    in_context (Context.in_complex_type (record { name = b.name; content = b.content; nesting_depth = n; event = b.event })) r
+    in_context (Context.in_complex_type (record { head = b.head; content = b.content; nesting_depth = n })) r
 
 -- "Any close leads to context 0." 000: `Some(Context::Schema)` pops the context. Order 3: "a close at 0 ends it"; with choice 0 nesting is 0 there
 unfoldable pub close_in_schema : ℕ → Reader → Reader

@@ -4,7 +4,7 @@
 --     unknown_number the numbering before order 5
 --     unnumbered_reading    a reading with the numbers of its state cleared
 --     makes_head     a tag that a head is made of: a start of a type or an element, an empty element
---     HeadNumber     a head's name and its event's number; of an item (item_number), of an open type (open_number), of a reader (numbered_heads)
+--     item_number, open_number, numbered_heads    a head's name and its event's number: of an item, of an open type, of a reader
 --     more_heads     in the handling of an event a head was made: the reader after it has more than the one before
 --     given_by       where it was, the event's own name and number (named_by); else nothing
 --     heads_given    what accepted events give, in order; the first one's number is n
@@ -16,7 +16,7 @@ use Rattle.sheet.specs.Limits.{events_limit}
 use Rattle.sheet.specs.Returned.{too_many_events}
 use Rattle.sheet.specs.Lengths.{Lengths}
 use Rattle.xsd_types.specs.Types.{Item}
-use Rattle.xsd_types.specs.State.{Context, Reader, State}
+use Rattle.xsd_types.specs.State.{HeadNumber, Context, Reader, State}
 use Rattle.xsd_types.specs.Unnumbered.{unnumbered}
 use Rattle.xsd_parser.specs.declared.words.Word.{Word}
 use Rattle.xsd_parser.specs.Event.{Event, event_name}
@@ -59,11 +59,6 @@ makes_head (Event.start t) = tag_is (seen t) Word.SimpleType || tag_is (seen t) 
 makes_head (Event.empty t) = tag_is (seen t) Word.Element
 makes_head Event.close = false
 
--- the heads in order, the open type's last: each name with its c
-pub record HeadNumber : Type 0 where
-  pub name : Text
-  pub event : ℕ
-
 unfoldable pub item_number : Item → HeadNumber
 item_number (Item.element e) = record { name = e.name; event = e.event }
 item_number (Item.simple_type t) = record { name = t.name; event = t.event }
@@ -72,9 +67,10 @@ item_number (Item.complex_type t) = record { name = t.name; event = t.event }
 unfoldable pub open_number : Context → List HeadNumber
 open_number Context.no_context = []
 open_number (Context.in_schema n) = []
-open_number (Context.in_simple_type t) = record { name = t.name; event = t.event } ∷ []
-open_number (Context.in_complex_type t) = record { name = t.name; event = t.event } ∷ []
+open_number (Context.in_simple_type t) = t.head ∷ []
+open_number (Context.in_complex_type t) = t.head ∷ []
 
+-- the heads in order, the open type's last: each name with its c
 unfoldable pub numbered_heads : Reader → List HeadNumber
 numbered_heads r = map item_number r.schema.items ++ open_number r.context
 

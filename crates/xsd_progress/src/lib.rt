@@ -9,12 +9,14 @@ pub mod open_tags;
 ghost use Rattle.std.specs.Prelude.{true, ◌≡◌, ◌*◌, ◌≤◌, length};
 ghost use Rattle.sheet.specs.Rows.{ten};
 ghost use Rattle.sheet.specs.Form.{rows_used_in, words};
+ghost use Rattle.xsd_good.specs.End.{HeadIs};
 ghost use Rattle.xsd_progress.specs.Progress.{progress_in, used_in, row0_numbers};
 
 use rows::numbers::Used;
 use xsd_actions::Mode;
 use xsd_good::row0::Row0;
 use xsd_good::{row0, scan};
+use xsd_types::contexts;
 
 // The numbers of row 0 but what is used, which goes with the sheet's buffers, and the row of the open type's head.
 #[derive(Clone, Copy)]
@@ -26,16 +28,19 @@ pub struct Progress {
     pub head: usize,
 }
 
-// Where the reading of a sheet stands. That the numbers are u32 is said since the definitions of a good sheet ask for it, and the
-// buffer's type gives it.
-pub fn progress_of(rows: &[u32]) -> Progress
-    requires { (10 ≤ length rows.now) × (10 * rows_used_in (ten rows.now) ≤ length rows.now) }
+// Where the reading of a sheet stands. The open type's head is known from the test of the sheet, and not looked for again. That the numbers are u32 is said
+// since the definitions of a good sheet ask for it, and the buffer's type gives it.
+pub fn progress_by(rows: &[u32], known: usize) -> Progress
+    requires { (10 ≤ length rows.now) × (10 * rows_used_in (ten rows.now) ≤ length rows.now) × HeadIs rows.now known }
     ensures numbers { result ≡ progress_in rows.now }
     ensures words { words rows.now ≡ true }
 {
     let z = row0::row0_at(rows);
-    let n = z.rows_used as usize;
-    let head = scan::open_head(rows, n);
+    let head = if contexts::SIMPLE_TYPE <= z.context {
+        known
+    } else {
+        scan::open_head(rows, z.rows_used as usize)
+    };
     Progress {
         mode: Mode {
             context: z.context,
@@ -48,6 +53,16 @@ pub fn progress_of(rows: &[u32]) -> Progress
         by_standard: z.choice == 1,
         head,
     }
+}
+
+// The same, where the head is not known.
+pub fn progress_of(rows: &[u32]) -> Progress
+    requires { (10 ≤ length rows.now) × (10 * rows_used_in (ten rows.now) ≤ length rows.now) }
+    ensures numbers { result ≡ progress_in rows.now }
+    ensures words { words rows.now ≡ true }
+{
+    let z = row0::row0_at(rows);
+    progress_by(rows, scan::open_head(rows, z.rows_used as usize))
 }
 
 // How much of a sheet is used.

@@ -12,13 +12,14 @@ use rows::numbers::{RowNumbers, Used, pair_at};
 use rows::row::set_row;
 use rows::texts::put_texts;
 use rows::writer::SheetWriter;
+use sheet::limits;
 
 // The place behind the first text of a row: where the names of a replaced head's second text go.
 pub fn name_end(rows: &[u32], place: usize) -> usize
     requires { 10 * place + 10 ≤ length rows.now }
     ensures { (names : List ℕ) (used : Used) (z : List ℕ) (rs : List Row) (name : Text) → HeadAt rows.now names used place z rs name → result ≡ length (names_of rs) + length name }
 {
-    let first = pair_at(rows, 10 * place + 1);
+    let first = pair_at(rows, limits::ROW * place + 1);
     first.at + first.len
 }
 
@@ -30,7 +31,7 @@ fn cut(sheet: &mut SheetWriter, place: usize, end: usize)
     ensures rows { sheet.new.rows.now ≡ paste sheet.old.rows.now (10 * place) (replicate (10 * (sheet.old.used.rows - place)) 0) (10 * (sheet.old.used.rows - place)) }
     ensures names { sheet.new.names.now ≡ paste sheet.old.names.now end (replicate (sheet.old.used.names - end) 0) (sheet.old.used.names - end) }
 {
-    sheet.rows[10 * place..10 * sheet.used.rows].fill(0);
+    sheet.rows[limits::ROW * place..limits::ROW * sheet.used.rows].fill(0);
     sheet.names[end..sheet.used.names].fill(0);
 }
 
@@ -40,7 +41,7 @@ fn set_head(sheet: &mut SheetWriter, place: usize, n: RowNumbers, second: &[u8],
     requires pairs { (1 ≤ pairs) × (pairs ≤ 2) }
     ensures { HeadReplaced sheet.old place n (used_texts (pairs - 1) second.now second.now) sheet.new }
 {
-    let name = sheet.pair_at(10 * place + 1);
+    let name = sheet.pair_at(limits::ROW * place + 1);
     let end = name.at + name.len;
     cut(sheet, place, end);
     set_row(sheet.rows, place, n, pairs, name.at, name.len, second.len());

@@ -5,6 +5,7 @@ ghost use Rattle.xsd_replace.specs.Offsets.{Offsets, OffsetsOf};
 use rows::numbers::{numbers_at, pair_at};
 use rows::row::set_row;
 use rows::texts::texts_length;
+use sheet::limits;
 use xsd_good::forms::row::used_pairs;
 
 // Sets the offsets of a row whose texts stand in the names from `at` on, and gives the place
@@ -15,8 +16,8 @@ pub fn reoffset_row(rows: &mut [u32], place: usize, end: usize, at: usize) -> us
     ensures { (goal : List ℕ) (total : ℕ) → Offsets rows.old place end at goal total → Offsets rows.new (place + 1) end result goal total }
 {
     let n = numbers_at(rows, place);
-    let first = pair_at(rows, 10 * place + 1);
-    let second = pair_at(rows, 10 * place + 3);
+    let first = pair_at(rows, limits::ROW * place + 1);
+    let second = pair_at(rows, limits::ROW * place + 3);
     let pairs = used_pairs(n.tag, n.a);
     set_row(rows, place, n, pairs, at, first.len, second.len);
     at + texts_length(pairs, first.len, second.len)

@@ -7,13 +7,14 @@ use crate::offsets::reoffset;
 use buffer::replace::replace_names;
 use rows::numbers::{Used, pair_at};
 use rows::writer::SheetWriter;
+use sheet::limits;
 
 // The bytes of a row's first or second text.
 pub fn text_length(rows: &[u32], place: usize, pair: usize) -> usize
     requires { (10 * place + 10 ≤ length rows.now) × (pair ≤ 1) }
     ensures { (names : List ℕ) (used : Used) (x : Spot) → TextAt rows.now names used place pair x → result ≡ length x.old }
 {
-    let text = pair_at(rows, 10 * place + 2 * pair + 1);
+    let text = pair_at(rows, limits::ROW * place + 2 * pair + 1);
     text.len
 }
 
@@ -22,8 +23,8 @@ pub fn replace_text(sheet: &mut SheetWriter, place: usize, pair: usize, new: &[u
     requires { TextRoom sheet.old place pair (length new.now) }
     ensures { TextReplaced sheet.old place pair new.now sheet.new }
 {
-    let first = sheet.pair_at(10 * place + 1);
-    let i = 10 * place + 2 * pair + 1;
+    let first = sheet.pair_at(limits::ROW * place + 1);
+    let i = limits::ROW * place + 2 * pair + 1;
     let old = sheet.pair_at(i);
     replace_names(sheet.names, sheet.used.names, old.at, old.len, new);
     sheet.rows[i + 1] = new.len() as u32;

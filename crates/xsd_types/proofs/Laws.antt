@@ -2,7 +2,8 @@
 -- Items and Back from rows to the state again, Events c of the rows, Unnumbered the rows with c cleared, Made the tests of a good sheet, SheetOf both for a state's
 -- sheet, Clear for a cleared one with its count.
 -- From a sheet: Shapes and Rows of a row by its tag, Heads with what stands behind them, Parse of rows in order, Open of the tests of row 0,
--- Parts of a good sheet, Whole the test of its names as a whole, Read its rows, StateOf its state. Places of the rows by their places, Refused of the simple types that lowering refuses. Choice what order 3 leaves as it was.
+-- Parts of a good sheet, Whole the test of its names as a whole, Read its rows, StateOf its state. Places of the rows by their places, Refused of the simple types that
+-- lowering refuses. Choice what order 3 leaves as it was.
 -- Counted the count of order 7 by items and rows, Count the sheets that have it, Convert the conversion.
 pub mod Row0
 pub mod Order

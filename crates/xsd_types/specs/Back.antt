@@ -17,7 +17,8 @@ use Rattle.xsd_types.specs.Types.{Facet, MaxOccurs, SequenceElement, ChoiceVaria
 use Rattle.xsd_types.specs.State.{ComplexContentBuilder, Context, State, finish}
 use Rattle.xsd_types.specs.Good.{used_pairs, is_head}
 use Rattle.sheet.specs.Form.{tens_of}
-use Rattle.xsd_types.specs.Tags.{element_tag, simple_type_tag, enumeration_tag, pattern_tag, min_length_tag, max_length_tag, min_inclusive_tag, max_inclusive_tag, total_digits_tag, sequence_tag, choice_tag, simple_content_tag, any_tag, bound_element_tag}
+use Rattle.xsd_types.specs.Tags.{element_tag, simple_type_tag, enumeration_tag, pattern_tag, min_length_tag, max_length_tag, min_inclusive_tag}
+use Rattle.xsd_types.specs.Tags.{max_inclusive_tag, total_digits_tag, sequence_tag, choice_tag, simple_content_tag, any_tag, bound_element_tag}
 use Rattle.xsd_types.specs.Contexts.{none_context, schema_context, simple_type_context}
 use Rattle.xsd_types.specs.Row0.{Row0, row0_in}
 
@@ -110,8 +111,8 @@ context_of z gs =
     if eqb z.context none_context then Context.no_context else
     if eqb z.context schema_context then Context.in_schema z.nesting else
     if eqb z.context simple_type_context
-    then Context.in_simple_type (record { name = text0 g.head; base = text1 g.head; facets = map facet_of g.children; nesting_depth = z.nesting; event = g.head.c })
-    else Context.in_complex_type (record { name = text0 g.head; content = content_of (eqb z.extension 1) g; nesting_depth = z.nesting; event = g.head.c })
+    then Context.in_simple_type (record { head = record { name = text0 g.head; event = g.head.c }; base = text1 g.head; facets = map facet_of g.children; nesting_depth = z.nesting })
+    else Context.in_complex_type (record { head = record { name = text0 g.head; event = g.head.c }; content = content_of (eqb z.extension 1) g; nesting_depth = z.nesting })
 
 unfoldable pub namespace_in : List Row → Text
 namespace_in [] = []

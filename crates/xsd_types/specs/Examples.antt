@@ -39,10 +39,9 @@ sample_state =
             context =
                 Context.in_complex_type
                 (record {
-                  name = bytes "C";
+                  head = record { name = bytes "C"; event = 5 };
                   content = ComplexContentBuilder.sequence (record { name = bytes "e"; type_name = bytes "S"; min_occurs = 0; max_occurs = MaxOccurs.unbounded } ∷ []);
                   nesting_depth = 1;
-                  event = 5;
                 });
           };
       events = 12;

@@ -13,7 +13,8 @@ use Rattle.std.specs.Prelude.{ℕ, ◌+◌, List, [], ◌∷◌, map, Bool, true
 use Rattle.text.specs.Text.{every, is_text, between}
 use Rattle.sheet.specs.Rows.{Ten, Sheet}
 use Rattle.sheet.specs.Form.{is_flag, covers, covered, tens_of, used_parts, zeros_behind, texts_pass}
-use Rattle.xsd_types.specs.Tags.{namespace_tag, element_tag, simple_type_tag, min_length_tag, max_length_tag, total_digits_tag, fraction_digits_tag, sequence_tag, simple_content_tag, any_tag, no_content_tag, bound_element_tag, unbounded_element_tag, attribute_tag}
+use Rattle.xsd_types.specs.Tags.{namespace_tag, element_tag, simple_type_tag, min_length_tag, max_length_tag, total_digits_tag, fraction_digits_tag}
+use Rattle.xsd_types.specs.Tags.{sequence_tag, simple_content_tag, any_tag, no_content_tag, bound_element_tag, unbounded_element_tag, attribute_tag}
 use Rattle.xsd_types.specs.Contexts.{schema_context, complex_type_context}
 use Rattle.xsd_types.specs.Row0.{Row0, row0_in}
 use Rattle.xsd_types.specs.State.{event_number_ok}

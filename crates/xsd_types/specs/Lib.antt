@@ -1,6 +1,7 @@
 -- The definitions of the crate `xsd_types`: Types has 002's values, State the reader's state, Row0 the numbers of row 0 by name, Rows the
 -- state as rows, Sheet the sheet of a state,
--- Good the test of a good sheet but for the count, Back the way back, Places the rows by their places, Refused the simple types that lowering refuses, Count the count of order 7 with `good`, `state_of` and `sheet_of`, Clear the clearing call, Convert the conversion, Choice what order 3 chooses between, Unnumbered the states without order 5's numbers.
+-- Good the test of a good sheet but for the count, Back the way back, Places the rows by their places, Refused the simple types that lowering refuses, Count the count
+-- of order 7 with `good`, `state_of` and `sheet_of`, Clear the clearing call, Convert the conversion, Choice what order 3 chooses between, Unnumbered the states without order 5's numbers.
 pub mod Tags
 pub mod Contexts
 pub mod Types

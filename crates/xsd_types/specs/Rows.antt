@@ -12,7 +12,9 @@ use Rattle.std.specs.Prelude.{ℕ, ◌+◌, ◌%◌, ◌/◌, ◌^◌, List, [],
 use Rattle.std.proofs.Math.Option.{some, none}
 use Rattle.text.specs.Text.{Text}
 use Rattle.sheet.specs.Rows.{Row, names_of, row, bit}
-use Rattle.xsd_types.specs.Tags.{namespace_tag, element_tag, simple_type_tag, enumeration_tag, pattern_tag, min_length_tag, max_length_tag, min_inclusive_tag, max_inclusive_tag, total_digits_tag, fraction_digits_tag, sequence_tag, choice_tag, simple_content_tag, any_tag, no_content_tag, bound_element_tag, unbounded_element_tag, choice_variant_tag, attribute_tag}
+use Rattle.xsd_types.specs.Tags.{namespace_tag, element_tag, simple_type_tag, enumeration_tag, pattern_tag, min_length_tag, max_length_tag, min_inclusive_tag}
+use Rattle.xsd_types.specs.Tags.{max_inclusive_tag, total_digits_tag, fraction_digits_tag, sequence_tag, choice_tag, simple_content_tag}
+use Rattle.xsd_types.specs.Tags.{any_tag, no_content_tag, bound_element_tag, unbounded_element_tag, choice_variant_tag, attribute_tag}
 use Rattle.xsd_types.specs.Types.{Facet, MaxOccurs, SequenceElement, ChoiceVariant, Attribute, Item}
 use Rattle.xsd_types.specs.Row0.{Row0}
 use Rattle.xsd_types.specs.State.{ComplexContentBuilder, Context, State, started}
@@ -79,8 +81,8 @@ items_rows (i ∷ is) = item_rows i ++ items_rows is
 unfoldable pub context_rows : Context → List Row
 context_rows Context.no_context = []
 context_rows (Context.in_schema n) = []
-context_rows (Context.in_simple_type t) = simple_type_rows t.event t.name t.base t.facets
-context_rows (Context.in_complex_type t) = complex_type_rows t.event t.name t.content
+context_rows (Context.in_simple_type t) = simple_type_rows t.head.event t.head.name t.base t.facets
+context_rows (Context.in_complex_type t) = complex_type_rows t.head.event t.head.name t.content
 
 -- "Rows stand in order of arrival, children behind their head, the open type last."
 unfoldable pub rows_of : State → List Row

@@ -1,5 +1,6 @@
 -- The reader's state: 000 (parser.rs), "Internal state machine types", and the counters of paper 01's row 0.
---     SimpleTypeBuilder, ComplexContentBuilder, ComplexTypeBuilder, Context    as in 000, event as in 002's types; no_context is 000's empty stack
+--     HeadNumber     a head's name and its event's number, as event of 002's types
+--     SimpleTypeBuilder, ComplexContentBuilder, ComplexTypeBuilder, Context    as in 000, the name with its number; no_context is 000's empty stack
 --     Reader        what 000's handlers change: the schema, found_schema_root and the context
 --     State         the reader with the events done, the open tags and the choice of order 3
 --     first_state    the state of a cleared sheet, by its choice
@@ -10,12 +11,15 @@ use Rattle.std.proofs.Math.Option.{Option, some, none}
 use Rattle.text.specs.Text.{Text, every, is_text}
 use Rattle.xsd_types.specs.Types.{Element, Facet, MaxOccurs, SequenceElement, ChoiceVariant, Attribute, ComplexContent, Item, Schema}
 
-pub record SimpleTypeBuilder : Type 0 where
+pub record HeadNumber : Type 0 where
   pub name : Text
+  pub event : ℕ
+
+pub record SimpleTypeBuilder : Type 0 where
+  pub head : HeadNumber
   pub base : Text
   pub facets : List Facet
   pub nesting_depth : ℕ
-  pub event : ℕ
 
 pub data ComplexContentBuilder : Type 0 where
   empty : ComplexContentBuilder
@@ -25,10 +29,9 @@ pub data ComplexContentBuilder : Type 0 where
   any : Option Text → ComplexContentBuilder
 
 pub record ComplexTypeBuilder : Type 0 where
-  pub name : Text
+  pub head : HeadNumber
   pub content : ComplexContentBuilder
   pub nesting_depth : ℕ
-  pub event : ℕ
 
 pub data Context : Type 0 where
   no_context : Context
@@ -127,9 +130,9 @@ unfoldable pub context_ok : Bool → Context → ℕ → Bool
 context_ok by_standard Context.no_context open_tags = true
 context_ok by_standard (Context.in_schema n) open_tags = schema_nesting_ok by_standard n && leb (n + 1) open_tags
 context_ok by_standard (Context.in_simple_type t) open_tags =
-    leb (t.nesting_depth + 2) open_tags && is_text t.name && is_text t.base && every facet_ok t.facets
+    leb (t.nesting_depth + 2) open_tags && is_text t.head.name && is_text t.base && every facet_ok t.facets
 context_ok by_standard (Context.in_complex_type t) open_tags =
-    leb (t.nesting_depth + 2) open_tags && is_text t.name && content_ok t.content
+    leb (t.nesting_depth + 2) open_tags && is_text t.head.name && content_ok t.content
 
 -- "context above 0 has root seen; no root seen means two rows and no names"
 unfoldable pub is_no_context : Context → Bool
@@ -162,8 +165,8 @@ item_passes p (Item.complex_type t) = p t.name t.event
 unfoldable pub open_passes : (Text → ℕ → Bool) → Context → Bool
 open_passes p Context.no_context = true
 open_passes p (Context.in_schema n) = true
-open_passes p (Context.in_simple_type t) = p t.name t.event
-open_passes p (Context.in_complex_type t) = p t.name t.event
+open_passes p (Context.in_simple_type t) = p t.head.name t.head.event
+open_passes p (Context.in_complex_type t) = p t.head.name t.head.event
 
 unfoldable pub heads_pass : (Text → ℕ → Bool) → Reader → Bool
 heads_pass p r = every (item_passes p) r.schema.items && open_passes p r.context

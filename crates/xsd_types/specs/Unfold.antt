@@ -15,7 +15,7 @@ use Rattle.xsd_types.specs.Sheet.{state_fits, bare_sheet_of}
 use Rattle.xsd_types.specs.State.{first_state, element_ok, facet_ok, max_occurs_ok, sequence_element_ok, choice_variant_ok, attribute_ok, namespace_ok, content_ok, started}
 use Rattle.xsd_types.specs.State.{finish, item_ok, schema_ok, schema_nesting_ok, context_ok, is_no_context, is_empty, root_ok, counters_ok, event_number_ok, item_passes}
 use Rattle.xsd_types.specs.State.{open_passes, heads_pass, events_ok, proper}
-use Rattle.xsd_types.specs.Unnumbered.{cleared_row, unnumbered_item, unnumbered_simple, unnumbered_complex, unnumbered_context, unnumbered_schema, unnumbered_reader, unnumbered}
+use Rattle.xsd_types.specs.Unnumbered.{cleared_row, unnumbered_item, unnumbered_head, unnumbered_simple, unnumbered_complex, unnumbered_context, unnumbered_schema, unnumbered_reader, unnumbered}
 use Rattle.xsd_types.specs.Types.{elements, simple_types, complex_types}
 
 unfoldable pub computes : Unit {0}
@@ -25,7 +25,7 @@ unfolding rows_in add_row grouped text0 text1 facet_of element_of variant_of att
     bare_good namespace_a namespace_row facet_row occurs_row element_row variant_row attribute_row simple_type_rows complex_type_rows item_rows items_rows context_rows rows_of
     context_number nesting content_flag extension_flag rows_used names_used row0 state_fits bare_sheet_of first_state element_ok facet_ok max_occurs_ok sequence_element_ok
     choice_variant_ok attribute_ok namespace_ok content_ok started finish item_ok schema_ok schema_nesting_ok context_ok is_no_context is_empty root_ok counters_ok event_number_ok
-    item_passes open_passes heads_pass events_ok proper elements simple_types complex_types cleared_row unnumbered_item unnumbered_simple unnumbered_complex unnumbered_context
+    item_passes open_passes heads_pass events_ok proper elements simple_types complex_types cleared_row unnumbered_item unnumbered_head unnumbered_simple unnumbered_complex unnumbered_context
     unnumbered_schema unnumbered_reader unnumbered row_at rows_from is_enumeration all_enums is_none refused_base refused_item only_codes is_code_enum refused_row refused_place
     refused_types refused_rows count_in with_count bare sheet_of state_of good convertible convert
 computes = tt

@@ -1,7 +1,7 @@
 -- Texts put one behind the other into a lent buffer, with no count beforehand: past the buffer's end nothing more is stored.
 --     Puts          a text was put at an offset, or the offset behind it is past the buffer's end
 --     Writes        a writer put a text
---     Spells        a number's digits stand in twenty bytes from an offset on, up to the end
+--     SpellsDecimal        a number's digits stand in twenty bytes from an offset on, up to the end
 --     Going         all is put by a writer from the first on where the rest is put by the one at hand
 use Rattle.std.specs.Prelude.{ℕ, ◌+◌, ◌≤◌, ◌<◌, List, ◌≡◌, length, drop}
 use Rattle.std.proofs.lemmas.List.Edits.{sets}
@@ -22,7 +22,7 @@ pub record Writes (t : Text) (before after : Writer) : Type 0 where
 pub record Going (all : Text) (start : Writer) (rest : Text) (here : Writer) : Type 0 where
   pub on : (after : Writer) → Writes rest here after → Writes all start after
 
-pub record Spells (n : ℕ) (digits : List ℕ) (from : ℕ) : Type 0 where
+pub record SpellsDecimal (n : ℕ) (digits : List ℕ) (from : ℕ) : Type 0 where
   pub long : length digits ≡ 20
   pub inside : from ≤ 19
   pub is : drop from digits ≡ decimal n

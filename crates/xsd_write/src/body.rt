@@ -3,7 +3,7 @@ ghost use Rattle.std.specs.Prelude.{◌++◌, ◌≤◌};
 ghost use Rattle.text.specs.Text.{bytes};
 ghost use Rattle.xsd_written.specs.ByRows.{rows_text};
 ghost use Rattle.xsd_write.specs.Texts.{as_row, row_text};
-ghost use Rattle.xsd_write.specs.Parts.{part_rows, part_text};
+ghost use Rattle.xsd_write.specs.Parts.{rows_of_part, part_text};
 ghost use Rattle.xsd_write.specs.Puts.{Puts, Writes};
 
 use crate::part::Row;
@@ -25,7 +25,7 @@ impl Writer<'_> {
 
     // The rows of the items, from row 2 up to the end.
     fn put_rows(&mut self, part: &SheetPart)
-        ensures { Writes (rows_text 0 (part_rows part.now 2)) self.old self.new }
+        ensures { Writes (rows_text 0 (rows_of_part part.now 2)) self.old self.new }
     {
         let mut pending: u32 = 0;
         for place in 2..part.end {
@@ -38,7 +38,7 @@ impl Writer<'_> {
 
     // As short as `put_any`, which puts other parts: nothing is the same in them but that there are three.
     fn put_body(&mut self, part: &SheetPart)
-        ensures { Writes (bytes ">" ++ (rows_text 0 (part_rows part.now 2) ++ bytes "</xs:schema>")) self.old self.new }
+        ensures { Writes (bytes ">" ++ (rows_text 0 (rows_of_part part.now 2) ++ bytes "</xs:schema>")) self.old self.new }
     {
         self.put(b">");
         self.put_rows(part);

@@ -5,9 +5,9 @@ ghost use Rattle.sheet.specs.Lengths.{sheet_lengths};
 ghost use Rattle.sheet.specs.Limits.{text_limit};
 ghost use Rattle.sheet.specs.Calls.{sheet};
 ghost use Rattle.xsd_types.specs.Count.{good, state_of};
-ghost use Rattle.xsd_written.specs.Call.{WriteIs, unheld_from, written, write_state};
+ghost use Rattle.xsd_written.specs.Call.{WriteIs, unheld_from, text_written, write_state};
 ghost use Rattle.rows.specs.Answers.{answer_of};
-ghost use Rattle.xsd_write.specs.Parts.{part_rows, part_text};
+ghost use Rattle.xsd_write.specs.Parts.{rows_of_part, part_text};
 ghost use Rattle.xsd_write.specs.Steps.{wrote, finished};
 
 use crate::body::put_schema;
@@ -29,7 +29,7 @@ fn write_lengths(rows: usize, names: usize, text: usize) -> bool
 fn write_held(part: &SheetPart, text: &mut [u8]) -> Answer
     requires end_at_least { 2 ≤ part.now.end }
     requires text_value { text.old ≡ filled (length text.old) [] }
-    ensures { wrote (answer_of result) text.new ≡ written (part_text part.now) (length text.old) }
+    ensures { wrote (answer_of result) text.new ≡ text_written (part_text part.now) (length text.old) }
 {
     let used = put_schema(text, part);
     if text.len() < used {
@@ -42,7 +42,7 @@ fn write_held(part: &SheetPart, text: &mut [u8]) -> Answer
 // From 12 on the text is zero behind what is written, so it is cleared before the tests.
 fn write_finished(part: &SheetPart, root_seen: bool, text: &mut [u8]) -> Answer
     requires { 2 ≤ part.now.end }
-    ensures { wrote (answer_of result) text.new ≡ finished root_seen (unheld_from 1 (part_rows part.now 1)) (part_text part.now) (length text.old) }
+    ensures { wrote (answer_of result) text.new ≡ finished root_seen (unheld_from 1 (rows_of_part part.now 1)) (part_text part.now) (length text.old) }
 {
     text.fill(0);
     if !root_seen {

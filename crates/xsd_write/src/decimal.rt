@@ -1,6 +1,6 @@
 // A number's decimal digits, from the last to the first.
 ghost use Rattle.std.specs.Prelude.{◌≡◌, ◌+◌, ◌<◌};
-ghost use Rattle.xsd_write.specs.Puts.{Spells};
+ghost use Rattle.xsd_write.specs.Puts.{SpellsDecimal};
 
 fn digit(n: u64) -> u8
     requires { n < 10 }
@@ -12,13 +12,13 @@ fn digit(n: u64) -> u8
 // The digits stand from `from` on, up to the end: an array of twenty and a start, since there is no heap. No `write!`: where the room ends it gives an
 // error, and `put` an offset past the end.
 #[derive(Clone, Copy)]
-pub struct Spelled {
+pub struct Digits {
     pub digits: [u8; 20],
     pub from: usize,
 }
 
-pub fn spell(n: u64) -> Spelled
-    ensures { Spells n result.digits result.from }
+pub fn spell(n: u64) -> Digits
+    ensures { SpellsDecimal n result.digits result.from }
 {
     // No `for`: what is left of the number ends the loop, and not the place of the digit.
     let mut digits = [48; 20];
@@ -30,5 +30,5 @@ pub fn spell(n: u64) -> Spelled
         rest = rest / 10;
     }
     digits[at] = digit(rest);
-    Spelled { digits, from: at }
+    Digits { digits, from: at }
 }

@@ -2,8 +2,8 @@
 ghost use Rattle.std.specs.Prelude.{◌++◌};
 ghost use Rattle.text.specs.Text.{bytes};
 ghost use Rattle.xsd_types.specs.Back.{text0, text1};
-ghost use Rattle.xsd_written.specs.ByRows.{attribute_text, empty_text, named_text, complex_text, any_text, head_text, close_text};
-ghost use Rattle.xsd_write.specs.Texts.{as_row, named, content_text};
+ghost use Rattle.xsd_written.specs.ByRows.{attribute_text, empty_text, named_text, complex_text, any_text, head_markup, close_text};
+ghost use Rattle.xsd_write.specs.Texts.{as_row, named_opening, content_text};
 ghost use Rattle.xsd_write.specs.Puts.{Writes};
 
 use crate::part::Row;
@@ -13,7 +13,7 @@ use xsd_types::tags;
 impl Writer<'_> {
     // `opening` ends before the name's value.
     pub fn put_named(&mut self, opening: &[u8], row: Row)
-        ensures { Writes (named opening.now (as_row row.entry)) self.old self.new }
+        ensures { Writes (named_opening opening.now (as_row row.entry)) self.old self.new }
     {
         self.put_value(opening, row.first_text());
         self.put_value(b" type=", row.second_text());
@@ -36,7 +36,8 @@ impl Writer<'_> {
     }
 
     fn put_simple(&mut self, row: Row)
-        ensures { Writes (bytes "<xs:simpleType" ++ (attribute_text "name" (text0 (as_row row.entry)) ++ (bytes "><xs:restriction" ++ (attribute_text "base" (text1 (as_row row.entry)) ++ bytes ">")))) self.old self.new }
+        ensures { Writes (bytes "<xs:simpleType" ++ (attribute_text "name" (text0 (as_row row.entry))
+            ++ (bytes "><xs:restriction" ++ (attribute_text "base" (text1 (as_row row.entry)) ++ bytes ">")))) self.old self.new }
     {
         self.put_value(b"<xs:simpleType name=", row.first_text());
         self.put_base(b"><xs:restriction", row);
@@ -79,7 +80,7 @@ impl Writer<'_> {
     }
 
     pub fn put_head(&mut self, row: Row)
-        ensures { Writes (head_text (as_row row.entry)) self.old self.new }
+        ensures { Writes (head_markup (as_row row.entry)) self.old self.new }
     {
         let tag = row.numbers.tag;
         match tag {

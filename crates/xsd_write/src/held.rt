@@ -5,7 +5,7 @@ ghost use Rattle.sheet.specs.Rows.{text_at};
 ghost use Rattle.xml.specs.Values.{is_in_value};
 ghost use Rattle.xsd_written.specs.Call.{holds, unheld_from};
 ghost use Rattle.xsd_write.specs.Texts.{as_row};
-ghost use Rattle.xsd_write.specs.Parts.{part_rows};
+ghost use Rattle.xsd_write.specs.Parts.{rows_of_part};
 ghost use Rattle.xsd_write.specs.Steps.{unheld_of};
 
 use crate::part::Row;
@@ -67,14 +67,14 @@ fn row_holds(classes: &Classes, clear: usize, row: Row) -> bool
 
 // The row of the first value that XML cannot hold, from row 1, the namespace, up to the end.
 fn unheld_from(classes: &Classes, part: &SheetPart) -> Option<usize>
-    ensures { unheld_of result ≡ unheld_from 1 (part_rows part.now 1) }
+    ensures { unheld_of result ≡ unheld_from 1 (rows_of_part part.now 1) }
 {
     let clear = value_run(classes, part.names, 0);
     (1..part.end).find(|place| !row_holds(classes, clear, Row::at(part, *place)))
 }
 
 pub fn first_unheld(part: &SheetPart) -> Option<usize>
-    ensures { unheld_of result ≡ unheld_from 1 (part_rows part.now 1) }
+    ensures { unheld_of result ≡ unheld_from 1 (rows_of_part part.now 1) }
 {
     let classes = Classes::new();
     unheld_from(&classes, part)

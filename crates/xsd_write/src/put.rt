@@ -1,7 +1,7 @@
 // Texts put one behind the other. Where one has no room, the offset answered is past the buffer's end and stays there.
 ghost use Rattle.std.specs.Prelude.{◌++◌};
 ghost use Rattle.xsd_written.specs.Decimal.{decimal};
-ghost use Rattle.xsd_write.specs.Texts.{quoted};
+ghost use Rattle.xsd_write.specs.Texts.{quoted_value};
 ghost use Rattle.xsd_write.specs.Puts.{Writes};
 
 use crate::decimal::spell;
@@ -40,7 +40,7 @@ impl Writer<'_> {
 
     // "quotes double unless the value has one"
     pub fn put_value(&mut self, key: &[u8], value: &[u8])
-        ensures { Writes (key.now ++ quoted value.now) self.old self.new }
+        ensures { Writes (key.now ++ quoted_value value.now) self.old self.new }
     {
         self.put(key);
         if has_byte(value, 34) {
@@ -51,7 +51,7 @@ impl Writer<'_> {
     }
 
     pub fn put_number(&mut self, key: &[u8], n: u64)
-        ensures { Writes (key.now ++ quoted (decimal n)) self.old self.new }
+        ensures { Writes (key.now ++ quoted_value (decimal n)) self.old self.new }
     {
         let spelled = spell(n);
         let digits = spelled.digits;

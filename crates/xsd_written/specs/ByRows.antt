@@ -2,7 +2,7 @@
 -- ties it to the definition by items.
 --     attribute_text      one attribute, a space before it
 --     empty_text          an empty tag of a prefixed word around its attributes
---     head_text           what a head opens, by its tag; an element opens nothing
+--     head_markup           what a head opens, by its tag; an element opens nothing
 --     facet_word_text, facet_value_text, max_occurs_text, use_text    the parts of children's tags
 --     child_text          a child, by its tag
 --     close_text          what the head of a tag closes behind its children
@@ -13,7 +13,8 @@ use Prim.Native.String.{String}
 use Rattle.text.specs.Text.{Text, bytes, between}
 use Rattle.sheet.specs.Rows.{Row}
 use Rattle.xsd_types.specs.Types.{Schema}
-use Rattle.xsd_types.specs.Tags.{element_tag, simple_type_tag, enumeration_tag, pattern_tag, min_length_tag, max_length_tag, min_inclusive_tag, max_inclusive_tag, total_digits_tag, fraction_digits_tag, sequence_tag, choice_tag, simple_content_tag, any_tag, bound_element_tag, unbounded_element_tag, choice_variant_tag}
+use Rattle.xsd_types.specs.Tags.{element_tag, simple_type_tag, enumeration_tag, pattern_tag, min_length_tag, max_length_tag, min_inclusive_tag, max_inclusive_tag, total_digits_tag}
+use Rattle.xsd_types.specs.Tags.{fraction_digits_tag, sequence_tag, choice_tag, simple_content_tag, any_tag, bound_element_tag, unbounded_element_tag, choice_variant_tag}
 use Rattle.xsd_types.specs.Rows.{items_rows}
 use Rattle.xsd_types.specs.Good.{is_head}
 use Rattle.xsd_types.specs.Back.{text0, text1}
@@ -37,8 +38,8 @@ complex_text r content = bytes "<xs:complexType" ++ (attribute_text "name" (text
 unfoldable pub any_text : Row → Text
 any_text r = if eqb r.a 1 then attribute_text "namespace" (text1 r) else []
 
-unfoldable pub head_text : Row → Text
-head_text r =
+unfoldable pub head_markup : Row → Text
+head_markup r =
     if eqb r.tag element_tag then empty_text (bytes "element") (named_text r) else
     if eqb r.tag simple_type_tag
     then bytes "<xs:simpleType" ++ (attribute_text "name" (text0 r) ++ (bytes "><xs:restriction" ++ (attribute_text "base" (text1 r) ++ bytes ">"))) else
@@ -88,7 +89,7 @@ close_text tag =
 unfoldable pub rows_text : ℕ → List Row → Text
 rows_text pending [] = close_text pending
 rows_text pending (r ∷ rs) =
-    if is_head r.tag then close_text pending ++ (head_text r ++ rows_text r.tag rs) else child_text r ++ rows_text pending rs
+    if is_head r.tag then close_text pending ++ (head_markup r ++ rows_text r.tag rs) else child_text r ++ rows_text pending rs
 
 unfoldable pub schema_by_rows : Schema → Text
 schema_by_rows s =

@@ -3,7 +3,7 @@
 --     unheld_from    the place of the first row, the rows being counted from a place on, one of whose texts is not such
 --     first_unheld   of the finished part: row 1, the namespace, then the rows of the items
 --     Wrote         number, place and text afterwards
---     unchanged, zeroed    a refusal that leaves the text, that makes it zero
+--     text_unchanged, zeroed    a refusal that leaves the text, that makes it zero
 --     write_back     the call; WriteIs: what it says of itself
 use Rattle.std.specs.Prelude.{ℕ, suc, ◌≡◌, List, [], ◌∷◌, Bool, ◌&&◌, leb, length, if◌then◌else◌}
 use Rattle.std.proofs.Math.Option.{Option, some, none}
@@ -37,23 +37,23 @@ pub record Wrote : Type 0 where
   pub place : ℕ
   pub text : List ℕ
 
-unfoldable pub unchanged : ℕ → List ℕ → Wrote
-unchanged number text = record { number = number; place = 0; text = text }
+unfoldable pub text_unchanged : ℕ → List ℕ → Wrote
+text_unchanged number text = record { number = number; place = 0; text = text }
 
 -- "text zero from 12 on"
 unfoldable pub zeroed : ℕ → ℕ → ℕ → Wrote
 zeroed number place lent = record { number = number; place = place; text = filled lent [] }
 
 -- 23: "text longer than lent"; "accepted, place is the length and the rest is zero"
-unfoldable pub written : Text → ℕ → Wrote
-written text lent =
+unfoldable pub text_written : Text → ℕ → Wrote
+text_written text lent =
     if leb (length text) lent
     then record { number = accepted; place = length text; text = filled lent text }
     else zeroed short_text 0 lent
 
 abbrev pub unheld_or_written : Option ℕ → Schema → ℕ → Wrote
 unheld_or_written (some place) s lent = zeroed unheld_value place lent
-unheld_or_written none s lent = written (schema_text s) lent
+unheld_or_written none s lent = text_written (schema_text s) lent
 
 -- 12: "no root seen". The schema is the finished part: the open type is in the context
 unfoldable pub write_state : State → ℕ → Wrote
@@ -65,8 +65,8 @@ write_state s lent =
 unfoldable pub write_back : Sheet → List ℕ → Wrote
 write_back x text =
     if good_lengths (lengths_of x) && leb (length text) text_limit
-    then if good x then write_state (state_of x) (length text) else unchanged not_good text
-    else unchanged bad_length text
+    then if good x then write_state (state_of x) (length text) else text_unchanged not_good text
+    else text_unchanged bad_length text
 
 -- what a writing says of itself: number, place and text afterwards are the definition's; the sheet is lent for reading alone
 abbrev pub WriteIs : Sheet → List ℕ → ℕ → ℕ → List ℕ → Type 0

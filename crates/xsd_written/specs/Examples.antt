@@ -108,7 +108,8 @@ unfolding computes texts sheets schemas
 two-by-rows = refl
 
 -- "a `<`, both quotes, a forbidden control byte, a `&` that starts no predefined entity or legal character reference"
-held : every holds (bytes "" ∷ bytes "it's" ∷ bytes "a\"b" ∷ bytes ">]]>" ∷ bytes "&amp;&lt;&gt;&apos;&quot;" ∷ bytes "&#0065;&#x10FFFF;" ∷ (9 ∷ 10 ∷ 13 ∷ 32 ∷ 127 ∷ []) ∷ (195 ∷ 169 ∷ 195 ∷ 151 ∷ []) ∷ []) ≡ true
+held : every holds (bytes "" ∷ bytes "it's"
+    ∷ bytes "a\"b" ∷ bytes ">]]>" ∷ bytes "&amp;&lt;&gt;&apos;&quot;" ∷ bytes "&#0065;&#x10FFFF;" ∷ (9 ∷ 10 ∷ 13 ∷ 32 ∷ 127 ∷ []) ∷ (195 ∷ 169 ∷ 195 ∷ 151 ∷ []) ∷ []) ≡ true
 unfolding computes texts takes
 held = refl
 
@@ -121,7 +122,7 @@ unheld = refl
 unfoldable with_open : Schema → State
 with_open s =
     record {
-      reader = record { schema = s; root_seen = true; context = Context.in_simple_type (record { name = bytes "<"; base = []; facets = []; nesting_depth = 0; event = 2 }) };
+      reader = record { schema = s; root_seen = true; context = Context.in_simple_type (record { head = record { name = bytes "<"; event = 2 }; base = []; facets = []; nesting_depth = 0 }) };
       events = 3;
       open_tags = 2;
       by_standard = false;

@@ -1,7 +1,7 @@
 -- What proofs say of written markup that is read. No contract cites it.
---     tag_ok, markup_ok    names and values may be written: Written's tests of a tag
+--     written_tag_ok, markup_ok    names and values may be written: Written's tests of a tag
 --     open_behind, closes, nested    each end tag closes the innermost open tag; the names that are open, the innermost first, and those that are open behind all
---     placed_one, placed  the events of markup written at an offset
+--     placed_one, placed_events  the events of markup written at an offset
 --     Below              as many rows and bytes of names, or fewer
 --     Handled            events that are refused for nothing but room: each is handled, has its open tag, and leaves no fewer rows and bytes of names
 --     event_of_markup      the event that markup is read as; events_of: the records of a list
@@ -16,15 +16,15 @@ use Rattle.xsd_parser.specs.Tape.{Judged, event}
 use Rattle.xsd_parser.specs.Handlers.{ok}
 use Rattle.xsd_parser.specs.Step.{handled, tags_after, counted}
 use Rattle.xml.specs.Tape.{TapeEvent}
-use Rattle.xml.specs.Written.{is_name_text, attribute_ok, new_keys, written_event}
+use Rattle.xml.specs.Written.{is_name_text, written_attribute_ok, new_keys, written_event}
 use Rattle.xsd_written.specs.Markup.{Markup, starts, empties, ends, markup_text}
 
-unfoldable pub tag_ok : Tag → Bool
-tag_ok t = is_name_text t.name && every attribute_ok t.attributes && new_keys [] t.attributes
+unfoldable pub written_tag_ok : Tag → Bool
+written_tag_ok t = is_name_text t.name && every written_attribute_ok t.attributes && new_keys [] t.attributes
 
 unfoldable pub markup_ok : Markup → Bool
-markup_ok (starts t) = tag_ok t
-markup_ok (empties t) = tag_ok t
+markup_ok (starts t) = written_tag_ok t
+markup_ok (empties t) = written_tag_ok t
 markup_ok (ends n) = is_name_text n
 
 -- the tags open behind a piece of markup; nothing is open where an end tag matches none
@@ -52,9 +52,9 @@ placed_one at (starts t) = written_event at start_kind t
 placed_one at (empties t) = written_event at empty_kind t
 placed_one at (ends n) = TapeEvent.close
 
-unfoldable pub placed : ℕ → List Markup → List TapeEvent
-placed at [] = []
-placed at (m ∷ ms) = placed_one at m ∷ placed (at + length (markup_text m)) ms
+unfoldable pub placed_events : ℕ → List Markup → List TapeEvent
+placed_events at [] = []
+placed_events at (m ∷ ms) = placed_one at m ∷ placed_events (at + length (markup_text m)) ms
 
 abbrev pub event_of_markup : Markup → Event
 event_of_markup (starts t) = Event.start t

@@ -1,6 +1,6 @@
 -- Order 8: the markup of a schema. "types and elements in sheet order, tags prefixed `xs:`"; "Elements, facets, `any` and `attribute` are empty tags; all
 -- others open and close."
---     attr          an attribute by its quoted key; tag_of: a tag by its quoted word, prefixed
+--     attr          an attribute by its quoted key; prefixed_tag: a tag by its quoted word, prefixed
 --     around        a start tag, what it holds, its end tag
 --     facet_markup, element_markup, variant_markup, attribute_markup    a child
 --     content_markup what a complex type holds; item_markup, items_markup: an item, all items
@@ -21,14 +21,14 @@ attr key v = record { key = bytes key; value = v }
 unfoldable pub prefixed : String → Text
 prefixed word = bytes "xs:" ++ bytes word
 
-unfoldable pub tag_of : String → List Attr → Tag
-tag_of word xs = record { name = prefixed word; attributes = xs }
+unfoldable pub prefixed_tag : String → List Attr → Tag
+prefixed_tag word xs = record { name = prefixed word; attributes = xs }
 
 unfoldable pub around : String → List Attr → List Markup → List Markup
-around word xs ms = starts (tag_of word xs) ∷ (ms ++ ends (prefixed word) ∷ [])
+around word xs ms = starts (prefixed_tag word xs) ∷ (ms ++ ends (prefixed word) ∷ [])
 
 unfoldable pub valued : String → Text → Markup
-valued word v = empties (tag_of word (attr "value" v ∷ []))
+valued word v = empties (prefixed_tag word (attr "value" v ∷ []))
 
 unfoldable pub facet_markup : Facet → Markup
 facet_markup (Facet.enumeration v) = valued "enumeration" v
@@ -47,10 +47,10 @@ max_text MaxOccurs.unbounded = bytes "unbounded"
 -- "Attributes stand in row order": name, type, min, max
 unfoldable pub element_markup : SequenceElement → Markup
 element_markup e =
-    empties (tag_of "element" (attr "name" e.name ∷ attr "type" e.type_name ∷ attr "minOccurs" (decimal e.min_occurs) ∷ attr "maxOccurs" (max_text e.max_occurs) ∷ []))
+    empties (prefixed_tag "element" (attr "name" e.name ∷ attr "type" e.type_name ∷ attr "minOccurs" (decimal e.min_occurs) ∷ attr "maxOccurs" (max_text e.max_occurs) ∷ []))
 
 unfoldable pub variant_markup : ChoiceVariant → Markup
-variant_markup v = empties (tag_of "element" (attr "name" v.name ∷ attr "type" v.type_name ∷ []))
+variant_markup v = empties (prefixed_tag "element" (attr "name" v.name ∷ attr "type" v.type_name ∷ []))
 
 -- "`use` only if required"
 abbrev pub use_of : Bool → List Attr
@@ -58,7 +58,7 @@ use_of true = attr "use" (bytes "required") ∷ []
 use_of false = []
 
 unfoldable pub attribute_markup : Attribute → Markup
-attribute_markup x = empties (tag_of "attribute" (attr "name" x.name ∷ attr "type" x.type_name ∷ use_of x.required))
+attribute_markup x = empties (prefixed_tag "attribute" (attr "name" x.name ∷ attr "type" x.type_name ∷ use_of x.required))
 
 -- "`namespace` only if present"
 abbrev pub namespace_of : Option Text → List Attr
@@ -70,11 +70,11 @@ unfoldable pub content_markup : ComplexContent → List Markup
 content_markup (ComplexContent.sequence es) = around "sequence" [] (map element_markup es)
 content_markup (ComplexContent.choice vs) = around "choice" [] (map variant_markup vs)
 content_markup (ComplexContent.simple_content base xs) = around "simpleContent" [] (around "extension" (attr "base" base ∷ []) (map attribute_markup xs))
-content_markup (ComplexContent.any n) = around "sequence" [] (empties (tag_of "any" (namespace_of n)) ∷ [])
+content_markup (ComplexContent.any n) = around "sequence" [] (empties (prefixed_tag "any" (namespace_of n)) ∷ [])
 
 -- "A simpleType holds a restriction"
 unfoldable pub item_markup : Item → List Markup
-item_markup (Item.element e) = empties (tag_of "element" (attr "name" e.name ∷ attr "type" e.type_name ∷ [])) ∷ []
+item_markup (Item.element e) = empties (prefixed_tag "element" (attr "name" e.name ∷ attr "type" e.type_name ∷ [])) ∷ []
 item_markup (Item.simple_type t) =
     around "simpleType" (attr "name" t.name ∷ []) (around "restriction" (attr "base" t.base ∷ []) (map facet_markup t.facets))
 item_markup (Item.complex_type t) = around "complexType" (attr "name" t.name ∷ []) (content_markup t.content)

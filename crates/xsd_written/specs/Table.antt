@@ -1,6 +1,6 @@
 -- Order 8's numbers, "1 .., 2, 12, 22, 23": each is one case, with its own condition, those before it failing, its place and what is left of the text. 22 is told by the
 -- grammar of XML 1.0. No contract cites it: it is what the claim says.
---     Held          XML 1.0 derives an attribute value that has the text between its quotes; EachHeld: so for each text of a row; RowsHeld: of each row
+--     ValueHeld          XML 1.0 derives an attribute value that has the text between its quotes; EachHeld: so for each text of a row; RowsHeld: of each row
 --     finished_texts the texts of the finished rows from row 1 on
 --     FirstUnheld   the place of the first row one of whose texts is not held, the rows being counted from a place on
 --     WriteTable    a writing of a sheet ends with w; WriteOutcome: of a good sheet, by its state
@@ -17,14 +17,14 @@ use Rattle.xsd_types.specs.Count.{good, state_of}
 use Rattle.xml.specs.Grammar.{AttValue}
 use Rattle.xsd_written.specs.Schema.{schema_text}
 use Rattle.sheet.specs.Returned.{unheld_value, short_text}
-use Rattle.xsd_written.specs.Call.{Wrote, unchanged, zeroed}
+use Rattle.xsd_written.specs.Call.{Wrote, text_unchanged, zeroed}
 
-abbrev pub Held : Text → Type 0
-Held v = (w : Text) × AttValue v w
+abbrev pub ValueHeld : Text → Type 0
+ValueHeld v = (w : Text) × AttValue v w
 
 abbrev pub EachHeld : List Text → Type 0
 EachHeld [] = Unit {0}
-EachHeld (v ∷ vs) = Held v × EachHeld vs
+EachHeld (v ∷ vs) = ValueHeld v × EachHeld vs
 
 abbrev pub RowsHeld : List (List Text) → Type 0
 RowsHeld [] = Unit {0}
@@ -56,7 +56,7 @@ pub data WriteOutcome (s : State) (lent : ℕ) (w : Wrote) : Type 0 where
 
 pub data WriteTable (x : Sheet) (before : List ℕ) (w : Wrote) : Type 0 where
   -- 1: a length, "over 65,536 bytes of text lent too"; nothing changed
-  lengths : good_lengths (lengths_of x) && leb (length before) text_limit ≡ false → w ≡ unchanged returned.bad_length before → WriteTable x before w
+  lengths : good_lengths (lengths_of x) && leb (length before) text_limit ≡ false → w ≡ text_unchanged returned.bad_length before → WriteTable x before w
   -- 2: "schema sheet not good"; nothing changed
-  not_good : good_lengths (lengths_of x) && leb (length before) text_limit ≡ true → good x ≡ false → w ≡ unchanged returned.not_good before → WriteTable x before w
+  not_good : good_lengths (lengths_of x) && leb (length before) text_limit ≡ true → good x ≡ false → w ≡ text_unchanged returned.not_good before → WriteTable x before w
   judged : good_lengths (lengths_of x) && leb (length before) text_limit ≡ true → good x ≡ true → WriteOutcome (state_of x) (length before) w → WriteTable x before w

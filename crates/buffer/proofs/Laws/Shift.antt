@@ -68,7 +68,8 @@ moving-store d₀ s to j room more =
     ∙ sym (append_assoc p (get_or s j 0 ∷ drop (suc j) s) rest))
 
 -- what a turn towards the end reads
-pub read_up : {d₀ d : List ℕ} {to from n : ℕ} (j : ℕ) → Moving d₀ to (take n (drop from d₀)) (suc j) d → from ≤ to → to + n ≤ length d₀ → j < n → get_or d (from + j) 0 ≡ get_or (take n (drop from d₀)) j 0
+pub read_up : {d₀ d : List ℕ} {to from n : ℕ} (j : ℕ) → Moving d₀ to (take n (drop from d₀)) (suc j) d → from ≤ to
+    → to + n ≤ length d₀ → j < n → get_or d (from + j) 0 ≡ get_or (take n (drop from d₀)) j 0
 read_up {d₀} {d} {to} {from} {n} j w up room more =
     let s = take n (drop from d₀) in
     ap (λ (l : List ℕ). get_or l (from + j) 0) w.is ∙ get_d-before d₀ (drop (suc j) s) (drop (to + length s) d₀) (to + suc j) (from + j) (omega arith) (omega arith) ∙ sym (get_d_part d₀ from n j more)

@@ -1,17 +1,20 @@
--- Laws of specs/Filled.antt: numbers written one a turn, and which number comes next. No contract cites them. Assumes nothing.
---     above_of       the number above row r in column c of rows, 0 above the first
-use Rattle.std.proofs.Common.{◌≡◌, ℕ, zero, suc, ◌+◌, ◌-◌, ◌*◌, ◌/◌, ◌%◌, ◌<◌, ◌≤◌, List, length, get_or, set, sym, refl, ◌∙◌, add-one, arith, take_all, get_or-take, take-suc-set, le-ltb, lt-ltb}
-use Rattle.columns.specs.Columns.{modulus, minus, plus, up_to, height, in_row, in_column, changed, column_at, restored, row_at}
-use Rattle.columns.specs.Filled.{Filled, above_in}
-use Rattle.columns.proofs.Laws.Places.{get_d-up_to, at-column, at_row}
-
-pub filled_none : (f : ℕ → ℕ) (out : List ℕ) → Filled f 0 out
-unfolding up_to
-filled_none f out = record { is = refl }
+-- Laws of specs/Filled.antt: what is above a number, numbers written one a turn, and which number comes next. No contract cites them. Assumes nothing.
+use Rattle.std.proofs.Common.{◌≡◌, ℕ, zero, suc, ◌+◌, ◌-◌, ◌*◌, ◌/◌, ◌%◌, ◌<◌, ◌≤◌, List, length, get_or, set, take, sym, refl, ◌∙◌}
+use Rattle.std.proofs.Common.{add-one, arith, take_all, get_or-take, length-take-le, take-suc-set, ext_get_or, le-ltb, lt-ltb}
+use Rattle.columns.specs.Columns.{modulus, minus, plus, up_to, height, in_row, in_column, changed, restored, row_at}
+use Rattle.columns.specs.Filled.{Filled, above_in, before}
+use Rattle.columns.proofs.Laws.Places.{length-up_to, get_d-up_to}
 
 pub filled_more : {f : ℕ → ℕ} {k : ℕ} {out : List ℕ} → Filled f k out → k < length out → (x : ℕ) → x ≡ f k → Filled f (k + 1) (set out k x)
 unfolding up_to
 filled_more {f} {k} {out} w h x e = record { is = rw (add-one k, take-suc-set out k x h, w.is, e) }
+
+pub filled_from : (f : ℕ → ℕ) (k : ℕ) (out : List ℕ) → k ≤ length out → ((j : ℕ) → j < k → get_or out j 0 ≡ f j) → Filled f k out
+filled_from f k out le h =
+    record {
+      is = ext_get_or 0 (take k out) (up_to k f) (length-take-le k out le ∙ sym (length-up_to k f))
+          (λ (j : ℕ) b. let s : j < k = rw (length-take-le k out le) at b in get_or-take k out j 0 s ∙ h j s ∙ sym (get_d-up_to k f j s));
+    }
 
 pub filled-all : {f : ℕ → ℕ} {k : ℕ} (n : ℕ) (out : List ℕ) → Filled f k out → k ≡ n → length out ≤ n → out ≡ up_to n f
 filled-all {f} {k} n out w e l = sym (take_all n out l) ∙ rw (← e) w.is
@@ -19,32 +22,31 @@ filled-all {f} {k} n out w e l = sym (take_all n out l) ∙ rw (← e) w.is
 filled_at : {f : ℕ → ℕ} {k : ℕ} {out : List ℕ} → Filled f k out → (j : ℕ) → j < k → get_or out j 0 ≡ f j
 filled_at {f} {k} {out} w j h = sym (get_or-take k out j 0 h) ∙ rw w.is (get_d-up_to k f j h)
 
--- ---- a column
-unfoldable pub above_of : List ℕ → ℕ → ℕ → ℕ
-above_of rows c zero = 0
-above_of rows c (suc r) = in_row rows r c
+-- ---- what is above
+pub before_next : (f : ℕ → ℕ) (r : ℕ) → before f (r + 1) ≡ f r
+unfolding before
+before_next f r = rw (add-one r)
 
-pub above-next : (rows : List ℕ) (c r : ℕ) → in_row rows r c ≡ above_of rows c (r + 1)
-unfolding above_of
-above-next rows c r = rw (add-one r)
+pub above-before : (rows : List ℕ) (c r : ℕ) → c < 10 → above_in rows (10 * r + c) ≡ before (λ k. in_row rows k c) r
+unfolding above_in before
+above-before rows c zero l = rw (lt-ltb (10 * 0 + c) 10 (omega arith))
+above-before rows c (suc r) l = let j : 10 * suc r + c - 10 ≡ 10 * r + c = omega arith in rw (le-ltb (10 * suc r + c) 10 (omega arith), j)
 
-changed-is : (rows : List ℕ) (c r above : ℕ) → in_row rows r c < modulus → above ≡ above_of rows c r → minus (in_row rows r c) above ≡ changed rows c r
-unfolding changed above_of minus
-changed-is rows c zero above h a = rw a (omega arith)
-changed-is rows c (suc r) above h a = rw a
+pub changed-is : (rows : List ℕ) (c r : ℕ) → in_row rows r c < modulus → minus (in_row rows r c) (before (λ k. in_row rows k c) r) ≡ changed rows c r
+unfolding changed before minus
+changed-is rows c zero h = omega arith
+changed-is rows c (suc r) h = refl
 
--- the number at place c * h + r of the columns
-pub column-number : (rows : List ℕ) (h c r above : ℕ) → length rows ≡ 10 * h → r < h → in_row rows r c < modulus → above ≡ above_of rows c r → minus (in_row rows r c) above ≡ column_at rows (c * h + r)
-unfolding column_at
-column-number rows h c r above l b s a =
-    let e : height rows ≡ h = omega arith in
-    changed-is rows c r above s a ∙ sym (rw (e, at-column h c r b, at_row h c r b))
-
--- ---- a row
 plus-zero : (x : ℕ) → x < modulus → plus 0 x ≡ x
 unfolding plus
 plus-zero x h = omega arith
 
+pub restored-before : (columns : List ℕ) (c r : ℕ) → in_column columns c r < modulus → plus (before (restored columns c) r) (in_column columns c r) ≡ restored columns c r
+unfolding restored before
+restored-before columns c zero s = plus-zero _ s
+restored-before columns c (suc r) s = refl
+
+-- ---- a row
 restored-is : (columns out : List ℕ) (c r k : ℕ) → c < 10 → k ≡ 10 * r + c → Filled (row_at columns) k out → in_column columns c r < modulus
     → plus (above_in out k) (in_column columns c r) ≡ restored columns c r
 unfolding restored above_in row_at

@@ -1,5 +1,6 @@
 -- Laws of specs/Columns.antt: a list told by its places, and where a column's numbers stand. No contract cites them. Assumes nothing.
-use Rattle.std.proofs.Common.{◌≡◌, ℕ, zero, suc, ◌+◌, ◌*◌, ◌/◌, ◌%◌, ◌<◌, ◌≤◌, [], ◌∷◌, length, get_or, refl, ◌∙◌, ⊎_elim, mul-le-mul_right, mod-eq_of_lt, suc-mul, eq-or-lt_of_le, add-one, arith, length-append}
+use Rattle.std.proofs.Common.{◌≡◌, ℕ, zero, suc, ◌+◌, ◌*◌, ◌/◌, ◌%◌, ◌<◌, ◌≤◌, [], ◌∷◌, length, get_or, refl, ◌∙◌}
+use Rattle.std.proofs.Common.{⊎_elim, mul-le-mul_right, mod-eq_of_lt, suc-mul, eq-or-lt_of_le, arith, length-append}
 use native.Mathlib.Nat.{mul-add-mod_self_right, mul-add-div_right, div-eq_of_lt}
 use lib.ListN.{get_or-append}
 use lib.Seq.{get_or_at}
@@ -30,6 +31,3 @@ module _ (h c r : ℕ) (l : r < h) where
 
 pub column_fits : (c h : ℕ) → c < 10 → c * h + h ≤ 10 * h
 column_fits c h k = let m : suc c * h ≤ 10 * h = mul-le-mul_right h (omega arith) in omega (arith, suc-mul c h)
-
-pub column-next : (c h : ℕ) → (c + 1) * h ≡ c * h + h
-column-next c h = rw (add-one c) (suc-mul c h)

@@ -1,4 +1,4 @@
--- `columns::put_rows`: r rows are written, each of ten numbers.
+-- `columns::put_rows`: behind the squares r rows are written, each of ten numbers.
 use Rattle.std.proofs.Common.{◌≡◌, ◌*◌, length}
 use Rattle.columns.specs.Columns.{row_at}
 use Rattle.columns.specs.Filled.{Filled}

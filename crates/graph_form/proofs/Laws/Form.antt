@@ -65,21 +65,28 @@ module _ (rows names : List ℕ) where
   in-parts : parts_fit (ten rows).at0 (ten rows).len0 (length rows) (length names) ≡ true
       → row0_form (graph_row0_from (ten rows)) && ends (ten rows).len0 (λ (head : ℕ). true) (scanned_sheet graph_tests (ten rows).len0 (ten (drop 10 rows) ∷ rest rows (ten rows)))
       && eqb (ten rows).at1 (count is_root (tags_of (rest rows (ten rows)))) && eqb (ten rows).len1 (count is_type_tag (tags_of (rest rows (ten rows))))
-      && zeros rows names (ten rows) && texts names (ten rows) (ten (drop 10 rows) ∷ rest rows (ten rows)) ≡ graph_form (sheet rows names)
+      && zeros rows names (ten rows) && texts names (ten rows) (tens ((ten rows).at0 - 1) (drop 10 rows)) ≡ graph_form (sheet rows names)
   unfolding used_parts row0_of zeros_behind tens_of parts_fit rows_form names_form tags_of
   in-parts h =
       let z = ten rows in
       let two = (parts-inside z.at0 z.len0 (length rows) (length names) h).0 in
-      rw (form-whole (sheet rows names), each-text, sheet-ends graph_tests z.len0 (λ (head : ℕ). true) (ten (drop 10 rows)) (rest rows z), orders 1 (tags (rest rows z)), h, tens-two z.at0 rows two) (search in-turn)
+      rw (
+        form-whole (sheet rows names),
+        each-text,
+        sheet-ends graph_tests z.len0 (λ (head : ℕ). true) (ten (drop 10 rows)) (rest rows z),
+        orders 1 (tags (rest rows z)),
+        h,
+        tens-two z.at0 rows two,
+      ) (search in-turn)
 
   -- of the results that the code's calls give
   module _ (z : Ten) (e : z ≡ ten rows) (h : parts_fit z.at0 z.len0 (length rows) (length names) ≡ true) where
-    pub form-tests : (s : Scan) {f b n : Bool} {t : Ten} {roots types : ℕ} → f ≡ row0_form (graph_row0_from z) → b ≡ zeros rows names z → n ≡ texts names z (t ∷ rest rows z)
+    pub form-tests : (s : Scan) {f b n : Bool} {t : Ten} {roots types : ℕ} → f ≡ row0_form (graph_row0_from z) → b ≡ zeros rows names z → n ≡ texts names z (tens (z.at0 - 1) (drop 10 rows))
         → t ≡ ten (drop 10 rows) → roots ≡ count is_root (tags_of (rest rows z)) → types ≡ count is_type_tag (tags_of (rest rows z))
         → Some s ≡ scanned_sheet graph_tests z.len0 (t ∷ rest rows z) → f && eqb s.end z.len0 && eqb z.at1 roots && eqb z.len1 types && b && n ≡ graph_form (sheet rows names)
     form-tests s f b n t roots types d =
         let ended = rw (t, e) at d in
-        let each = rw (t, e) at n in
+        let each = rw e at n in
         rw (f, b, each, roots, types, e) (rw (← ended, and-true) at (in-parts (rw e at h)))
 
     -- a row failed

@@ -114,8 +114,10 @@ module _ {w : GraphWriter} (r : Row) where
       → w'.rows.now ≡ paste w.rows.now (10 * w.used.rows) (numbers_of w.used.names r) 10 → w'.names.now ≡ paste w.names.now w.used.names (join r.texts) (length (join r.texts))
       → w'.used ≡ record { rows = w.used.rows + 1; names = end } → end ≡ w.used.names + length (join r.texts) → Grows w (r ∷ []) w' (Some u)
   grown-one {w'} {end = end} rows_room names_room i j e f m n =
-      let rows_same : length w'.rows.now ≡ length w.rows.now = ap length e ∙ length-paste w.rows.now (10 * w.used.rows) (numbers_of w.used.names r) 10 rows_room (omega (arith, length-numbers_of w.used.names r)) in
-      let names_same : length w'.names.now ≡ length w.names.now = ap length f ∙ length-paste w.names.now w.used.names (join r.texts) (length (join r.texts)) names_room (le_refl (length (join r.texts))) in
+      let rows_same : length w'.rows.now ≡ length w.rows.now = ap length e
+      ∙ length-paste w.rows.now (10 * w.used.rows) (numbers_of w.used.names r) 10 rows_room (omega (arith, length-numbers_of w.used.names r)) in
+      let names_same : length w'.names.now ≡ length w.names.now = ap length f
+      ∙ length-paste w.names.now w.used.names (join r.texts) (length (join r.texts)) names_room (le_refl (length (join r.texts))) in
       record {
         same_rows = i;
         same_names = j;

@@ -38,7 +38,7 @@ use Rattle.xsd_good.proofs.Laws.Bare.{bare-held, bare-end, bare-room, bare-count
 use Rattle.ir_types.specs.Types.{TypeGraph}
 use Rattle.ir_types.specs.Sheet.{graph_fits}
 use Rattle.ir_lower.specs.Lower.{lower}
-use Rattle.ir_lower.specs.Call.{Lowered, zeros, unchanged, cleared, written, repeated_or_written, refused_or_written, lower_finished, lower_state, lowering, scratch_least}
+use Rattle.ir_lower.specs.Call.{Lowered, zeros, unchanged, cleared, graph_written, repeated_or_written, refused_or_written, lower_finished, lower_state, lowering, scratch_least}
 use Rattle.ir_lower.specs.Repeated.{first_repeated, repeated_row}
 use Rattle.ir_lower.proofs.Laws.Left.{length-zeros}
 use Rattle.xsd_types.specs.Places.{row_at, rows_from}
@@ -47,7 +47,7 @@ use Rattle.ir_rows.specs.Lowered.{lowered_row}
 use Rattle.ir_rows.specs.Parts.{part_rows, part_heads}
 use Rattle.ir_rows.proofs.Laws.Graph.{unknown-place, unknown-refused, unknown-lowered, repeated-heads, root-count, type-count, graph-rows, namespace-lowered, Stands}
 use Rattle.ir_append.specs.Whole.{Cleared}
-use Rattle.ir_call.specs.Steps.{Sized, lowered, Lowers, GraphOf, GraphStands}
+use Rattle.ir_call.specs.Steps.{SizedSheet, lowered_sheets, LowersState, GraphOf, GraphStands}
 
 -- a refusal whose place is 0
 pub refusal_at_0 : {why : Refusal} {refused : Refused} → refused ≡ record { refusal = why; place = 0 } → answer_of (Err refused) ≡ answered (refusal_number why) 0
@@ -62,7 +62,7 @@ zeros-as xs ys e = ap (λ (n : ℕ). replicate n 0) e
 zeros-twice : (xs : List ℕ) → zeros xs ≡ zeros (zeros xs)
 zeros-twice xs = zeros-as xs (zeros xs) (sym (length-zeros xs))
 
-pub cleared-zeros : {rows names : List ℕ} → Sized rows names → Cleared (zeros rows) (zeros names)
+pub cleared-zeros : {rows names : List ℕ} → SizedSheet rows names → Cleared (zeros rows) (zeros names)
 unfolding zeros
 cleared-zeros {rows} {names} s =
     record {
@@ -92,44 +92,44 @@ zeros-again {table} {filled} {used} front l f w z =
 module _ (rows names scratch : List ℕ) (g : TypeGraph) where
   pub known-full : (rows₁ names₁ : List ℕ) {rows₂ names₂ : List ℕ} {a : Answer} → graph_fits (length rows) (length names) g ≡ false → a ≡ answered 15 0
       → length rows₁ ≡ length rows → rows₂ ≡ zeros rows₁ → length names₁ ≡ length names → names₂ ≡ zeros names₁
-      → lowered a rows₂ names₂ (zeros scratch) ≡ written g (sheet rows names) scratch
-  unfolding written cleared
-  known-full rows₁ names₁ short e lr r ln n = rw short (λ i. lowered (e i) ((r ∙ zeros-as rows₁ rows lr) i) ((n ∙ zeros-as names₁ names ln) i) (zeros scratch))
+      → lowered_sheets a rows₂ names₂ (zeros scratch) ≡ graph_written g (sheet rows names) scratch
+  unfolding graph_written cleared
+  known-full rows₁ names₁ short e lr r ln n = rw short (λ i. lowered_sheets (e i) ((r ∙ zeros-as rows₁ rows lr) i) ((n ∙ zeros-as names₁ names ln) i) (zeros scratch))
 
   pub known-stands : {rows₁ names₁ : List ℕ} {place : ℕ} {a : Answer} → GraphStands g rows names rows₁ names₁ place → a ≡ answered 0 place
-      → lowered a rows₁ names₁ (zeros scratch) ≡ written g (sheet rows names) scratch
-  unfolding written
+      → lowered_sheets a rows₁ names₁ (zeros scratch) ≡ graph_written g (sheet rows names) scratch
+  unfolding graph_written
   known-stands st e = rw st.fits (λ i. record { answer = (e ∙ ap (answered 0) st.place_is) i; graph = st.graph i; scratch = zeros scratch })
 
   -- ---- 20: the graph is zeros already
 
   pub known-repeated : {a : Answer} {row : ℕ} (o : Option ℕ) → o ≡ some row → Cleared rows names → a ≡ answered 20 row
-      → lowered a rows names (zeros scratch) ≡ repeated_or_written o g (sheet rows names) scratch
+      → lowered_sheets a rows names (zeros scratch) ≡ repeated_or_written o g (sheet rows names) scratch
   unfolding cleared zeros
   known-repeated o q c e =
-      (λ i. lowered (e i) (c.rows_zero i) (c.names_zero i) (zeros scratch)) ∙ ap (λ (r : Option ℕ). repeated_or_written r g (sheet rows names) scratch) (sym q)
+      (λ i. lowered_sheets (e i) (c.rows_zero i) (c.names_zero i) (zeros scratch)) ∙ ap (λ (r : Option ℕ). repeated_or_written r g (sheet rows names) scratch) (sym q)
 
   -- no name came before: the graph, or 15
-  pub known-once : {x : Lowered} (o : Option ℕ) → o ≡ none → x ≡ written g (sheet rows names) scratch → x ≡ repeated_or_written o g (sheet rows names) scratch
+  pub known-once : {x : Lowered} (o : Option ℕ) → o ≡ none → x ≡ graph_written g (sheet rows names) scratch → x ≡ repeated_or_written o g (sheet rows names) scratch
   known-once o e w = w ∙ ap (λ (r : Option ℕ). repeated_or_written r g (sheet rows names) scratch) (sym e)
 
 -- ---- 12 and 13, where the graph is zeros already
 
-module _ {part : SheetPart} {root : Bool} {s : State} (l : Lowers part root s) {gr gn : List ℕ} (c : Cleared gr gn) (scratch : List ℕ) where
-  pub finished-rootless : {a : Answer} → root ≡ false → a ≡ answered 12 0 → lowered a gr gn (zeros scratch) ≡ lower_finished s (sheet gr gn) scratch
+module _ {part : SheetPart} {root : Bool} {s : State} (l : LowersState part root s) {gr gn : List ℕ} (c : Cleared gr gn) (scratch : List ℕ) where
+  pub finished-rootless : {a : Answer} → root ≡ false → a ≡ answered 12 0 → lowered_sheets a gr gn (zeros scratch) ≡ lower_finished s (sheet gr gn) scratch
   unfolding lower_finished cleared zeros
   finished-rootless f e =
       let seen = sym l.root ∙ f in
-      rw seen (λ i. lowered (e i) (c.rows_zero i) (c.names_zero i) (zeros scratch))
+      rw seen (λ i. lowered_sheets (e i) (c.rows_zero i) (c.names_zero i) (zeros scratch))
 
   refused-place : {a : Answer} {unknown : ℕ} (o : Option TypeGraph) → lower s.reader.schema ≡ o → (unknown ≡ 0 → ⊥) → unknown ≡ refused_place 2 (part_rows part 2) → a ≡ answered 13 unknown
-      → lowered a gr gn (zeros scratch) ≡ refused_or_written s.reader.schema o (sheet gr gn) scratch
+      → lowered_sheets a gr gn (zeros scratch) ≡ refused_or_written s.reader.schema o (sheet gr gn) scratch
   unfolding cleared zeros
-  refused-place none q some? u e = λ i. lowered ((e ∙ ap (answered 13) (u ∙ l.place)) i) (c.rows_zero i) (c.names_zero i) (zeros scratch)
+  refused-place none q some? u e = λ i. lowered_sheets ((e ∙ ap (answered 13) (u ∙ l.place)) i) (c.rows_zero i) (c.names_zero i) (zeros scratch)
   refused-place (some g) q some? u e = absurd (some? (u ∙ (l.lowers g q).0))
 
   pub finished-unknown : {a : Answer} {unknown : ℕ} → root ≡ true → (unknown ≡ 0 → ⊥) → unknown ≡ refused_place 2 (part_rows part 2) → a ≡ answered 13 unknown
-      → lowered a gr gn (zeros scratch) ≡ lower_finished s (sheet gr gn) scratch
+      → lowered_sheets a gr gn (zeros scratch) ≡ lower_finished s (sheet gr gn) scratch
   unfolding lower_finished
   finished-unknown t some? u e =
       let seen = sym l.root ∙ t in
@@ -157,7 +157,7 @@ module _ (s : State) (gr gn scratch : List ℕ) where
   cleared-again n place = rw (← zeros-twice gr, ← zeros-twice gn)
 
   repeated-again : (o : Option ℕ) (g : TypeGraph) → repeated_or_written o g (sheet (zeros gr) (zeros gn)) scratch ≡ repeated_or_written o g (sheet gr gn) scratch
-  unfolding written
+  unfolding graph_written
   repeated-again (some row) g = cleared-again 20 row
   repeated-again none g = rw (length-zeros gr, length-zeros gn, cleared-again 15 0)
 
@@ -170,9 +170,10 @@ module _ (s : State) (gr gn scratch : List ℕ) where
   finished-again = rw (refused-again (lower s.reader.schema), cleared-again 12 0)
 
   -- the scratch is cleared behind the steps
-  pub finished-cleared : {a : Answer} {rows names : List ℕ} (scratch₁ : List ℕ) {scratch₂ : List ℕ} → lowered a rows names (zeros scratch) ≡ lower_finished s (sheet (zeros gr) (zeros gn)) scratch
-      → length scratch₁ ≡ length scratch → scratch₂ ≡ zeros scratch₁ → lowered a rows names scratch₂ ≡ lower_finished s (sheet gr gn) scratch
-  finished-cleared {a} {rows} {names} scratch₁ w l e = ap (lowered a rows names) (e ∙ zeros-as scratch₁ scratch l) ∙ w ∙ finished-again
+  pub finished-cleared : {a : Answer} {rows names : List ℕ} (scratch₁ : List ℕ) {scratch₂ : List ℕ}
+      → lowered_sheets a rows names (zeros scratch) ≡ lower_finished s (sheet (zeros gr) (zeros gn)) scratch
+      → length scratch₁ ≡ length scratch → scratch₂ ≡ zeros scratch₁ → lowered_sheets a rows names scratch₂ ≡ lower_finished s (sheet gr gn) scratch
+  finished-cleared {a} {rows} {names} scratch₁ w l e = ap (lowered_sheets a rows names) (e ∙ zeros-as scratch₁ scratch l) ∙ w ∙ finished-again
 
 -- ---- the rows of a good sheet
 
@@ -233,7 +234,7 @@ module _ (rows names : List ℕ) (g : good (sheet rows names) ≡ true) (w : wor
 
 -- ---- 14
 
-pub lowers-held : (part : SheetPart) {s : State} {seen : Bool} → Stands s part.rows.now part.names.now part.end → seen ≡ s.reader.root_seen → Lowers part seen s
+pub lowers-held : (part : SheetPart) {s : State} {seen : Bool} → Stands s part.rows.now part.names.now part.end → seen ≡ s.reader.root_seen → LowersState part seen s
 lowers-held part h root =
     record {
       root = root;
@@ -244,9 +245,9 @@ lowers-held part h root =
     }
 
 module _ (s : State) (gr gn scratch : List ℕ) where
-  pub state-short : {a : Answer} → length scratch < scratch_least → a ≡ answered 14 0 → lowered a gr gn scratch ≡ lower_state s (sheet gr gn) scratch
+  pub state-short : {a : Answer} → length scratch < scratch_least → a ≡ answered 14 0 → lowered_sheets a gr gn scratch ≡ lower_state s (sheet gr gn) scratch
   unfolding lower_state unchanged
-  state-short l q = rw (lt-leb scratch_least (length scratch) l) (λ i. lowered (q i) gr gn scratch)
+  state-short l q = rw (lt-leb scratch_least (length scratch) l) (λ i. lowered_sheets (q i) gr gn scratch)
 
   pub state-enough : {x : Lowered} → scratch_least ≤ length scratch → x ≡ lower_finished s (sheet gr gn) scratch → x ≡ lower_state s (sheet gr gn) scratch
   unfolding lower_state
@@ -257,27 +258,28 @@ module _ (s : State) (gr gn scratch : List ℕ) where
 abbrev pub both_lengths : List ℕ → List ℕ → List ℕ → List ℕ → Bool
 both_lengths rows names gr gn = sheet_lengths (length rows) (length names) && sheet_lengths (length gr) (length gn)
 
-sized : (rows names : List ℕ) → sheet_lengths (length rows) (length names) ≡ true → Sized rows names
+sized : (rows names : List ℕ) → sheet_lengths (length rows) (length names) ≡ true → SizedSheet rows names
 unfolding sheet_lengths
 sized rows names e =
     let x = four (eqb (length rows % row_numbers) 0) (leb least_rows (length rows)) (leb (length rows) rows_limit) (leb (length names) names_limit) e in
     record { some_rows = leb-true _ _ x.1; few_rows = leb-true _ _ x.2; few_names = leb-true _ _ x.3 }
 
 module _ (rows names gr gn scratch : List ℕ) where
-  pub lower-one : {a : Answer} → a ≡ answered 1 0 → both_lengths rows names gr gn ≡ false → lowered a gr gn scratch ≡ lowering (sheet rows names) (sheet gr gn) scratch
+  pub lower-one : {a : Answer} → a ≡ answered 1 0 → both_lengths rows names gr gn ≡ false → lowered_sheets a gr gn scratch ≡ lowering (sheet rows names) (sheet gr gn) scratch
   unfolding lowering unchanged good_lengths lengths_of
-  lower-one e f = rw f (λ i. lowered (e i) gr gn scratch)
+  lower-one e f = rw f (λ i. lowered_sheets (e i) gr gn scratch)
 
-  pub lower-two : {a : Answer} → a ≡ answered 2 0 → both_lengths rows names gr gn ≡ true → good (sheet rows names) ≡ false → lowered a gr gn scratch ≡ lowering (sheet rows names) (sheet gr gn) scratch
+  pub lower-two : {a : Answer} → a ≡ answered 2 0 → both_lengths rows names gr gn ≡ true → good (sheet rows names) ≡ false
+      → lowered_sheets a gr gn scratch ≡ lowering (sheet rows names) (sheet gr gn) scratch
   unfolding lowering unchanged good_lengths lengths_of
-  lower-two e t f = rw (t, f) (λ i. lowered (e i) gr gn scratch)
+  lower-two e t f = rw (t, f) (λ i. lowered_sheets (e i) gr gn scratch)
 
   pub lower-through : {x : Lowered} → both_lengths rows names gr gn ≡ true → good (sheet rows names) ≡ true
       → x ≡ lower_state (state_of (sheet rows names)) (sheet gr gn) scratch → x ≡ lowering (sheet rows names) (sheet gr gn) scratch
   unfolding lowering good_lengths lengths_of
   lower-through t g e = rw (t, g) e
 
-  pub sized-both : both_lengths rows names gr gn ≡ true → Sized rows names × Sized gr gn
+  pub sized-both : both_lengths rows names gr gn ≡ true → SizedSheet rows names × SizedSheet gr gn
   sized-both t =
       let both = two (sheet_lengths (length rows) (length names)) (sheet_lengths (length gr) (length gn)) t in
       (sized rows names both.0, sized gr gn both.1)

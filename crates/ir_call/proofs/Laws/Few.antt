@@ -43,4 +43,10 @@ pub types-twice : (part : SheetPart) → length (part_places part) ≤ 2 * part.
 unfolding type_places
 types-twice part =
     let rs = part_rows part 2 in
-    omega (arith, length-append (places_of is_simple 2 rs) (places_of is_complex 2 rs), places_of-few is_simple 2 rs, places_of-few is_complex 2 rs, length-rows_from part.rows.now part.names.now 2 part.end)
+    omega (
+      arith,
+      length-append (places_of is_simple 2 rs) (places_of is_complex 2 rs),
+      places_of-few is_simple 2 rs,
+      places_of-few is_complex 2 rs,
+      length-rows_from part.rows.now part.names.now 2 part.end,
+    )

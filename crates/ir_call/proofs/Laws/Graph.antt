@@ -21,7 +21,8 @@ module _ {rows names : List ℕ} (c : Cleared rows names) {w w₁ : GraphWriter}
   graph-short k = whole-short c b (rw e at k)
 
   pub graph-stands : {u : Unit {0}} {roots types place : ℕ} {w₂ : GraphWriter} {rows₂ names₂ : List ℕ} → Grows w more w₁ (Some u) → roots ≡ length g.root_elements → types ≡ length g.types
-      → Closes w₁ roots types w₂ place → (w.rows.ghost_name ≡ w₂.rows.ghost_name → rows₂ ≡ w₂.rows.now) → (w.names.ghost_name ≡ w₂.names.ghost_name → names₂ ≡ w₂.names.now) → GraphStands g rows names rows₂ names₂ place
+      → Closes w₁ roots types w₂ place → (w.rows.ghost_name ≡ w₂.rows.ghost_name → rows₂ ≡ w₂.rows.now)
+      → (w.names.ghost_name ≡ w₂.names.ghost_name → names₂ ≡ w₂.names.now) → GraphStands g rows names rows₂ names₂ place
   unfolding graph_fits rows_used names_used graph_sheet row0
   graph-stands k r t close i j =
       let grown = rw e at k in

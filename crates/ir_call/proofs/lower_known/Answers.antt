@@ -3,7 +3,7 @@ use Prim.Native.Nat.{ℕ}
 use mathlib.Core.List.{List}
 use mathlib.Core.Path.{refl, ap, ◌∙◌}
 use Rattle.sheet.specs.Calls.{sheet}
-use Rattle.ir_lower.specs.Call.{zeros, written}
+use Rattle.ir_lower.specs.Call.{zeros, graph_written}
 use Rattle.ir_index.specs.Blocks.{row_of}
 use Rattle.ir_call.proofs.Laws.Calls.{known-repeated, known-once}
 use Rattle.ir_call.proofs.lower_known.Goals as goal
@@ -26,4 +26,4 @@ returns c =
     let a = c.args in
     let same = c.in_default.ensures.kept c.requires.1.rows_zero in
     λ g o. known-once a.graph_rows.now a.graph_names.now a.scratch.now g _ c.in_default.ensures.found
-    (c.lower_distinct.ensures g a.scratch.now o ∙ ap (λ (rows : List ℕ). written g (sheet rows a.graph_names.now) a.scratch.now) same)
+    (c.lower_distinct.ensures g a.scratch.now o ∙ ap (λ (rows : List ℕ). graph_written g (sheet rows a.graph_names.now) a.scratch.now) same)

@@ -66,7 +66,8 @@ module _ (rows names : List ℕ) (p end : ℕ) (h : end ≤ p) where
   roots-end = rw (rows_from-end rows names p end h)
 
 -- the places of the types' heads, among n of them from p on
-pub types-filtered : (rows names : List ℕ) (end n p : ℕ) → p + n ≡ end → length (filter (λ (i : ℕ). is_type (get_or rows (10 * i) 0)) (range_with_len p n)) ≡ length (type_places p (rows_from rows names p end))
+pub types-filtered : (rows names : List ℕ) (end n p : ℕ) → p + n ≡ end
+    → length (filter (λ (i : ℕ). is_type (get_or rows (10 * i) 0)) (range_with_len p n)) ≡ length (type_places p (rows_from rows names p end))
 types-filtered rows names end zero p h = sym (types-end rows names p end (omega arith))
 types-filtered rows names end (suc n) p h =
     let rest = types-filtered rows names end n (p + 1) (omega arith) in
@@ -75,7 +76,8 @@ types-filtered rows names end (suc n) p h =
     (λ e. rw e (rest ∙ sym (types-not-at rows names p end (omega arith) e)))
 
 -- the places of the elements, among n of them from p on
-pub roots-filtered : (rows names : List ℕ) (end n p : ℕ) → p + n ≡ end → length (filter (λ (i : ℕ). eqb (get_or rows (10 * i) 0) 2) (range_with_len p n)) ≡ length (root_rows (rows_from rows names p end))
+pub roots-filtered : (rows names : List ℕ) (end n p : ℕ) → p + n ≡ end
+    → length (filter (λ (i : ℕ). eqb (get_or rows (10 * i) 0) 2) (range_with_len p n)) ≡ length (root_rows (rows_from rows names p end))
 roots-filtered rows names end zero p h = sym (roots-end rows names p end (omega arith))
 roots-filtered rows names end (suc n) p h =
     let rest = roots-filtered rows names end n (p + 1) (omega arith) in

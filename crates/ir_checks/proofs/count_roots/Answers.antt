@@ -14,5 +14,6 @@ pub returns : goal.returns
 returns c names =
     let a = c.args in
     count_from_yields_List _ c.count.result c.count.ensures.ran
-    (YieldsList-from_filter _ (λ (p : ℕ). eqb (get_or a.part.now.rows.now (10 * p) 0) 2) (YieldsList-from_range 2 a.part.now.end (a.part.now.end - 2) c.filter.ensures.source refl) c.filter.ensures.closure (λ p b q k. search (rules, tests)))
+    (YieldsList-from_filter _ (λ (p : ℕ). eqb (get_or a.part.now.rows.now (10 * p) 0) 2)
+    (YieldsList-from_range 2 a.part.now.end (a.part.now.end - 2) c.filter.ensures.source refl) c.filter.ensures.closure (λ p b q k. search (rules, tests)))
     ∙ roots-filtered a.part.now.rows.now names a.part.now.end (a.part.now.end - 2) 2 (omega arith)

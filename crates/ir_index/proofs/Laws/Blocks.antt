@@ -104,7 +104,8 @@ module _ {part : SheetPart} {s : Search} where
         ∙ repeated-append [] (heads_from part s.from (b.next - s.from)) _ t.once
         ∙ rw (heads-names part (places_from part s.from (b.next - s.from)), t.places)
 
-    pub search-on : {s' : Search} → SearchedBehind part (map (head_text part) (places_in buckets b.entries numbers)) (record { from = b.next; limit = s.limit; found = s.found }) s' → SearchedOn part s s'
+    pub search-on : {s' : Search} → SearchedBehind part (map (head_text part) (places_in buckets b.entries numbers)) (record { from = b.next; limit = s.limit; found = s.found }) s'
+        → SearchedOn part s s'
     search-on w =
         record {
           onward = omega (arith, t.onward, w.same_from);

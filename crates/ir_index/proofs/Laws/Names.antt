@@ -15,9 +15,9 @@ use Rattle.sheet.specs.Rows.{ten}
 use Rattle.xsd_types.specs.Places.{row_at}
 use Rattle.xsd_types.proofs.Laws.Places.{name-at as first-text}
 use Rattle.rows.specs.declared.part.SheetPart.{SheetPart}
-use Rattle.ir_lower.specs.Repeated.{Head, head_names}
+use Rattle.ir_lower.specs.Repeated.{Head, type_head_names}
 use Rattle.ir_rows.specs.Places.{name_at}
-use Rattle.ir_rows.specs.Types.{is_type, head_at}
+use Rattle.ir_rows.specs.Types.{is_type, type_head_at}
 use Rattle.ir_rows.specs.Parts.{part_name, part_head, part_heads}
 use Rattle.ir_rows.proofs.Laws.Inside.{type-head}
 use Rattle.ir_checks.specs.declared.Kind.{Kind}
@@ -39,7 +39,7 @@ module _ (part : SheetPart) where
 
   -- a head is that of the definition
   kind-head : (kind : Kind) (p : ℕ) → is_kind kind (get_or part.rows.now (10 * p) 0) ≡ true → head_of part p ≡ part_head part p
-  unfolding head_of head_at
+  unfolding head_of type_head_at
   kind-head kind p e = ap (λ (t : Text). record { row = p; name = t }) (sym (name-at p (kind-type kind _ e)))
 
   with-heads : (kind : Kind) (p : ℕ) (ps : List ℕ) → map (head_of part) ps ≡ map (part_head part) ps
@@ -65,7 +65,7 @@ module _ (part : SheetPart) where
   all-heads = turns-heads 0 (2 * (part.end - 2)) ∙ ap (map (part_head part)) (all-turns part)
 
   -- the names of heads
-  pub heads-names : (ps : List ℕ) → head_names (map (head_of part) ps) ≡ map (head_text part) ps
-  unfolding head_names head_of
+  pub heads-names : (ps : List ℕ) → type_head_names (map (head_of part) ps) ≡ map (head_text part) ps
+  unfolding type_head_names head_of
   heads-names [] = refl
   heads-names (p ∷ ps) = ap (λ (l : List Text). head_text part p ∷ l) (heads-names ps)

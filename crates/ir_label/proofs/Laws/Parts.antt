@@ -11,7 +11,7 @@ use Rattle.text.proofs.Laws.Tests.{if-cases}
 use Rattle.sheet.specs.Rows.{text_at}
 use Rattle.ir_types.specs.Label.{label}
 use Rattle.ir_types.proofs.Laws.Words.{PartOf, label-word-part, label-name-part}
-use Rattle.ir_label.specs.Spot.{in_words, Stands}
+use Rattle.ir_label.specs.Spot.{in_words, LabelStands}
 use Rattle.ir_label.specs.declared.Spot.{Spot}
 
 module _ (rows names words : List ℕ) (k : ℕ) where
@@ -21,7 +21,7 @@ module _ (rows names words : List ℕ) (k : ℕ) where
       let l = label rows names words k in
       if-cases (λ s. PartOf s l.text l.at) l.in_words {x = words} {y = names} (label-word-part rows names words k) (label-name-part rows names words k)
 
-  module _ (s : Spot) (here : Stands (label rows names words k) s) (b : Bool) (t : in_words s.buffer ≡ b) where
+  module _ (s : Spot) (here : LabelStands (label rows names words k) s) (b : Bool) (t : in_words s.buffer ≡ b) where
     pub spot-inside : s.at + s.len ≤ length (if b then words else names)
     spot-inside =
         rw (← t, ← here.buffer, ← here.at, ← here.len) label_inside.inside

@@ -15,12 +15,12 @@ use Rattle.ir_types.specs.Label.{Labelled, no_label, words_of, good_words, word_
 use Rattle.ir_types.proofs.Laws.Words.{six-words}
 use Rattle.ir_label.specs.Lines.{line_length}
 use Rattle.ir_label.proofs.Laws.Start.{word_line}
-use Rattle.ir_label.specs.Spot.{Stands, IsSpot}
+use Rattle.ir_label.specs.Spot.{LabelStands, IsSpot}
 use Rattle.ir_label.specs.declared.Spot.{Spot}
 use Rattle.ir_label.specs.declared.Buffer.TheVariants.{Names, Words}
 
 -- a pair inside the names, and one that is not
-pub name-inside : (names : List ℕ) (at len : ℕ) → at + len ≤ length names → Stands (named_label names at len) (record { buffer = Names; at = at; len = len })
+pub name-inside : (names : List ℕ) (at len : ℕ) → at + len ≤ length names → LabelStands (named_label names at len) (record { buffer = Names; at = at; len = len })
 unfolding named_label
 name-inside names at len h = rw (le-leb (at + len) (length names) h) (record { number = refl; buffer = refl; at = refl; len = length-text_at names at len h })
 
@@ -30,7 +30,7 @@ name-outside names at len h = rw (lt-leb (at + len) (length names) h)
 
 -- a word of a good list, and one of another
 pub word-here : (words : List ℕ) (a at end : ℕ) → good_words words ≡ true → a ≤ 5 → at ≡ word_at (a - 1) (words_of words) → end ≡ at + line_length (drop at words)
-    → Stands (word_label words a) (record { buffer = Words; at = at; len = end - at })
+    → LabelStands (word_label words a) (record { buffer = Words; at = at; len = end - at })
 unfolding word_label
 word-here words a at end good h e f =
     let size = ap (λ (i : ℕ). line_length (drop i words)) e ∙ word_line (a - 1) words (omega (arith, h, six-words words good)) in

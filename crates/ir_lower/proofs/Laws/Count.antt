@@ -18,7 +18,7 @@ use Rattle.xsd_types.proofs.Laws.Count.{good-count}
 use Rattle.ir_types.specs.Types.{TypeGraph}
 use Rattle.ir_lower.specs.Lower.{any_unknown, lower}
 use Rattle.ir_lower.specs.Call.{Lowered, lowering, scratch_least}
-use Rattle.ir_lower.specs.Outcome.{Outcome}
+use Rattle.ir_lower.specs.Outcome.{LoweringOutcome}
 use Rattle.ir_lower.proofs.Laws.Refusals.{refused-exactly}
 use Rattle.ir_lower.proofs.Laws.Outcome.{cleared-number, lowering-state, outcome}
 
@@ -38,16 +38,16 @@ refused-some (Item.complex_type t ∷ is) = refused-some is
 lowered_none : (s : State) (g : TypeGraph) → lower s.reader.schema ≡ some g → any_unknown (simple_types s.reader.schema.items) ≡ true → ⊥
 lowered_none s g c u = let n = (refused-exactly s.reader.schema).1 u in let z : ◌≡◌ {A = ℕ} 0 1 = cc in omega arith
 
-outcome-thirteen : (s : State) (graph : Sheet) (scratch : List ℕ) (l : Lowered) → Outcome s graph scratch l → scratch_least ≤ length scratch → s.reader.root_seen ≡ true
+outcome-thirteen : (s : State) (graph : Sheet) (scratch : List ℕ) (l : Lowered) → LoweringOutcome s graph scratch l → scratch_least ≤ length scratch → s.reader.root_seen ≡ true
     → (l.answer.number ≡ 13) ↔ (any_unknown (simple_types s.reader.schema.items) ≡ true)
-outcome-thirteen s graph scratch l (Outcome.short a e) k r = absurd (omega arith)
-outcome-thirteen s graph scratch l (Outcome.rootless a b e) k r = absurd (false≢true (sym b ∙ r))
-outcome-thirteen s graph scratch l (Outcome.unknown a b c e) k r = (λ n. c, λ n. cleared-number 13 _ graph scratch l e)
-outcome-thirteen s graph scratch l (Outcome.repeated a b g c row q e) k r =
+outcome-thirteen s graph scratch l (LoweringOutcome.short a e) k r = absurd (omega arith)
+outcome-thirteen s graph scratch l (LoweringOutcome.rootless a b e) k r = absurd (false≢true (sym b ∙ r))
+outcome-thirteen s graph scratch l (LoweringOutcome.unknown a b c e) k r = (λ n. c, λ n. cleared-number 13 _ graph scratch l e)
+outcome-thirteen s graph scratch l (LoweringOutcome.repeated a b g c row q e) k r =
     (λ n. let z = cleared-number 20 row graph scratch l e in absurd (omega arith), λ n. absurd (lowered_none s g c n))
-outcome-thirteen s graph scratch l (Outcome.tight a b g c q f e) k r =
+outcome-thirteen s graph scratch l (LoweringOutcome.tight a b g c q f e) k r =
     (λ n. let z = cleared-number 15 0 graph scratch l e in absurd (omega arith), λ n. absurd (lowered_none s g c n))
-outcome-thirteen s graph scratch l (Outcome.fitting a b g c q f e) k r =
+outcome-thirteen s graph scratch l (LoweringOutcome.fitting a b g c q f e) k r =
     (λ n. let z : l.answer.number ≡ 0 = ap (λ (y : Lowered). y.answer.number) e in absurd (omega arith), λ n. absurd (lowered_none s g c n))
 
 pub thirteen-exactly : (x graph : Sheet) (scratch : List ℕ) → good_lengths (lengths_of x) && good_lengths (lengths_of graph) ≡ true → good x ≡ true

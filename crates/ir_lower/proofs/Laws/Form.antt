@@ -19,9 +19,9 @@ use Rattle.ir_types.specs.Form.{graph_form}
 use Rattle.ir_types.proofs.Laws.GraphForm.{graph-form}
 use Rattle.ir_lower.specs.Lower.{lower}
 use Rattle.ir_lower.specs.Call.{Lowered, unchanged, lower_state, lowering}
-use Rattle.ir_lower.specs.Outcome.{Outcome}
+use Rattle.ir_lower.specs.Outcome.{LoweringOutcome}
 use Rattle.ir_lower.proofs.Laws.GraphOk.{small_event, lower-ok}
-use Rattle.ir_lower.proofs.Laws.Outcome.{unchanged-number, cleared-number, lowering-1, lowering-2, lowering-state, outcome}
+use Rattle.ir_lower.proofs.Laws.Outcome.{unchanged-number, lowering-1, lowering-2, lowering-state, outcome, outcome-zero}
 use Rattle.text.specs.Text.{every}
 use Rattle.text.proofs.Laws.Tests.{and-true-left, or_cases, test-cases}
 use Rattle.xsd_types.proofs.Laws.Sound.{proper-parts}
@@ -50,14 +50,10 @@ proper-small s h =
     (passing-parts small_event s.reader (heads-weaken (λ v n. event_number_ok s.events n) small_event (λ v n. number_small s.events n few) s.reader p.4)).0
 
 outcome-form : (s : State) (graph : Sheet) (scratch : List ℕ) (l : Lowered) → schema_ok s.reader.schema ≡ true
-    → every (item_passes small_event) s.reader.schema.items ≡ true → Outcome s graph scratch l → l.answer.number ≡ 0 → graph_form l.graph ≡ true
-outcome-form s graph scratch l h w (Outcome.short a e) z = let n = unchanged-number 14 graph scratch l e in absurd (omega arith)
-outcome-form s graph scratch l h w (Outcome.rootless a b e) z = let n = cleared-number 12 0 graph scratch l e in absurd (omega arith)
-outcome-form s graph scratch l h w (Outcome.unknown a b c e) z = let n = cleared-number 13 _ graph scratch l e in absurd (omega arith)
-outcome-form s graph scratch l h w (Outcome.repeated a b g c row r e) z = let n = cleared-number 20 row graph scratch l e in absurd (omega arith)
-outcome-form s graph scratch l h w (Outcome.tight a b g c r f e) z = let n = cleared-number 15 0 graph scratch l e in absurd (omega arith)
-outcome-form s graph scratch l h w (Outcome.fitting a b g c r f e) z =
-    rw e (graph-form g (length graph.rows) (length graph.names) (lower-ok s.reader.schema g h w c) f)
+    → every (item_passes small_event) s.reader.schema.items ≡ true → LoweringOutcome s graph scratch l → l.answer.number ≡ 0 → graph_form l.graph ≡ true
+outcome-form s graph scratch l h w o z =
+    let x = outcome-zero s graph scratch l o z in
+    rw x.sheet (graph-form x.lowered (length graph.rows) (length graph.names) (lower-ok s.reader.schema x.lowered h w x.from) x.fits)
 
 pub state-form : (s : State) (graph : Sheet) (scratch : List ℕ) → schema_ok s.reader.schema ≡ true → every (item_passes small_event) s.reader.schema.items ≡ true
     → (lower_state s graph scratch).answer.number ≡ 0

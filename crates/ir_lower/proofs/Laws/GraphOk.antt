@@ -17,7 +17,7 @@ use Rattle.ir_types.specs.Types.{TypeDef, TypeGraph}
 use Rattle.ir_types.specs.Ok.{is_small, ref_ok, cardinality_ok, field_ok, variant_ok, constraint_ok, code_ok, attr_ok, type_ok, root_ok, graph_ok}
 use Rattle.xsd_types.specs.Refused.{all_enums}
 use Rattle.ir_lower.specs.Lower.{resolved, resolve_type_ref, codes, constraints, lower_newtype, lower_simple_type, lower_cardinality, lower_field, lower_variant}
-use Rattle.ir_lower.specs.Lower.{lower_attribute, lower_content, lower_complex_type, with_definition, simple_definitions, finished_definitions, root_of, graph_of, lower}
+use Rattle.ir_lower.specs.Lower.{lower_attribute, lower_content, lower_complex_type, with_definition, simple_definitions, finished_definitions, root_of_element, graph_of, lower}
 use Rattle.ir_lower.proofs.Laws.Types.{lower-some}
 use Rattle.text.proofs.Laws.Tests.{and-true-left, and-true-right, keep_left, test-cases, and-true}
 use Rattle.text.proofs.Laws.Every.{every-append-true, every_map, every-both}
@@ -90,8 +90,8 @@ module _ (p : Item → Bool) where
   complexes-each (Item.simple_type t ∷ is) h = complexes-each is (and-true-right (p (Item.simple_type t)) (every p is) h)
   complexes-each (Item.complex_type t ∷ is) h = keep_left (p (Item.complex_type t)) (every p is) _ h (complexes-each is)
 
-root_ok_lem : (e : Element) → item_fine (Item.element e) ≡ true → root_ok (root_of e) ≡ true
-unfolding item_fine item_passes small_event item_ok element_ok root_ok root_of
+root_ok_lem : (e : Element) → item_fine (Item.element e) ≡ true → root_ok (root_of_element e) ≡ true
+unfolding item_fine item_passes small_event item_ok element_ok root_ok root_of_element
 root_ok_lem e h =
     keep_left (is_small e.event) (is_text e.name && is_text e.type_name) _ h (λ n. graph-then e.name (is_text e.type_name) _ n (text-in-graph e.type_name))
 
@@ -200,6 +200,6 @@ lower-ok s g h w e =
     let p = lower-some s g e in
     let a : is_graph_text g.namespace ≡ true = rw (← p.1) (text-in-graph s.target_namespace (and-true-left (is_text s.target_namespace) (every item_ok s.items) h)) in
     let b : every root_ok g.root_elements
-    ≡ true = rw (← p.1) (every_map (λ (x : Element). item_fine (Item.element x)) root_ok root_of root_ok_lem (elements s.items) (elements-each item_fine s.items k)) in
+    ≡ true = rw (← p.1) (every_map (λ (x : Element). item_fine (Item.element x)) root_ok root_of_element root_ok_lem (elements s.items) (elements-each item_fine s.items k)) in
     let c : every type_ok g.types ≡ true = rw (← p.1) (finished-ok s k) in
     rw (a, b, c)

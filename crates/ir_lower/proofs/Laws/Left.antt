@@ -18,7 +18,7 @@ use Rattle.ir_types.specs.Sheet.{graph_fits, graph_sheet}
 use Rattle.ir_types.proofs.Laws.GraphForm.{sheet-rows-length, sheet-names-length}
 use Rattle.ir_lower.specs.Call.{Lowered, zeros, unchanged, cleared, lowering}
 use Rattle.ir_lower.specs.Left.{changes_nothing, clears_graph, clears_scratch, no_graph}
-use Rattle.ir_lower.specs.Outcome.{Outcome}
+use Rattle.ir_lower.specs.Outcome.{LoweringOutcome}
 use Rattle.ir_lower.proofs.Laws.Outcome.{lowering-1, lowering-2, lowering-state, outcome}
 use Rattle.text.proofs.Laws.Tests.{test-cases, or-false-right}
 use Rattle.sheet.proofs.Laws.Numbers.{all_zero-replicate}
@@ -39,14 +39,14 @@ data Leaves (graph : Sheet) (scratch : List ℕ) (l : Lowered) : Type 0 where
       → l ≡ record { answer = record { number = 0; place = rows_used g }; graph = graph_sheet g (length graph.rows) (length graph.names); scratch = zeros scratch }
       → Leaves graph scratch l
 
-outcome-leaves : (s : State) (graph : Sheet) (scratch : List ℕ) (l : Lowered) → Outcome s graph scratch l → Leaves graph scratch l
+outcome-leaves : (s : State) (graph : Sheet) (scratch : List ℕ) (l : Lowered) → LoweringOutcome s graph scratch l → Leaves graph scratch l
 unfolding changes_nothing clears_graph clears_scratch between
-outcome-leaves s graph scratch l (Outcome.short a e) = kept 14 refl refl e
-outcome-leaves s graph scratch l (Outcome.rootless a b e) = emptied 12 0 refl refl e
-outcome-leaves s graph scratch l (Outcome.unknown a b c e) = emptied 13 _ refl refl e
-outcome-leaves s graph scratch l (Outcome.repeated a b g c row r e) = emptied 20 row refl refl e
-outcome-leaves s graph scratch l (Outcome.tight a b g c r f e) = emptied 15 0 refl refl e
-outcome-leaves s graph scratch l (Outcome.fitting a b g c r f e) = written g f e
+outcome-leaves s graph scratch l (LoweringOutcome.short a e) = kept 14 refl refl e
+outcome-leaves s graph scratch l (LoweringOutcome.rootless a b e) = emptied 12 0 refl refl e
+outcome-leaves s graph scratch l (LoweringOutcome.unknown a b c e) = emptied 13 _ refl refl e
+outcome-leaves s graph scratch l (LoweringOutcome.repeated a b g c row r e) = emptied 20 row refl refl e
+outcome-leaves s graph scratch l (LoweringOutcome.tight a b g c r f e) = emptied 15 0 refl refl e
+outcome-leaves s graph scratch l (LoweringOutcome.fitting a b g c r f e) = written g f e
 
 lowering-leaves : (x graph : Sheet) (scratch : List ℕ) → Leaves graph scratch (lowering x graph scratch)
 unfolding changes_nothing clears_graph clears_scratch between

@@ -17,7 +17,7 @@ use Rattle.xsd_types.specs.Types.{SimpleType, ComplexContent, ComplexType, Schem
 use Rattle.ir_types.specs.Types.{TypeRef, TypeDef, TypeGraph}
 use Rattle.xsd_types.specs.Refused.{all_enums}
 use Rattle.ir_lower.specs.Lower.{resolve_type_ref, codes, lower_newtype, lower_simple_type, lower_content, lower_complex_type, with_definition, simple_definitions, finished_definitions, lower}
-use Rattle.ir_lower.specs.Finished.{references, type_names_in}
+use Rattle.ir_lower.specs.Finished.{references_of, type_names_in}
 use Rattle.ir_lower.proofs.Laws.References.{resolve-named, content-references}
 use Rattle.ir_lower.proofs.Laws.Types.{lower-types}
 
@@ -58,25 +58,25 @@ lower-member s g d e m =
 
 -- ---- references
 
-newtype-references : (t : SimpleType) (o : Option RustType) (d : TypeDef) → lower_newtype t o ≡ some d → references d ≡ []
-unfolding lower_newtype references
+newtype-references : (t : SimpleType) (o : Option RustType) (d : TypeDef) → lower_newtype t o ≡ some d → references_of d ≡ []
+unfolding lower_newtype references_of
 newtype-references t none d e = let z : ◌≡◌ {A = ℕ} 0 1 = cc in absurd (omega arith)
 newtype-references t (some inner) d e = let q = some-injective _ _ e in rw (← q)
 
 -- a simple type's definition refers to nothing
-pub simple-references : (t : SimpleType) (d : TypeDef) → lower_simple_type t ≡ some d → references d ≡ []
-unfolding lower_simple_type references
+pub simple-references : (t : SimpleType) (d : TypeDef) → lower_simple_type t ≡ some d → references_of d ≡ []
+unfolding lower_simple_type references_of
 simple-references t d e =
     (elim (all_enums t.facets)
-    as (λ b. (if b then some (TypeDef.code_enum t.event (normalize_type_name t.name) (codes t.facets)) else lower_newtype t (map_builtin t.base)) ≡ some d → references d ≡ []) [
+    as (λ b. (if b then some (TypeDef.code_enum t.event (normalize_type_name t.name) (codes t.facets)) else lower_newtype t (map_builtin t.base)) ≡ some d → references_of d ≡ []) [
       | true ↦ λ k. let q = some-injective _ _ k in rw (← q)
       | false ↦ λ k. newtype-references t (map_builtin t.base) d k
     ]) e
 
 -- a complex type's named references, place by place
-pub content-named : (event : ℕ) (name : Text) (c : ComplexContent) (i : ℕ) (t : Text) → get_or (references (lower_content event name c)) i (resolve_type_ref []) ≡ TypeRef.named t
+pub content-named : (event : ℕ) (name : Text) (c : ComplexContent) (i : ℕ) (t : Text) → get_or (references_of (lower_content event name c)) i (resolve_type_ref []) ≡ TypeRef.named t
     → (t ≡ normalize_type_name (get_or (type_names_in c) i [])) × (map_builtin (get_or (type_names_in c) i []) ≡ none)
 content-named event name c i t e =
-    let at : get_or (references (lower_content event name c)) i (resolve_type_ref []) ≡ resolve_type_ref (get_or (type_names_in c) i []) =
+    let at : get_or (references_of (lower_content event name c)) i (resolve_type_ref []) ≡ resolve_type_ref (get_or (type_names_in c) i []) =
     rw (content-references event name c) (get_or-map resolve_type_ref (type_names_in c) i []) in
     resolve-named (get_or (type_names_in c) i []) t (sym at ∙ e)

@@ -22,10 +22,10 @@ use Rattle.ir_lower.specs.Lower.{any_unknown, finished_definitions, lower}
 use Rattle.ir_lower.specs.Finished.{finished_names}
 use Rattle.ir_lower.specs.Repeated.{heads, repeated_row, FirstRepeat}
 use Rattle.ir_lower.specs.Call.{Lowered, cleared, lower_state, lowering, scratch_least}
-use Rattle.ir_lower.specs.Outcome.{Outcome, Accepted, NameTwice}
+use Rattle.ir_lower.specs.Outcome.{LoweringOutcome, LoweringAccepted, NameTwice}
 use Rattle.ir_lower.proofs.Laws.Types.{lower-some, lower-types, lower-names}
 use Rattle.ir_lower.proofs.Laws.Repeated.{repeated-none, repeated-first}
-use Rattle.ir_lower.proofs.Laws.Outcome.{unchanged-number, cleared-number, lowering-1, lowering-2, lowering-state, outcome}
+use Rattle.ir_lower.proofs.Laws.Outcome.{unchanged-number, cleared-number, lowering-1, lowering-2, lowering-state, outcome, outcome-zero}
 
 -- what is neither 1 nor 2 is a good sheet's
 judged : (n : ℕ) (x graph : Sheet) (scratch : List ℕ) → (n ≡ 1 → ⊥) → (n ≡ 2 → ⊥) → (lowering x graph scratch).answer.number ≡ n
@@ -38,20 +38,17 @@ judged n x graph scratch a b e =
 -- ---- 0
 
 accepted-types : (s : Schema) (graph : Sheet) (l : Lowered) (g : TypeGraph) → lower s ≡ some g → repeated_row s ≡ none
-    → l.graph ≡ graph_sheet g (length graph.rows) (length graph.names) → Accepted s graph l
+    → l.graph ≡ graph_sheet g (length graph.rows) (length graph.names) → LoweringAccepted s graph l
 unfolding distinct
 accepted-types s graph l g e r q =
     record { lowered = g; from = e; types = lower-types s g e; names = lower-names s g e; once = rw (lower-names s g e) ((repeated-none s).0 r); sheet = q }
 
-outcome-accepted : (s : State) (graph : Sheet) (scratch : List ℕ) (l : Lowered) → Outcome s graph scratch l → l.answer.number ≡ 0 → Accepted s.reader.schema graph l
-outcome-accepted s graph scratch l (Outcome.short a e) z = let n = unchanged-number 14 graph scratch l e in absurd (omega arith)
-outcome-accepted s graph scratch l (Outcome.rootless a b e) z = let n = cleared-number 12 0 graph scratch l e in absurd (omega arith)
-outcome-accepted s graph scratch l (Outcome.unknown a b c e) z = let n = cleared-number 13 _ graph scratch l e in absurd (omega arith)
-outcome-accepted s graph scratch l (Outcome.repeated a b g c row r e) z = let n = cleared-number 20 row graph scratch l e in absurd (omega arith)
-outcome-accepted s graph scratch l (Outcome.tight a b g c r f e) z = let n = cleared-number 15 0 graph scratch l e in absurd (omega arith)
-outcome-accepted s graph scratch l (Outcome.fitting a b g c r f e) z = accepted-types s.reader.schema graph l g c r (ap (λ (x : Lowered). x.graph) e)
+outcome-accepted : (s : State) (graph : Sheet) (scratch : List ℕ) (l : Lowered) → LoweringOutcome s graph scratch l → l.answer.number ≡ 0 → LoweringAccepted s.reader.schema graph l
+outcome-accepted s graph scratch l o z =
+    let x = outcome-zero s graph scratch l o z in
+    accepted-types s.reader.schema graph l x.lowered x.from x.once x.sheet
 
-pub lowering-accepted : (x graph : Sheet) (scratch : List ℕ) → (lowering x graph scratch).answer.number ≡ 0 → Accepted (state_of x).reader.schema graph (lowering x graph scratch)
+pub lowering-accepted : (x graph : Sheet) (scratch : List ℕ) → (lowering x graph scratch).answer.number ≡ 0 → LoweringAccepted (state_of x).reader.schema graph (lowering x graph scratch)
 lowering-accepted x graph scratch z =
     let j = judged 0 x graph scratch (λ e. omega arith) (λ e. omega arith) z in
     let e = lowering-state x graph scratch j.0 j.1 in
@@ -66,25 +63,25 @@ lowering-last x graph scratch z =
 
 -- ---- 20
 
-outcome-twice : (s : State) (graph : Sheet) (scratch : List ℕ) (l : Lowered) → Outcome s graph scratch l → l.answer.number ≡ 20
+outcome-twice : (s : State) (graph : Sheet) (scratch : List ℕ) (l : Lowered) → LoweringOutcome s graph scratch l → l.answer.number ≡ 20
     → (scratch_least ≤ length scratch) × (s.reader.root_seen ≡ true) × (any_unknown (simple_types s.reader.schema.items) ≡ false)
     × (repeated_row s.reader.schema ≡ some l.answer.place)
 unfolding cleared
-outcome-twice s graph scratch l (Outcome.short a e) z = let n = unchanged-number 14 graph scratch l e in absurd (omega arith)
-outcome-twice s graph scratch l (Outcome.rootless a b e) z = let n = cleared-number 12 0 graph scratch l e in absurd (omega arith)
-outcome-twice s graph scratch l (Outcome.unknown a b c e) z = let n = cleared-number 13 _ graph scratch l e in absurd (omega arith)
-outcome-twice s graph scratch l (Outcome.repeated a b g c row r e) z = (a, b, (lower-some s.reader.schema g c).0, r ∙ ap (λ (x : Lowered). some x.answer.place) (sym e))
-outcome-twice s graph scratch l (Outcome.tight a b g c r f e) z = let n = cleared-number 15 0 graph scratch l e in absurd (omega arith)
-outcome-twice s graph scratch l (Outcome.fitting a b g c r f e) z = let n : l.answer.number ≡ 0 = rw e in absurd (omega arith)
+outcome-twice s graph scratch l (LoweringOutcome.short a e) z = let n = unchanged-number 14 graph scratch l e in absurd (omega arith)
+outcome-twice s graph scratch l (LoweringOutcome.rootless a b e) z = let n = cleared-number 12 0 graph scratch l e in absurd (omega arith)
+outcome-twice s graph scratch l (LoweringOutcome.unknown a b c e) z = let n = cleared-number 13 _ graph scratch l e in absurd (omega arith)
+outcome-twice s graph scratch l (LoweringOutcome.repeated a b g c row r e) z = (a, b, (lower-some s.reader.schema g c).0, r ∙ ap (λ (x : Lowered). some x.answer.place) (sym e))
+outcome-twice s graph scratch l (LoweringOutcome.tight a b g c r f e) z = let n = cleared-number 15 0 graph scratch l e in absurd (omega arith)
+outcome-twice s graph scratch l (LoweringOutcome.fitting a b g c r f e) z = let n : l.answer.number ≡ 0 = rw e in absurd (omega arith)
 
-twice-outcome : (s : State) (graph : Sheet) (scratch : List ℕ) (l : Lowered) → Outcome s graph scratch l → scratch_least ≤ length scratch → s.reader.root_seen ≡ true
+twice-outcome : (s : State) (graph : Sheet) (scratch : List ℕ) (l : Lowered) → LoweringOutcome s graph scratch l → scratch_least ≤ length scratch → s.reader.root_seen ≡ true
     → any_unknown (simple_types s.reader.schema.items) ≡ false → distinct_texts (finished_names s.reader.schema) ≡ false → l.answer.number ≡ 20
-twice-outcome s graph scratch l (Outcome.short a e) h k u t = absurd (omega arith)
-twice-outcome s graph scratch l (Outcome.rootless a b e) h k u t = absurd (false≢true (sym b ∙ k))
-twice-outcome s graph scratch l (Outcome.unknown a b c e) h k u t = absurd (false≢true (sym u ∙ c))
-twice-outcome s graph scratch l (Outcome.repeated a b g c row r e) h k u t = cleared-number 20 row graph scratch l e
-twice-outcome s graph scratch l (Outcome.tight a b g c r f e) h k u t = absurd (false≢true (sym t ∙ (repeated-none s.reader.schema).0 r))
-twice-outcome s graph scratch l (Outcome.fitting a b g c r f e) h k u t = absurd (false≢true (sym t ∙ (repeated-none s.reader.schema).0 r))
+twice-outcome s graph scratch l (LoweringOutcome.short a e) h k u t = absurd (omega arith)
+twice-outcome s graph scratch l (LoweringOutcome.rootless a b e) h k u t = absurd (false≢true (sym b ∙ k))
+twice-outcome s graph scratch l (LoweringOutcome.unknown a b c e) h k u t = absurd (false≢true (sym u ∙ c))
+twice-outcome s graph scratch l (LoweringOutcome.repeated a b g c row r e) h k u t = cleared-number 20 row graph scratch l e
+twice-outcome s graph scratch l (LoweringOutcome.tight a b g c r f e) h k u t = absurd (false≢true (sym t ∙ (repeated-none s.reader.schema).0 r))
+twice-outcome s graph scratch l (LoweringOutcome.fitting a b g c r f e) h k u t = absurd (false≢true (sym t ∙ (repeated-none s.reader.schema).0 r))
 
 module _ (x graph : Sheet) (scratch : List ℕ) where
   -- a lowering under 20, by the state

@@ -10,7 +10,7 @@ use Rattle.names.specs.Names.{normalize_type_name}
 use Rattle.xsd_types.specs.Types.{SequenceElement, ChoiceVariant, Attribute, ComplexContent}
 use Rattle.ir_types.specs.Types.{TypeRef, FieldDef, VariantDef, AttrDef}
 use Rattle.ir_lower.specs.Lower.{resolved, resolve_type_ref, lower_field, lower_variant, lower_attribute, lower_content}
-use Rattle.ir_lower.specs.Finished.{references, type_names_in}
+use Rattle.ir_lower.specs.Finished.{references_of, type_names_in}
 
 resolved-named : (name : Text) (o : Option RustType) (t : Text) → resolved name o ≡ TypeRef.named t → (t ≡ normalize_type_name name) × (o ≡ none)
 unfolding resolved
@@ -72,8 +72,8 @@ attributes-references [] = refl
 attributes-references (x ∷ xs) = rw (attribute-reference x, attributes-references xs)
 
 -- all references of a lowered content are the type names of the content, resolved, in their order
-pub content-references : (event : ℕ) (name : Text) (c : ComplexContent) → references (lower_content event name c) ≡ map resolve_type_ref (type_names_in c)
-unfolding references lower_content type_names_in
+pub content-references : (event : ℕ) (name : Text) (c : ComplexContent) → references_of (lower_content event name c) ≡ map resolve_type_ref (type_names_in c)
+unfolding references_of lower_content type_names_in
 content-references event name (ComplexContent.sequence es) = fields-references es
 content-references event name (ComplexContent.choice vs) = variants-references vs
 content-references event name (ComplexContent.simple_content base xs) = ap (λ (l : List TypeRef). resolve_type_ref base ∷ l) (attributes-references xs)

@@ -16,42 +16,42 @@ use Rattle.xsd_types.specs.Types.{Item, Schema, simple_types, complex_types}
 use Rattle.ir_types.specs.Distinct.{among, distinct_texts}
 use Rattle.ir_types.proofs.Laws.Distinct.{distinct_snoc, distinct-before}
 use Rattle.ir_lower.specs.Finished.{simple_name, complex_name, finished_names}
-use Rattle.ir_lower.specs.Repeated.{Head, simple_head, complex_head, heads_of, heads, head_names, first_repeated, repeated_row, FirstRepeat}
+use Rattle.ir_lower.specs.Repeated.{Head, simple_head, complex_head, heads_of, heads, type_head_names, first_repeated, repeated_row, FirstRepeat}
 
 -- ---- the heads' names are the finished types'
 
-simple-heads : (row : ℕ) (is : List Item) → head_names (heads_of simple_head row is) ≡ map simple_name (simple_types is)
-unfolding head_names heads_of simple_head simple_types
+simple-heads : (row : ℕ) (is : List Item) → type_head_names (heads_of simple_head row is) ≡ map simple_name (simple_types is)
+unfolding type_head_names heads_of simple_head simple_types
 simple-heads row [] = refl
 simple-heads row (Item.element e ∷ is) = simple-heads (row + length (item_rows (Item.element e))) is
 simple-heads row (Item.simple_type t ∷ is) = ap (λ (l : List Text). simple_name t ∷ l) (simple-heads (row + length (item_rows (Item.simple_type t))) is)
 simple-heads row (Item.complex_type t ∷ is) = simple-heads (row + length (item_rows (Item.complex_type t))) is
 
-complex-heads : (row : ℕ) (is : List Item) → head_names (heads_of complex_head row is) ≡ map complex_name (complex_types is)
-unfolding head_names heads_of complex_head complex_types
+complex-heads : (row : ℕ) (is : List Item) → type_head_names (heads_of complex_head row is) ≡ map complex_name (complex_types is)
+unfolding type_head_names heads_of complex_head complex_types
 complex-heads row [] = refl
 complex-heads row (Item.element e ∷ is) = complex-heads (row + length (item_rows (Item.element e))) is
 complex-heads row (Item.simple_type t ∷ is) = complex-heads (row + length (item_rows (Item.simple_type t))) is
 complex-heads row (Item.complex_type t ∷ is) = ap (λ (l : List Text). complex_name t ∷ l) (complex-heads (row + length (item_rows (Item.complex_type t))) is)
 
-pub heads-names : (row : ℕ) (s : Schema) → head_names (heads row s.items) ≡ finished_names s
-unfolding heads head_names finished_names
+pub heads-names : (row : ℕ) (s : Schema) → type_head_names (heads row s.items) ≡ finished_names s
+unfolding heads type_head_names finished_names
 heads-names row s =
     map-append (λ (h : Head). h.name) (heads_of simple_head row s.items) (heads_of complex_head row s.items)
     ∙ rw (simple-heads row s.items, complex-heads row s.items)
 
 -- ---- none exactly where no name stands twice
 
-none-distinct : (seen : List Text) (hs : List Head) → distinct_texts seen ≡ true → first_repeated seen hs ≡ none → distinct_texts (seen ++ head_names hs) ≡ true
-unfolding first_repeated head_names
+none-distinct : (seen : List Text) (hs : List Head) → distinct_texts seen ≡ true → first_repeated seen hs ≡ none → distinct_texts (seen ++ type_head_names hs) ≡ true
+unfolding first_repeated type_head_names
 none-distinct seen [] d e = rw (append-nil seen) d
 none-distinct seen (h ∷ hs) d e =
     ⊎_elim (λ k. let z : ◌≡◌ {A = ℕ} 0 1 = let q = rw k at e in cc in absurd (omega arith))
     (λ k. rw (append_snoc seen h.name (map (λ (x : Head). x.name) hs)) at (none-distinct (seen ++ (h.name ∷ [])) hs (distinct_snoc h.name seen d k) (rw k at e)))
     (test-cases (among h.name seen))
 
-distinct_none : (seen : List Text) (hs : List Head) → distinct_texts (seen ++ head_names hs) ≡ true → first_repeated seen hs ≡ none
-unfolding first_repeated head_names
+distinct_none : (seen : List Text) (hs : List Head) → distinct_texts (seen ++ type_head_names hs) ≡ true → first_repeated seen hs ≡ none
+unfolding first_repeated type_head_names
 distinct_none seen [] d = refl
 distinct_none seen (h ∷ hs) d =
     rw (distinct-before h.name seen (map (λ (x : Head). x.name) hs) d)
@@ -64,8 +64,8 @@ repeated-none s =
 
 -- ---- one list behind another
 
-pub repeated-append : (seen : List Text) (hs ks : List Head) → first_repeated seen hs ≡ none → first_repeated seen (hs ++ ks) ≡ first_repeated (seen ++ head_names hs) ks
-unfolding first_repeated head_names
+pub repeated-append : (seen : List Text) (hs ks : List Head) → first_repeated seen hs ≡ none → first_repeated seen (hs ++ ks) ≡ first_repeated (seen ++ type_head_names hs) ks
+unfolding first_repeated type_head_names
 repeated-append seen [] ks e = rw (append-nil seen)
 repeated-append seen (h ∷ hs) ks e =
     ⊎_elim (λ k. let z : ◌≡◌ {A = ℕ} 0 1 = let q = rw k at e in cc in absurd (omega arith))
@@ -82,7 +82,7 @@ repeated-stays seen (h ∷ hs) ks row e =
 
 -- a head more before the others
 further : (seen : List Text) (h : Head) (hs : List Head) (row : ℕ) → FirstRepeat (seen ++ (h.name ∷ [])) hs row → FirstRepeat seen (h ∷ hs) row
-unfolding head_names
+unfolding type_head_names
 further seen h hs row f =
     record {
       before = h ∷ f.before;
@@ -95,7 +95,7 @@ further seen h hs row f =
     }
 
 some_first : (seen : List Text) (hs : List Head) (row : ℕ) → distinct_texts seen ≡ true → first_repeated seen hs ≡ some row → FirstRepeat seen hs row
-unfolding first_repeated head_names
+unfolding first_repeated type_head_names
 some_first seen [] row d e = let z : ◌≡◌ {A = ℕ} 0 1 = cc in absurd (omega arith)
 some_first seen (h ∷ hs) row d e =
     ⊎_elim

@@ -1,6 +1,6 @@
 -- Every lowering comes under one case of the table; 13's place is the first unknown simple type's row. Assumes nothing.
 use Prim.Native.Nat.{ℕ, ◌%◌}
-use mathlib.Core.Path.{◌≡◌, refl, ap, ◌∙◌}
+use mathlib.Core.Path.{◌≡◌, refl, sym, subst, ap, ◌∙◌}
 use mathlib.Core.Logic.{⊎_elim}
 use mathlib.Core.Bool.{true, false, ◌&&◌, false≢true}
 use mathlib.Core.List.{List, [], ◌∷◌, ◌++◌}
@@ -17,10 +17,11 @@ use Rattle.xsd_types.specs.Count.{good, state_of}
 use Rattle.xsd_types.specs.Refused.{refused_base}
 use Rattle.ir_lower.specs.Lower.{any_unknown, unknown_row}
 use Rattle.ir_lower.specs.Call.{Lowered, cleared, lowering}
-use Rattle.ir_lower.specs.Outcome.{Outcome}
+use Rattle.ir_lower.specs.Outcome.{LoweringOutcome}
 use Rattle.ir_lower.specs.Table.{LoweringTable, FirstUnknown, LoweredLabels}
+use Rattle.ir_types.specs.References.{GraphLabels}
 use Rattle.ir_types.proofs.Laws.References.{graph-labels}
-use Rattle.ir_lower.proofs.Laws.Outcome.{unchanged-number, cleared-number, lowering-1, lowering-2, lowering-state, outcome}
+use Rattle.ir_lower.proofs.Laws.Outcome.{unchanged-number, cleared-number, lowering-1, lowering-2, lowering-state, outcome, outcome-zero}
 use Rattle.ir_lower.proofs.Laws.Refusals.{unknown_row-first}
 
 pub lowering-table : (x graph : Sheet) (scratch : List ℕ) → LoweringTable x graph scratch (lowering x graph scratch)
@@ -66,15 +67,15 @@ first-unknown row items h =
       stands = ap (unknown_row row) s.made ∙ unknown_row-first row s.before s.behind s.type s.known s.unknown;
     }
 
-outcome-unknown : (s : State) (graph : Sheet) (scratch : List ℕ) (l : Lowered) → Outcome s graph scratch l → l.answer.number ≡ 13
+outcome-unknown : (s : State) (graph : Sheet) (scratch : List ℕ) (l : Lowered) → LoweringOutcome s graph scratch l → l.answer.number ≡ 13
     → FirstUnknown 2 s.reader.schema.items l.answer.place
 unfolding cleared
-outcome-unknown s graph scratch l (Outcome.short a e) h = let q = unchanged-number 14 graph scratch l e in absurd (omega arith)
-outcome-unknown s graph scratch l (Outcome.rootless a b e) h = let q = cleared-number 12 0 graph scratch l e in absurd (omega arith)
-outcome-unknown s graph scratch l (Outcome.unknown a b c e) h = rw e (first-unknown 2 s.reader.schema.items c)
-outcome-unknown s graph scratch l (Outcome.repeated a b g c row r e) h = let q = cleared-number 20 row graph scratch l e in absurd (omega arith)
-outcome-unknown s graph scratch l (Outcome.tight a b g c r f e) h = let q = cleared-number 15 0 graph scratch l e in absurd (omega arith)
-outcome-unknown s graph scratch l (Outcome.fitting a b g c r f e) h = let q : l.answer.number ≡ 0 = ap (λ (x : Lowered). x.answer.number) e in absurd (omega arith)
+outcome-unknown s graph scratch l (LoweringOutcome.short a e) h = let q = unchanged-number 14 graph scratch l e in absurd (omega arith)
+outcome-unknown s graph scratch l (LoweringOutcome.rootless a b e) h = let q = cleared-number 12 0 graph scratch l e in absurd (omega arith)
+outcome-unknown s graph scratch l (LoweringOutcome.unknown a b c e) h = rw e (first-unknown 2 s.reader.schema.items c)
+outcome-unknown s graph scratch l (LoweringOutcome.repeated a b g c row r e) h = let q = cleared-number 20 row graph scratch l e in absurd (omega arith)
+outcome-unknown s graph scratch l (LoweringOutcome.tight a b g c r f e) h = let q = cleared-number 15 0 graph scratch l e in absurd (omega arith)
+outcome-unknown s graph scratch l (LoweringOutcome.fitting a b g c r f e) h = let q : l.answer.number ≡ 0 = ap (λ (x : Lowered). x.answer.number) e in absurd (omega arith)
 
 -- 13: "place is the row of the first such simple type"
 pub unknown-first : (x graph : Sheet) (scratch : List ℕ) → (lowering x graph scratch).answer.number ≡ 13
@@ -88,15 +89,12 @@ unknown-first x graph scratch h = go (lowering x graph scratch) (lowering-table 
 
 -- ---- the labels of an accepted graph
 
-outcome-labels : (s : State) (graph : Sheet) (scratch words : List ℕ) (l : Lowered) → length graph.rows % 10 ≡ 0 → Outcome s graph scratch l → l.answer.number ≡ 0
+outcome-labels : (s : State) (graph : Sheet) (scratch words : List ℕ) (l : Lowered) → length graph.rows % 10 ≡ 0 → LoweringOutcome s graph scratch l → l.answer.number ≡ 0
     → LoweredLabels s.reader.schema l.graph words
-outcome-labels s graph scratch words l m (Outcome.short a e) h = let q = unchanged-number 14 graph scratch l e in absurd (omega arith)
-outcome-labels s graph scratch words l m (Outcome.rootless a b e) h = let q = cleared-number 12 0 graph scratch l e in absurd (omega arith)
-outcome-labels s graph scratch words l m (Outcome.unknown a b c e) h = let q = cleared-number 13 _ graph scratch l e in absurd (omega arith)
-outcome-labels s graph scratch words l m (Outcome.repeated a b g c row r e) h = let q = cleared-number 20 row graph scratch l e in absurd (omega arith)
-outcome-labels s graph scratch words l m (Outcome.tight a b g c r f e) h = let q = cleared-number 15 0 graph scratch l e in absurd (omega arith)
-outcome-labels s graph scratch words l m (Outcome.fitting a b g c r f e) h =
-    record { lowered = g; from = c; labels = rw e (graph-labels g (length graph.rows) (length graph.names) words f m) }
+outcome-labels s graph scratch words l m o h =
+    let x = outcome-zero s graph scratch l o h in
+    let labels = graph-labels x.lowered (length graph.rows) (length graph.names) words x.fits m in
+    record { lowered = x.lowered; from = x.from; labels = subst (λ (y : Sheet). GraphLabels x.lowered y words) (sym x.sheet) labels }
 
 tenth : (graph : Sheet) → good_lengths (lengths_of graph) ≡ true → length graph.rows % 10 ≡ 0
 unfolding good_lengths lengths_of sheet_lengths

@@ -15,7 +15,8 @@ use Rattle.ir_types.specs.Types.{TypeDef, TypeGraph, name_of}
 use Rattle.ir_types.specs.Distinct.{type_names}
 use Rattle.xsd_types.specs.Refused.{all_enums, is_none, refused_base}
 use Rattle.ir_lower.proofs.Laws.Refusals.{refused-base}
-use Rattle.ir_lower.specs.Lower.{codes, lower_newtype, lower_simple_type, lower_content, lower_complex_type, any_unknown, with_definition, simple_definitions, finished_definitions, root_of, graph_of, lower}
+use Rattle.ir_lower.specs.Lower.{codes, lower_newtype, lower_simple_type, lower_content, lower_complex_type, any_unknown}
+use Rattle.ir_lower.specs.Lower.{with_definition, simple_definitions, finished_definitions, root_of_element, graph_of, lower}
 use Rattle.ir_lower.specs.Finished.{simple_name, complex_name, finished_names}
 
 -- an accepted schema has no refused simple type, and its graph has all its types
@@ -30,7 +31,7 @@ pub lower-namespace : (s : Schema) (g : TypeGraph) → lower s ≡ some g → g.
 unfolding graph_of
 lower-namespace s g e = ap (λ (x : TypeGraph). x.namespace) (sym (lower-some s g e).1)
 
-pub lower-roots : (s : Schema) (g : TypeGraph) → lower s ≡ some g → g.root_elements ≡ map root_of (elements s.items)
+pub lower-roots : (s : Schema) (g : TypeGraph) → lower s ≡ some g → g.root_elements ≡ map root_of_element (elements s.items)
 unfolding graph_of
 lower-roots s g e = ap (λ (x : TypeGraph). x.root_elements) (sym (lower-some s g e).1)
 

@@ -18,7 +18,7 @@ use Rattle.ir_types.specs.Types.{TypeDef, RootElement}
 use Rattle.ir_types.specs.Unnumbered.{unnumbered_root, unnumbered_type, unnumbered_graph}
 use Rattle.xsd_types.specs.Refused.{all_enums, refused_base, refused_item}
 use Rattle.ir_lower.specs.Lower.{lower_newtype, lower_simple_type, lower_content, lower_complex_type, any_unknown, with_definition, simple_definitions, finished_definitions}
-use Rattle.ir_lower.specs.Lower.{root_of, graph_of, lower, unknown_row}
+use Rattle.ir_lower.specs.Lower.{root_of_element, graph_of, lower, unknown_row}
 use Rattle.ir_lower.specs.Finished.{simple_name, complex_name}
 use Rattle.ir_lower.specs.Repeated.{Head, simple_head, complex_head, heads_of, heads, repeated_row}
 use Rattle.ir_lower.specs.Unnumbered.{unnumbered_lowered}
@@ -112,16 +112,16 @@ definitions-unnumbered s =
     (simple_definitions-unnumbered (simple_types is) ∙ ap simple_definitions (sym (simples-unnumbered is)))
     (complex_definitions-unnumbered (complex_types is) ∙ ap (map lower_complex_type) (sym (complexes-unnumbered is)))
 
-roots-unnumbered : (es : List Element) → map unnumbered_root (map root_of es) ≡ map root_of (map element_as es)
-unfolding unnumbered_root root_of element_as
+roots-unnumbered : (es : List Element) → map unnumbered_root (map root_of_element es) ≡ map root_of_element (map element_as es)
+unfolding unnumbered_root root_of_element element_as
 roots-unnumbered [] = refl
-roots-unnumbered (e ∷ es) = ap (λ (rs : List RootElement). root_of (element_as e) ∷ rs) (roots-unnumbered es)
+roots-unnumbered (e ∷ es) = ap (λ (rs : List RootElement). root_of_element (element_as e) ∷ rs) (roots-unnumbered es)
 
 graph-unnumbered : (s : Schema) → unnumbered_graph (graph_of s) ≡ graph_of (unnumbered_schema s)
 unfolding unnumbered_graph graph_of unnumbered_schema
 graph-unnumbered s =
     ap₂ (λ (rs : List RootElement) (ds : List TypeDef). record { namespace = s.target_namespace; root_elements = rs; types = ds })
-    (roots-unnumbered (elements s.items) ∙ ap (map root_of) (sym (elements-unnumbered s.items)))
+    (roots-unnumbered (elements s.items) ∙ ap (map root_of_element) (sym (elements-unnumbered s.items)))
     (definitions-unnumbered s)
 
 pub lower-unnumbered : (s : Schema) → unnumbered_lowered (lower s) ≡ lower (unnumbered_schema s)
@@ -147,7 +147,8 @@ unknown_row-unnumbered k [] = refl
 unknown_row-unnumbered k (i ∷ is) = rw (unknown-unnumbered i, long-unnumbered i, unknown_row-unnumbered (k + length (item_rows i)) is)
 
 -- the place of 20
-heads_of-unnumbered : (head : ℕ → Item → List Head) → ((k : ℕ) (i : Item) → head k (unnumbered_item i) ≡ head k i) → (k : ℕ) (is : List Item) → heads_of head k (map unnumbered_item is) ≡ heads_of head k is
+heads_of-unnumbered : (head : ℕ → Item → List Head) → ((k : ℕ) (i : Item) → head k (unnumbered_item i) ≡ head k i)
+    → (k : ℕ) (is : List Item) → heads_of head k (map unnumbered_item is) ≡ heads_of head k is
 unfolding heads_of
 heads_of-unnumbered head same k [] = refl
 heads_of-unnumbered head same k (i ∷ is) = rw (same k i, long-unnumbered i, heads_of-unnumbered head same (k + length (item_rows i)) is)

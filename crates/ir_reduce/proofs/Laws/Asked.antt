@@ -132,7 +132,8 @@ module _ (rows names : List ℕ) (p : ℕ) where
   abbrev text_of : ℕ → Text
   text_of k = text_at names (get_or rows (10 * p + k) 0) (get_or rows (10 * p + k + 1) 0)
 
-  row_is : (b c : ℕ) → b ≡ get_or rows (10 * p + 8) 0 → c ≡ get_or rows (10 * p + 9) 0 → row_at rows names p ≡ row tag_at (take (used_pairs tag_at a_at) (text_of 1 ∷ text_of 3 ∷ text_of 5 ∷ [])) a_at b c
+  row_is : (b c : ℕ) → b ≡ get_or rows (10 * p + 8) 0 → c ≡ get_or rows (10 * p + 9) 0
+      → row_at rows names p ≡ row tag_at (take (used_pairs tag_at a_at) (text_of 1 ∷ text_of 3 ∷ text_of 5 ∷ [])) a_at b c
   unfolding row_at unpack_row ten row
   row_is b c e f =
       rw (

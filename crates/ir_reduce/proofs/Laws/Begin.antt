@@ -62,7 +62,8 @@ targets-below {rows} {names} {to} {end} g distinct put i = by_place (eqb (get_or
     by_place false e false f false h = ((targets-are rows names to end put distinct).hit i (omega (arith, eqb-false i 0 f)) (omega (arith, leb-false end i h))
         (omega (arith, eqb-false (get_or to i 0) 0 e))).0
 
-pub room-first : {rows names to : List ℕ} {end : ℕ} (g : Graph rows names end) → distinct_texts (head_names rows names (head_places rows end)) ≡ true → TargetsPut rows names end end to → length to ≡ 4096
+pub room-first : {rows names to : List ℕ} {end : ℕ} (g : Graph rows names end) → distinct_texts (head_names rows names (head_places rows end)) ≡ true
+    → TargetsPut rows names end end to → length to ≡ 4096
     → {marks queue : List ℕ} {n : ℕ} → Marked (replicate 4096 0) (replicate 4096 0) 0 1 marks queue n → length marks ≡ 4096 → Room (head_flags rows end) to marks queue n
 room-first {rows} {names} {to} {end} g d put l m k =
     let w = marking-first g to m in

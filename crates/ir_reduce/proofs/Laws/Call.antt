@@ -82,7 +82,8 @@ module _ {rows names : List ℕ} (c : Cleared rows names) {w w₁ : GraphWriter}
   unfolding graph_fits
   written-full g = whole-short c b g
 
-  pub written-to : {u : Unit {0}} {roots types place : ℕ} {w₂ : GraphWriter} {rows₂ names₂ : List ℕ} → Grows w rs w₁ (Some u) → roots ≡ count (between 2 2) (tagged rs) → types ≡ count (between 3 8) (tagged rs)
+  pub written-to : {u : Unit {0}} {roots types place : ℕ} {w₂ : GraphWriter} {rows₂ names₂ : List ℕ} → Grows w rs w₁ (Some u)
+      → roots ≡ count (between 2 2) (tagged rs) → types ≡ count (between 3 8) (tagged rs)
       → Closes w₁ roots types w₂ place → (w.rows.ghost_name ≡ w₂.rows.ghost_name → rows₂ ≡ w₂.rows.now) → (w.names.ghost_name ≡ w₂.names.ghost_name → names₂ ≡ w₂.names.now)
       → Written rs rows names rows₂ names₂ place
   unfolding graph_fits graph_of row0_of

@@ -197,7 +197,8 @@ module _ (rows names ps : List ℕ) (p : ℕ) where
   target_none e = rw (← e)
 
   pub target-some : {k : ℕ} → Some k ≡ asked_pair (get_or rows (10 * p) 0) (get_or rows (10 * p + 7) 0)
-      → target_of rows names ps p ≡ place_of (name_of rows names false) (spelled (eqb (get_or rows (10 * p) 0) root_tag) (text_at names (get_or rows (10 * p + k) 0) (get_or rows (10 * p + k + 1) 0))) ps
+      → target_of rows names ps p ≡ place_of (name_of rows names false)
+      (spelled (eqb (get_or rows (10 * p) 0) root_tag) (text_at names (get_or rows (10 * p + k) 0) (get_or rows (10 * p + k + 1) 0))) ps
   unfolding target_of
   target-some e = rw (← e)
 
@@ -211,6 +212,7 @@ target-inside {rows} {names} {table} {n} w p = by-pair (asked_pair (get_or rows 
     found t (Some r) e = omega (arith, hit-inside w (place-hit (name_of rows names false) t (places_in buckets n table) r e))
 
     by-pair : (o : Option ℕ)
-        → 10 * unwrap_or (option_and_then (λ (k : ℕ). place_of (name_of rows names false) (spelled (eqb (get_or rows (10 * p) 0) root_tag) (text_at names (get_or rows (10 * p + k) 0) (get_or rows (10 * p + k + 1) 0))) (places_in buckets n table)) o) 0 ≤ length rows
+        → 10 * unwrap_or (option_and_then (λ (k : ℕ). place_of (name_of rows names false)
+        (spelled (eqb (get_or rows (10 * p) 0) root_tag) (text_at names (get_or rows (10 * p + k) 0) (get_or rows (10 * p + k + 1) 0))) (places_in buckets n table)) o) 0 ≤ length rows
     by-pair None = omega arith
     by-pair (Some k) = found _ _ refl

@@ -233,7 +233,8 @@ module _ (rows : List ℕ) (n p row : ℕ) (inside : row < n) where
 pub all_start : {tags to m q : List ℕ} {n : ℕ} → Marking tags to m q n → AllDone tags to m q n m q n 0
 all_start {tags} {to} {m} {q} {n} w = record { marking = w; grown = grown-same m q n; done = record { led = λ i j l. absurd (omega arith) } }
 
-pub all_more : {tags to m₀ q₀ m q m' q' : List ℕ} {n₀ n n' k : ℕ} → AllDone tags to m₀ q₀ n₀ m q n k → k < n → GroupDone tags to (get_or q k 0) m q n m' q' n' → AllDone tags to m₀ q₀ n₀ m' q' n' (k + 1)
+pub all_more : {tags to m₀ q₀ m q m' q' : List ℕ} {n₀ n n' k : ℕ} → AllDone tags to m₀ q₀ n₀ m q n k → k < n
+    → GroupDone tags to (get_or q k 0) m q n m' q' n' → AllDone tags to m₀ q₀ n₀ m' q' n' (k + 1)
 all_more {tags} {to} {m₀} {q₀} {m} {q} {m'} {q'} {n₀} {n} {n'} {k} a l g =
     record { marking = g.marking; grown = grown-on a.grown g.grown; done = record { led = λ i j b w. step i j (eqb i k) refl b w } }
   where

@@ -13,7 +13,7 @@ use Rattle.sheet.specs.Rows.{Row, row}
 use Rattle.xsd_types.specs.Types.{MaxOccurs}
 use Rattle.ir_types.specs.Rows.{cardinality_b, cardinality_c}
 use Rattle.ir_lower.specs.Lower.{lower_cardinality}
-use Rattle.ir_rows.specs.Lowered.{reference_texts, value_row, opaque_row, field_row, simple_row, code_rows, lowered_as}
+use Rattle.ir_rows.specs.Lowered.{reference_texts, value_row, opaque_row, lowered_field_row, simple_row, code_rows, lowered_as}
 use Rattle.ir_append.specs.declared.Spelling.{Spelling}
 use Rattle.ir_append.specs.declared.Recipe.{Recipe}
 use Rattle.ir_append.specs.Spelled.{is_nothing, spelled_texts, recipe_row, orderly}
@@ -128,7 +128,7 @@ module _ (e : Bool) (a b c n : ℕ) where
 
   pub lowers-17 : {x y : ℕ} → x ≡ cardinality_b (lower_cardinality a (MaxOccurs.bounded b)) → y ≡ cardinality_c (lower_cardinality a (MaxOccurs.bounded b))
       → Lowers e 17 a b c n (child_recipe 9 n x y Spelling.FirstSnake)
-  unfolding lowered_as field_row refers between orderly
+  unfolding lowered_as lowered_field_row refers between orderly
   lowers-17 p r =
       record {
         in_order = refl;
@@ -136,7 +136,7 @@ module _ (e : Bool) (a b c n : ℕ) where
       }
 
   pub lowers-18 : Lowers e 18 a b c n (child_recipe 9 n 2 0 Spelling.FirstSnake)
-  unfolding lowered_as field_row lower_cardinality cardinality_b cardinality_c refers between orderly
+  unfolding lowered_as lowered_field_row lower_cardinality cardinality_b cardinality_c refers between orderly
   lowers-18 = record { in_order = refl; lowers = λ t u h q. ap one (snake-row 9 2 0 n t u (q refl)) }
 
   pub lowers-19 : Lowers e 19 a b c n (child_recipe 10 n 0 0 Spelling.First)

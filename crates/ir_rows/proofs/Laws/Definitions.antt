@@ -26,7 +26,7 @@ use Rattle.xsd_types.specs.Refused.{is_enumeration, all_enums, is_code_enum}
 use Rattle.ir_lower.specs.Lower.{resolved, resolve_type_ref, codes, constraints, lower_newtype, lower_simple_type, lower_cardinality, lower_field, lower_variant, lower_attribute}
 use Rattle.ir_lower.specs.Lower.{lower_content, lower_complex_type}
 use Rattle.ir_lower.specs.Finished.{simple_name, complex_name}
-use Rattle.ir_rows.specs.Lowered.{reference_texts, value_row, opaque_row, field_row, simple_row, code_rows, lowered_as, lowered_row, child_rows, type_rows_of}
+use Rattle.ir_rows.specs.Lowered.{reference_texts, value_row, opaque_row, lowered_field_row, simple_row, code_rows, lowered_as, lowered_row, child_rows, type_rows_of}
 use Rattle.xsd_types.proofs.Laws.Refused.{head_first, is_code_enum-facets}
 
 -- ---- a reference: its number and its text
@@ -88,13 +88,13 @@ unfolding attribute_row row is_head between
 attribute-child x = refl
 
 module _ (code_enum : Bool) where
-  occurs-row : (t u : Text) (min : ℕ) (max : MaxOccurs) → lowered_row code_enum (occurs_row t u min max) ≡ field_row (lower_cardinality min max) t u ∷ []
+  occurs-row : (t u : Text) (min : ℕ) (max : MaxOccurs) → lowered_row code_enum (occurs_row t u min max) ≡ lowered_field_row (lower_cardinality min max) t u ∷ []
   unfolding lowered_row lowered_as occurs_row row text0 text1
   occurs-row t u min (MaxOccurs.bounded n) = refl
   occurs-row t u min MaxOccurs.unbounded = refl
 
   field_row_lem : (e : SequenceElement) → lowered_row code_enum (element_row e) ≡ graph_field (lower_field e) ∷ []
-  unfolding element_row field_row lower_field graph_field
+  unfolding element_row lowered_field_row lower_field graph_field
   field_row_lem e = occurs-row e.name e.type_name e.min_occurs e.max_occurs ∙ rw (reference-a e.type_name, reference-text e.type_name)
 
   variant-row : (v : ChoiceVariant) → lowered_row code_enum (choice_row v) ≡ variant_row (lower_variant v) ∷ []
@@ -110,7 +110,8 @@ module _ (code_enum : Bool) where
 content-rows : (event : ℕ) (name : Text) (c : ComplexContent) (more : List Row) → head_first more ≡ true
     → type_rows_of (complex_type_rows event name (started c) ++ more) ≡ type_rows (lower_content event (normalize_type_name name) c)
 unfolding type_rows_of complex_type_rows started type_rows lower_content lowered_row lowered_as row text0 text1 value_row opaque_row
-content-rows event name (ComplexContent.sequence es) more h = rw (child_rows-map (is_code_enum (map element_row es ++ more)) element_row lower_field graph_field element-child (field_row_lem _) es more h)
+content-rows event name (ComplexContent.sequence es) more h = rw
+    (child_rows-map (is_code_enum (map element_row es ++ more)) element_row lower_field graph_field element-child (field_row_lem _) es more h)
 content-rows event name (ComplexContent.choice vs) more h = rw (child_rows-map (is_code_enum (map choice_row vs ++ more)) choice_row lower_variant variant_row variant-child (variant-row _) vs more h)
 content-rows event name (ComplexContent.simple_content base xs) more h =
     rw (child_rows-map (is_code_enum (map attribute_row xs ++ more)) attribute_row lower_attribute attr_row attribute-child (attribute-row _) xs more h, reference-a base, reference-text base)

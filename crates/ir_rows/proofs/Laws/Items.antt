@@ -22,7 +22,7 @@ use Rattle.xsd_types.proofs.Laws.Items.{group-item}
 use Rattle.xsd_types.proofs.Laws.Refused.{head_first-items, simple-refused}
 use Rattle.ir_types.specs.Types.{TypeGraph}
 use Rattle.ir_types.specs.Rows.{root_row}
-use Rattle.ir_lower.specs.Lower.{any_unknown, root_of, lower, unknown_row}
+use Rattle.ir_lower.specs.Lower.{any_unknown, root_of_element, lower, unknown_row}
 use Rattle.ir_lower.proofs.Laws.Refusals.{refusal, refused-exactly, unknown_row-least}
 use Rattle.ir_rows.specs.Lowered.{lowered_as, lowered_row, root_rows}
 use Rattle.ir_rows.specs.Types.{is_simple, is_complex, places_of}
@@ -72,10 +72,12 @@ complex-tag (Item.complex_type t) = content-tag t.event t.name t.content
 
 -- the places in an item's rows, and then those in the rows behind it
 module _ (k : ℕ) (i : Item) (more : List Row) where
-  pub simple-places : places_of is_simple k (item_rows i ++ more) ≡ (if simple_item i then k ∷ places_of is_simple (k + length (item_rows i)) more else places_of is_simple (k + length (item_rows i)) more)
+  pub simple-places : places_of is_simple k (item_rows i ++ more)
+      ≡ (if simple_item i then k ∷ places_of is_simple (k + length (item_rows i)) more else places_of is_simple (k + length (item_rows i)) more)
   simple-places = rw (← simple-tag i) (places_of-group is_simple simple-heads k (item_rows i) more (group-item i))
 
-  pub complex-places : places_of is_complex k (item_rows i ++ more) ≡ (if complex_item i then k ∷ places_of is_complex (k + length (item_rows i)) more else places_of is_complex (k + length (item_rows i)) more)
+  pub complex-places : places_of is_complex k (item_rows i ++ more)
+      ≡ (if complex_item i then k ∷ places_of is_complex (k + length (item_rows i)) more else places_of is_complex (k + length (item_rows i)) more)
   complex-places = rw (← complex-tag i) (places_of-group is_complex complex-heads k (item_rows i) more (group-item i))
 
 -- ---- the first refused simple type
@@ -92,12 +94,14 @@ unknown-other k (r ∷ cs) more g e = refused_place-group k r cs more g ∙ rw (
 pub refused_place-items : (k : ℕ) (is : List Item) → refused_place k (items_rows is) ≡ unknown_row k is
 unfolding refused_place items_rows unknown_row refused_item item_rows simple_type_rows head_tag row
 refused_place-items k [] = refl
-refused_place-items k (Item.element e ∷ is) = unknown-other k (item_rows (Item.element e)) (items_rows is) (group-item (Item.element e)) refl ∙ refused_place-items (k + length (item_rows (Item.element e))) is
+refused_place-items k (Item.element e ∷ is) = unknown-other k (item_rows (Item.element e)) (items_rows is) (group-item (Item.element e)) refl
+    ∙ refused_place-items (k + length (item_rows (Item.element e))) is
 refused_place-items k (Item.simple_type t ∷ is) =
     refused_place-group k (row 3 (t.name ∷ t.base ∷ []) 0 0 t.event) (map facet_row t.facets) (items_rows is) (group-item (Item.simple_type t))
     ∙ rw (simple-refused t (items_rows is) (head_first-items is), refused_place-items (k + length (item_rows (Item.simple_type t))) is)
 refused_place-items k (Item.complex_type t ∷ is) =
-    unknown-other k (item_rows (Item.complex_type t)) (items_rows is) (group-item (Item.complex_type t)) (content-others t.event t.name t.content).1 ∙ refused_place-items (k + length (item_rows (Item.complex_type t))) is
+    unknown-other k (item_rows (Item.complex_type t)) (items_rows is) (group-item (Item.complex_type t)) (content-others t.event t.name t.content).1
+    ∙ refused_place-items (k + length (item_rows (Item.complex_type t))) is
 
 unknown-some : (k : ℕ) (is : List Item) → 1 ≤ k → any_unknown (simple_types is) ≡ true → 1 ≤ refused_place k (items_rows is)
 unknown-some k is h e = rw (refused_place-items k is) (omega (arith, unknown_row-least k is e))
@@ -107,7 +111,8 @@ unfolding any_unknown simple_types unknown_row refused_item
 unknown-none k [] e = refl
 unknown-none k (Item.element x ∷ is) e = unknown-none (k + length (item_rows (Item.element x))) is e
 unknown-none k (Item.simple_type t ∷ is) e =
-    rw (or-false-left (refused_base t) (any_unknown (simple_types is)) e) (unknown-none (k + length (item_rows (Item.simple_type t))) is (or-false-right (refused_base t) (any_unknown (simple_types is)) e))
+    rw (or-false-left (refused_base t) (any_unknown (simple_types is)) e)
+    (unknown-none (k + length (item_rows (Item.simple_type t))) is (or-false-right (refused_base t) (any_unknown (simple_types is)) e))
 unknown-none k (Item.complex_type t ∷ is) e = unknown-none (k + length (item_rows (Item.complex_type t))) is e
 
 -- lowering refuses exactly where the place is not 0
@@ -120,8 +125,8 @@ refused_place-lowered k s g e = refused_place-items k s.items ∙ unknown-none k
 
 -- ---- the elements
 
-pub root_rows-items : (is : List Item) → root_rows (items_rows is) ≡ map root_row (map root_of (elements is))
-unfolding root_rows items_rows elements item_rows lowered_row lowered_as row text0 text1 root_of root_row simple_type_rows head_tag
+pub root_rows-items : (is : List Item) → root_rows (items_rows is) ≡ map root_row (map root_of_element (elements is))
+unfolding root_rows items_rows elements item_rows lowered_row lowered_as row text0 text1 root_of_element root_row simple_type_rows head_tag
 root_rows-items [] = refl
 root_rows-items (Item.element e ∷ is) = rw (root_rows-items is)
 root_rows-items (Item.simple_type t ∷ is) = root_rows-group (item_rows (Item.simple_type t)) (items_rows is) (group-item (Item.simple_type t)) refl ∙ root_rows-items is

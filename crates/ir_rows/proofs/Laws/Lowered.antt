@@ -15,7 +15,7 @@ use Rattle.sheet.specs.Rows.{Row, row, Ten, text_at, unpack_row}
 use Rattle.xsd_types.specs.Types.{MaxOccurs}
 use Rattle.xsd_types.specs.Good.{used_pairs}
 use Rattle.ir_lower.specs.Lower.{lower_cardinality}
-use Rattle.ir_rows.specs.Lowered.{reference_texts, value_row, opaque_row, field_row, simple_row, code_rows, lowered_as, lowered_row}
+use Rattle.ir_rows.specs.Lowered.{reference_texts, value_row, opaque_row, lowered_field_row, simple_row, code_rows, lowered_as, lowered_row}
 use Rattle.xsd_types.proofs.Laws.Places.{text0-at, text1-at}
 
 -- two branches that are each equal to another, the first where the test passes
@@ -58,8 +58,8 @@ module _ (code_enum : Bool) (tag a b c : ℕ) (p q x y : Text) (one : 1 ≤ used
       (if-same (eqb tag 13) (λ e. rw (one_at 13 (omega arith) e))
       (if-same (eqb tag 14) (λ e. both_at 14 (omega arith) (λ t u. value_row c t u ∷ []) e)
       (if-same (eqb tag 15) (λ e. rw (opaque-at e))
-      (if-same (eqb tag 17) (λ e. both_at 17 (omega arith) (λ t u. field_row (lower_cardinality a (MaxOccurs.bounded b)) t u ∷ []) e)
-      (if-same (eqb tag 18) (λ e. both_at 18 (omega arith) (λ t u. field_row (lower_cardinality a MaxOccurs.unbounded) t u ∷ []) e)
+      (if-same (eqb tag 17) (λ e. both_at 17 (omega arith) (λ t u. lowered_field_row (lower_cardinality a (MaxOccurs.bounded b)) t u ∷ []) e)
+      (if-same (eqb tag 18) (λ e. both_at 18 (omega arith) (λ t u. lowered_field_row (lower_cardinality a MaxOccurs.unbounded) t u ∷ []) e)
       (if-same (eqb tag 19) (λ e. both_at 19 (omega arith) (λ t u. row 10 (t ∷ t ∷ reference_texts u) (reference (map_builtin u)) 0 0 ∷ []) e)
       (if-same (eqb tag 20) (λ e. both_at 20 (omega arith) (λ t u. row 19 (t ∷ xml_to_snake_case t ∷ reference_texts u) (reference (map_builtin u)) a 0 ∷ []) e) refl))))))))))))))))))
 

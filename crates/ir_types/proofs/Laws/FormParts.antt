@@ -9,12 +9,11 @@ use lib.Dec.{eqb, leb}
 use lib.ListN.{length}
 use borrow.Author.Tests.{eqb-true, leb-true, le-leb}
 use Rattle.text.specs.Text.{every, is_graph_text, between}
-use Rattle.text.proofs.Laws.Tests.{two, three, six, and-true, and-true-left, and-true-right}
-use Rattle.text.proofs.Laws.Every.{every-weaken}
+use Rattle.text.proofs.Laws.Tests.{three, six, and-true-left, and-true-right}
 use Rattle.sheet.specs.Rows.{Ten, Sheet}
 use Rattle.sheet.specs.Form.{is_flag, covers, covered, rows_used_of, names_used_of, tens_of, used_parts, zeros_behind, texts_pass}
-use Rattle.sheet.specs.Lengths.{fits}
 use Rattle.sheet.proofs.Laws.Unpacks.{few}
+use Rattle.sheet.proofs.Laws.Formed.{Headed, headed, few-headed, used-two, used-rows, used-names, covers-true, covered-is}
 use Rattle.ir_types.specs.Tags.{root_tag}
 use Rattle.ir_types.specs.Row0.{GraphRow0, graph_row0_in}
 use Rattle.ir_types.specs.Form.{used_pairs, is_type_tag, form_a, form_b, form_c, ten_form, in_order, tags_of, count, row0_form, rows_form, names_form, graph_form}
@@ -34,35 +33,16 @@ parts x h =
     record { used = w.0; rows = w.2; names = w.3; zeros = w.4; text = w.5 }
 
 -- row 1 and the rows behind it
-pub record Behind (ts : List Ten) : Type 0 where
-  pub first : Ten
-  pub body : List Ten
-  pub same : ts ≡ first ∷ body
-  pub tag_is : first.tag ≡ 1
-  pub a_is : first.a ≡ 0
-  pub b_is : first.b ≡ 0
-  pub c_is : first.c ≡ 0
-  pub formed : every ten_form body ≡ true
-  pub ordered : in_order 1 (tags_of body) ≡ true
+abbrev pub Behind : List Ten → Type 0
+Behind ts = Headed ten_form (λ bs. in_order 1 (tags_of bs)) ts
 
 pub behind : (z : GraphRow0) (ts : List Ten) → rows_form z ts ≡ true → Behind ts
 unfolding rows_form
 behind z [] h = absurd (false≢true h)
 behind z (n ∷ ts) h =
-    let a = eqb n.tag 1 in let b = eqb n.a 0 in let c = eqb n.b 0 in let d = eqb n.c 0 in let e = every ten_form ts in let f = in_order 1 (tags_of ts) in
-    let counts = three (a && b && c && d && e && f) (eqb z.root_elements (count (λ tag. eqb tag root_tag) (tags_of ts))) (eqb z.types (count is_type_tag (tags_of ts))) h in
-    let w = six a b c d e f counts.0 in
-    record {
-      first = n;
-      body = ts;
-      same = refl;
-      tag_is = eqb-true n.tag 1 w.0;
-      a_is = eqb-true n.a 0 w.1;
-      b_is = eqb-true n.b 0 w.2;
-      c_is = eqb-true n.c 0 w.3;
-      formed = w.4;
-      ordered = w.5;
-    }
+    let form = eqb n.tag 1 && eqb n.a 0 && eqb n.b 0 && eqb n.c 0 && every ten_form ts && in_order 1 (tags_of ts) in
+    let counts = three form (eqb z.root_elements (count (λ tag. eqb tag root_tag) (tags_of ts))) (eqb z.types (count is_type_tag (tags_of ts))) h in
+    headed ten_form (λ bs. in_order 1 (tags_of bs)) n ts counts.0
 
 -- ---- a row uses at most three pairs
 flag-of : (a : ℕ) → form_a 8 a ≡ true → leb a 1 ≡ true
@@ -94,38 +74,25 @@ few-form t h =
     let a = between 2 19 t.tag in let b = form_a t.tag t.a in let c = form_b t.tag t.b in let d = form_c t.tag t.b t.c in
     le-leb (used_pairs t.tag t.a) 3 (used-few t.tag t.a (and-true-right a b (and-true-left (a && b) c (and-true-left (a && b && c) d h))))
 
-few-first : (t : Ten) → t.tag ≡ 1 → few used_pairs t ≡ true
-unfolding few used_pairs between
-few-first t e = rw e
-
 pub few-behind : (ts : List Ten) → Behind ts → every (few used_pairs) ts ≡ true
-unfolding every
-few-behind ts b = rw b.same (and-true {a = few used_pairs b.first} (few-first b.first b.tag_is) (every-weaken ten_form (few used_pairs) few-form b.body b.formed))
+unfolding used_pairs between
+few-behind ts b = few-headed ten_form (λ bs. in_order 1 (tags_of bs)) used_pairs refl few-form ts b
 
 -- ---- the parts as numbers
 module _ (x : Sheet) (p : Parts x) where
-  used-room : (2 ≤ rows_used_of x) × (10 * rows_used_of x ≤ length x.rows) × (names_used_of x ≤ length x.names)
-  unfolding used_parts fits
-  used-room =
-      let w = two (leb 2 (rows_used_of x)) (fits (rows_used_of x) (names_used_of x) (length x.rows) (length x.names)) p.used in
-      let v = two (leb (10 * rows_used_of x) (length x.rows)) (leb (names_used_of x) (length x.names)) w.1 in
-      (leb-true 2 (rows_used_of x) w.0, leb-true (10 * rows_used_of x) (length x.rows) v.0, leb-true (names_used_of x) (length x.names) v.1)
-
   pub rows-two : 2 ≤ rows_used_of x
-  rows-two = used-room.0
+  rows-two = used-two x p.used
 
   pub rows-room : 10 * rows_used_of x ≤ length x.rows
-  rows-room = used-room.1
+  rows-room = used-rows x p.used
 
   pub names-room : names_used_of x ≤ length x.names
-  names-room = used-room.2
-
-  pairs-end : (covers used_pairs 0 (tens_of x) ≡ true) × (eqb (covered 0 (tens_of x)) (names_used_of x) ≡ true)
-  unfolding names_form
-  pairs-end = two (covers used_pairs 0 (tens_of x)) (eqb (covered 0 (tens_of x)) (names_used_of x)) p.names
+  names-room = used-names x p.used
 
   pub pairs-cover : covers used_pairs 0 (tens_of x) ≡ true
-  pairs-cover = pairs-end.0
+  unfolding names_form
+  pairs-cover = covers-true used_pairs (tens_of x) (names_used_of x) p.names
 
   pub names-end : covered 0 (tens_of x) ≡ names_used_of x
-  names-end = eqb-true (covered 0 (tens_of x)) (names_used_of x) pairs-end.1
+  unfolding names_form
+  names-end = covered-is used_pairs (tens_of x) (names_used_of x) p.names

@@ -1,30 +1,26 @@
 -- The used names of a graph sheet in the form tested as a whole first: where they are plain, each used pair by itself is a text. Assumes nothing.
 --     whole_form     `graph_form` with the test of all used names; plain_form: with the test of before, that all are plain
-use Prim.Native.Nat.{◌*◌}
 use mathlib.Core.Path.{◌≡◌, ◌∙◌}
 use mathlib.Core.Bool.{Bool, true, ◌&&◌, ◌||◌}
-use lib.Dec.{leb}
-use lib.ListN.{length, take}
-use borrow.Author.Tests.{eqb-true, leb-true}
+use lib.ListN.{take}
 use Rattle.text.specs.Text.{is_plain, is_graph_text}
-use Rattle.text.proofs.Laws.Tests.{and-true-left, and-true-right, sixth-under}
+use Rattle.text.proofs.Laws.Tests.{sixth-under}
 use Rattle.text.proofs.Laws.Class.{plain-graph-text}
 use Rattle.sheet.specs.Rows.{Sheet}
-use Rattle.sheet.specs.Form.{covers, covered, rows_used_of, names_used_of, tens_of, used_parts, zeros_behind, texts_pass}
-use Rattle.sheet.specs.Lengths.{fits}
+use Rattle.sheet.specs.Form.{names_used_of, tens_of, used_parts, zeros_behind, texts_pass}
 use Rattle.sheet.proofs.Laws.Sheets.{plain-or-each}
+use Rattle.sheet.proofs.Laws.Formed.{used-names, covers-true, covered-is}
 use Rattle.ir_types.specs.Row0.{graph_row0_in}
 use Rattle.ir_types.specs.Form.{used_pairs, row0_form, rows_form, names_form, graph_form}
 use Rattle.ir_types.proofs.Laws.FormParts.{behind, few-behind}
 
 names-whole : (x : Sheet) → used_parts x ≡ true → rows_form (graph_row0_in x) (tens_of x) ≡ true → names_form (names_used_of x) (tens_of x) ≡ true
     → texts_pass is_graph_text used_pairs x ≡ is_plain (take (names_used_of x) x.names) || texts_pass is_graph_text used_pairs x
-unfolding names_form used_parts fits
+unfolding names_form
 names-whole x u r n =
     let ts = tens_of x in
-    let room = and-true-right (leb (10 * rows_used_of x) (length x.rows)) _ (and-true-right (leb 2 (rows_used_of x)) _ u) in
-    plain-or-each is_graph_text plain-graph-text used_pairs x (few-behind ts (behind (graph_row0_in x) ts r)) (and-true-left (covers used_pairs 0 ts) _ n)
-    (eqb-true (covered 0 ts) (names_used_of x) (and-true-right (covers used_pairs 0 ts) _ n)) (leb-true (names_used_of x) (length x.names) room)
+    plain-or-each is_graph_text plain-graph-text used_pairs x (few-behind ts (behind (graph_row0_in x) ts r)) (covers-true used_pairs ts (names_used_of x) n)
+    (covered-is used_pairs ts (names_used_of x) n) (used-names x u)
 
 abbrev pub whole_form : Sheet → Bool
 whole_form x =

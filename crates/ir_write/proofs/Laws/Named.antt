@@ -13,7 +13,7 @@ use Rattle.text.specs.Text.{every}
 use Rattle.text.proofs.Laws.Tests.{two}
 use Rattle.xsd_types.specs.Places.{rows_from}
 use Rattle.ir_rows.specs.Lowered.{type_rows_of}
-use Rattle.ir_rows.specs.Types.{types_rows}
+use Rattle.ir_rows.specs.Types.{types_graph_rows}
 
 unfoldable pub entry_places : List ℕ → List ℕ
 entry_places entries = map (λ (e : ℕ). e % 65536) entries
@@ -31,6 +31,6 @@ inside end k entries h e = two _ _ (rw (left k entries h) at e)
 
 -- the types that are left are the one at that place and those behind it
 pub rest : (rows names : List ℕ) (end k : ℕ) (entries : List ℕ) {place : ℕ} → k < length entries → place ≡ get_or entries k 0 % 65536
-    → types_rows rows names end (entry_places (drop k entries)) ≡ type_rows_of (rows_from rows names place end) ++ types_rows rows names end (entry_places (drop (k + 1) entries))
-unfolding types_rows
+    → types_graph_rows rows names end (entry_places (drop k entries)) ≡ type_rows_of (rows_from rows names place end) ++ types_graph_rows rows names end (entry_places (drop (k + 1) entries))
+unfolding types_graph_rows
 rest rows names end k entries h e = rw (e, left k entries h)

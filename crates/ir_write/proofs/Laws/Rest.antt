@@ -11,7 +11,7 @@ use Rattle.xsd_types.specs.Good.{is_head}
 use Rattle.xsd_types.specs.Refused.{is_code_enum}
 use Rattle.rows.specs.declared.part.SheetPart.{SheetPart}
 use Rattle.ir_rows.specs.Lowered.{lowered_row, child_rows, type_rows_of, root_rows}
-use Rattle.ir_rows.specs.Types.{types_rows, graph_row_list}
+use Rattle.ir_rows.specs.Types.{types_graph_rows, graph_row_list}
 use Rattle.ir_rows.specs.Parts.{part_row, part_rows, part_places, part_types, part_graph}
 use Rattle.text.proofs.Laws.Tests.{if-cases, bool_cases}
 use Rattle.ir_checks.specs.declared.Kind.{Kind}
@@ -83,17 +83,17 @@ module _ (part : SheetPart) (kind : Kind) (p : ℕ) where
   one_none e = rw e
 
   pub kind_rows-on : p < part.end → kind_rows part kind p ≡ one_rows part kind p ++ kind_rows part kind (p + 1)
-  unfolding kind_rows one_rows types_rows
+  unfolding kind_rows one_rows types_graph_rows
   kind_rows-on h =
       bool_cases (is_kind kind (get_or part.rows.now (10 * p) 0)) (λ e. rw (kind-hit part kind p h e, e)) (λ e. rw (kind-on part kind p h e, e))
 
   pub kind_rows-end : part.end ≤ p → kind_rows part kind p ≡ []
-  unfolding kind_rows types_rows
+  unfolding kind_rows types_graph_rows
   kind_rows-end h = rw (kind-end part kind p h)
 
 module _ (part : SheetPart) where
   types-append : (ps qs : List ℕ) → part_types part (ps ++ qs) ≡ part_types part ps ++ part_types part qs
-  unfolding types_rows
+  unfolding types_graph_rows
   types-append [] qs = refl
   types-append (p ∷ ps) qs = rw (types-append ps qs) (sym (append_assoc (type_rows_of (part_rows part p)) (part_types part ps) (part_types part qs)))
 

@@ -229,7 +229,8 @@ module _ {rows names : List ℕ} {normalised : Bool} {table : List ℕ} {k n p :
       rw place-new
       (bool_cases
       (eqb its_bucket b)
-      (λ e. rw (e, sym (eqb-true its_bucket b e)) (get_or-set_same (set table (k + n) (entry_of table its_bucket p)) its_bucket (n + 1) 0 (rw length-set (omega (arith, bucket-in, w.inside))) ∙ add-one n))
+      (λ e. rw (e, sym (eqb-true its_bucket b e))
+      (get_or-set_same (set table (k + n) (entry_of table its_bucket p)) its_bucket (n + 1) 0 (rw length-set (omega (arith, bucket-in, w.inside))) ∙ add-one n))
       (λ e.
       rw e
       (get_or-set_other (set table (k + n) (entry_of table its_bucket p)) its_bucket b (n + 1) 0 (λ x. eqb-false its_bucket b e (sym x))

@@ -1,15 +1,16 @@
 -- A hash is below 2^32, and a bucket below their number; a name's bytes go in one by one. Assumes nothing.
-use Prim.Native.Nat.{ℕ, ◌+◌, ◌*◌, ◌/◌, ◌≤◌, ◌<◌}
+use Prim.Native.Nat.{ℕ, ◌+◌, ◌-◌, ◌*◌, ◌/◌, ◌%◌, ◌≤◌, ◌<◌}
 use Prim.Native.Char.{code}
-use mathlib.Core.Path.{◌≡◌, refl, sym, ◌∙◌}
-use mathlib.Core.Bool.{Bool, true, false, ◌&&◌, false≢true}
+use mathlib.Core.Path.{◌≡◌, refl, sym, ap, ◌∙◌}
+use mathlib.Core.Bool.{Bool, true, false}
 use mathlib.Core.List.{[], ◌∷◌}
 use native.Mathlib.Numerals.{add-one}
-use lib.Dec.{eqb}
-use lib.ListN.{length, get_or, drop, drop_of_length-le}
+use lib.ListN.{length, get_or, take, drop, drop_of_length-le}
 use lib.Seq.{drop-cons}
 use native.Mathlib.Omega.{arith}
-use native.Mathlib.Nat.{mul-le-mul, mul-lt-mul_of_pos_right}
+use Rattle.std.proofs.Math.Nat.{add-mul-mod_self_left}
+use Rattle.std.proofs.lemmas.List.{take_all}
+use native.Mathlib.Nat.{le_refl, mul-le-mul, mul-lt-mul_of_pos_right}
 use Rattle.text.specs.Text.{Text, contains}
 use Rattle.names.specs.Same.{spelled}
 use Rattle.names.proofs.Laws.Names.{normalize-plain}
@@ -18,6 +19,37 @@ use Rattle.name_index.specs.Hash.{mixed, hash_from, hash, bucket_of}
 pub mixed-below : (h b : ℕ) → mixed h b < 4294967296
 unfolding mixed
 mixed-below h b = omega arith
+
+-- a byte goes in, whether the hash was reduced before or not
+mixed-mod : (x b : ℕ) → mixed (x % 4294967296) b ≡ mixed x b
+unfolding mixed
+mixed-mod x b = omega arith
+
+-- four bytes go in at once, by the powers of the factor
+pub mixed-four : (h a b c d : ℕ) → ((h + a) * 527875265 + b * 3422824465 + c * 4293315681 + d * 2654435761) % 4294967296 ≡ mixed (mixed (mixed (mixed h a) b) c) d
+unfolding mixed
+mixed-four h a b c d =
+    let k : ℕ = 2654435761 in
+    let one = (h + a) * k in
+    let two = (one + b) * k in
+    let three = (two + c) * k in
+    let four = (h + a) * 527875265 + b * 3422824465 + c * 4293315681 + d * 2654435761 in
+    let whole = (h + a) * 11559232980470552387898399731 + b * 4354685523116922921 + c * 1640531515 in
+    let all : (three + d) * k ≡ four + 4294967296 * whole = omega arith in
+    sym (ap (λ (x : ℕ). x % 4294967296) all ∙ add-mul-mod_self_left _ 4294967296 _)
+    ∙ sym (mixed-mod three d) ∙ ap (λ (x : ℕ). mixed x d) (sym (mixed-mod two c) ∙ ap (λ (x : ℕ). mixed x c) (sym (mixed-mod one b)))
+
+-- the first four bytes of a text go in
+pub hash-fours : (h : ℕ) (s : Text) → 4 ≤ length s
+    → hash_from (mixed (mixed (mixed (mixed h (get_or s 0 0)) (get_or s 1 0)) (get_or s 2 0)) (get_or s 3 0)) (take (length s - 4) (drop 4 s)) ≡ hash_from h s
+unfolding hash_from
+hash-fours h [] l = absurd (let no : ⊥ = omega arith in no)
+hash-fours h (a ∷ []) l = absurd (let no : ⊥ = omega arith in no)
+hash-fours h (a ∷ b ∷ []) l = absurd (let no : ⊥ = omega arith in no)
+hash-fours h (a ∷ b ∷ c ∷ []) l = absurd (let no : ⊥ = omega arith in no)
+hash-fours h (a ∷ b ∷ c ∷ d ∷ s) l =
+    let left : length (a ∷ b ∷ c ∷ d ∷ s) - 4 ≡ length s = omega arith in
+    rw (left, take_all (length s) s (le_refl (length s))) refl
 
 -- the byte at a place goes in, and behind the last nothing is left
 pub hash-on : (h : ℕ) (s : Text) (i : ℕ) → i < length s → hash_from h (drop i s) ≡ hash_from (mixed h (get_or s i 0)) (drop (i + 1) s)
@@ -28,18 +60,11 @@ pub hash-end : (h : ℕ) (s : Text) (i : ℕ) → length s ≤ i → hash_from h
 unfolding hash_from
 hash-end h s i l = rw (drop_of_length-le s l)
 
--- of a name that is normalised a byte that is no underscore is passed
-pub passed-on : (normalised : Bool) (s : Text) (i : ℕ) → i < length s → normalised && eqb (get_or s i 0) (code "_") ≡ false → normalised ≡ true
-    → contains (code "_") (drop i s) ≡ contains (code "_") (drop (i + 1) s)
-unfolding contains
-passed-on true s i l e t = rw (drop-cons s i 0 l, add-one i, e)
-passed-on false s i l e t = absurd (false≢true t)
-
 -- a name without an underscore is spelled as it stands
-pub spelled-same : (normalised : Bool) (s : Text) (i : ℕ) → length s ≤ i → (normalised ≡ true → contains (code "_") (drop i s) ≡ contains (code "_") s) → spelled normalised s ≡ s
-unfolding spelled contains
-spelled-same true s i l w = normalize-plain s (sym (w refl) ∙ rw (drop_of_length-le s l))
-spelled-same false s i l w = refl
+pub spelled-plain : (normalised : Bool) (s : Text) → (normalised ≡ true → contains (code "_") s ≡ false) → spelled normalised s ≡ s
+unfolding spelled
+spelled-plain true s w = normalize-plain s (w refl)
+spelled-plain false s w = refl
 
 hash_from-below : (h : ℕ) (s : Text) → h < 4294967296 → hash_from h s < 4294967296
 unfolding hash_from

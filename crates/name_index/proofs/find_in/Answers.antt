@@ -18,9 +18,9 @@ pub loop-e-init : goal.loop-e-init
 loop-e-init c =
     rw (c.wide-e.ensures, c.requires.bucket_value) (walk_start c.requires.index (spelled_text c.args.asked))
 
-pub returns-then-is_same : goal.returns-then-is_same
-returns-then-is_same c =
-    let hit = rw (c.spelled_at.ensures, c.wide-place.ensures) at (sym c.is_same.ensures ∙ c.if-is_same.true) in
+pub returns-then-same_spelled : goal.returns-then-same_spelled
+returns-then-same_spelled c =
+    let hit = rw (c.spelled_at.ensures, c.wide-place.ensures) at (sym c.same_spelled.ensures ∙ c.if-same_spelled.true) in
     rw c.wide-place.ensures (walk-hit c.requires.index _ c.loop-e.invariant (omega arith) hit)
 
 pub loop-e-smaller : goal.loop-e-smaller
@@ -29,7 +29,7 @@ loop-e-smaller c =
 
 pub loop-e-preserved : goal.loop-e-preserved
 loop-e-preserved c =
-    let other = rw (c.spelled_at.ensures, c.wide-place.ensures) at (sym c.is_same.ensures ∙ c.if-is_same.false) in
+    let other = rw (c.spelled_at.ensures, c.wide-place.ensures) at (sym c.same_spelled.ensures ∙ c.if-same_spelled.false) in
     rw c.wide-e-in-loop-e.ensures (walk_more c.requires.index _ c.loop-e.invariant (omega arith) other)
 
 pub returns : goal.returns

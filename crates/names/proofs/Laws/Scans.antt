@@ -1,4 +1,5 @@
 -- A conversion of a name whose bytes so far are below 128: what stands at place i decides. Assumes nothing.
+use Rattle.std.specs.Prelude.{if◌then◌else◌}
 use Prim.Native.Nat.{ℕ, suc, ◌≤◌, ◌<◌}
 use Prim.Native.Char.{code}
 use mathlib.Core.Path.{◌≡◌, refl, sym, ◌∙◌}
@@ -65,15 +66,12 @@ snake-start (c ∷ cs) = refl
 
 module _ (prev : ℕ) (s : Text) (i : ℕ) (h : i < length s) (k : get_or s i 0 < 128) (l : first (drop (suc i) s) < 128) where
   -- an underscore stands before the byte where a word starts there
-  pub snake-marked : starts_word (prev ∷ []) (get_or s i 0 ∷ []) (first (drop (suc i) s) ∷ []) ≡ true
-      → snake_from (prev ∷ []) (characters (drop i s)) ≡ code "_" ∷ lower (get_or s i 0) ∷ snake_from (get_or s i 0 ∷ []) (characters (drop (suc i) s))
+  pub snake-step : (starts : Bool) → starts_word (prev ∷ []) (get_or s i 0 ∷ []) (first (drop (suc i) s) ∷ []) ≡ starts
+      → snake_from (prev ∷ []) (characters (drop i s))
+      ≡ (if starts then code "_" ∷ lower (get_or s i 0) ∷ snake_from (get_or s i 0 ∷ []) (characters (drop (suc i) s))
+      else lower (get_or s i 0) ∷ snake_from (get_or s i 0 ∷ []) (characters (drop (suc i) s)))
   unfolding snake_from first_lower lower_of characters
-  snake-marked e = rw (byte-at s i h k, starts-next (prev ∷ []) (get_or s i 0 ∷ []) (drop (suc i) s) l, e)
-
-  pub snake-plain : starts_word (prev ∷ []) (get_or s i 0 ∷ []) (first (drop (suc i) s) ∷ []) ≡ false
-      → snake_from (prev ∷ []) (characters (drop i s)) ≡ lower (get_or s i 0) ∷ snake_from (get_or s i 0 ∷ []) (characters (drop (suc i) s))
-  unfolding snake_from first_lower lower_of characters
-  snake-plain e = rw (byte-at s i h k, starts-next (prev ∷ []) (get_or s i 0 ∷ []) (drop (suc i) s) l, e)
+  snake-step starts e = rw (byte-at s i h k, starts-next (prev ∷ []) (get_or s i 0 ∷ []) (drop (suc i) s) l, e)
 
 pub snake-end : (prev : ℕ) (s : Text) (i : ℕ) → length s ≤ i → snake_from (prev ∷ []) (characters (drop i s)) ≡ []
 unfolding snake_from characters

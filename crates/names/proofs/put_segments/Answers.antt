@@ -1,12 +1,12 @@
 -- `names::put_segments` meets its contract. The loop's invariant: n bytes of the target are written, and the scan of s from b on is what is still to be written.
 -- Assumes nothing.
-use mathlib.Core.Logic.{⊎_elim}
 use native.Mathlib.Numerals.{add-one}
 use native.Mathlib.Omega.{arith}
 use lib.ListN.{get_or}
 use Rattle.names.proofs.Laws.Writing.{writing-length, writing-as, writing_more, writing-end, writing-full, put_again}
 use Rattle.names.proofs.Laws.Scans.{cased-one, segments-passed, segments-kept, segments-end}
 use Rattle.names.proofs.put_segments.Goals as goal
+use Rattle.names.proofs.put_segments.Goals.{then-b-separator, else-b-separator+else-out-n}
 
 pub returns-then-b-ge128 : goal.returns-then-b-ge128
 returns-then-b-ge128 c = put_again c.loop-b.invariant c.put_characters.ensures
@@ -27,11 +27,13 @@ loop-b-preserved c =
     let up = c.loop-b.up in
     let i = c.loop-b.b-index in
     let w = c.loop-b.invariant in
-    ⊎_elim
-    (λ v. rw (v.out-is, v.up-is, v.n-is, add-one i) (writing-as w (segments-passed a.separator a.lowers up a.s.now i (omega arith) (omega arith) v.if-b-separator.true)))
-    (λ v. rw (v.out-is, v.up-is, v.n-is, add-one i)
-    (writing_more (writing-as w (segments-kept a.separator a.lowers up a.s.now i _ (omega arith) (omega arith) v.if-b-separator.false v.cased_byte.ensures)) (omega (arith, writing-length w))))
-    c.if-b-separator.branch-raw
+    elim c.if-b-separator.branch [
+      | then-b-separator v ↦
+          rw (v.out-is, v.up-is, v.n-is, add-one i) (writing-as w (segments-passed a.separator a.lowers up a.s.now i (omega arith) (omega arith) v.if-b-separator.true))
+      | else-b-separator+else-out-n v ↦
+          rw (v.out-is, v.up-is, v.n-is, add-one i)
+          (writing_more (writing-as w (segments-kept a.separator a.lowers up a.s.now i _ (omega arith) (omega arith) v.if-b-separator.false v.cased_byte.ensures)) (omega (arith, writing-length w)))
+    ]
 
 pub returns : goal.returns
 returns c =

@@ -17,7 +17,7 @@ use Rattle.text.specs.Text.{Text, between, first, contains, bytes}
 use Rattle.text.proofs.Laws.Tests.{bool_cases, or-false-left, or-false-right}
 use Rattle.text.proofs.Laws.Texts.{first-drop}
 use Rattle.xml.specs.Classes.{is_char}
-use Rattle.pattern.specs.Grammar.{char_but, is_mark, is_in_class, is_single, is_multi}
+use Rattle.pattern.specs.Grammar.{char_but, is_normal, is_mark, is_in_class, is_single, is_multi}
 use Rattle.pattern.specs.Answers.{Goes, Ends, is_close, is_tail, is_bracket, any_byte}
 use Rattle.std.specs.Prelude.{Option, Some, None}
 use Rattle.pattern.specs.Scan.{Mode, start, atom, State, stop, go, is_escaped, is_plain, fresh, inside, step, final, scan}
@@ -62,6 +62,18 @@ module _ (m n : Mode) (steps : (d b : ℕ) → step (go d m) b ≡ (if is_escape
       bool_cases (ltb i (length s)) (λ h. off_at (go d m) s i (ltb-true i (length s) h) (steps d (get_or s i 0) ∙ rw f))
       (λ h. end-at (go d m) s i (ltb-false i (length s) h) ∙ ends d)
 
+-- behind a backslash at `at`, in a class or not
+pub escaped-part : (m n : Mode) → ((d b : ℕ) → step (go d m) b ≡ (if is_escaped b then go d n else stop)) → ((d : ℕ) → final (go d m) ≡ false) → (s : Text) (l : Mode) (at : ℕ)
+    → ((d : ℕ) → scan (go d l) (drop at s) ≡ scan (go d m) (drop (at + 1) s)) → is_escaped (first (drop (at + 1) s)) ≡ true → Goes s l at n (at + 1) (at + 2) any_byte
+escaped-part m n steps ends s l at slash x =
+    let two : at + 1 + 1 ≡ at + 2 = omega arith in
+    record {
+      onward = omega arith;
+      within = omega (arith, escaped-inside s (at + 1) x);
+      stops = λ _. refl;
+      reads = λ d. slash d ∙ escaped-on m n steps ends s (at + 1) x d ∙ ap (λ (k : ℕ). scan (go d n) (drop k s)) two;
+    }
+
 pub byte-to : (q : State) {q' : State} (s : Text) (i c : ℕ) → i < length s → get_or s i 0 ≡ c → step q c ≡ q' → scan q (drop i s) ≡ scan q' (drop (i + 1) s)
 byte-to q s i c h e k = to_at q s i h (ap (step q) e ∙ k)
 
@@ -70,6 +82,11 @@ pub before : (s : Text) (m n : Mode) (at next : ℕ) (l : Mode) (least : ℕ) (P
     → (r : Option ℕ) → Ends s n next l least P r → Ends s m at l least P r
 before s m n at next l least P e (Some x) g = record { onward = g.onward; within = g.within; stops = g.stops; reads = λ d. e d ∙ g.reads d }
 before s m n at next l least P e None g = λ d. e d ∙ g d
+
+-- a step behind a part
+pub behind : {s : Text} {m n l : Mode} {at least e next : ℕ} {P : ℕ → Bool} → Goes s m at n least e P → e ≤ next → next ≤ length s
+    → ((d : ℕ) → scan (go d n) (drop e s) ≡ scan (go d l) (drop next s)) → Goes s m at l least next any_byte
+behind g h k f = record { onward = omega (arith, g.onward); within = k; stops = λ _. refl; reads = λ d. g.reads d ∙ f d }
 
 pub open-final : (d : ℕ) → final (go (suc d) start) ≡ false
 unfolding final
@@ -125,25 +142,13 @@ module _ (s : Text) (at : ℕ) (h : at < length s) (n : is_bracket (get_or s at 
 
   pub item-escaped : get_or s at 0 ≡ 92 → is_escaped (first (drop (at + 1) s)) ≡ true → Goes s Mode.class at Mode.class (at + 1) (at + 2) any_byte
   unfolding step final
-  item-escaped e x =
-      let two : at + 1 + 1 ≡ at + 2 = omega arith in
-      record {
-        onward = omega arith;
-        within = omega (arith, escaped-inside s (at + 1) x);
-        stops = λ _. refl;
-        reads = λ d. item-slash e d
-            ∙ escaped-on Mode.class_escape Mode.class (λ d b. refl) (λ d. refl) s (at + 1) x d ∙ ap (λ (k : ℕ). scan (go d Mode.class) (drop k s)) two;
-      }
+  item-escaped e x = escaped-part Mode.class_escape Mode.class (λ d b. refl) (λ d. refl) s Mode.class at (item-slash e) x
 
   pub item-bad : get_or s at 0 ≡ 92 → is_escaped (first (drop (at + 1) s)) ≡ false → (d : ℕ) → scan (go d Mode.class) (drop at s) ≡ false
   unfolding step final
   item-bad e x d = item-slash e d ∙ escaped-off Mode.class_escape Mode.class (λ d b. refl) (λ d. refl) s (at + 1) x d
 
   module _ (m : get_or s at 0 ≡ 92 → ⊥) where
-    pub item-char : is_in_class (get_or s at 0) ≡ true → Goes s Mode.class at Mode.class (at + 1) (at + 1) any_byte
-    unfolding inside
-    item-char x = record { onward = omega arith; within = omega arith; stops = λ _. refl; reads = λ d. to_at (go d Mode.class) s at h (in_step d ∙ rw (ne_eqb _ 92 m, x)) }
-
     pub item-off : is_in_class (get_or s at 0) ≡ false → (d : ℕ) → scan (go d Mode.class) (drop at s) ≡ false
     unfolding inside
     item-off x d = off_at (go d Mode.class) s at h (in_step d ∙ rw (ne_eqb _ 92 m, x))
@@ -153,12 +158,31 @@ pub plain_at : (d : ℕ) (s : Text) (i : ℕ) → i < length s → is_plain (get
 unfolding step
 plain_at d s i h e = to_at (go d atom) s i h (rw (plain-unmarked _ e, plain-fresh d _ e))
 
--- characters behind an atom, n bytes before the end: the scan goes on at the first that is no such one, or at the end
-pub plain-found : (s : Text) (n at : ℕ) → at + n ≡ length s
-    → Goes s atom at atom at (unwrap_or (find (λ (i : ℕ). not (is_plain (get_or s i 0))) (range_with_len at n)) (length s)) any_byte
-plain-found s zero at h = rw (sym h) (record { onward = omega arith; within = omega arith; stops = λ _. refl; reads = λ d. rw (add-zero at) refl })
-plain-found s (suc n) at h =
-    bool_cases (is_plain (get_or s at 0))
-    (λ e. let g = plain-found s n (at + 1) (omega arith) in
-    rw e (record { onward = omega (arith, g.onward); within = g.within; stops = λ _. refl; reads = λ d. plain_at d s at (omega arith) e ∙ g.reads d }))
-    (λ e. rw e (record { onward = omega arith; within = omega arith; stops = λ _. refl; reads = λ d. refl }))
+-- a byte of a class is another than one that is not of it
+told-apart : (P : ℕ → Bool) (b c : ℕ) → P b ≡ true → P c ≡ false → eqb b c ≡ false
+told-apart P b c e f = ne_eqb b c (λ q. false≢true (sym f ∙ ap P (sym q) ∙ e))
+
+pub plain-no_tail : (b : ℕ) → is_plain b ≡ true → is_tail b ≡ false
+unfolding is_tail is_plain is_normal char_but is_char contains bytes between
+plain-no_tail b e = rw (told-apart is_plain b 124 e refl, told-apart is_plain b 41 e refl)
+
+-- a character in a class
+pub in_class_at : (d : ℕ) (s : Text) (i : ℕ) → i < length s → is_in_class (get_or s i 0) ≡ true → scan (go d Mode.class) (drop i s) ≡ scan (go d Mode.class) (drop (i + 1) s)
+unfolding step inside is_in_class char_but is_char contains bytes between
+in_class_at d s i h e =
+    let b = get_or s i 0 in
+    to_at (go d Mode.class) s i h (rw (told-apart is_in_class b 93 e refl, told-apart is_in_class b 92 e refl, e))
+
+-- a run of bytes of one class, n bytes before the end: the scan goes on at the first that is no such one, or at the end
+module _ (P : ℕ → Bool) (m : Mode) (s : Text) (on : (d i : ℕ) → i < length s → P (get_or s i 0) ≡ true → scan (go d m) (drop i s) ≡ scan (go d m) (drop (i + 1) s)) where
+  pub run-found : (n at : ℕ) → at + n ≡ length s → Goes s m at m at (unwrap_or (find (λ (i : ℕ). not (P (get_or s i 0))) (range_with_len at n)) (length s)) (λ b. not (P b))
+  run-found zero at h = rw (sym h) (record { onward = omega arith; within = omega arith; stops = λ l. absurd (omega arith); reads = λ d. rw (add-zero at) refl })
+  run-found (suc n) at h =
+      bool_cases (P (get_or s at 0))
+      (λ e. let g = run-found n (at + 1) (omega arith) in
+      rw e (record { onward = omega (arith, g.onward); within = g.within; stops = g.stops; reads = λ d. on d at (omega arith) e ∙ g.reads d }))
+      (λ e. rw e (record { onward = omega arith; within = omega arith; stops = λ l. rw e; reads = λ d. refl }))
+
+-- .. whatever byte it is
+pub any-stop : {s : Text} {m n : Mode} {at least e : ℕ} {P : ℕ → Bool} → Goes s m at n least e P → Goes s m at n least e any_byte
+any-stop g = record { onward = g.onward; within = g.within; stops = λ _. refl; reads = g.reads }

@@ -7,4 +7,5 @@ use Rattle.printing.proofs.put_answer.Goals as goal
 
 pub returns : goal.returns
 unfolding answer_text
-returns g c = subst (λ a. OnOk c.writeln.result (Appends (g.W.Write.contents c.args.out.now) (g.W.Write.contents c.writeln.new.self) (answer_text c.args.word.now a))) c.told-number.ensures c.writeln.ensures.bytes
+returns g c = subst (λ a. OnOk c.writeln.result
+    (Appends (g.W.Write.contents c.args.out.now) (g.W.Write.contents c.writeln.new.self) (answer_text c.args.word.now a))) c.told-number.ensures c.writeln.ensures.bytes

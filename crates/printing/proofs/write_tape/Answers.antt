@@ -15,4 +15,5 @@ printed (Err e) text marks read lowered graph old new w p = tt
 
 pub returns : goal.returns
 returns g c =
-    printed c.put_made.result _ _ _ _ _ _ _ (worked-from c.args.text.now c.args.marks.now c.work-made.result.read c.work-made.result.lowered _ _ _ _ _ _ _ _ refl refl refl refl refl c.work-made.ensures) c.put_made.ensures
+    printed c.put_made.result _ _ _ _ _ _ _
+    (worked-from c.args.text.now c.args.marks.now c.work-made.result.read c.work-made.result.lowered _ _ _ _ _ _ _ _ refl refl refl refl refl c.work-made.ensures) c.put_made.ensures

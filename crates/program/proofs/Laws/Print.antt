@@ -13,7 +13,7 @@ use Rattle.std.specs.declared.option.Option.{Option}
 use Rattle.std.specs.declared.result.Result.{Result}
 use Rattle.std.specs.Prelude.{Ok, Err, OnOk}
 use Rattle.text.specs.Text.{Text}
-use Rattle.program.specs.Print.{gap, numbers_text, rows_text}
+use Rattle.program.specs.Print.{gap, numbers_text, printed_rows}
 
 -- two texts written one after the other
 pub written-more : (a b c : Option (List ℕ)) (first more all : Text) → Appends a b first → Appends b c more → all ≡ first ++ more → Appends a c all
@@ -49,15 +49,15 @@ row-cut row (n ∷ rest) l = let ten : length row ≡ 10 = omega (arith, l, leng
 
 -- the first row, and the rows behind it
 pub rows-step : (n n' : ℕ) (rest row rest' : List ℕ) → rest ≡ row ++ rest' → length row ≡ min 10 (length rest) → n' + 1 ≡ n
-    → rows_text n rest ≡ numbers_text 0 row ++ rows_text n' rest'
-unfolding rows_text
+    → printed_rows n rest ≡ numbers_text 0 row ++ printed_rows n' rest'
+unfolding printed_rows
 rows-step n n' rest row rest' e l more =
     let cut = row-cut row rest' (subst (λ s. length row ≡ min 10 (length s)) e l) in
     rw (← more, add-one, e, cut.0, cut.1) refl
 
 -- no row is left
-pub rows-end : (n : ℕ) (rest : List ℕ) → (0 < n → length rest ≡ 0) → rows_text n rest ≡ []
-unfolding rows_text numbers_text
+pub rows-end : (n : ℕ) (rest : List ℕ) → (0 < n → length rest ≡ 0) → printed_rows n rest ≡ []
+unfolding printed_rows numbers_text
 rows-end zero rest none = refl
 rows-end (suc n) [] none = rows-end n [] (λ _. refl)
 rows-end (suc n) (x ∷ rest) none = absurd (omega (arith, none (omega arith)))

@@ -70,10 +70,10 @@ pub first-passes : (x : Tests) (limit : ℕ) (t : Ten) {v b : Bool} {e l : ℕ} 
 unfolding first_passes
 first-passes x limit t v e l test = rw (v, e, l) at test
 
-pub next-passes : (x : Tests) (limit : ℕ) (s : Scan) (t : Ten) {f m v b : Bool} {e l : ℕ} → f ≡ x.form t → m ≡ x.follows s.head t.tag
-    → v ≡ row_covers x.pairs s.end t → e ≡ end_of s.end t → l ≡ limit → f && m && v && leb e l ≡ b → next_passes x limit s t ≡ b
+pub next-passes : (x : Tests) (limit : ℕ) (s : Scan) (t : Ten) {p b : Bool} {e l : ℕ} → p ≡ x.form t && x.follows s.head t.tag && row_covers x.pairs s.end t
+    → e ≡ end_of s.end t → l ≡ limit → p && leb e l ≡ b → next_passes x limit s t ≡ b
 unfolding next_passes
-next-passes x limit s t f m v e l test = rw (f, m, v, e, l) at test
+next-passes x limit s t p e l test = rw (p, e, l) at test
 
 -- what a test answers
 module _ {A : Type 0} where

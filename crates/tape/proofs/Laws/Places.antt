@@ -17,13 +17,13 @@ use Rattle.xsd_parser.specs.Event.{Tag, attr_value}
 use Rattle.xsd_parser.specs.Tape.{pairs_of, pair_text, attrs_of}
 use Rattle.tape.specs.Pairs.{pair_at}
 use Rattle.tape.specs.Keys.{key_words, key_of}
-use Rattle.tape.specs.Lookup.{lookup_text, value_at, or_else, kept_first, PlacesOf}
+use Rattle.tape.specs.Lookup.{lookup_text, value_at, or_other, kept_first, PlacesOf}
 use Rattle.tape.proofs.Laws.Attributes.{attrs-step, lookup-end, attr_value-bytes}
 use Rattle.tape.proofs.Laws.Words.{key-number}
 
 -- before the first attribute
-pub places-none : (text : Text) (marks : List ℕ) (k : ℕ) → k < 9 → {x y : Option Text} → x ≡ y → or_else (value_at text marks (get_or (replicate 9 0) k 0)) x ≡ y
-unfolding or_else value_at
+pub places-none : (text : Text) (marks : List ℕ) (k : ℕ) → k < 9 → {x y : Option Text} → x ≡ y → or_other (value_at text marks (get_or (replicate 9 0) k 0)) x ≡ y
+unfolding or_other value_at
 places-none text marks k h e = rw (get_or-replicate {A = ℕ} 9 k 0 0 h) e
 
 pub kept-length : (places : List ℕ) (key at : ℕ) → length places ≡ 9 → length (kept_first places key at) ≡ 9
@@ -36,8 +36,8 @@ some-value : (text : Text) (marks : List ℕ) (n : ℕ) → value_at text marks 
 unfolding value_at
 some-value text marks n = let e : n + 2 ≡ suc (n + 1) = omega arith in rw e
 
-kept-value : (text : Text) (marks : List ℕ) (n : ℕ) → (n ≡ 0 → ⊥) → (x y : Option Text) → or_else (value_at text marks n) x ≡ or_else (value_at text marks n) y
-unfolding or_else value_at
+kept-value : (text : Text) (marks : List ℕ) (n : ℕ) → (n ≡ 0 → ⊥) → (x y : Option Text) → or_other (value_at text marks n) x ≡ or_other (value_at text marks n) y
+unfolding or_other value_at
 kept-value text marks zero h x y = absurd (h refl)
 kept-value text marks (suc n) h x y = refl
 
@@ -58,9 +58,9 @@ module _ (text : Text) (marks places : List ℕ) (at n k key : ℕ) (h : at + 4 
   unfolding kept_first
   other_key differs = bool_cases (ltb key 9 && eqb (get_or places key 0) 0) (λ t. rw t (get_or-set_other places key k (at + 2) 0 (λ q. differs (sym q)))) (λ t. rw t)
 
-  pub places-step : or_else (value_at text marks (get_or (kept_first places key (at + 2)) k 0)) rest
-      ≡ or_else (value_at text marks (get_or places k 0)) (lookup_text (attrs_of text (pairs_of (2 * n) (drop at marks))) word)
-  unfolding or_else kept_first value_at
+  pub places-step : or_other (value_at text marks (get_or (kept_first places key (at + 2)) k 0)) rest
+      ≡ or_other (value_at text marks (get_or places k 0)) (lookup_text (attrs_of text (pairs_of (2 * n) (drop at marks))) word)
+  unfolding or_other kept_first value_at
   places-step =
       bool_cases (eqb key k)
       (λ t. let q : key ≡ k = eqb-true key k t in
@@ -69,16 +69,16 @@ module _ (text : Text) (marks places : List ℕ) (at n k key : ℕ) (h : at + 4 
       (λ z. rw (q, lt-ltb k 9 l, z) (kept-value text marks (get_or places k 0) (eqb-false (get_or places k 0) 0 z) _ _))))
       (λ t. rw (one, t, other_key (eqb-false key k t)))
     where
-      sym_none : some (pair_text text (pair_at marks (at + 2))) ≡ or_else (value_at text marks 0) (some (pair_text text (pair_at marks (at + 2))))
+      sym_none : some (pair_text text (pair_at marks (at + 2))) ≡ or_other (value_at text marks 0) (some (pair_text text (pair_at marks (at + 2))))
       sym_none = refl
 
 -- behind the last attribute
 pub places-end : (text : Text) (marks places l : List ℕ) (n k : ℕ) → n ≤ 0
-    → value_at text marks (get_or places k 0) ≡ or_else (value_at text marks (get_or places k 0)) (lookup_text (attrs_of text (pairs_of (2 * n) l)) (get_or key_words k []))
-unfolding or_else
+    → value_at text marks (get_or places k 0) ≡ or_other (value_at text marks (get_or places k 0)) (lookup_text (attrs_of text (pairs_of (2 * n) l)) (get_or key_words k []))
+unfolding or_other
 places-end text marks places l n k h = rw (lookup-end text l n (get_or key_words k []) h) (or-none (value_at text marks (get_or places k 0)))
   where
-    or-none : (o : Option Text) → o ≡ or_else o none
+    or-none : (o : Option Text) → o ≡ or_other o none
     or-none none = refl
     or-none (some v) = refl
 

@@ -1,6 +1,7 @@
 -- What the library's words say of texts in the words of specs/Text.antt: `==` of slices is `same`, `contains` of a slice is `contains`, `all` is `every`,
 -- `to_ascii_lowercase` is `lower`, and the bits of all bytes together decide `is_plain`. Assumes nothing.
-use Rattle.std.proofs.Common.{◌≡◌, ◌≢◌, ℕ, zero, suc, ◌+◌, ◌<◌, ◌≤◌, Bool, true, false, ◌&&◌, ◌||◌, List, [], ◌∷◌, length, get_or, take, drop, nat_eq, nat_lt, bit_or, refl, sym, ap, ◌∙◌, arith, add-one, length-drop, take-append-drop}
+use Rattle.std.proofs.Common.{◌≡◌, ◌≢◌, ℕ, zero, suc, ◌+◌, ◌<◌, ◌≤◌, Bool, true, false, ◌&&◌, ◌||◌, List, [], ◌∷◌, length, get_or, take, drop}
+use Rattle.std.proofs.Common.{nat_eq, nat_lt, bit_or, refl, sym, ap, ◌∙◌, arith, add-one, length-drop, take-append-drop}
 use Rattle.std.specs.Char.{to_ascii_lowercase}
 use Rattle.std.specs.List.{list_all, list_any, fold}
 use Rattle.std.specs.Cmp.Lexicographic.{pointwise}

@@ -79,7 +79,8 @@ pair-point l t e =
     let k = and-true-right (between 194 197 l) (is_tail t) e in
     let i = l - 194 in
     let j = t - 128 in
-    let tried = at (pair-test i) 64 (at (λ n. passes (pair-test n) 64) 4 pairs-tried i (omega (arith, between-low 194 197 l h, between-high 194 197 l h))) j (omega (arith, between-low 128 191 t k, between-high 128 191 t k)) in
+    let tried = at (pair-test i) 64 (at (λ n. passes (pair-test n) 64) 4 pairs-tried i (omega (arith, between-low 194 197 l h, between-high 194 197 l h))) j
+    (omega (arith, between-low 128 191 t k, between-high 128 191 t k)) in
     let c = (2 + i) * 64 + j in
     let (x, y) = two (same (utf8 c) ((194 + i) ∷ (128 + j) ∷ [])) (is_point c) tried in
     let lead : 194 + i ≡ l = omega (arith, between-low 194 197 l h) in

@@ -15,7 +15,7 @@ use Rattle.xml.specs.Tags.{Tagged, untagged, tagged, tag}
 use Rattle.xml.specs.Root.{Piece, wrong, passed, ending, starting, passed_by, ending_by, close_behind, close, markup, markup_behind, piece, Level, stop, on, opened}
 use Rattle.xml.specs.Root.{level_of_tag, level_of_close, level_of, turn, Rooted, unrooted, rooted, add_events, on_level, inside, inside_all, root}
 use Rattle.xml.specs.Document.{Document, with_doctype, not_well_formed, well_formed, to_end, root_behind, document_from, prolog_behind, document}
-use Rattle.xml.specs.Accepted.{EventsAt, Closes}
+use Rattle.xml.specs.Accepted.{EventsAt, ClosesTags}
 use Rattle.xml.proofs.Laws.Here.{Here, three-keeps, literal-keeps, name-keeps, spaces-keeps, comment-keeps, section-keeps, instruction-keeps, char-data-keeps, prolog-keeps}
 use Rattle.xml.proofs.Laws.Pairs.{TaggedAt, tag_at}
 
@@ -60,7 +60,7 @@ piece-at text at s h = markup-behind text (char_data at s) (char-data-keeps text
 abbrev pub LevelAt : Text → List Text → Level → Type 0
 LevelAt text tags stop = Unit {0}
 LevelAt text tags (on left es a r) =
-    (r ≡ drop a text) × EventsAt text es × ((more : List TapeEvent) → Closes (length left) more → Closes (length tags) (es ++ more))
+    (r ≡ drop a text) × EventsAt text es × ((more : List TapeEvent) → ClosesTags (length left) more → ClosesTags (length tags) (es ++ more))
 
 pub opened-length : (kind : ℕ) (n : Text) (tags : List Text) → length (opened kind n tags) ≡ (if eqb kind 1 then suc (length tags) else length tags)
 unfolding opened
@@ -83,13 +83,13 @@ level-of text tags (starting a r) h = level-of-tag text tags (tag a r) (tag_at t
 -- the content, and the root
 abbrev pub RootAt : Text → ℕ → Rooted → Type 0
 RootAt text k unrooted = Unit {0}
-RootAt text k (rooted es a r) = EventsAt text es × Closes k es
+RootAt text k (rooted es a r) = EventsAt text es × ClosesTags k es
 
 pub events-append : (text : Text) (xs ys : List TapeEvent) → EventsAt text xs → EventsAt text ys → EventsAt text (xs ++ ys)
 events-append text [] ys p q = q
 events-append text (x ∷ xs) ys p q = (p.0, events-append text xs ys p.1 q)
 
-pub root-add : (text : Text) (j k : ℕ) (es : List TapeEvent) (d : Rooted) → EventsAt text es → ((more : List TapeEvent) → Closes j more → Closes k (es ++ more)) → RootAt text j d
+pub root-add : (text : Text) (j k : ℕ) (es : List TapeEvent) (d : Rooted) → EventsAt text es → ((more : List TapeEvent) → ClosesTags j more → ClosesTags k (es ++ more)) → RootAt text j d
     → RootAt text k (add_events es d)
 unfolding add_events
 root-add text j k es unrooted p c q = tt
@@ -116,9 +116,9 @@ root-at text at s h =
 abbrev pub DocumentAt : Text → Document → Type 0
 DocumentAt text with_doctype = Unit {0}
 DocumentAt text not_well_formed = Unit {0}
-DocumentAt text (well_formed es) = EventsAt text es × Closes 0 es
+DocumentAt text (well_formed es) = EventsAt text es × ClosesTags 0 es
 
-pub to_end_lem : (text : Text) (es : List TapeEvent) (d : Step) → (EventsAt text es × Closes 0 es) → DocumentAt text (to_end es d)
+pub to_end_lem : (text : Text) (es : List TapeEvent) (d : Step) → (EventsAt text es × ClosesTags 0 es) → DocumentAt text (to_end es d)
 unfolding to_end
 to_end_lem text es bad p = tt
 to_end_lem text es (behind a []) p = p
@@ -142,5 +142,5 @@ document-at text = prolog-behind text (prolog 0 text) (prolog-keeps text 0 text 
 pub events-at : (text : Text) (es : List TapeEvent) → document text ≡ well_formed es → EventsAt text es
 events-at text es e = let p : DocumentAt text (well_formed es) = rw e at (document-at text) in p.0
 
-pub events-close : (text : Text) (es : List TapeEvent) → document text ≡ well_formed es → Closes 0 es
+pub events-close : (text : Text) (es : List TapeEvent) → document text ≡ well_formed es → ClosesTags 0 es
 events-close text es e = let p : DocumentAt text (well_formed es) = rw e at (document-at text) in p.1

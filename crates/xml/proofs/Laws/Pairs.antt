@@ -21,7 +21,7 @@ use Rattle.xml.specs.Tape.{AttributePairs, TapeEvent}
 use Rattle.xml.specs.Tags.{Part, wrong, last, more, span, attribute_behind, value_behind, eq_behind, attribute, part_behind, part_of, Ended, unended, ended, on_part}
 use Rattle.xml.specs.Tags.{attributes_from, attributes, Tagged, untagged, tagged, tagged_by, attributes_behind, name_behind, tag}
 use Rattle.xml.specs.Grammar.{is_among}
-use Rattle.xml.specs.Accepted.{end_of, NameAt, ValueAt, AttributesAt, EventAt}
+use Rattle.xml.specs.Accepted.{offset_behind, NameAt, ValueAt, AttributesAt, EventAt}
 use Rattle.xml.proofs.Laws.Names.{behind-at, bad-not, name-read, name-part}
 use Rattle.xml.proofs.Laws.Moves.{name-passes, spaces-moves, eq-passes, value-end-stands, value-two}
 use Rattle.xml.proofs.Laws.Here.{here-next, literal-keeps, spaces-keeps, name-keeps, eq-keeps, value_keeps}
@@ -65,7 +65,7 @@ value-at text at s e r h q =
 abbrev pub PartAt : Text → ℕ → Part → Type 0
 PartAt text at wrong = Unit {0}
 PartAt text at (last kind a r) = (1 ≤ kind) × (kind ≤ 2) × (r ≡ drop a text)
-PartAt text at (more x key a r) = AttributesAt text at (x ∷ []) × (end_of x.value ≤ a) × (r ≡ drop a text)
+PartAt text at (more x key a r) = AttributesAt text at (x ∷ []) × (offset_behind x.value ≤ a) × (r ≡ drop a text)
 
 pub attribute-behind : (text : Text) (at : ℕ) (s : Text) (e : ℕ) (r : Text) (q : ℕ) (t : Text) (d : Step) → s ≡ drop at text → name at s ≡ behind e r → e < q → t ≡ drop q text → value q t ≡ d
     → PartAt text at (attribute_behind at s e q d)
@@ -116,13 +116,13 @@ pub attributes-weaken : (text : Text) (from at : ℕ) (xs : List AttributePairs)
 attributes-weaken text from at [] h p = tt
 attributes-weaken text from at (x ∷ xs) h p = (omega (arith, p.0), p.1, p.2, p.3, p.4, p.5)
 
-pub ended-more : (text : Text) (at a : ℕ) (before : List AttributePairs) (x : AttributePairs) (d : Ended) → AttributesAt text at (x ∷ []) → end_of x.value ≤ a
+pub ended-more : (text : Text) (at a : ℕ) (before : List AttributePairs) (x : AttributePairs) (d : Ended) → AttributesAt text at (x ∷ []) → offset_behind x.value ≤ a
     → EndedAt text a (before ++ x ∷ []) d → EndedAt text at before d
 ended-more text at a before x unended k h p = tt
 ended-more text at a before x (ended kind xs e u) k h p = (
   x ∷ p.0,
   p.1 ∙ append_assoc before (x ∷ []) p.0,
-  (k.0, k.1, k.2, k.3, k.4, attributes-weaken text (end_of x.value) a p.0 h p.2),
+  (k.0, k.1, k.2, k.3, k.4, attributes-weaken text (offset_behind x.value) a p.0 h p.2),
   p.3,
   p.4,
   p.5,

@@ -23,8 +23,8 @@ use Rattle.xsd_parser.proofs.Laws.Outcomes.{Gives, value, refusal, gives-if, giv
 use Rattle.xsd_parser.proofs.Laws.Refusals.{handled-refusal}
 use Rattle.xsd_parser.proofs.Laws.Reads.{read_ok, read-refuse}
 use Rattle.xml.specs.Tape.{TapeEvent, tape_marks}
-use Rattle.xml.specs.Document.{Document, with_doctype, not_well_formed, well_formed, document, Taken, refused, written, taken_of, tape_of}
-use Rattle.xml.specs.Accepted.{Closes, few_attributes, event_read, records_read, ReadsThrough}
+use Rattle.xml.specs.Document.{Document, with_doctype, not_well_formed, well_formed, document, Taken, refused, tape_written, taken_of, tape_of}
+use Rattle.xml.specs.Accepted.{ClosesTags, few_attributes, event_read, records_read, ReadsThrough}
 use Rattle.xml.proofs.Laws.Events.{events-close}
 use Rattle.xml.proofs.Laws.Records.{tape-records}
 
@@ -47,7 +47,7 @@ step-open lent s e m g =
     (refusal (omega arith))
 
 -- the open tags after an event, where there are so many inside the text over those before it
-pub tag_open : (text : Text) (e : TapeEvent) (es : List TapeEvent) (n base k : ℕ) → Closes k (e ∷ es) → n ≡ base + k → (j : ℕ) × Closes j es
+pub tag_open : (text : Text) (e : TapeEvent) (es : List TapeEvent) (n base k : ℕ) → ClosesTags k (e ∷ es) → n ≡ base + k → (j : ℕ) × ClosesTags j es
     × Gives (Opens (base + j)) Later (tags_after (event_read text e) n)
 unfolding event_read event_of tags_after closed
 tag_open text (TapeEvent.tag kind name xs) es n base k c h =
@@ -59,7 +59,7 @@ tag_open text TapeEvent.close es n base (suc j) c h =
     let one : n ≡ suc (base + j) = omega arith in
     (j, c, rw one (value refl))
 
-pub reads-through : (lent : Lengths) (text : Text) (es : List TapeEvent) (n : ℕ) (s : State) (base k : ℕ) → Closes k es → s.open_tags ≡ base + k
+pub reads-through : (lent : Lengths) (text : Text) (es : List TapeEvent) (n : ℕ) (s : State) (base k : ℕ) → ClosesTags k es → s.open_tags ≡ base + k
     → ReadsThrough base (read_records lent n s (records_read text es))
 unfolding records_read read_records
 reads-through lent text [] n s base k c h = inl (refl, omega arith)
@@ -78,7 +78,7 @@ tape-reads lent s text es d t f =
 
 -- an accepted tape is that of a well-formed text, up to its place
 pub taken-accepted : (lent : ℕ) (d : Document) → (taken_of lent d).number ≡ 0 → (es : List TapeEvent) × (d ≡ well_formed es) × (take (taken_of lent d).place (taken_of lent d).marks ≡ tape_marks es)
-unfolding taken_of written refused filled
+unfolding taken_of tape_written refused filled
 taken-accepted lent with_doctype h = absurd (omega arith)
 taken-accepted lent not_well_formed h = absurd (omega arith)
 taken-accepted lent (well_formed es) h =

@@ -17,7 +17,7 @@ use Rattle.xsd_parser.specs.Tape.{Pair, pairs_of, pair_text, pair_count, form_te
 use Rattle.xsd_parser.proofs.Laws.Records.{records-none, records-next}
 use Rattle.xml.specs.Tape.{AttributePairs, TapeEvent, attribute_marks, event_marks, tape_marks}
 use Rattle.xml.specs.Document.{well_formed, document}
-use Rattle.xml.specs.Accepted.{end_of, NameAt, ValueAt, AttributesAt, EventAt, EventsAt, few_attributes, attribute_pairs, event_read, records_read}
+use Rattle.xml.specs.Accepted.{offset_behind, NameAt, ValueAt, AttributesAt, EventAt, EventsAt, few_attributes, attribute_pairs, event_read, records_read}
 use Rattle.xml.specs.Values.{is_quote}
 use Rattle.xml.proofs.Laws.Names.{name-text}
 use Rattle.xml.proofs.Laws.Tags.{marks-length}
@@ -47,7 +47,13 @@ pub tag-form : (kind o z : ℕ) (xs : List AttributePairs) (rest : List ℕ) →
 unfolding form_test between pair_count
 tag-form kind o z xs rest h k f =
     let left : length (attribute_marks xs ++ rest) ≡ 4 * length xs + length rest = length-append (attribute_marks xs) rest ∙ ap (λ (n : ℕ). n + length rest) (marks-length xs) in
-    rw (le-leb 1 kind h, le-leb kind 3 (omega arith), f, ne_eqb kind 3 (λ (e : kind ≡ 3). omega arith), le-leb (2 * (1 + 2 * length xs)) (suc (suc (length (attribute_marks xs ++ rest)))) (omega arith))
+    rw (
+      le-leb 1 kind h,
+      le-leb kind 3 (omega arith),
+      f,
+      ne_eqb kind 3 (λ (e : kind ≡ 3). omega arith),
+      le-leb (2 * (1 + 2 * length xs)) (suc (suc (length (attribute_marks xs ++ rest)))) (omega arith),
+    )
 
 -- 4: the pairs
 pub inside-attributes : (text : Text) (end : ℕ) (xs : List AttributePairs) → AttributesAt text end xs → all_inside (length text) end (attribute_pairs xs) ≡ true
@@ -57,13 +63,14 @@ inside-attributes text end (x ∷ xs) p =
     let a = p.0 in
     let b = p.2 in
     let c = p.4 in
-    and-true (and-true (le-leb end x.key.offset a) (le-leb (end_of x.key) (length text) (omega arith)))
-    (and-true (and-true (le-leb (end_of x.key) x.value.offset (omega arith)) (le-leb (end_of x.value) (length text) c)) (inside-attributes text (end_of x.value) xs p.5))
+    and-true (and-true (le-leb end x.key.offset a) (le-leb (offset_behind x.key) (length text) (omega arith)))
+    (and-true (and-true (le-leb (offset_behind x.key) x.value.offset (omega arith)) (le-leb (offset_behind x.value) (length text) c)) (inside-attributes text (offset_behind x.value) xs p.5))
 
-pub inside-tag : (text : Text) (name : Pair) (xs : List AttributePairs) → end_of name ≤ length text → AttributesAt text (end_of name) xs → all_inside (length text) 0 (name ∷ attribute_pairs xs) ≡ true
+pub inside-tag : (text : Text) (name : Pair) (xs : List AttributePairs) → offset_behind name ≤ length text → AttributesAt text (offset_behind name) xs
+    → all_inside (length text) 0 (name ∷ attribute_pairs xs) ≡ true
 unfolding all_inside
 inside-tag text name xs h p =
-    and-true (and-true (le-leb 0 name.offset (omega arith)) (le-leb (end_of name) (length text) h)) (inside-attributes text (end_of name) xs p)
+    and-true (and-true (le-leb 0 name.offset (omega arith)) (le-leb (offset_behind name) (length text) h)) (inside-attributes text (offset_behind name) xs p)
 
 -- 5: the bytes. A name is a text, and so is what stands between the quotes of a text, which are bytes below 128.
 pub name-pair : (text : Text) (p : Pair) → NameAt text p → is_text (pair_text text p) ≡ true
@@ -86,11 +93,12 @@ pub attribute-texts : (text : Text) (end : ℕ) (xs : List AttributePairs) → i
 unfolding all_ascii every attribute_pairs
 attribute-texts text end [] t p = refl
 attribute-texts text end (x ∷ xs) t p =
-    and-true (name-pair text x.key p.1) (and-true (value-pair text x.value t p.3) (attribute-texts text (end_of x.value) xs t p.5))
+    and-true (name-pair text x.key p.1) (and-true (value-pair text x.value t p.3) (attribute-texts text (offset_behind x.value) xs t p.5))
 
-pub tag-texts : (text : Text) (name : Pair) (xs : List AttributePairs) → is_text text ≡ true → NameAt text name → AttributesAt text (end_of name) xs → all_ascii text (name ∷ attribute_pairs xs) ≡ true
+pub tag-texts : (text : Text) (name : Pair) (xs : List AttributePairs) → is_text text ≡ true → NameAt text name
+    → AttributesAt text (offset_behind name) xs → all_ascii text (name ∷ attribute_pairs xs) ≡ true
 unfolding all_ascii every
-tag-texts text name xs t n p = and-true (name-pair text name n) (attribute-texts text (end_of name) xs t p)
+tag-texts text name xs t n p = and-true (name-pair text name n) (attribute-texts text (offset_behind name) xs t p)
 
 -- a record
 pub record-tag : (text : Text) (kind : ℕ) (name : Pair) (xs : List AttributePairs) (rest : List ℕ) → is_text text ≡ true → leb (length xs) 32 ≡ true → EventAt text (TapeEvent.tag kind name xs)

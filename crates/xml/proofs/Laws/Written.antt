@@ -24,7 +24,7 @@ use Rattle.xml.specs.Values.{is_number, is_entity, is_reference, is_plain, value
 use Rattle.xml.specs.Prolog.{eq}
 use Rattle.xml.specs.Tape.{AttributePairs}
 use Rattle.xml.specs.Tags.{last, more, attribute_from, attribute, part_of, ended, attributes_from, attributes, tagged, tag}
-use Rattle.xml.specs.Written.{is_name_text, is_value, quote_of, attribute_ok, new_keys, written_attributes, tag_end, written_tag, attribute_places, tagged_as}
+use Rattle.xml.specs.Written.{is_name_text, is_value, quote_of, written_attribute_ok, new_keys, written_attributes, tag_end, written_tag, attribute_places, tagged_as}
 use Rattle.xml.proofs.Laws.Steps.{starts-length}
 use Rattle.xml.proofs.Laws.Names.{name_of-none, name_of-some, name_of-pair, by_name, name-begun, may_start, begins-may-start, begins-append, begins-low}
 use Rattle.xml.proofs.Laws.Tags.{attributes-last, tag-found}
@@ -265,16 +265,16 @@ attributes-step turns keys before at s x key a r e m = rw (e, m)
 pub ended_same : (kind : ℕ) (xs ys : List AttributePairs) (a b : ℕ) (r : Text) → xs ≡ ys → a ≡ b → ended kind xs a r ≡ ended kind ys b r
 ended_same kind xs ys a b r e f = rw (e, f)
 
-pub attribute-read : (at : ℕ) (x : Attr) (r : Text) → attribute_ok x ≡ true
+pub attribute-read : (at : ℕ) (x : Attr) (r : Text) → written_attribute_ok x ≡ true
     → part_of at (32 ∷ (x.key ++ (61 ∷ quote_of x.value ∷ (x.value ++ (quote_of x.value ∷ r))))) ≡ more (place_of at (length x.key) (length x.value)) x.key
     (at + length x.key + length x.value + 4) r
-unfolding attribute_ok
+unfolding written_attribute_ok
 attribute-read at x r ok =
     let q = quote_of x.value in
     let k = two (is_name_text x.key) (is_value q x.value) ok in
     part-written at x.key q x.value r k.0 (quote-is x.value) (quote-no-space x.value) k.1
 
-pub attributes-written : (xs : List Attr) (turns : ℕ) (keys : List Text) (before : List AttributePairs) (at kind : ℕ) (rest : Text) → every attribute_ok xs ≡ true → new_keys keys xs ≡ true
+pub attributes-written : (xs : List Attr) (turns : ℕ) (keys : List Text) (before : List AttributePairs) (at kind : ℕ) (rest : Text) → every written_attribute_ok xs ≡ true → new_keys keys xs ≡ true
     → 1 ≤ kind → kind ≤ 2 → length xs < turns
     → attributes_from turns keys before at (written_attributes xs ++ (tag_end kind ++ rest)) ≡ ended kind (before ++ attribute_places at xs)
     (at + length (written_attributes xs) + length (tag_end kind)) rest
@@ -291,8 +291,8 @@ attributes-written (x ∷ xs) (suc turns) keys before at kind rest ok new low hi
     let to = at + k + v + 4 in
     let size = written-size x xs in
     ap (attributes_from (suc turns) keys before at) (written-more x xs (tag_end kind ++ rest))
-    ∙ attributes-step turns keys before at _ (place_of at k v) x.key to tail (attribute-read at x tail (every-head attribute_ok x xs ok)) (not-true (is_among x.key keys) n.0)
-    ∙ attributes-written xs turns (x.key ∷ keys) (before ++ place_of at k v ∷ []) to kind rest (every-tail attribute_ok x xs ok) n.1 low high (omega arith)
+    ∙ attributes-step turns keys before at _ (place_of at k v) x.key to tail (attribute-read at x tail (every-head written_attribute_ok x xs ok)) (not-true (is_among x.key keys) n.0)
+    ∙ attributes-written xs turns (x.key ∷ keys) (before ++ place_of at k v ∷ []) to kind rest (every-tail written_attribute_ok x xs ok) n.1 low high (omega arith)
     ∙ ended_same kind _ _ _ _ rest (append_assoc before (place_of at k v ∷ []) (attribute_places to xs)) (omega arith)
 
 -- the tag
@@ -320,7 +320,7 @@ less-written at s = refl
 pub tagged-same : (kind : ℕ) (p q : Pair) (xs : List AttributePairs) (n m : Text) (a b : ℕ) (r : Text) → p ≡ q → n ≡ m → a ≡ b → tagged kind p xs n a r ≡ tagged kind q xs m b r
 tagged-same kind p q xs n m a b r e f g = rw (e, f, g)
 
-pub tag-written : (at kind : ℕ) (t : Tag) (rest : Text) → 1 ≤ kind → kind ≤ 2 → is_name_text t.name ≡ true → every attribute_ok t.attributes ≡ true → new_keys [] t.attributes ≡ true
+pub tag-written : (at kind : ℕ) (t : Tag) (rest : Text) → 1 ≤ kind → kind ≤ 2 → is_name_text t.name ≡ true → every written_attribute_ok t.attributes ≡ true → new_keys [] t.attributes ≡ true
     → tag at (written_tag kind t ++ rest) ≡ tagged_as at kind t rest
 unfolding attributes
 tag-written at kind t rest low high n ok new =

@@ -2,16 +2,17 @@
 -- nothing.
 use Prim.Native.Nat.{ℕ, ◌<◌}
 use denote.Enum.Declared.{tag_of}
-use mathlib.Core.Path.{◌≡◌, refl, sym}
+use mathlib.Core.Path.{◌≡◌, refl}
 use mathlib.Core.List.{◌∷◌}
-use mathlib.Core.Bool.{Bool, true, false, not, ◌&&◌}
+use mathlib.Core.Bool.{Bool, true, not, ◌&&◌}
 use lib.Dec.{eqb, ltb, leb}
 use native.Mathlib.Omega.{arith}
 use lib.ListN.{get_or}
 use borrow.Author.Tests.{not-true, ltb-true, leb-true}
 use Rattle.text.specs.Text.{Text, between}
 use Rattle.text.specs.Trim.{is_white_space}
-use Rattle.text.proofs.Laws.Table.{passes, at}
+use Rattle.text.proofs.Laws.Table.{passes}
+use Rattle.text.proofs.Laws.Agree.{agree, same_bytes}
 use Rattle.text.proofs.Laws.Tests.{and-true-left, and-true-right}
 use Rattle.xml.proofs.Laws.Grammar.Basics.{class-in}
 use Rattle.plain_bytes.specs.Scan.{is_text_run, is_value_run, is_comment_run, is_section_run}
@@ -20,15 +21,6 @@ use Rattle.xml.specs.Values.{is_quote, is_in_text, is_in_value}
 use Rattle.xml_parts.specs.Answers.{Before, class_of, class_table, has_bit}
 use Rattle.xml_parts.specs.contracts.classes.Class.{the_type}
 use Rattle.xml_parts.specs.declared.classes.Class.{Class}
-
--- two tests say the same
-abbrev agree : Bool → Bool → Bool
-agree true b = b
-agree false b = not b
-
-agree-eq : (a b : Bool) → agree a b ≡ true → a ≡ b
-agree-eq true b e = sym e
-agree-eq false b e = sym (not-true b e)
 
 -- the bit of a class is its discriminant
 abbrev bit_of : Class → ℕ
@@ -46,7 +38,7 @@ all-bits Class.InText = refl
 all-bits Class.InValue = refl
 
 pub class-bit : (class : Class) (b : ℕ) → b < 256 → has_bit (get_or class_table b 0) (bit_of class) ≡ class_of class b
-class-bit class b h = agree-eq _ _ (at (λ (k : ℕ). agree (has_bit (get_or class_table k 0) (bit_of class)) (class_of class k)) 256 (all-bits class) b h)
+class-bit class b h = same_bytes (λ (k : ℕ). has_bit (get_or class_table k 0) (bit_of class)) (class_of class) (all-bits class) b h
 
 -- the bytes that are passed over eight at a time are of the classes that are then passed over one by one
 plain-small : (b : ℕ) (rest : Bool) → ltb b 128 && rest ≡ true → b < 128

@@ -4,7 +4,7 @@ use native.Mathlib.Omega.{arith}
 use Prim.Native.Char.{code}
 use mathlib.Core.Path.{◌≡◌, refl, sym, ap, ◌∙◌}
 use mathlib.Core.List.{[], ◌∷◌}
-use mathlib.Core.Bool.{Bool, true, false, not}
+use mathlib.Core.Bool.{Bool, true, false, false≢true, not}
 use lib.Dec.{eqb}
 use lib.ListN.{length, get_or, take, drop, drop_of_length-le}
 use lib.Seq.{drop-cons}
@@ -16,6 +16,7 @@ use Rattle.xml.specs.Classes.{is_char}
 use Rattle.xml.specs.Steps.{behind, many}
 use Rattle.xml.specs.Values.{is_plain, is_quote, is_in_value}
 use Rattle.xml.specs.Written.{is_value}
+use Rattle.xml.proofs.Laws.Steps.{inside-some}
 use Rattle.xml.proofs.Laws.Names.{behind-at, behind-rest}
 use Rattle.xml.proofs.Laws.Values.{other-quote}
 
@@ -70,3 +71,9 @@ many-every p at (b ∷ s) e r (suc n) h k =
     bool_cases (p b)
     (λ t. and-true t (many-every p (suc at) s e r n (rw t at h) (omega arith)))
     (λ t. absurd (omega (arith, behind-at (rw t at h))))
+
+-- a quote is a byte of the text, since none is 0
+pub quote-inside : (quote : ℕ) → is_quote quote ≡ true → (s : Text) (i : ℕ) → get_or s i 0 ≡ quote → i < length s
+unfolding is_quote
+quote-inside zero q s i e = absurd (false≢true q)
+quote-inside (suc b) q s i e = inside-some s i b e

@@ -51,7 +51,16 @@ high-name c =
     bool_cases (leb 128 c)
     (λ h.
     let l = leb-true 128 c h in
-    rw (h, ne_eqb c 45 (λ q. omega arith), ne_eqb c 46 (λ q. omega arith), lt-leb c 57 (omega arith), and-false (leb 48 c), or-false (is_name_start c), or-false (is_name_start c), or-false (is_name_start c)))
+    rw (
+      h,
+      ne_eqb c 45 (λ q. omega arith),
+      ne_eqb c 46 (λ q. omega arith),
+      lt-leb c 57 (omega arith),
+      and-false (leb 48 c),
+      or-false (is_name_start c),
+      or-false (is_name_start c),
+      or-false (is_name_start c),
+    ))
     (λ h. let l = leb-false 128 c h in rw (h, ne_eqb c 183 (λ q. omega arith)))
 
 -- ---- the first character of a name

@@ -14,7 +14,7 @@ use Rattle.xml.proofs.Laws.Grammar.Taken.{tape-is}
 use Rattle.text.specs.Text.{is_text}
 use Rattle.sheet.specs.Returned.{refusal_number}
 use Rattle.sheet.specs.declared.refusal.Refusal.{Refusal}
-use Rattle.xml.specs.Document.{Document, with_doctype, not_well_formed, well_formed, document, Taken, refused, written, taken_of, tape_of}
+use Rattle.xml.specs.Document.{Document, with_doctype, not_well_formed, well_formed, document, Taken, refused, tape_written, taken_of, tape_of}
 use Rattle.xml_text.specs.Answers.{fault_of, FoundIs, taken, StoredIs}
 use Rattle.std.specs.Prelude.{true, Option, Some, None, Result, Ok, Err}
 use Rattle.std.proofs.lemmas.Option.{none-some}
@@ -49,13 +49,13 @@ module _ (text before after : List ℕ) (a : is_text text ≡ true) (k : length 
   stored-faulty refusal h = record { kept = k; room = tt; is = rw a (faulty after (length before) refusal (document text) k h) }
 
   pub stored-short : (n : ℕ) → FoundIs before after (Ok n) (document text) → length after < n → StoredIs text before after (Err Refusal.ShortMarks)
-  unfolding taken_of written
+  unfolding taken_of tape_written
   stored-short n p h =
       let m : length before < length (tape_marks p.0) = omega (arith, k, h, p.2) in
       record { kept = k; room = tt; is = rw (a, p.1, k, lt-leb _ _ m) }
 
   pub stored-whole : (n : ℕ) → FoundIs before after (Ok n) (document text) → n ≤ length after → StoredIs text before after (Ok n)
-  unfolding taken_of written
+  unfolding taken_of tape_written
   stored-whole n p h =
       let tape = tape_marks p.0 in
       let m : length tape ≤ length before = omega (arith, k, h, p.2) in

@@ -40,7 +40,8 @@ unfolding tape_marks event_marks
 put-close m used = let one : used + 1 ≡ suc used = omega arith in rw one
 
 -- a tag behind the open tags, where the slots below are as they were
-pub open-start : (text : Text) (slots after : List ℕ) (count start : ℕ) (kind : Kind) (pair : Pair) (xs : List AttributePairs) (a : ℕ) (r : Text) → kind ≡ Kind.Start → take count after ≡ take count slots
+pub open-start : (text : Text) (slots after : List ℕ) (count start : ℕ) (kind : Kind) (pair : Pair) (xs : List AttributePairs) (a : ℕ) (r : Text)
+    → kind ≡ Kind.Start → take count after ≡ take count slots
     → count < length after
     → level_of_tag (names_up_to text slots count) (tagged (kind_number kind) pair xs (name_of (drop start text)) a r)
     ≡ on (names_up_to text (set after count start) (count + 1)) (TapeEvent.tag (kind_number kind) pair xs ∷ []) a r
@@ -51,7 +52,8 @@ open-start text slots after count start kind pair xs a r k e h =
 
 pub open-empty : (text : Text) (slots after : List ℕ) (count start : ℕ) (kind : Kind) (pair : Pair) (xs : List AttributePairs) (a : ℕ) (r : Text) → (kind ≡ Kind.Empty) ⊎ (kind ≡ Kind.Close)
     → take count after ≡ take count slots
-    → level_of_tag (names_up_to text slots count) (tagged (kind_number kind) pair xs (name_of (drop start text)) a r) ≡ on (names_up_to text after count) (TapeEvent.tag (kind_number kind) pair xs ∷ []) a r
+    → level_of_tag (names_up_to text slots count) (tagged (kind_number kind) pair xs (name_of (drop start text)) a r)
+    ≡ on (names_up_to text after count) (TapeEvent.tag (kind_number kind) pair xs ∷ []) a r
 unfolding opened
 open-empty text slots after count start kind pair xs a r k e =
     let names = names-cong text after slots count e in

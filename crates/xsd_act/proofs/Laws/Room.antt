@@ -71,23 +71,35 @@ module _ {w : SheetWriter} {head : ℕ} {z : List ℕ} {namespace : Text} {done 
   root-room n e =
       let t = ready-root h in
       let r : Used = record { rows = w.used.rows; names = w.used.names - length namespace + length n } in
-      record { spot = _; text = t; room = (counted-room w.rows.now w.names.now {used = r} (counted-spot t n refl refl) (subst (λ (l : List Row). Roomy w.rows.now w.names.now l) (after-root namespace done last z n) e)).1 }
+      record {
+        spot = _;
+        text = t;
+        room = (counted-room w.rows.now w.names.now {used = r} (counted-spot t n refl refl)
+            (subst (λ (l : List Row). Roomy w.rows.now w.names.now l) (after-root namespace done last z n) e)).1;
+      }
 
   pub base-room : (v : Text) (k : BasedHead last) → Roomy w.rows.now w.names.now (rows_after_all (Action.base v) namespace done last) → TextRoom w head 1 (length v)
   base-room v k e =
       let t = ready-base h k in
       let r : Used = record { rows = w.used.rows; names = w.used.names - length k.old + length v } in
-      record { spot = _; text = t; room = (counted-room w.rows.now w.names.now {used = r} (counted-spot t v refl refl) (subst (λ (l : List Row). Roomy w.rows.now w.names.now l) (after-base namespace done last z v k) e)).1 }
+      record {
+        spot = _;
+        text = t;
+        room = (counted-room w.rows.now w.names.now {used = r} (counted-spot t v refl refl)
+            (subst (λ (l : List Row). Roomy w.rows.now w.names.now l) (after-base namespace done last z v k) e)).1;
+      }
 
   -- for another content
-  pub content-room : (tag a : ℕ) (more : List Text) (k : NamedHead last) → Roomy w.rows.now w.names.now (rows_after_all (Action.content tag more a) namespace done last) → HeadRoom w head (length (join more))
+  pub content-room : (tag a : ℕ) (more : List Text) (k : NamedHead last) → Roomy w.rows.now w.names.now (rows_after_all (Action.content tag more a) namespace done last)
+      → HeadRoom w head (length (join more))
   unfolding row join
   content-room tag a more k e =
       let rs = namespace_row namespace ∷ done in
       let new = row tag (k.name ∷ more) a 0 k.c in
       let bytes : length (join new.texts) ≡ length k.name + length (join more) = length-append k.name (join more) in
       let r : Used = record { rows = 2 + length rs; names = length (names_of rs) + length (join new.texts) } in
-      let room = (counted-room w.rows.now w.names.now {used = r} (counted-one rs new refl refl) (subst (λ (l : List Row). Roomy w.rows.now w.names.now l) (after-content namespace done last tag a more k) e)).1 in
+      let room = (counted-room w.rows.now w.names.now {used = r} (counted-one rs new refl refl)
+      (subst (λ (l : List Row). Roomy w.rows.now w.names.now l) (after-content namespace done last tag a more k) e)).1 in
       record { z = z; rs = rs; name = k.name; head = ready-head h k; room = omega (arith, room, bytes) }
 
 -- what was counted for an action has room exactly if the rows after it have
@@ -108,5 +120,6 @@ act-room {w} {z = z} {namespace} {done} {last} {a} n h e k room =
       ready = h;
       decided = e;
       fitting = k;
-      room = sym (counted-fits (length w.rows.now) (length w.names.now) (n.needed.counted w.names.now z namespace done last a h e k)) ∙ sym (needed-fits (length w.rows.now) (length w.names.now) w.few n) ∙ room;
+      room = sym (counted-fits (length w.rows.now) (length w.names.now) (n.needed.counted w.names.now z namespace done last a h e k))
+          ∙ sym (needed-fits (length w.rows.now) (length w.names.now) w.few n) ∙ room;
     }

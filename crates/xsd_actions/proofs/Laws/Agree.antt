@@ -11,7 +11,7 @@ use Rattle.xsd_types.specs.Types.{Facet}
 use Rattle.xsd_parser.specs.declared.words.FacetWord.{FacetWord}
 use Rattle.xsd_parser.specs.Event.{Event}
 use Rattle.xsd_parser.specs.Seen.{Seen}
-use Rattle.xsd_parser.specs.Handlers.{Outcome, ok, refuse, ◌and_then◌, require_name, facet_of, on_facet}
+use Rattle.xsd_parser.specs.Handlers.{Outcome, ok, refuse, ◌and_then◌, require_name, facet_by_word, on_facet}
 use Rattle.xsd_parser.specs.Step.{handled}
 use Rattle.xsd_actions.specs.Actions.{Action, Acted}
 use Rattle.xsd_actions.specs.Decided.{Decides, acts, refuses}
@@ -55,7 +55,7 @@ pub agree-facet : {A B : Type 0} {R : A → B → Type 0} (o : Option FacetWord)
     → ((k : Facet) → R (f k) (g k)) → R x y → Agree R (on_facet o v f x) (on_facet o v g y)
 unfolding on_facet
 agree-facet none v f g x y h k = values k
-agree-facet (some w) v f g x y h k = agree-step (facet_of w v) _ _ λ z. values (h z)
+agree-facet (some w) v f g x y h k = agree-step (facet_by_word w v) _ _ λ z. values (h z)
 
 -- the handlers' outcome agrees with the decision
 pub agree_decides : (by_standard : Bool) (m : ℕ) (e : Event) (r : Reader) (o : Outcome Reader) {p : Outcome Action} → handled by_standard m e r ≡ o

@@ -13,7 +13,8 @@ use Rattle.xsd_types.specs.State.{Context, Reader}
 use Rattle.xsd_types.specs.Rows.{items_rows, context_rows, context_number, nesting, extension_flag}
 use Rattle.xsd_parser.specs.Event.{Tag, Event}
 use Rattle.xsd_parser.specs.Handlers.{in_context}
-use Rattle.xsd_actions.specs.Actions.{Action, mode_of, behind, context_after, root_after, flag_after, raises, tag_mode, mode_after, namespace_after, first_text, base_with, rows_after, Fitting, Acted}
+use Rattle.xsd_actions.specs.Actions.{Action, mode_of, reader_rows, context_after, root_after, flag_after, raises, tag_mode}
+use Rattle.xsd_actions.specs.Actions.{mode_after, namespace_after, first_text, base_with, rows_after, Fitting, Acted}
 
 pub data Inner : Action → Type 0 where
   keep : Inner Action.keep
@@ -63,7 +64,7 @@ changed-mode b start r {x} {y} {a} n c =
 
 pub changed-acted : (by_standard : Bool) (e : Event) (r : Reader) {x y : Context} {a : Action}
     → mode_of (in_context y r) ≡ mode_after by_standard e a (mode_of (in_context x r)) → Changed x a y → Acted by_standard e (in_context x r) a (in_context y r)
-unfolding in_context behind
+unfolding in_context reader_rows
 changed-acted b e r m c =
     record {
       mode = m;

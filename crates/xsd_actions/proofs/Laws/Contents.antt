@@ -16,7 +16,7 @@ use Rattle.xsd_actions.specs.Actions.{Action, flag_after, first_text, head_with,
 use Rattle.xsd_actions.proofs.Laws.Changes.{Inner, Changed, changed-keep, changed-add, changed-base, rows_more}
 
 abbrev pub complex_of : ℕ → Text → ComplexContentBuilder → ℕ → Context
-complex_of event name c d = Context.in_complex_type (record { name = name; content = c; nesting_depth = d; event = event })
+complex_of event name c d = Context.in_complex_type (record { head = record { name = name; event = event }; content = c; nesting_depth = d })
 
 -- the head of the open type has the type's name, whatever the content
 pub head-named : (event : ℕ) (name : Text) (c : ComplexContentBuilder) → NamedHead (complex_type_rows event name c)

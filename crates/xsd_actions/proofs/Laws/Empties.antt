@@ -27,7 +27,8 @@ module _ (by_standard : Bool) (m : ℕ) (t : Tag) (r : Reader) where
   pub empty-kept : (x : Context) → Passed x (in_context x r) Action.keep
   empty-kept x = changed-empty by_standard t r refl (changed-keep refl refl refl)
 
-  pub empty_outside-agrees : Passed Context.no_context (if tag_is (seen t) Word.Schema then found_root (seen t) (in_context Context.no_context r) else in_context Context.no_context r) (root_found (seen t))
+  pub empty_outside-agrees : Passed Context.no_context
+      (if tag_is (seen t) Word.Schema then found_root (seen t) (in_context Context.no_context r) else in_context Context.no_context r) (root_found (seen t))
   unfolding root_found
   empty_outside-agrees = if-both (Passed Context.no_context) (tag_is (seen t) Word.Schema) (root-empty by_standard t r) (empty-kept Context.no_context)
 
@@ -46,4 +47,4 @@ module _ (by_standard : Bool) (m : ℕ) (t : Tag) (r : Reader) where
   empty-agrees (Context.in_schema n) = values (empty_in_schema-agrees n)
   empty-agrees (Context.in_simple_type b) = agree_then _ (λ b' a h. changed-empty by_standard t r h.nesting h.changed) (empty_in_simple-agrees (seen t) b)
   empty-agrees (Context.in_complex_type b) =
-      agree_then _ (λ c a h. changed-empty by_standard t r refl h) (empty_in_complex-agrees b.event b.name b.nesting_depth b.nesting_depth (seen t) b.content)
+      agree_then _ (λ c a h. changed-empty by_standard t r refl h) (empty_in_complex-agrees b.head.event b.head.name b.nesting_depth b.nesting_depth (seen t) b.content)

@@ -16,7 +16,8 @@ use Rattle.xsd_parser.specs.Seen.{Seen, tag_is}
 use Rattle.xsd_parser.specs.Handlers.{on_parsed, parse_min_occurs, parse_max_occurs, sequence_element, choice_variant, on_element_inside_complex, is_required, attribute_added}
 use Rattle.xsd_parser.specs.Handlers.{on_attribute_inside_complex, on_extension, content_started, content_at_two, on_start_in_complex_type, on_empty_in_complex_type}
 use Rattle.xsd_actions.specs.Actions.{content_tag}
-use Rattle.xsd_actions.specs.Decided.{typed, named, base_set, occurs_added, element_inside, attribute_inside, content_start, extended, start_at_two, start_in_complex_type, any_content, empty_in_complex_type}
+use Rattle.xsd_actions.specs.Decided.{typed, named_child, base_set, occurs_added, element_inside, attribute_inside, content_start, extended}
+use Rattle.xsd_actions.specs.Decided.{start_at_two, start_in_complex_type, any_content, empty_in_complex_type}
 use Rattle.xsd_actions.proofs.Laws.Agree.{Agree, values, if-both, agree-if, agree-step}
 use Rattle.xsd_actions.proofs.Laws.Contents.{Content, content-keep, content-replaced, content-based, element-more, variant-more, attribute-more}
 
@@ -40,7 +41,7 @@ module _ (event : ℕ) (name : Text) (d d' : ℕ) where
   variant-agrees (some n) (some ty) vs = variant-more vs (record { name = n; type_name = ty })
 
   pub element_inside-agrees : (t : Seen) (c : ComplexContentBuilder) → Agree (Content event name d d' c) (on_element_inside_complex t c) (element_inside t (content_tag c))
-  unfolding on_element_inside_complex element_inside content_tag named
+  unfolding on_element_inside_complex element_inside content_tag named_child
   element_inside-agrees t ComplexContentBuilder.empty = values (content-keep _)
   element_inside-agrees t (ComplexContentBuilder.sequence es) = occurs-agrees t t.name t.type_name es
   element_inside-agrees t (ComplexContentBuilder.choice vs) = values (variant-agrees t.name t.type_name vs)
@@ -58,7 +59,7 @@ module _ (event : ℕ) (name : Text) (d d' : ℕ) where
       attribute-more base xs (record { name = n; type_name = ty; required = is_required t.usage })
 
   pub attribute_inside-agrees : (t : Seen) (c : ComplexContentBuilder) → Content event name d d' c (on_attribute_inside_complex t c) (attribute_inside t (eqb (content_flag c) 1))
-  unfolding on_attribute_inside_complex attribute_inside content_flag bit named
+  unfolding on_attribute_inside_complex attribute_inside content_flag bit named_child
   attribute_inside-agrees t ComplexContentBuilder.empty = content-keep _
   attribute_inside-agrees t (ComplexContentBuilder.sequence es) = content-keep _
   attribute_inside-agrees t (ComplexContentBuilder.choice vs) = content-keep _

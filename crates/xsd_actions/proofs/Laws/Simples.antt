@@ -24,15 +24,15 @@ pub record Simple (b : SimpleTypeBuilder) (d : ℕ) (b' : SimpleTypeBuilder) (a 
   pub changed : Changed (Context.in_simple_type b) a (Context.in_simple_type b')
 
 module _ (b : SimpleTypeBuilder) (d : ℕ) where
-  pub simple-keep : Simple b d (record { name = b.name; base = b.base; facets = b.facets; nesting_depth = d; event = b.event }) Action.keep
+  pub simple-keep : Simple b d (record { head = b.head; base = b.base; facets = b.facets; nesting_depth = d }) Action.keep
   unfolding context_number extension_flag context_rows
   simple-keep = record { nesting = refl; changed = changed-keep refl refl refl }
 
-  pub simple-base : (v : Text) → Simple b d (record { name = b.name; base = v; facets = b.facets; nesting_depth = d; event = b.event }) (Action.base v)
+  pub simple-base : (v : Text) → Simple b d (record { head = b.head; base = v; facets = b.facets; nesting_depth = d }) (Action.base v)
   unfolding context_number extension_flag context_rows simple_type_rows
-  simple-base v = record { nesting = refl; changed = changed-base 3 b.name b.base v 0 0 b.event (map facet_row b.facets) refl refl refl refl }
+  simple-base v = record { nesting = refl; changed = changed-base 3 b.head.name b.base v 0 0 b.head.event (map facet_row b.facets) refl refl refl refl }
 
-  pub simple-facet : (f : Facet) → Simple b d (record { name = b.name; base = b.base; facets = b.facets ++ f ∷ []; nesting_depth = d; event = b.event }) (facet_added f)
+  pub simple-facet : (f : Facet) → Simple b d (record { head = b.head; base = b.base; facets = b.facets ++ f ∷ []; nesting_depth = d }) (facet_added f)
   unfolding context_number extension_flag context_rows simple_type_rows facet_added
   simple-facet f = record { nesting = refl; changed = changed-add refl refl (facet_row f) (rows_more _ facet_row b.facets f) }
 

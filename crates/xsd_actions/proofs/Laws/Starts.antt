@@ -54,4 +54,5 @@ module _ (by_standard : Bool) (m : ℕ) (t : Tag) (r : Reader) where
   start-agrees Context.no_context = start_outside-agrees
   start-agrees (Context.in_schema n) = start_in_schema-agrees n
   start-agrees (Context.in_simple_type b) = let h = start_in_simple-agrees (seen t) b in values (changed-start by_standard t r h.nesting h.changed)
-  start-agrees (Context.in_complex_type b) = agree_then _ (λ c a h. changed-start by_standard t r refl h) (start_in_complex-agrees b.event b.name b.nesting_depth _ (seen t) (raised_complex b))
+  start-agrees (Context.in_complex_type b) = agree_then _ (λ c a h. changed-start by_standard t r refl h)
+      (start_in_complex-agrees b.head.event b.head.name b.nesting_depth _ (seen t) (raised_complex b))

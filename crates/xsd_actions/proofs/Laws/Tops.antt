@@ -14,9 +14,9 @@ use Rattle.xsd_parser.specs.Event.{Tag, Event, or_empty}
 use Rattle.xsd_parser.specs.Seen.{Seen, seen}
 use Rattle.xsd_parser.specs.Handlers.{in_context, with_item, found_root, kept_element, on_top_level_element, open_simple_type, open_complex_type, below_schema}
 use Rattle.xsd_parser.proofs.Laws.CloseRoom.{items-one-more}
-use Rattle.xsd_actions.specs.Actions.{Action, mode_of, behind, context_after, root_after, flag_after, opens_type, raises, tag_mode, mode_after, namespace_after}
+use Rattle.xsd_actions.specs.Actions.{Action, mode_of, reader_rows, context_after, root_after, flag_after, opens_type, raises, tag_mode, mode_after, namespace_after}
 use Rattle.xsd_actions.specs.Actions.{open_simple_row, open_complex_row, rows_after, Fitting, Acted}
-use Rattle.xsd_actions.specs.Decided.{typed, named, top_element}
+use Rattle.xsd_actions.specs.Decided.{typed, named_child, top_element}
 use Rattle.xsd_actions.proofs.Laws.Changes.{changed-keep, changed-start}
 
 -- an item more, no type being open after it
@@ -37,7 +37,7 @@ top n r = in_context (Context.in_schema n) r
 module _ (by_standard : Bool) (e : Event) (r : Reader) (m : ℕ) (next : Reader → Reader) (is : (q : Reader) → next (top 0 q) ≡ top m q) where
   pub element-acted : (i : Item) (new : Row) → mode_of (top m r) ≡ mode_after by_standard e (Action.add new) (mode_of (top 0 r)) → item_rows i ≡ new ∷ []
       → Acted by_standard e (top 0 r) (Action.add new) (top m (with_item i r))
-  unfolding in_context with_item mode_of behind context_rows context_number nesting extension_flag namespace_after rows_after Fitting
+  unfolding in_context with_item mode_of reader_rows context_rows context_number nesting extension_flag namespace_after rows_after Fitting
   element-acted i new h q =
       let xs = r.schema.items in
       record {
@@ -62,7 +62,7 @@ module _ (by_standard : Bool) (e : Event) (r : Reader) (m : ℕ) (next : Reader 
     kept-acted event (some n) (some ty) = added-acted (Item.element (record { name = n; type_name = ty; event = event })) _ (h _) refl
 
     pub top-acted : (event : ℕ) (t : Seen) → Acted by_standard e (top 0 r) (top_element event t) (next (on_top_level_element event t (top 0 r)))
-    unfolding top_element named on_top_level_element
+    unfolding top_element named_child on_top_level_element
     top-acted event t = kept-acted event t.name t.type_name
 
 -- order 3: the nesting below the schema after a start that opens no type
@@ -95,21 +95,22 @@ mode-still b r new = refl
 module _ (by_standard : Bool) (t : Tag) (r : Reader) where
   pub root-start : Acted by_standard (Event.start t) (in_context Context.no_context r) (Action.root (or_empty (seen t).target_namespace))
       (top 0 (found_root (seen t) (in_context Context.no_context r)))
-  unfolding in_context found_root mode_of mode_after tag_mode raises context_after root_after flag_after behind context_rows context_number nesting extension_flag namespace_after rows_after Fitting
+  unfolding in_context found_root mode_of mode_after tag_mode raises context_after root_after flag_after reader_rows context_rows context_number
+      nesting extension_flag namespace_after rows_after Fitting
   root-start = record { mode = refl; namespace = refl; rows = refl; items = λ h. refl; fitting = tt }
 
   pub root-empty : Acted by_standard (Event.empty t) (in_context Context.no_context r) (Action.root (or_empty (seen t).target_namespace))
       (found_root (seen t) (in_context Context.no_context r))
-  unfolding found_root mode_of mode_after tag_mode context_after root_after flag_after behind namespace_after rows_after Fitting
+  unfolding found_root mode_of mode_after tag_mode context_after root_after flag_after reader_rows namespace_after rows_after Fitting
   root-empty = record { mode = refl; namespace = refl; rows = refl; items = λ h. refl; fitting = tt }
 
   -- a type opened
   pub simple-opened : (m : ℕ) (name : Text) → Acted by_standard (Event.start t) (top 0 r) (Action.open_simple m name) (in_context (open_simple_type m name) (top 0 r))
-  unfolding in_context open_simple_type open_simple_row mode_of mode_after tag_mode raises opens_type context_after root_after flag_after behind context_rows simple_type_rows
+  unfolding in_context open_simple_type open_simple_row mode_of mode_after tag_mode raises opens_type context_after root_after flag_after reader_rows context_rows simple_type_rows
       context_number nesting extension_flag namespace_after rows_after Fitting
   simple-opened m name = record { mode = refl; namespace = refl; rows = row-behind (items_rows r.schema.items) (open_simple_row m name); items = λ h. refl; fitting = tt }
 
   pub complex-opened : (m : ℕ) (name : Text) → Acted by_standard (Event.start t) (top 0 r) (Action.open_complex m name) (in_context (open_complex_type m name) (top 0 r))
-  unfolding in_context open_complex_type open_complex_row mode_of mode_after tag_mode raises opens_type context_after root_after flag_after behind context_rows complex_type_rows
+  unfolding in_context open_complex_type open_complex_row mode_of mode_after tag_mode raises opens_type context_after root_after flag_after reader_rows context_rows complex_type_rows
       context_number nesting extension_flag content_flag namespace_after rows_after Fitting
   complex-opened m name = record { mode = refl; namespace = refl; rows = row-behind (items_rows r.schema.items) (open_complex_row m name); items = λ h. refl; fitting = tt }

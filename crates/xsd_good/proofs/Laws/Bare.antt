@@ -8,26 +8,30 @@ use native.Mathlib.Omega.{arith}
 use lib.Dec.{eqb, leb}
 use lib.ListN.{length, get_or, set, drop, length-set, length-drop}
 use lib.Seq.{get_or-set_same, get_or-set_other, drop-set-add, drop-set-lt}
-use Rattle.text.specs.Text.{every}
-use Rattle.sheet.specs.Rows.{Ten, ten, tens, all_zero}
+use Rattle.std.proofs.lemmas.Option.{none-some}
+use borrow.Author.Tests.{eqb-true}
+use Rattle.text.specs.Text.{Text, every, between, is_text}
+use Rattle.text.proofs.Laws.Tests.{bool_cases, six}
+use Rattle.sheet.specs.Rows.{Ten, ten, tens, text_at, unpack_row, all_zero}
 use Rattle.sheet.specs.Calls.{sheet}
-use Rattle.sheet.specs.Form.{words, rows_used_in}
+use Rattle.sheet.specs.Form.{words, rows_used_in, row_covers, end_of}
 use Rattle.xsd_types.specs.Row0.{Row0, row0_from}
 use Rattle.xsd_types.specs.Rows.{items_rows}
-use Rattle.xsd_types.specs.Good.{row0_form, limits, root_test, nesting_test, context_test, extension_test, events_test, bare_good}
+use Rattle.xsd_types.specs.Good.{used_pairs, row0_form, limits, root_test, nesting_test, context_test, extension_test, events_test, bare_good}
 use Rattle.xsd_types.specs.Places.{rows_from}
 use Rattle.xsd_types.specs.Count.{count_of, refused_rows, count_in, bare, with_count, state_of, good}
 use Rattle.xsd_types.proofs.Laws.Count.{ten-count, drop-count, bare-words}
 use Rattle.xsd_refused.proofs.Laws.Finished.{end-room, count-finished, rows_from-count}
 use Rattle.rows.specs.declared.scan.Scan.{Scan}
 use Rattle.rows.specs.Lengths.{parts_fit}
-use Rattle.rows.specs.Scan.{scanned_sheet}
+use Rattle.rows.specs.Scan.{first_passes, scanned_sheet, row_texts}
 use Rattle.rows.proofs.Laws.Room.{parts-inside}
+use Rattle.rows.proofs.Laws.Tens.{tens-two}
 use Rattle.xsd_good.specs.Forms.{schema_tests}
 use Rattle.xsd_good.specs.Heads.{head_row}
-use Rattle.xsd_good.specs.End.{finished_end, Held}
+use Rattle.xsd_good.specs.End.{finished_end, HeadIs, Held}
 use Rattle.std.specs.Prelude.{None, Some}
-use Rattle.xsd_good.proofs.Laws.Good.{zeros, texts, rest, outside, too-short, good-tests, good-fails}
+use Rattle.xsd_good.proofs.Laws.Good.{zeros, texts, rest, outside, too-short, apart, good-tests, good-fails}
 use Rattle.xsd_good.proofs.Laws.Held.{good-rows, held-good, end-held}
 
 -- the rows with 0 for the count
@@ -46,7 +50,8 @@ pub row1-bare : (rows : List ℕ) (t : Ten) → 17 < length rows → t ≡ ten (
 unfolding ten
 row1-bare rows t h e =
     let same : (k : ℕ) → (k ≡ 7 → ⊥) → get_or (drop 10 rows) k 0 ≡ get_or (drop 10 (bare_rows rows)) k 0 = λ k n. sym (row1-number rows k n) in
-    let none : 0 ≡ get_or (drop 10 (bare_rows rows)) 7 0 = sym (ap (λ (l : List ℕ). get_or l 7 0) (drop-set-add 10 rows 7 0) ∙ get_or-set_same (drop 10 rows) 7 0 0 (omega (arith, length-drop 10 rows))) in
+    let none : 0 ≡ get_or (drop 10 (bare_rows rows)) 7 0 = sym (ap (λ (l : List ℕ). get_or l 7 0) (drop-set-add 10 rows 7 0)
+    ∙ get_or-set_same (drop 10 rows) 7 0 0 (omega (arith, length-drop 10 rows))) in
     rw e
     (λ i. record {
       tag = same 0 (λ n. omega arith) i;
@@ -71,6 +76,27 @@ events-bare events (suc n) rows =
 row0-bare : (rows : List ℕ) {z : Row0} → z ≡ row0_from (ten rows) → z ≡ row0_from (ten (bare_rows rows))
 row0-bare rows e = e ∙ ap row0_from (sym (ten-count rows 0))
 
+-- of the namespace's row a is not asked when its texts are: the pass gives None where another row stands in its place
+namespace-tag : (limit : ℕ) (t : Ten) (ts : List Ten) {s : Scan} → Some s ≡ scanned_sheet schema_tests limit (t ∷ ts) → t.tag ≡ 1
+unfolding scanned_sheet first_passes
+namespace-tag limit t ts {s} d =
+    bool_cases (first_passes schema_tests limit t)
+    (λ e. eqb-true t.tag 1 (six (eqb t.tag 1) (eqb t.a 0) (eqb t.b 0) (eqb t.c 0) (row_covers schema_tests.pairs 0 t) (leb (end_of 0 t) limit) e).0)
+    (λ e. absurd (none-some s (sym (rw e at d))))
+
+one-text : (names : Text) (t : Ten) → t.tag ≡ 1 → row_texts schema_tests names t ≡ is_text (text_at names t.at0 t.len0) && true
+unfolding row_texts unpack_row used_pairs between every
+one-text names t h = rw h refl
+
+row1-texts : (rows names : List ℕ) (t : Ten) → t ≡ ten (drop 10 (bare_rows rows)) → t.tag ≡ 1 → row_texts schema_tests names (ten (drop 10 rows)) ≡ row_texts schema_tests names t
+unfolding ten
+row1-texts rows names t e h =
+    let same : (k : ℕ) → (k ≡ 7 → ⊥) → get_or (drop 10 rows) k 0 ≡ get_or (drop 10 (bare_rows rows)) k 0 = λ k n. sym (row1-number rows k n) in
+    one-text names (ten (drop 10 rows)) (same 0 (λ n. omega arith) ∙ ap (λ (y : Ten). y.tag) (sym e) ∙ h)
+    ∙ (λ i. is_text (text_at names (same 1 (λ n. omega arith) i) (same 2 (λ n. omega arith) i)) && true)
+    ∙ ap (λ (y : Ten). is_text (text_at names y.at0 y.len0) && true) (sym e)
+    ∙ sym (one-text names t h)
+
 module _ (rows names : List ℕ) where
   pub bare-short : length rows < 20 → bare_good (bare (sheet rows names)) ≡ false
   unfolding bare with_count
@@ -85,16 +111,30 @@ module _ (rows names : List ℕ) where
     bare-outside h = outside (bare_rows rows) names z (row0-bare rows e) (fit-bare h)
 
     module _ (h : parts_fit z.rows_used z.names_used (length rows) (length names) ≡ true) where
-      -- of the results that the code's calls give
-      pub bare-tests : (s : Scan) {f b n l r g k x v : Bool} {t : Ten} → f ≡ row0_form z → b ≡ zeros rows names z → n ≡ texts names z (t ∷ rest rows z) → l ≡ limits z → r ≡ root_test z
+      -- the texts under the rows as they stand are those under the rows with 0 for the count
+      same-texts : {s : Scan} {t : Ten} → t ≡ ten (drop 10 (bare_rows rows)) → Some s ≡ scanned_sheet schema_tests z.names_used (t ∷ rest rows z)
+          → texts names z (tens (z.rows_used - 1) (drop 10 rows)) ≡ texts names z (t ∷ rest (bare_rows rows) z)
+      unfolding every
+      same-texts {t = t} d s =
+          rw (
+            tens-two z.rows_used rows (parts-inside z.rows_used z.names_used (length rows) (length names) h).0,
+            row1-texts rows names t d (namespace-tag z.names_used t (rest rows z) s),
+            drop-count rows 0 20 (omega arith),
+          ) refl
+
+      -- of the results that the code's calls give, in its order
+      pub bare-tests : (s : Scan) {f b n l r g k x v : Bool} {t : Ten} → f ≡ row0_form z → b ≡ zeros rows names z → n ≡ texts names z (tens (z.rows_used - 1) (drop 10 rows))
+          → l ≡ limits z → r ≡ root_test z
           → g ≡ nesting_test z → k ≡ context_test z.context s.head → x ≡ extension_test z s.head → v ≡ events_test z.events (tens (z.rows_used - 1) (drop 10 rows))
           → t ≡ ten (drop 10 (bare_rows rows)) → Some s ≡ scanned_sheet schema_tests z.names_used (t ∷ rest rows z)
-          → f && eqb s.end z.names_used && b && n && l && r && g && k && x && v ≡ bare_good (bare (sheet rows names))
+          → f && b && n && l && r && g && v && eqb s.end z.names_used && k && x ≡ bare_good (bare (sheet rows names))
       unfolding bare with_count
-      bare-tests s f b n l r g k x v t d =
+      bare-tests s {f} {b} {n} {l} {r} {g} {k} {x} {v} ef eb en el er eg ek ex ev t d =
           let behind = drop-count rows 0 (10 * z.rows_used) (omega (arith, parts-inside z.rows_used z.names_used (length rows) (length names) h)) in
-          good-tests (bare_rows rows) names z (row0-bare rows e) (fit-bare h) s f (b ∙ ap (λ (y : List ℕ). all_zero y && all_zero (drop z.names_used names)) (sym behind)) (rw (← (drop-count rows 0 20 (omega arith))) at n) l r g k x
-          (v ∙ sym (events-bare z.events (z.rows_used - 1) rows)) t (rw (← (drop-count rows 0 20 (omega arith))) at d)
+          apart f (eqb s.end z.names_used) b n l r g k x v
+          ∙ good-tests (bare_rows rows) names z (row0-bare rows e) (fit-bare h) s ef (eb ∙ ap (λ (y : List ℕ). all_zero y && all_zero (drop z.names_used names)) (sym behind))
+          (en ∙ same-texts t d) el er eg ek ex
+          (ev ∙ sym (events-bare z.events (z.rows_used - 1) rows)) t (rw (← (drop-count rows 0 20 (omega arith))) at d)
 
       pub bare-fails : {t : Ten} → t ≡ ten (drop 10 (bare_rows rows)) → None ≡ scanned_sheet schema_tests z.names_used (t ∷ rest rows z) → false ≡ bare_good (bare (sheet rows names))
       unfolding bare with_count
@@ -106,6 +146,11 @@ head_row-bare : (rows : List ℕ) (n : ℕ) → head_row (bare_rows rows) n ≡ 
 unfolding head_row
 head_row-bare rows zero = refl
 head_row-bare rows (suc n) = rw (get_or-set_other rows 17 (10 * n) 0 0 (λ e. omega arith), head_row-bare rows n)
+
+pub head-is-bare : (rows : List ℕ) {head : ℕ} → HeadIs rows head → HeadIs (bare_rows rows) head
+head-is-bare rows h l =
+    let t = ten-count rows 0 in
+    rw t (h (rw t at l) ∙ sym (head_row-bare rows (row0_from (ten rows)).rows_used))
 
 finished_end-bare : (rows : List ℕ) (context used : ℕ) → finished_end (bare_rows rows) context used ≡ finished_end rows context used
 unfolding finished_end

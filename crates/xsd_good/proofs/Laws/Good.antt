@@ -1,7 +1,7 @@
 -- Laws of the test of a good sheet: the used parts are looked at first, and where they lie inside the buffers
 -- the other parts of `good` are those of row 0, of the pass over the rows and of the two buffers. Assumes nothing.
 use mathlib.Core.Path.{◌≡◌, refl, sym, ap, ◌∙◌}
-use mathlib.Core.Bool.{Bool, true, false, ◌&&◌, ◌||◌, and_assoc, and-false}
+use mathlib.Core.Bool.{Bool, true, false, ◌&&◌, ◌||◌, and_assoc, and-true, and-false}
 use mathlib.Core.List.{List, ◌∷◌}
 use Prim.Native.Nat.{ℕ, ◌-◌, ◌*◌, ◌<◌}
 use native.Mathlib.Omega.{arith}
@@ -79,13 +79,14 @@ module _ (rows names : List ℕ) where
       ap (λ (b : Bool). row0_form z && b) (sheet-scanned z.names_used (behind rows names z) (no-head rows names z) (tens_of (sheet rows names))) ∙ good-inside h
 
   -- row 1 and the rows behind it
-  all-rows : (z : Row0) (t : Ten) → z ≡ row0_from (ten rows) → parts_fit z.rows_used z.names_used (length rows) (length names) ≡ true → t ≡ ten (drop 10 rows) → t ∷ rest rows z ≡ tens_of (sheet rows names)
+  all-rows : (z : Row0) (t : Ten) → z ≡ row0_from (ten rows) → parts_fit z.rows_used z.names_used (length rows) (length names) ≡ true
+      → t ≡ ten (drop 10 rows) → t ∷ rest rows z ≡ tens_of (sheet rows names)
   unfolding tens_of row0_of
   all-rows z t e h f =
       let two = (parts-inside z.rows_used z.names_used (length rows) (length names) h).0 in
       rw f (sym (tens-two z.rows_used rows two) ∙ ap (λ (y : Row0). tens (y.rows_used - 1) (drop 10 rows)) e)
 
-  -- of the results that the code's calls give, in the code's order
+  -- of the results that the code's calls give, in the paper's order
   module _ (z : Row0) (e : z ≡ row0_from (ten rows)) (h : parts_fit z.rows_used z.names_used (length rows) (length names) ≡ true) where
     pub good-tests : (s : Scan) {f b n l r g k x v : Bool} {t : Ten} → f ≡ row0_form z → b ≡ zeros rows names z → n ≡ texts names z (t ∷ rest rows z) → l ≡ limits z → r ≡ root_test z
         → g ≡ nesting_test z → k ≡ context_test z.context s.head → x ≡ extension_test z s.head → v ≡ events_test z.events (tens (z.rows_used - 1) (drop 10 rows))
@@ -101,3 +102,18 @@ module _ (rows names : List ℕ) where
     good-fails t d =
         let failed = rw (all-rows z _ e h t, e) at d in
         rw (← failed, and-false) at (good-scanned (rw e at h))
+
+-- the tests in the code's order: what asks no row's form, and then what the pass over the rows found
+in-order : (f e b n l r g k x v : Bool)
+    → (f && (b && (n && (l && (r && (g && v)))))) && (e && (k && x)) ≡ f && (e && (b && (n && (l && (r && (g && (k && (x && v))))))))
+in-order false _ _ _ _ _ _ _ _ _ = refl
+in-order true e false _ _ _ _ _ _ _ = sym (and-false e)
+in-order true e true false _ _ _ _ _ _ = sym (and-false e)
+in-order true e true true false _ _ _ _ _ = sym (and-false e)
+in-order true e true true true false _ _ _ _ = sym (and-false e)
+in-order true e true true true true false _ _ _ = sym (and-false e)
+in-order true e true true true true true k x false = sym (rw (and-false x, and-false k) (and-false e))
+in-order true e true true true true true k x true = rw (and-true x) refl
+
+pub apart : (f e b n l r g k x v : Bool) → f && b && n && l && r && g && v && e && k && x ≡ f && e && b && n && l && r && g && k && x && v
+apart f e b n l r g k x v = simp and_assoc (simp and_assoc at (in-order f e b n l r g k x v))

@@ -11,12 +11,14 @@ use native.Mathlib.Omega.{arith}
 use lib.Dec.{eqb}
 use lib.ListN.{get_or, drop}
 use lib.Seq.{get_or-drop}
-use borrow.Author.Tests.{ne_eqb}
+use borrow.Author.Tests.{ne_eqb, le-leb, lt-leb}
 use Rattle.text.proofs.Laws.Tests.{if-in}
 use Rattle.sheet.specs.Rows.{ten, tens}
 use Rattle.xsd_types.specs.Good.{is_head, head_after, last_head, head_of}
 use Rattle.sheet.specs.Calls.{sheet}
+use Rattle.xsd_types.specs.Row0.{row0_from}
 use Rattle.xsd_good.specs.Heads.{head_row}
+use Rattle.xsd_good.specs.End.{finished_end, HeadIs}
 use Rattle.rows.proofs.Laws.Scan.{tags}
 use Rattle.sheet.specs.Form.{rows_used_in, row0_of, tens_of}
 
@@ -75,3 +77,18 @@ open-head rows names h =
     let n = rows_used_in (ten rows) - 1 in
     let e : suc n ≡ rows_used_in (ten rows) = omega arith in
     head-row-tag rows n ∙ rw e
+
+-- where the finished items end, by a head that is known
+module _ (rows : List ℕ) {context : ℕ} (c : context ≡ (row0_from (ten rows)).context) where
+  pub end-open : {head : ℕ} → 2 ≤ context → HeadIs rows head → head ≡ finished_end rows (row0_from (ten rows)).context (rows_used_in (ten rows))
+  unfolding finished_end
+  end-open l h = rw (le-leb 2 (row0_from (ten rows)).context (omega (arith, l, c))) (h (omega (arith, l, c)))
+
+  pub end-closed : {used : ℕ} → context < 2 → used ≡ (row0_from (ten rows)).rows_used → used ≡ finished_end rows (row0_from (ten rows)).context (rows_used_in (ten rows))
+  unfolding finished_end
+  end-closed l u = rw (lt-leb 2 (row0_from (ten rows)).context (omega (arith, l, c))) u
+
+-- and what such an end says of the head
+pub end-head : (rows : List ℕ) {end : ℕ} → end ≡ finished_end rows (row0_from (ten rows)).context (rows_used_in (ten rows)) → HeadIs rows end
+unfolding finished_end
+end-head rows e l = rw (le-leb 2 (row0_from (ten rows)).context l) at e

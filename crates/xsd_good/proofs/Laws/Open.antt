@@ -27,8 +27,8 @@ pub context-group : (c : Context) → 2 ≤ context_number c → is_group (conte
 unfolding context_number context_rows
 context-group Context.no_context h = absurd (omega arith)
 context-group (Context.in_schema n) h = absurd (omega arith)
-context-group (Context.in_simple_type t) h = group-simple t.event t.name t.base t.facets
-context-group (Context.in_complex_type t) h = group-complex t.event t.name t.content
+context-group (Context.in_simple_type t) h = group-simple t.head.event t.head.name t.base t.facets
+context-group (Context.in_complex_type t) h = group-complex t.head.event t.head.name t.content
 
 module _ {rows names z : List ℕ} where
   -- the tag of a row in a sheet

@@ -55,7 +55,8 @@ sheet-scanned limit p h (t ∷ ts) =
     rw (sheet-ends schema_tests limit p t ts, orders 1 (tags ts), heads 1 (tags ts)) (same-behind w _ _ _ _ _ last)
 
 -- the test of c of n rows from row i on
-pub events-all : (events : ℕ) (rows : List ℕ) (n i : ℕ) → list_all (λ (k : ℕ). let t = ten (drop (10 * k) rows) in eqb t.c 0 || ltb t.c events) (range_with_len i n) ≡ events_test events (tens n (drop (10 * i) rows))
+pub events-all : (events : ℕ) (rows : List ℕ) (n i : ℕ)
+    → list_all (λ (k : ℕ). let t = ten (drop (10 * k) rows) in eqb t.c 0 || ltb t.c events) (range_with_len i n) ≡ events_test events (tens n (drop (10 * i) rows))
 unfolding events_test every event_number_ok tens
 events-all events rows zero i = refl
 events-all events rows (suc n) i =

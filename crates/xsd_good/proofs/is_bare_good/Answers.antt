@@ -1,4 +1,4 @@
--- `xsd_good::is_bare_good` meets its contract: the tests of the code are the parts of `bare_good`, in its order, and where the used parts
+-- `xsd_good::is_bare_good` meets its contract: the tests of the code are the parts of `bare_good`, in another order, and where the used parts
 -- do not lie inside the buffers, `bare_good` fails too. Assumes nothing.
 use mathlib.Core.Path.{sym, ◌∙◌}
 use Rattle.xsd_good.specs.Row0.{as_row0}

@@ -1,10 +1,11 @@
-// The tests of a row of a schema sheet.
-// The numbers of a row one by one, as in the definitions: each test asks for two or three of them.
-ghost use Rattle.std.specs.Prelude.{◌≡◌};
-ghost use Rattle.xsd_types.specs.Good.{used_pairs, is_head, is_child, head_after};
-ghost use Rattle.xsd_good.specs.Forms.{a_form, schema_tests};
+// The tests of a row of a schema sheet, by the table of tags (`rules`) where they ask more than one thing of a tag.
+ghost use Rattle.std.specs.Prelude.{◌≡◌, eqb, if◌then◌else◌};
+ghost use Rattle.xsd_types.specs.Tags.{any_tag};
+ghost use Rattle.xsd_types.specs.Good.{used_pairs, row_form, is_head, may_follow, head_after};
+ghost use Rattle.xsd_good.specs.Forms.{schema_tests};
 
-use rows::form::{in_range, is_flag};
+use crate::forms::rules::{Rule, rule_of};
+use rows::form::{in_heads, in_range, is_zero_by, pairs_by};
 use rows::numbers::wide;
 use rows::scan::RowTests;
 use rows::ten::Ten;
@@ -20,17 +21,11 @@ pub fn is_head(tag: u32) -> bool
     )
 }
 
-#[tactic(auto, unfolding(xsd_types::specs::Good::is_child, text::specs::Text::between))]
-fn is_child(head: u32, tag: u32) -> bool
-    ensures { result ≡ is_child head tag }
+// Which tag may stand behind which head, by the table.
+pub fn may_follow(head: u32, tag: u32) -> bool
+    ensures { result ≡ may_follow head tag }
 {
-    match head {
-        tags::SIMPLE_TYPE => in_range(tags::ENUMERATION, tags::FRACTION_DIGITS, tag),
-        tags::SEQUENCE => in_range(tags::BOUND_ELEMENT, tags::UNBOUNDED_ELEMENT, tag),
-        tags::CHOICE => tag == tags::CHOICE_VARIANT,
-        tags::SIMPLE_CONTENT => tag == tags::ATTRIBUTE,
-        _ => false,
-    }
+    (tag <= tags::ATTRIBUTE) && in_heads(rule_of(tag).heads, head)
 }
 
 #[tactic(auto, unfolding(xsd_types::specs::Good::head_after))]
@@ -40,17 +35,15 @@ pub fn head_after(head: u32, tag: u32) -> u32
     if is_head(tag) { tag } else { head }
 }
 
-#[tactic(auto, unfolding(crate::specs::Forms::a_form, text::specs::Text::between, sheet::specs::Form::is_flag))]
-fn a_form(tag: u32, a: u32) -> bool
-    ensures { result ≡ a_form tag a }
+// The tag is known, flags are 0 or 1, other unused numbers are 0, by the table.
+pub fn row_form(tag: u32, a: u32, b: u32, c: u32) -> bool
+    ensures { result ≡ row_form tag a b c }
 {
-    match tag {
-        tags::MIN_LENGTH..=tags::MAX_LENGTH
-        | tags::TOTAL_DIGITS..=tags::FRACTION_DIGITS
-        | tags::BOUND_ELEMENT..=tags::UNBOUNDED_ELEMENT => true,
-        tags::ANY | tags::ATTRIBUTE => is_flag(a),
-        _ => a == 0,
+    if !in_range(tags::ELEMENT, tags::ATTRIBUTE, tag) {
+        return false;
     }
+    let rule = rule_of(tag);
+    (a <= rule.most_a) & is_zero_by(rule.no_b, b) & is_zero_by(rule.no_c, c)
 }
 
 // How many pairs a row uses.
@@ -68,29 +61,29 @@ pub fn used_pairs(tag: u32, a: u32) -> usize
     }
 }
 
+// Whether the second pair of a row is used, as a number: of an any by its a, which is a flag.
+fn second_pair(rule: Rule, t: Ten) -> u32
+    ensures { result ≡ (if eqb t.tag any_tag then t.a else rule.second) }
+{
+    if t.tag == tags::ANY { t.a } else { rule.second }
+}
+
 // The rows of a schema sheet.
 pub struct SchemaRow;
 
 impl RowTests for SchemaRow {
     ghost tests = { schema_tests };
 
-    #[tactic(auto, unfolding(xsd_types::specs::Good::ten_form, xsd_types::specs::Good::row_form, crate::specs::Forms::a_form))]
-    fn row_form(t: Ten) -> bool {
-        in_range(tags::ELEMENT, tags::ATTRIBUTE, t.tag)
-            & (is_head(t.tag) | (t.c == 0))
-            & ((t.b == 0)
-                | in_range(tags::MIN_LENGTH, tags::MAX_LENGTH, t.tag)
-                | (t.tag == tags::BOUND_ELEMENT))
-            & a_form(t.tag, t.a)
+    fn passes(head: u32, k: usize, t: Ten) -> bool {
+        if !(row_form(t.tag, t.a, t.b, t.c) & may_follow(head, t.tag)) {
+            return false;
+        }
+        let rule = rule_of(t.tag);
+        pairs_by(rule.first, second_pair(rule, t), 0, k, t)
     }
 
     fn used_pairs(tag: u32, a: u32) -> usize {
         used_pairs(tag, a)
-    }
-
-    #[tactic(auto, unfolding(xsd_types::specs::Good::may_follow))]
-    fn may_follow(head: u32, tag: u32) -> bool {
-        (head != tags::NO_CONTENT) & (is_head(tag) | is_child(head, tag))
     }
 
     fn head_after(head: u32, tag: u32) -> u32 {

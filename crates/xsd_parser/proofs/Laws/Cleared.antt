@@ -14,7 +14,7 @@ use Rattle.xsd_types.specs.Types.{Item, Facet}
 use Rattle.xsd_types.specs.State.{SimpleTypeBuilder, ComplexTypeBuilder, Context, Reader, State}
 use Rattle.xsd_types.specs.Rows.{rows_of}
 use Rattle.xsd_types.specs.Sheet.{state_fits}
-use Rattle.xsd_types.specs.Unnumbered.{cleared_row, unnumbered_item, unnumbered_simple, unnumbered_complex, unnumbered_context, unnumbered_schema, unnumbered_reader, unnumbered}
+use Rattle.xsd_types.specs.Unnumbered.{cleared_row, unnumbered_item, unnumbered_head, unnumbered_simple, unnumbered_complex, unnumbered_context, unnumbered_schema, unnumbered_reader, unnumbered}
 use Rattle.xsd_types.proofs.Laws.Unnumbered.{rows-cleared}
 use Rattle.xsd_parser.specs.declared.words.Word.{Word}
 use Rattle.xsd_parser.specs.declared.words.FacetWord.{FacetWord}
@@ -24,7 +24,7 @@ use Rattle.xsd_parser.specs.Seen.{Seen, seen, tag_is}
 use Rattle.xsd_parser.specs.Tape.{Judged, event, refused, records}
 use Rattle.xsd_parser.specs.Handlers.{Outcome, ok, refuse, ◌and_then◌, in_context, with_item, found_root, kept_element, on_top_level_element, require_name, with_base}
 use Rattle.xsd_parser.specs.Handlers.{with_facet, with_content, open_simple_type, open_complex_type, below_schema, on_direct_child, on_start_in_schema, raised_simple}
-use Rattle.xsd_parser.specs.Handlers.{on_start_in_simple_type, raised_complex, on_start_in_complex_type, on_start, facet_value, facet_of, on_facet, on_empty_in_simple_type}
+use Rattle.xsd_parser.specs.Handlers.{on_start_in_simple_type, raised_complex, on_start_in_complex_type, on_start, facet_value, facet_by_word, on_facet, on_empty_in_simple_type}
 use Rattle.xsd_parser.specs.Handlers.{on_empty_in_complex_type, on_empty, close_simple_type, close_complex_type, close_in_schema, on_end}
 use Rattle.xsd_parser.specs.Step.{handled, tags_after, counted, room_for, step}
 use Rattle.xsd_parser.specs.Read.{read_records, read_state}
@@ -55,7 +55,7 @@ then-changed f (refuse r) g = refl
 changed-facet : {A B : Type 0} (f : A → B) (o : Option FacetWord) (v : Text) (g : Facet → A) (x : A) → changed f (on_facet o v g x) ≡ on_facet o v (λ y. f (g y)) (f x)
 unfolding on_facet changed
 changed-facet f none v g x = refl
-changed-facet f (some w) v g x = changed_then f (facet_of w v) (λ y. ok (g y))
+changed-facet f (some w) v g x = changed_then f (facet_by_word w v) (λ y. ok (g y))
 
 -- the reader's changes
 item-unnumbered : (i : Item) (r : Reader) → unnumbered_reader (with_item i r) ≡ with_item (unnumbered_item i) (unnumbered_reader r)
@@ -85,11 +85,12 @@ module _ (n : ℕ) (t : Seen) where
   below-unnumbered true depth r = refl
 
   direct_child-unnumbered : (by_standard : Bool) (r : Reader) → changed unnumbered_reader (on_direct_child by_standard n t r) ≡ on_direct_child by_standard 0 t (unnumbered_reader r)
-  unfolding on_direct_child open_simple_type open_complex_type unnumbered_reader unnumbered_context unnumbered_simple unnumbered_complex in_context changed
+  unfolding on_direct_child open_simple_type open_complex_type unnumbered_reader unnumbered_context unnumbered_head unnumbered_simple unnumbered_complex in_context changed
   direct_child-unnumbered b r =
       if-in (changed unnumbered_reader) (tag_is t Word.SimpleType) (changed-name unnumbered_reader t _)
       (if-in (changed unnumbered_reader) (tag_is t Word.ComplexType) (changed-name unnumbered_reader t _)
-      (if-in (changed unnumbered_reader) (tag_is t Word.Element) (ap ok (below-unnumbered b 0 (on_top_level_element n t r) ∙ ap (below_schema b 0) (top-unnumbered r))) (ap ok (below-unnumbered b 0 r))))
+      (if-in (changed unnumbered_reader) (tag_is t Word.Element) (ap ok (below-unnumbered b 0 (on_top_level_element n t r) ∙ ap (below_schema b 0) (top-unnumbered r)))
+      (ap ok (below-unnumbered b 0 r))))
 
   start_in_schema-unnumbered : (by_standard : Bool) (depth : ℕ) (r : Reader)
       → changed unnumbered_reader (on_start_in_schema by_standard n t depth r) ≡ on_start_in_schema by_standard 0 t depth (unnumbered_reader r)
@@ -123,12 +124,12 @@ module _ (n : ℕ) (t : Seen) where
   empty-unnumbered r (Context.in_complex_type b) = changed_then unnumbered_reader (on_empty_in_complex_type t b.content) _
 
 close_simple-unnumbered : (b : SimpleTypeBuilder) (d : ℕ) (r : Reader) → unnumbered_reader (close_simple_type b d r) ≡ close_simple_type (unnumbered_simple b) d (unnumbered_reader r)
-unfolding close_simple_type unnumbered_simple unnumbered_context unnumbered_reader in_context unnumbered_item
+unfolding close_simple_type unnumbered_head unnumbered_simple unnumbered_context unnumbered_reader in_context unnumbered_item
 close_simple-unnumbered b zero r = ap (in_context (Context.in_schema 0)) (item-unnumbered _ r)
 close_simple-unnumbered b (suc d) r = refl
 
 close_complex-unnumbered : (b : ComplexTypeBuilder) (d : ℕ) (r : Reader) → unnumbered_reader (close_complex_type b d r) ≡ close_complex_type (unnumbered_complex b) d (unnumbered_reader r)
-unfolding close_complex_type unnumbered_complex unnumbered_context unnumbered_reader in_context unnumbered_item
+unfolding close_complex_type unnumbered_head unnumbered_complex unnumbered_context unnumbered_reader in_context unnumbered_item
 close_complex-unnumbered b zero r = ap (in_context (Context.in_schema 0)) (item-unnumbered _ r)
 close_complex-unnumbered b (suc d) r = refl
 
@@ -193,7 +194,8 @@ read_records-unnumbered lent n s (event e ∷ js) =
     (λ k q. ap unnumbered_reading (read-refuse lent n s e js k q)
     ∙ sym (read_by-refuse unknown_number lent n (unnumbered s) e js k (sym (step-unnumbered lent s e) ∙ ap (changed unnumbered) q)))
 
-pub read_state-unnumbered : (lent : Lengths) (s : State) (text : Text) (marks : List ℕ) → unnumbered_reading (read_state lent s text marks) ≡ read_state_by unknown_number lent (unnumbered s) text marks
+pub read_state-unnumbered : (lent : Lengths) (s : State) (text : Text) (marks : List ℕ)
+    → unnumbered_reading (read_state lent s text marks) ≡ read_state_by unknown_number lent (unnumbered s) text marks
 unfolding read_state read_state_by
 read_state-unnumbered lent s text marks = read_records-unnumbered lent 0 s (records text marks)
 

@@ -74,7 +74,7 @@ close_simple-texts b (suc d) r = refl
 pub close_complex-texts : (b : ComplexTypeBuilder) (d : ℕ) (r : Reader)
     → reader_texts (close_complex_type b d r) ≡ rest_texts r.schema.items (context_rows (Context.in_complex_type b))
 unfolding close_complex_type in_context with_item context_rows item_rows
-close_complex-texts b zero r = finished-texts r.schema.items _ (context_rows (Context.in_complex_type b)) (finish-texts b.event b.name b.content)
+close_complex-texts b zero r = finished-texts r.schema.items _ (context_rows (Context.in_complex_type b)) (finish-texts b.head.event b.head.name b.content)
 close_complex-texts b (suc d) r = refl
 
 pub close_schema-texts : (n : ℕ) (r : Reader) → reader_texts (close_in_schema n r) ≡ rest_texts r.schema.items []

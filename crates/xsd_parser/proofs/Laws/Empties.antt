@@ -12,7 +12,7 @@ use Rattle.xsd_parser.specs.declared.words.FacetWord.{FacetWord}
 use Rattle.xsd_parser.specs.Words.{facet_word}
 use Rattle.xsd_parser.specs.Event.{or_empty}
 use Rattle.xsd_parser.specs.Seen.{Seen, tag_is}
-use Rattle.xsd_parser.specs.Handlers.{on_parsed, found_root, with_base, with_facet, with_content, facet_value, facet_of, on_empty_in_simple_type, on_empty}
+use Rattle.xsd_parser.specs.Handlers.{on_parsed, found_root, with_base, with_facet, with_content, facet_value, facet_by_word, on_empty_in_simple_type, on_empty}
 use Rattle.xsd_parser.proofs.Laws.SeenTexts.{SeenText, or-empty-text}
 use Rattle.xsd_parser.proofs.Laws.Outcomes.{Gives, value, Any, Kept, gives-if, gives-and_then, gives-parsed, gives-facet}
 use Rattle.xsd_parser.proofs.Laws.Contents.{number_fits, empty_in_complex-kept}
@@ -39,8 +39,8 @@ unfolding facet_value
 facet_value-text t e = or-empty-text t.value e.value
 
 -- a facet's value is a text or a number within its width
-pub facet_of-kept : (w : FacetWord) (v : Text) → is_text v ≡ true → Kept facet_ok (facet_of w v)
-unfolding facet_of facet_ok
+pub facet_of-kept : (w : FacetWord) (v : Text) → is_text v ≡ true → Kept facet_ok (facet_by_word w v)
+unfolding facet_by_word facet_ok
 facet_of-kept FacetWord.Enumeration v h = value h
 facet_of-kept FacetWord.Pattern v h = value h
 facet_of-kept FacetWord.MinLength v h = number-kept 64 v Facet.min_length (λ k q. q)

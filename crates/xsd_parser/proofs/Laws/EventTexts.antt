@@ -7,7 +7,7 @@ use lib.Dec.{eqb}
 use lib.ListN.{length, drop}
 use Rattle.text.specs.Text.{Text, every, is_plain, is_text}
 use Rattle.xsd_parser.specs.Event.{Event}
-use Rattle.xsd_parser.specs.EventText.{attr_ok, tag_ok, event_ok, judged_ok}
+use Rattle.xsd_parser.specs.EventText.{attr_is_text, tag_ok, event_ok, judged_ok}
 use Rattle.xsd_parser.specs.Tape.{Pair, pair_text, all_inside, all_ascii, attrs_of, tag_of, Recorded, finished, bad, next, event_of, form_test, pair_count, pairs_of}
 use Rattle.xsd_parser.specs.Tape.{tag_record, record1, records_from, records}
 use Rattle.xsd_parser.proofs.Laws.Records.{record-cases, records-finished, records-bad, records-next}
@@ -21,8 +21,8 @@ ascii-whole text e [] = refl
 ascii-whole text e (p ∷ ps) = and-true (plain-part-text p.offset p.size text e) (ascii-whole text e ps)
 
 -- the texts under pairs that are judged
-pub attrs-text : (text : Text) (ps : List Pair) → all_ascii text ps ≡ true → every attr_ok (attrs_of text ps) ≡ true
-unfolding all_ascii attrs_of every attr_ok
+pub attrs-text : (text : Text) (ps : List Pair) → all_ascii text ps ≡ true → every attr_is_text (attrs_of text ps) ≡ true
+unfolding all_ascii attrs_of every attr_is_text
 attrs-text text [] e = refl
 attrs-text text (k ∷ []) e = refl
 attrs-text text (k ∷ v ∷ ps) e =

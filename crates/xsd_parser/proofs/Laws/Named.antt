@@ -13,7 +13,7 @@ use Rattle.xsd_parser.specs.Words.{facet_word}
 use Rattle.xsd_parser.specs.Seen.{Seen, tag_is}
 use Rattle.xsd_parser.specs.Handlers.{in_context, with_item, found_root, kept_element, on_top_level_element, with_base, with_facet, with_content, open_simple_type}
 use Rattle.xsd_parser.specs.Handlers.{open_complex_type, below_schema, on_direct_child, on_start_in_schema, raised_simple, on_start_in_simple_type, raised_complex}
-use Rattle.xsd_parser.specs.Handlers.{on_start_in_complex_type, on_start, facet_value, facet_of, on_empty_in_simple_type, close_simple_type}
+use Rattle.xsd_parser.specs.Handlers.{on_start_in_complex_type, on_start, facet_value, facet_by_word, on_empty_in_simple_type, close_simple_type}
 use Rattle.xsd_parser.specs.Handlers.{close_complex_type}
 use Rattle.xsd_parser.proofs.Laws.Outcomes.{Gives, value, Any, gives-if, gives-and_then, gives-name, gives-facet, gives-any}
 use Rattle.xsd_types.proofs.Laws.Events.{passing-parts}
@@ -76,9 +76,9 @@ module _ (p : Text → ℕ → Bool) where
     start_in_schema-passes b t depth r k h = gives-if (eqb depth 0) (direct_child-passes b t r k h) (value (below-passes b depth r h))
 
     -- inside a type the open type keeps name and number
-    pub start_in_simple-passes : (t : Seen) (b : SimpleTypeBuilder) → p b.name b.event ≡ true → open_passes p (Context.in_simple_type (on_start_in_simple_type t (raised_simple b))) ≡ true
+    pub start_in_simple-passes : (t : Seen) (b : SimpleTypeBuilder) → p b.head.name b.head.event ≡ true → open_passes p (Context.in_simple_type (on_start_in_simple_type t (raised_simple b))) ≡ true
     unfolding on_start_in_simple_type raised_simple with_base open_passes
-    start_in_simple-passes t b h = if-either (λ (x : SimpleTypeBuilder). p x.name x.event ≡ true) (eqb (suc b.nesting_depth) 1 && tag_is t Word.Restriction) h h
+    start_in_simple-passes t b h = if-either (λ (x : SimpleTypeBuilder). p x.head.name x.head.event ≡ true) (eqb (suc b.nesting_depth) 1 && tag_is t Word.Restriction) h h
 
     pub start-passes : (by_standard : Bool) (t : Seen) (r : Reader) (x : Context) → r.context ≡ x → Naming (starts t) t.name → Passing r → Gives Passing Any (on_start by_standard n t r x)
     unfolding on_start open_passes raised_complex with_content
@@ -89,18 +89,19 @@ module _ (p : Text → ℕ → Bool) where
     start-passes s t r (Context.in_complex_type b) q k h =
         gives-and_then (gives-any (on_start_in_complex_type t (raised_complex b))) λ c u. value (context-passes r _ h (rw q at (passing-parts p r h).1))
 
-    pub empty_in_simple-passes : (t : Seen) (b : SimpleTypeBuilder) → p b.name b.event ≡ true → Gives (λ (x : SimpleTypeBuilder). p x.name x.event ≡ true) Any (on_empty_in_simple_type t b)
+    pub empty_in_simple-passes : (t : Seen) (b : SimpleTypeBuilder) → p b.head.name b.head.event ≡ true
+        → Gives (λ (x : SimpleTypeBuilder). p x.head.name x.head.event ≡ true) Any (on_empty_in_simple_type t b)
     unfolding on_empty_in_simple_type with_base with_facet
     empty_in_simple-passes t b h =
-        gives-if (tag_is t Word.Restriction) (value h) (gives-facet (facet_word t.word) (facet_value t) (with_facet b) b (λ w. gives-any (facet_of w (facet_value t))) (λ f u. h) h)
+        gives-if (tag_is t Word.Restriction) (value h) (gives-facet (facet_word t.word) (facet_value t) (with_facet b) b (λ w. gives-any (facet_by_word w (facet_value t))) (λ f u. h) h)
 
     -- a close: the type is finished with the name and the number that it had
-    pub close_simple-passes : (b : SimpleTypeBuilder) (d : ℕ) (r : Reader) → p b.name b.event ≡ true → Passing r → Passing (close_simple_type b d r)
+    pub close_simple-passes : (b : SimpleTypeBuilder) (d : ℕ) (r : Reader) → p b.head.name b.head.event ≡ true → Passing r → Passing (close_simple_type b d r)
     unfolding close_simple_type item_passes open_passes
     close_simple-passes b zero r k h = context-passes (with_item _ r) (Context.in_schema 0) (item-passes r _ h k) refl
     close_simple-passes b (suc d) r k h = context-passes r _ h k
 
-    pub close_complex-passes : (b : ComplexTypeBuilder) (d : ℕ) (r : Reader) → p b.name b.event ≡ true → Passing r → Passing (close_complex_type b d r)
+    pub close_complex-passes : (b : ComplexTypeBuilder) (d : ℕ) (r : Reader) → p b.head.name b.head.event ≡ true → Passing r → Passing (close_complex_type b d r)
     unfolding close_complex_type item_passes open_passes
     close_complex-passes b zero r k h = context-passes (with_item _ r) (Context.in_schema 0) (item-passes r _ h k) refl
     close_complex-passes b (suc d) r k h = context-passes r _ h k

@@ -14,7 +14,7 @@ use Rattle.text.specs.Text.{Text, every}
 use Rattle.text.proofs.Laws.Tests.{and-true-right, or_left, or_right, or_cases, if-either, if-cases}
 use Rattle.text.proofs.Laws.Every.{every_append, every-one-more}
 use Rattle.xsd_types.specs.Types.{Item}
-use Rattle.xsd_types.specs.State.{SimpleTypeBuilder, ComplexTypeBuilder, Context, Reader, event_number_ok, item_passes, open_passes, heads_pass, events_ok}
+use Rattle.xsd_types.specs.State.{HeadNumber, SimpleTypeBuilder, ComplexTypeBuilder, Context, Reader, event_number_ok, item_passes, open_passes, heads_pass, events_ok}
 use Rattle.xsd_types.proofs.Laws.Events.{heads-weaken}
 use Rattle.xsd_parser.specs.declared.words.Word.{Word}
 use Rattle.xsd_parser.specs.Words.{facet_word}
@@ -22,10 +22,10 @@ use Rattle.xsd_parser.specs.Event.{Event, event_name}
 use Rattle.xsd_parser.specs.Seen.{Seen, seen, tag_is}
 use Rattle.xsd_parser.specs.Handlers.{ok, in_context, with_item, found_root, kept_element, on_top_level_element, with_base, with_facet, with_content, open_simple_type}
 use Rattle.xsd_parser.specs.Handlers.{open_complex_type, below_schema, on_direct_child, on_start_in_schema, raised_simple, on_start_in_simple_type, raised_complex}
-use Rattle.xsd_parser.specs.Handlers.{on_start_in_complex_type, on_start, facet_value, facet_of, on_empty_in_simple_type, on_empty_in_complex_type, on_empty, close_simple_type}
+use Rattle.xsd_parser.specs.Handlers.{on_start_in_complex_type, on_start, facet_value, facet_by_word, on_empty_in_simple_type, on_empty_in_complex_type, on_empty, close_simple_type}
 use Rattle.xsd_parser.specs.Handlers.{close_complex_type, close_in_schema, on_end}
 use Rattle.xsd_parser.specs.Step.{handled}
-use Rattle.xsd_parser.specs.Numbered.{makes_head, HeadNumber, item_number, open_number, numbered_heads, more_heads, named_by, given_by}
+use Rattle.xsd_parser.specs.Numbered.{makes_head, item_number, open_number, numbered_heads, more_heads, named_by, given_by}
 use Rattle.xsd_parser.proofs.Laws.Outcomes.{Gives, value, Any, gives-if, gives-and_then, gives-name, gives-facet, gives-value, gives-any}
 use Rattle.xsd_parser.proofs.Laws.Children.{kept-context}
 
@@ -107,7 +107,7 @@ module _ (n : ℕ) where
   empty_in_simple-alike : (t : Seen) (y : SimpleTypeBuilder) → Gives (Alike y) Any (on_empty_in_simple_type t y)
   unfolding on_empty_in_simple_type with_base with_facet open_number
   empty_in_simple-alike t y =
-      gives-if (tag_is t Word.Restriction) (value refl) (gives-facet (facet_word t.word) (facet_value t) (with_facet y) y (λ w. gives-any (facet_of w (facet_value t))) (λ f u. refl) refl)
+      gives-if (tag_is t Word.Restriction) (value refl) (gives-facet (facet_word t.word) (facet_value t) (with_facet y) y (λ w. gives-any (facet_by_word w (facet_value t))) (λ f u. refl) refl)
 
   empty-makes : (t : Seen) (r : Reader) (x : Context) → r.context ≡ x → Gives (Makes n (tag_is t Word.Element) t.name (numbered_heads r)) Any (on_empty n t r x)
   unfolding on_empty on_top_level_element with_content open_number
@@ -181,8 +181,8 @@ module _ (p : Text → ℕ → Bool) where
   unfolding every open_number open_passes
   open-numbered Context.no_context = refl
   open-numbered (Context.in_schema n) = refl
-  open-numbered (Context.in_simple_type t) = and-nothing (p t.name t.event)
-  open-numbered (Context.in_complex_type t) = and-nothing (p t.name t.event)
+  open-numbered (Context.in_simple_type t) = and-nothing (p t.head.name t.head.event)
+  open-numbered (Context.in_complex_type t) = and-nothing (p t.head.name t.head.event)
 
   pub heads-numbered : (r : Reader) → every (λ h. p h.name h.event) (numbered_heads r) ≡ heads_pass p r
   unfolding numbered_heads heads_pass

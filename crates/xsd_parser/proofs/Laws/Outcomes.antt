@@ -12,7 +12,7 @@ use Rattle.number.specs.Number.{Parsed, parsed, refused}
 use Rattle.xsd_types.specs.Types.{Facet}
 use Rattle.xsd_parser.specs.declared.words.FacetWord.{FacetWord}
 use Rattle.xsd_parser.specs.Seen.{Seen}
-use Rattle.xsd_parser.specs.Handlers.{Outcome, ok, refuse, ◌and_then◌, on_parsed, require_name, facet_of, on_facet}
+use Rattle.xsd_parser.specs.Handlers.{Outcome, ok, refuse, ◌and_then◌, on_parsed, require_name, facet_by_word, on_facet}
 
 pub data Gives {A : Type 0} (P : A → Type 0) (Q : ℕ → Type 0) : Outcome A → Type 0 where
   value : {x : A} → P x → Gives P Q (ok x)
@@ -50,7 +50,7 @@ gives-name {A} {P} {Q} t f p q = go t.name p
     go (some v) p = value (p v refl)
 
 pub gives-facet : {A : Type 0} {P : A → Type 0} {Q : ℕ → Type 0} {R : Facet → Type 0} (o : Option FacetWord) (v : Text) (f : Facet → A) (x : A)
-    → ((w : FacetWord) → Gives R Q (facet_of w v)) → ((y : Facet) → R y → P (f y)) → P x → Gives P Q (on_facet o v f x)
+    → ((w : FacetWord) → Gives R Q (facet_by_word w v)) → ((y : Facet) → R y → P (f y)) → P x → Gives P Q (on_facet o v f x)
 unfolding on_facet
 gives-facet none v f x h k p = value p
 gives-facet (some w) v f x h k p = gives-and_then (h w) λ y r. value (k y r)

@@ -38,13 +38,13 @@ item-added r i h e =
 -- "contexts 2 and 3 have at least nesting + 2"
 pub record SimpleOk (b : SimpleTypeBuilder) (n : ℕ) : Type 0 where
   pub tags : b.nesting_depth + 2 ≤ n
-  pub name : is_text b.name ≡ true
+  pub name : is_text b.head.name ≡ true
   pub base : is_text b.base ≡ true
   pub facets : every facet_ok b.facets ≡ true
 
 pub record ComplexOk (b : ComplexTypeBuilder) (n : ℕ) : Type 0 where
   pub tags : b.nesting_depth + 2 ≤ n
-  pub name : is_text b.name ≡ true
+  pub name : is_text b.head.name ≡ true
   pub content : content_ok b.content ≡ true
 
 -- order 3: in context 1 "open tags of at least nesting + 1"; "with 0, nesting there stays 0"
@@ -78,7 +78,7 @@ module _ (by_standard : Bool) where
   pub simple-parts : (b : SimpleTypeBuilder) (n : ℕ) → context_ok by_standard (Context.in_simple_type b) n ≡ true → SimpleOk b n
   unfolding context_ok
   simple-parts b n e =
-      let p = four (leb (b.nesting_depth + 2) n) (is_text b.name) (is_text b.base) (every facet_ok b.facets) e in
+      let p = four (leb (b.nesting_depth + 2) n) (is_text b.head.name) (is_text b.base) (every facet_ok b.facets) e in
       record { tags = leb-true (b.nesting_depth + 2) n p.0; name = p.1; base = p.2; facets = p.3 }
 
   pub simple-whole : (b : SimpleTypeBuilder) (n : ℕ) → SimpleOk b n → context_ok by_standard (Context.in_simple_type b) n ≡ true
@@ -88,7 +88,7 @@ module _ (by_standard : Bool) where
   pub complex-parts : (b : ComplexTypeBuilder) (n : ℕ) → context_ok by_standard (Context.in_complex_type b) n ≡ true → ComplexOk b n
   unfolding context_ok
   complex-parts b n e =
-      let p = three (leb (b.nesting_depth + 2) n) (is_text b.name) (content_ok b.content) e in
+      let p = three (leb (b.nesting_depth + 2) n) (is_text b.head.name) (content_ok b.content) e in
       record { tags = leb-true (b.nesting_depth + 2) n p.0; name = p.1; content = p.2 }
 
   pub complex-whole : (b : ComplexTypeBuilder) (n : ℕ) → ComplexOk b n → context_ok by_standard (Context.in_complex_type b) n ≡ true

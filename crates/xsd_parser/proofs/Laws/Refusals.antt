@@ -23,7 +23,7 @@ use Rattle.xsd_parser.specs.Event.{Event}
 use Rattle.xsd_parser.specs.Seen.{Seen, seen, tag_is}
 use Rattle.xsd_parser.specs.Tape.{Pair, all_inside, all_ascii, Recorded, finished, bad, form_test, pair_count, pairs_of, tag_record, record1}
 use Rattle.xsd_parser.specs.Handlers.{Outcome, refuse, on_parsed, parse_min_occurs, parse_max_occurs, is_unbounded, sequence_element, on_element_inside_complex}
-use Rattle.xsd_parser.specs.Handlers.{content_at_two, on_direct_child, on_start_in_schema, on_start_in_complex_type, raised_complex, on_start, facet_value, with_facet, facet_of}
+use Rattle.xsd_parser.specs.Handlers.{content_at_two, on_direct_child, on_start_in_schema, on_start_in_complex_type, raised_complex, on_start, facet_value, with_facet, facet_by_word}
 use Rattle.xsd_parser.specs.Handlers.{on_empty_in_simple_type, on_empty_in_complex_type, on_empty}
 use Rattle.xsd_parser.specs.Step.{handled, closed, tags_after, counted, room_for, step}
 use Rattle.xsd_parser.proofs.Laws.Outcomes.{Gives, value, refusal, Any, gives-if, gives-and_then, gives-parsed, gives-name, gives-facet, gives-refusal, gives-wider}
@@ -111,8 +111,8 @@ start-refusal s m t r (Context.in_schema n) = start_in_schema-refusal s m t n r
 start-refusal s m t r (Context.in_simple_type b) = value tt
 start-refusal s m t r (Context.in_complex_type b) = gives-and_then (start_in_complex-refusal t (raised_complex b)) λ c p. value tt
 
-pub facet_of-refusal : (w : FacetWord) (v : Text) → HandlerRefusal (facet_of w v)
-unfolding facet_of
+pub facet_of-refusal : (w : FacetWord) (v : Text) → HandlerRefusal (facet_by_word w v)
+unfolding facet_by_word
 facet_of-refusal FacetWord.Enumeration v = value tt
 facet_of-refusal FacetWord.Pattern v = value tt
 facet_of-refusal FacetWord.MinLength v = parsed-refusal 64 v _

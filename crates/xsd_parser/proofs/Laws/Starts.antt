@@ -110,7 +110,8 @@ module _ (by_standard : Bool) where
       gives-if (eqb depth 0) (direct_child-kept m t r n e h (omega arith) o) (value (below_schema-kept by_standard depth r n h k o))
 
   -- a start outside the schema, in a simple type, in a complex type
-  pub start_outside-kept : (m : ℕ) (t : Seen) (r : Reader) (n : ℕ) → SeenText t → ReaderOk by_standard r n → Gives (λ x. ReaderOk by_standard x (suc n)) Any (on_start by_standard m t r Context.no_context)
+  pub start_outside-kept : (m : ℕ) (t : Seen) (r : Reader) (n : ℕ) → SeenText t → ReaderOk by_standard r n
+      → Gives (λ x. ReaderOk by_standard x (suc n)) Any (on_start by_standard m t r Context.no_context)
   unfolding on_start found_root
   start_outside-kept m t r n e o =
       value (if-either (λ x. ReaderOk by_standard x (suc n)) (tag_is t Word.Schema)

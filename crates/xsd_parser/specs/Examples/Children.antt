@@ -6,10 +6,10 @@ use Rattle.text.specs.Text.{bytes}
 use Rattle.xsd_types.specs.Choice.{sheet_chosen}
 use Rattle.xsd_types.specs.Examples.Sheets.{blank, blank_by}
 use Rattle.xsd_parser.specs.Tape.{records}
-use Rattle.xsd_parser.specs.Children.{Head, direct_children, only_types}
+use Rattle.xsd_parser.specs.Children.{ChildHead, direct_children, only_types}
 use Rattle.xsd_parser.specs.Examples.Tapes.{Tag, start, empty, close, named, typed, schema, simple_type, complex_type, text_of, marks_of, reads, taped}
 
-children : List Tag → List Head
+children : List Tag → List ChildHead
 children ts = direct_children (records (text_of ts) (marks_of 0 ts))
 
 types_only : List Tag → Bool
@@ -18,7 +18,7 @@ types_only ts = only_types (records (text_of ts) (marks_of 0 ts))
 -- behind an annotation, and an element with name and type that is started
 some-children :
     children (schema ∷ start "annotation" [] ∷ close ∷ simple_type "A" ∷ close ∷ start "element" (typed "r" "A") ∷ close ∷ complex_type "B" ∷ [])
-    ≡ Head.simple_type (bytes "A") ∷ Head.element (bytes "r") (bytes "A") ∷ Head.complex_type (bytes "B") ∷ []
+    ≡ ChildHead.simple_type (bytes "A") ∷ ChildHead.element (bytes "r") (bytes "A") ∷ ChildHead.complex_type (bytes "B") ∷ []
 unfolding children taped
 some-children = refl
 
@@ -33,7 +33,7 @@ no-children = refl
 -- the inner `schema` is a child like any other; a second one behind the first has children again
 two-schemas :
     children (schema ∷ schema ∷ empty "element" (typed "a" "t") ∷ close ∷ close ∷ schema ∷ empty "element" (typed "b" "t") ∷ [])
-    ≡ Head.element (bytes "b") (bytes "t") ∷ []
+    ≡ ChildHead.element (bytes "b") (bytes "t") ∷ []
 unfolding children taped
 two-schemas = refl
 

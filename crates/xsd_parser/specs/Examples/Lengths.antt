@@ -45,7 +45,8 @@ unfolding blank blank_by junk
 blank-read r n e = cleared-read (junk r n) (rw (length-replicate {A = ℕ} r 7, length-replicate {A = ℕ} n 7) e)
 
 -- a sheet of r numbers and n bytes, where one is above its limit
-sheet-refused : (r n : ℕ) (rows : List (List ℕ)) (names : String) → length (join rows) ≤ r → length (bytes names) ≤ n → sheet_lengths r n ≡ false → read (sheet r n rows names) [] [] ≡ gives 1 0 (sheet r n rows names)
+sheet-refused : (r n : ℕ) (rows : List (List ℕ)) (names : String) → length (join rows) ≤ r → length (bytes names) ≤ n
+    → sheet_lengths r n ≡ false → read (sheet r n rows names) [] [] ≡ gives 1 0 (sheet r n rows names)
 unfolding read good_lengths lengths_of refused_at gives answer sheet
 sheet-refused r n rows names hr hn e = rw (length-filled r (join rows) hr, length-filled n (bytes names) hn, e)
 

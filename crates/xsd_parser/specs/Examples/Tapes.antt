@@ -81,5 +81,6 @@ unfoldable pub complex_type : String → Tag
 complex_type n = start "complexType" (named n)
 
 unfoldable pub taped : Unit {0}
-unfolding named typed based valued schema simple_type complex_type attributes_text tag_text text_of attributes_marks tag_marks marks_of reads gives written texts numbers builtins sheets schemas readings
+unfolding named typed based valued schema simple_type complex_type attributes_text tag_text text_of attributes_marks tag_marks marks_of reads gives
+    written texts numbers builtins sheets schemas readings
 taped = tt

@@ -13,7 +13,7 @@ use Rattle.xsd_types.specs.Rows.{simple_type_rows, complex_type_rows, items_rows
 use Rattle.xsd_types.proofs.Laws.Groups.{is_group, head_tag as first_tag}
 use Rattle.xsd_types.proofs.Laws.StateOf.{group-length}
 use Rattle.xsd_good.proofs.Laws.Open.{context-group, group-tag-at}
-use Rattle.xsd_actions.specs.Actions.{content_tag, head_tag, behind}
+use Rattle.xsd_actions.specs.Actions.{content_tag, head_tag, reader_rows}
 use Rattle.rows.specs.Packing.{Packs}
 use Rattle.rows.proofs.Laws.Middle.{rows_fit}
 
@@ -40,7 +40,7 @@ unfolding first_tag context_rows simple_type_rows row head_tag
 head-tag Context.no_context = refl
 head-tag (Context.in_schema n) = refl
 head-tag (Context.in_simple_type t) = refl
-head-tag (Context.in_complex_type t) = content-tag t.event t.name t.content
+head-tag (Context.in_complex_type t) = content-tag t.head.event t.head.name t.content
 
 -- rows that begin with a head of a tag
 pub record FirstRow (rs : List Row) (tag : ℕ) : Type 0 where
@@ -58,14 +58,14 @@ pub open-rows : (c : Context) → 2 ≤ context_number c → FirstRow (context_r
 open-rows c h = subst (FirstRow (context_rows c)) (head-tag c) (group-first (context_rows c) (context-group c h))
 
 module _ {rows names z : List ℕ} where
-  module _ (ns : Text) (r : Reader) (p : Packs rows names z (namespace_row ns ∷ behind r)) (h : 2 ≤ context_number r.context) where
+  module _ (ns : Text) (r : Reader) (p : Packs rows names z (namespace_row ns ∷ reader_rows r)) (h : 2 ≤ context_number r.context) where
     -- the open head's tag stands at its place, which is inside the sheet
     pub head-tag-at : (n : ℕ) → n ≡ 2 + length (items_rows r.schema.items) → get_or rows (10 * n) 0 ≡ head_tag r.context
-    unfolding behind
+    unfolding reader_rows
     head-tag-at n e = group-tag-at (namespace_row ns ∷ items_rows r.schema.items) (context_rows r.context) n (context-group r.context h) p (omega arith) ∙ head-tag r.context
 
     pub head-inside : 2 + length (items_rows r.schema.items) < length rows / 10
-    unfolding behind
+    unfolding reader_rows
     head-inside =
         let one = group-length (context_rows r.context) (context-group r.context h) in
         omega (arith, rows_fit p, length-append (items_rows r.schema.items) (context_rows r.context))

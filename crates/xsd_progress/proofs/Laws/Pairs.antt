@@ -84,8 +84,8 @@ pub paired-context : (c : Context) → Paired (context_rows c)
 unfolding context_rows
 paired-context Context.no_context = Paired.none
 paired-context (Context.in_schema n) = Paired.none
-paired-context (Context.in_simple_type t) = paired-simple t.event t.name t.base t.facets
-paired-context (Context.in_complex_type t) = paired-complex t.event t.name t.content
+paired-context (Context.in_simple_type t) = paired-simple t.head.event t.head.name t.base t.facets
+paired-context (Context.in_complex_type t) = paired-complex t.head.event t.head.name t.content
 
 pub paired-rows : (s : State) → Paired (rows_of s)
 unfolding rows_of namespace_row used_pairs between

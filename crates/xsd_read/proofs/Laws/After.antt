@@ -25,7 +25,7 @@ use Rattle.rows.specs.Writer.{Held}
 use Rattle.rows.proofs.Laws.Writer.{same_itself}
 use Rattle.xsd_actions.specs.declared.Decision.{Decision}
 use Rattle.xsd_actions.specs.declared.Mode.{Mode}
-use Rattle.xsd_actions.specs.Actions.{Action, Acted, mode_of, mode_after, behind}
+use Rattle.xsd_actions.specs.Actions.{Action, Acted, mode_of, mode_after, reader_rows}
 use Rattle.xsd_actions.specs.Answers.{decision}
 use Rattle.xsd_progress.specs.declared.open_tags.Arrival.{Arrival}
 use Rattle.xsd_progress.specs.declared.open_tags.Arrived.{Arrived}
@@ -47,7 +47,7 @@ abbrev pub all_after : Action → State → List Row
 all_after a s = rows_after_all a s.reader.schema.target_namespace (items_rows s.reader.schema.items) (context_rows s.reader.context)
 
 pub rows-after : (s : State) {by_standard : Bool} {e : Event} {a : Action} {r : Reader} (tags : ℕ) → Acted by_standard e s.reader a r → rows_of (counted s tags r) ≡ all_after a s
-unfolding rows_of counted rows_after_all behind
+unfolding rows_of counted rows_after_all reader_rows
 rows-after s tags x = ap₂ (λ (n : Text) (rs : List Row). namespace_row n ∷ rs) x.namespace x.rows
 
 -- no type is open in the contexts 0 and 1
@@ -134,7 +134,11 @@ unfolding Ended
 stepped-refused {w} {p} {x} y e =
     record {
       same = same_itself w;
-      ended = λ s ev r due. record { refused = room-refused (lent_to w.rows.now w.names.now) (counted s x.open_tags r) (fits_counted (length w.rows.now) (length w.names.now) due y w.few ∙ e); kept = refl };
+      ended = λ s ev r due. record {
+        refused = room-refused (lent_to w.rows.now w.names.now) (counted s x.open_tags r)
+            (fits_counted (length w.rows.now) (length w.names.now) due y w.few ∙ e);
+        kept = refl;
+      };
     }
 
 -- what has room is done

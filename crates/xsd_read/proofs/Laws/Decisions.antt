@@ -22,7 +22,7 @@ use Rattle.tape.specs.declared.TagRecord.{TagRecord}
 use Rattle.tape.specs.Answers.{record_event}
 use Rattle.xsd_actions.specs.declared.Decision.{Decision}
 use Rattle.xsd_actions.specs.declared.Mode.{Mode}
-use Rattle.xsd_actions.specs.Actions.{Action, Acted, mode_of, head_tag, behind}
+use Rattle.xsd_actions.specs.Actions.{Action, Acted, mode_of, head_tag, reader_rows}
 use Rattle.xsd_actions.specs.Decided.{Decides, acts, refuses, decided}
 use Rattle.xsd_actions.specs.Answers.{decision}
 use Rattle.xsd_actions.proofs.Laws.Decides.{decides}
@@ -52,7 +52,7 @@ pub record Told (rows : List ℕ) (p : Progress) (e : Event) (d : Result Decisio
   pub decided_is : decision d ≡ decided p.events e p.mode head
 
 head_at : {s : State} {w : SheetWriter} {p : Progress} {head : ℕ} → At s w p → TagOfHead w.rows.now p.mode.context p.head head → head ≡ head_tag s.reader.context
-unfolding rows_of behind mode_of
+unfolding rows_of reader_rows mode_of
 head_at {s} {w} {p} at h =
     let context = ap (λ (m : Mode). m.context) at.mode in
     h.is w.names.now w.used at.z s.reader.schema.target_namespace s.reader at.holds context (λ k. at.head (rw context at k))

@@ -123,7 +123,8 @@ pub record Followed (text : Text) (marks : List ℕ) (at : ℕ) (t : TagRecord) 
   pub within : t.next ≤ length marks
   pub inside : (t.kind ≡ close_kind → ⊥) → TagInside text marks t.pairs t.count
 
-pub followed : {text : Text} {marks : List ℕ} {at : ℕ} {r : Result (Option TagRecord) Refusal} {o : Option TagRecord} (t : TagRecord) → RecordAt text marks at r → r ≡ Ok o → o ≡ Some t → Followed text marks at t
+pub followed : {text : Text} {marks : List ℕ} {at : ℕ} {r : Result (Option TagRecord) Refusal} {o : Option TagRecord} (t : TagRecord)
+    → RecordAt text marks at r → r ≡ Ok o → o ≡ Some t → Followed text marks at t
 unfolding recorded IsPlaced
 followed {text} {marks} {at} t x q e =
     let is = q ∙ ap Ok e in

@@ -73,7 +73,8 @@ arrives-on {w} {e = e} {x = x} {s = s} y at =
     step-on (lent_to w.rows.now w.names.now) s e x.open_tags (omega (arith, y.more, at.events)) (ap (tags_after e) (sym at.tags) ∙ y.tagged)
 
 -- 9 and 10
-pub taken-decided : {w : SheetWriter} {p : Progress} {e : Event} (n : ℕ) (r : Refusal) → p.events < events_limit → tags_after e p.open_tags ≡ ok n → Told w.rows.now p e (Err r) → EventTaken w p e (Err r) w
+pub taken-decided : {w : SheetWriter} {p : Progress} {e : Event} (n : ℕ) (r : Refusal) → p.events < events_limit
+    → tags_after e p.open_tags ≡ ok n → Told w.rows.now p e (Err r) → EventTaken w p e (Err r) w
 unfolding ◌and_then◌
 taken-decided {e = e} n r more tagged told =
     taken_refused r (λ s at. step-on _ s e n (omega (arith, more, at.events)) (ap (tags_after e) (sym at.tags) ∙ tagged) ∙ rw (told-refused r told at))

@@ -8,21 +8,21 @@ returns-then-not-read_lengths c =
     let a = c.args in
     rw c.into.ensures (read_one a.rows.now a.names.now a.text.now a.marks.now refl (sym c.read_lengths.ensures ∙ c.if-not-read_lengths.true))
 
-pub returns-then-not-is_good : goal.returns-then-not-is_good
-returns-then-not-is_good c =
+pub returns-in_default : goal.returns-in_default
+returns-in_default c =
     let a = c.args in
-    rw c.into-then-not-is_good.ensures
+    rw c.into-in_default.ensures
     (read-two a.rows.now a.names.now a.text.now a.marks.now refl (sym c.read_lengths.ensures ∙ c.if-not-read_lengths.false)
-    (sym c.is_good.ensures ∙ c.if-not-is_good.true))
+    c.in_default.ensures)
 
 pub read_counted-requires : goal.read_counted-requires
 read_counted-requires c =
     let a = c.args in
-    good-sheet a.rows.now a.names.now a.text.now a.marks.now (sym c.read_lengths.ensures ∙ c.if-not-read_lengths.false) (sym c.is_good.ensures ∙ c.if-not-is_good.false)
+    (good-sheet a.rows.now a.names.now a.text.now a.marks.now (sym c.read_lengths.ensures ∙ c.if-not-read_lengths.false) c.in-Some.ensures.0, c.in-Some.ensures.1)
 
 pub returns : goal.returns
 returns c =
     let a = c.args in
     read_through a.rows.now a.names.now a.text.now a.marks.now
     (sym c.read_lengths.ensures ∙ c.if-not-read_lengths.false)
-    (sym c.is_good.ensures ∙ c.if-not-is_good.false) c.read_counted.ensures
+    c.in-Some.ensures.0 c.read_counted.ensures

@@ -14,6 +14,8 @@ use Rattle.xsd_types.specs.Row0.{row0_from}
 use Rattle.xsd_types.specs.Rows.{items_rows}
 use Rattle.xsd_types.specs.Count.{state_of}
 use Rattle.xsd_good.specs.End.{finished_end}
+use Rattle.xsd_good.proofs.Laws.Heads.{end-head}
+use Rattle.xsd_good.proofs.Laws.Bare.{head-is-bare}
 use Rattle.xsd_parser.specs.Read.{read_state}
 use Rattle.xsd_progress.specs.Progress.{lent_to}
 use Rattle.xsd_read.specs.Good.{GoodRead, CountedSheet}
@@ -33,44 +35,39 @@ end_is : {rows names rows' names' : List ℕ} {text : Text} {marks : List ℕ} {
 end_is q w read w' place = place ∙ place_after q w read w'
 
 pub count_in-before-requires : goal.count_in-before-requires
-count_in-before-requires c = (counted-used c.requires).0
-
-pub finished_place-from-requires : goal.finished_place-from-requires
-finished_place-from-requires c =
-    let u = counted-used c.requires in
-    (u.1, u.2)
+count_in-before-requires c = (counted-used c.requires.0).0
 
 pub bounds-rows-17 : goal.bounds-rows-17
-bounds-rows-17 c = (counted-used c.requires).0
+bounds-rows-17 c = (counted-used c.requires.0).0
 
-pub read_good-answer-requires : goal.read_good-answer-requires
-read_good-answer-requires c = taken_out c.requires
+pub read_good-to-requires : goal.read_good-to-requires
+read_good-to-requires c = (taken_out c.requires.0, head-is-bare c.args.rows.now (end-head c.args.rows.now c.requires.1.place))
 
-pub finished_place-end-requires : goal.finished_place-end-requires
-finished_place-end-requires c = used-after c.requires c.finished_place-from.ensures.words c.read_good-answer.ensures
+pub finished_behind-end-requires : goal.finished_behind-end-requires
+finished_behind-end-requires c = ((used-after c.requires.0 c.requires.1.words c.read_good-to.ensures.read).0, c.read_good-to.ensures.head)
 
 pub invariant_of-count_refused : goal.invariant_of-count_refused
 invariant_of-count_refused c =
-    let q = c.requires in
-    let from = c.finished_place-from.ensures in
-    let end = c.finished_place-end.ensures in
-    let read = c.read_good-answer.ensures in
+    let q = c.requires.0 in
+    let from = c.requires.1 in
+    let end = c.finished_behind-end.ensures in
+    let read = c.read_good-to.ensures.read in
     record { within = (room_after q from.words read end.words (from_is q from.words from.place) (end_is q from.words read end.words end.place)).1 }
 
 pub count_refused-more-requires : goal.count_refused-more-requires
 count_refused-more-requires c =
-    let q = c.requires in
-    let from = c.finished_place-from.ensures in
-    let end = c.finished_place-end.ensures in
-    let read = c.read_good-answer.ensures in
+    let q = c.requires.0 in
+    let from = c.requires.1 in
+    let end = c.finished_behind-end.ensures in
+    let read = c.read_good-to.ensures.read in
     (room_after q from.words read end.words (from_is q from.words from.place) (end_is q from.words read end.words end.place)).0
 
 pub overflow_add-rows : goal.overflow_add-rows
 overflow_add-rows c =
-    let q = c.requires in
-    let from = c.finished_place-from.ensures in
-    let end = c.finished_place-end.ensures in
-    let read = c.read_good-answer.ensures in
+    let q = c.requires.0 in
+    let from = c.requires.1 in
+    let end = c.finished_behind-end.ensures in
+    let read = c.read_good-to.ensures.read in
     omega (
       arith,
       count_small q from.words read end.words (from_is q from.words from.place) (end_is q from.words read end.words end.place)
@@ -80,10 +77,10 @@ overflow_add-rows c =
 
 pub overflow_cast-rows : goal.overflow_cast-rows
 overflow_cast-rows c =
-    let q = c.requires in
-    let from = c.finished_place-from.ensures in
-    let end = c.finished_place-end.ensures in
-    let read = c.read_good-answer.ensures in
+    let q = c.requires.0 in
+    let from = c.requires.1 in
+    let end = c.finished_behind-end.ensures in
+    let read = c.read_good-to.ensures.read in
     omega (
       arith,
       count_small q from.words read end.words (from_is q from.words from.place) (end_is q from.words read end.words end.place)
@@ -92,16 +89,16 @@ overflow_cast-rows c =
     )
 
 pub bounds-rows-17-2 : goal.bounds-rows-17-2
-bounds-rows-17-2 c = omega (arith, (counted-used c.requires).0, length-after c.requires c.finished_place-from.ensures.words c.read_good-answer.ensures)
+bounds-rows-17-2 c = omega (arith, (counted-used c.requires.0).0, length-after c.requires.0 c.requires.1.words c.read_good-to.ensures.read)
 
 pub shape_of-rows : goal.shape_of-rows
-shape_of-rows c = simp length-set (length-after c.requires c.finished_place-from.ensures.words c.read_good-answer.ensures)
+shape_of-rows c = simp length-set (length-after c.requires.0 c.requires.1.words c.read_good-to.ensures.read)
 
 pub returns : goal.returns
 returns c =
-    let q = c.requires in
-    let from = c.finished_place-from.ensures in
-    let end = c.finished_place-end.ensures in
-    let read = c.read_good-answer.ensures in
+    let q = c.requires.0 in
+    let from = c.requires.1 in
+    let end = c.finished_behind-end.ensures in
+    let read = c.read_good-to.ensures.read in
     read-through-count q from.words read end.words (from_is q from.words from.place) (end_is q from.words read end.words end.place) c.count_in-before.ensures
     c.count_refused-more.ensures

@@ -18,16 +18,19 @@ module _ (rows names : List ℕ) (p end : ℕ) where
   unfolding refused_rows
   count-end h = rw (rows_from-end rows names p end h)
 
-  pub count_at : p < end → refused_row (row_at rows names p) (rows_from rows names (p + 1) end) ≡ true → refused_rows (rows_from rows names p end) ≡ suc (refused_rows (rows_from rows names (p + 1) end))
+  pub count_at : p < end → refused_row (row_at rows names p) (rows_from rows names (p + 1) end) ≡ true
+      → refused_rows (rows_from rows names p end) ≡ suc (refused_rows (rows_from rows names (p + 1) end))
   unfolding refused_rows
   count_at h e = rw (rows_from-cons rows names p end h, e)
 
-  pub count-not-at : p < end → refused_row (row_at rows names p) (rows_from rows names (p + 1) end) ≡ false → refused_rows (rows_from rows names p end) ≡ refused_rows (rows_from rows names (p + 1) end)
+  pub count-not-at : p < end → refused_row (row_at rows names p) (rows_from rows names (p + 1) end) ≡ false
+      → refused_rows (rows_from rows names p end) ≡ refused_rows (rows_from rows names (p + 1) end)
   unfolding refused_rows
   count-not-at h e = rw (rows_from-cons rows names p end h, e)
 
 -- the places of such rows, among n of them from p on
-pub counted : (rows names : List ℕ) (end n p : ℕ) → p + n ≡ end → length (filter (λ (i : ℕ). refused_row (row_at rows names i) (rows_from rows names (i + 1) end)) (range_with_len p n)) ≡ refused_rows (rows_from rows names p end)
+pub counted : (rows names : List ℕ) (end n p : ℕ) → p + n ≡ end
+    → length (filter (λ (i : ℕ). refused_row (row_at rows names i) (rows_from rows names (i + 1) end)) (range_with_len p n)) ≡ refused_rows (rows_from rows names p end)
 counted rows names end zero p h = sym (count-end rows names p end (omega arith))
 counted rows names end (suc n) p h =
     let rest = counted rows names end n (p + 1) (omega arith) in

@@ -17,7 +17,8 @@ use Rattle.xsd_types.specs.State.{State, event_number_ok}
 use Rattle.xsd_types.specs.Row0.{Row0, row0_in}
 use Rattle.xsd_types.specs.Rows.{rows_of, rows_used, names_used, row0}
 use Rattle.xsd_types.specs.Sheet.{state_fits, bare_sheet_of}
-use Rattle.xsd_types.specs.Good.{row0_form, rows_form, names_form, names_test, limits, root_test, open_tags_test, nesting_zero, nesting_test, context_test, extension_test, head_of, events_test, bare_good}
+use Rattle.xsd_types.specs.Good.{row0_form, rows_form, names_form, names_test, limits, root_test, open_tags_test, nesting_zero}
+use Rattle.xsd_types.specs.Good.{nesting_test, context_test, extension_test, head_of, events_test, bare_good}
 use Rattle.xsd_types.specs.Back.{state_of_rows, bare_state_of}
 use Rattle.xsd_types.specs.Choice.{paper_form, paper_nesting, no_numbers, paper_good, chosen, sheet_chosen}
 use Rattle.xsd_types.proofs.Laws.Rows.{bit-again}
@@ -57,25 +58,26 @@ pub bare_choice-again : (x : Sheet) → bare_good x ≡ true → bit (bare_state
 unfolding bare_state_of state_of_rows
 bare_choice-again x g = bit-again (row0_in x).choice (first_of (row0_in x) (parts-of x g).row0).choice_is
 
-pub paper-choice : (x : Sheet) → paper_good x ≡ true → (row0_in x).choice ≡ 0
-unfolding paper_good paper_form
-paper-choice x g =
+-- paper 01's test of row 0 and of the numbers of heads
+paper-says : (x : Sheet) → paper_good x ≡ true → (paper_form (row0_in x) ≡ true) × (no_numbers (tens_of x) ≡ true)
+unfolding paper_good
+paper-says x g =
     let z = row0_in x in
     let ts = tens_of x in
     let before = used_parts x && paper_form z && rows_form ts && names_form z.names_used ts && zeros_behind x && names_test x && limits z && root_test z && paper_nesting z
     && context_test z.context (head_of ts) && extension_test z (head_of ts) in
     let e = eleven (used_parts x) (paper_form z) (rows_form ts) (names_form z.names_used ts) (zeros_behind x) (names_test x) (limits z) (root_test z) (paper_nesting z)
     (context_test z.context (head_of ts)) (extension_test z (head_of ts)) (and-true-left before (no_numbers ts) g) in
-    eqb-true z.choice 0 (and-true-right (eqb z.first 0 && leb z.context 3 && is_flag z.root_seen && is_flag z.extension) _ e.1)
+    (e.1, and-true-right before (no_numbers ts) g)
+
+pub paper-choice : (x : Sheet) → paper_good x ≡ true → (row0_in x).choice ≡ 0
+unfolding paper_form
+paper-choice x g =
+    let z = row0_in x in
+    eqb-true z.choice 0 (and-true-right (eqb z.first 0 && leb z.context 3 && is_flag z.root_seen && is_flag z.extension) _ (paper-says x g).0)
 
 pub paper-none : (x : Sheet) → paper_good x ≡ true → no_numbers (tens_of x) ≡ true
-unfolding paper_good
-paper-none x g =
-    let z = row0_in x in
-    let ts = tens_of x in
-    let before = used_parts x && paper_form z && rows_form ts && names_form z.names_used ts && zeros_behind x && names_test x && limits z && root_test z && paper_nesting z
-    && context_test z.context (head_of ts) && extension_test z (head_of ts) in
-    and-true-right before (no_numbers ts) g
+paper-none x g = (paper-says x g).1
 
 -- every sheet that paper 01 calls good is good now, and these are all with choice 0 and no numbers
 pub good-before : (x : Sheet) → (paper_good x ≡ true) ↔ ((bare_good x ≡ true) × ((bare_state_of x).by_standard ≡ false) × (no_numbers (tens_of x) ≡ true))

@@ -6,10 +6,11 @@ use mathlib.Core.Bool.{true, false, false≢true}
 use mathlib.Core.List.{List, [], ◌∷◌, ◌++◌, map, append_assoc}
 use native.Mathlib.Omega.{arith}
 use lib.Dec.{eqb}
-use borrow.Author.Tests.{eqb-true}
+use borrow.Author.Tests.{eqb-true, ne_eqb}
 use Rattle.text.specs.Text.{Text, every, between}
 use Rattle.text.proofs.Laws.Tests.{and-true-right, not-true-false, if-cases}
 use Rattle.text.proofs.Laws.Every.{every-head, every-tail}
+use Rattle.text.proofs.Laws.Texts.{between-low}
 use Rattle.sheet.specs.Rows.{Row, row}
 use Rattle.xsd_types.specs.Types.{ComplexContent, Item}
 use Rattle.xsd_types.specs.State.{started}
@@ -19,9 +20,8 @@ use Rattle.xsd_types.specs.Refused.{refused_item, refused_row}
 use Rattle.xsd_types.specs.Count.{refused_types, refused_rows}
 use Rattle.xsd_types.proofs.Laws.Order.{tags, child_of, child-no-head}
 use Rattle.xsd_types.proofs.Laws.Groups.{is_group, head_tag}
-use Rattle.xsd_types.proofs.Laws.Items.{group-item}
+use Rattle.xsd_types.proofs.Laws.Items.{group-item, head-complex}
 use Rattle.xsd_types.proofs.Laws.Refused.{head_first-items, simple-refused}
-use mathlib.Core.Option.{some, none}
 
 -- items one behind the other
 pub refused_types-append : (is js : List Item) → refused_types (is ++ js) ≡ refused_types is + refused_types js
@@ -59,12 +59,7 @@ group-passes [] more g e = absurd (false≢true g)
 group-passes (r ∷ cs) more g e = group-count r cs more g ∙ rw (other_row r (cs ++ more) e)
 
 content-passes : (event : ℕ) (name : Text) (c : ComplexContent) → eqb (head_tag (complex_type_rows event name (started c))) 3 ≡ false
-unfolding complex_type_rows started head_tag row
-content-passes event name (ComplexContent.sequence es) = refl
-content-passes event name (ComplexContent.choice vs) = refl
-content-passes event name (ComplexContent.simple_content base xs) = refl
-content-passes event name (ComplexContent.any none) = refl
-content-passes event name (ComplexContent.any (some n)) = refl
+content-passes event name c = ne_eqb _ 3 (λ e. omega (arith, between-low 12 16 _ (head-complex event name (started c))))
 
 -- the rows of items count as the items do
 pub refused_rows-items : (is : List Item) → refused_rows (items_rows is) ≡ refused_types is

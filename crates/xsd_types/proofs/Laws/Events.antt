@@ -76,8 +76,8 @@ module _ (events : ℕ) where
   unfolding context_rows every open_passes
   context-events Context.no_context = refl
   context-events (Context.in_schema n) = refl
-  context-events (Context.in_simple_type t) = simple-events t.event t.name t.base t.facets
-  context-events (Context.in_complex_type t) = complex-events t.event t.name t.content
+  context-events (Context.in_simple_type t) = simple-events t.head.event t.head.name t.base t.facets
+  context-events (Context.in_complex_type t) = complex-events t.head.event t.head.name t.content
 
   pub body-events : (is : List Item) (c : Context) → every (event_row events) (items_rows is ++ context_rows c) ≡ every (item_passes (numbered events)) is && open_passes (numbered events) c
   unfolding items_rows every
@@ -118,8 +118,8 @@ module _ (p q : Text → ℕ → Bool) (w : (v : Text) (n : ℕ) → p v n ≡ t
   unfolding open_passes
   open-weaken Context.no_context h = refl
   open-weaken (Context.in_schema n) h = refl
-  open-weaken (Context.in_simple_type t) h = w t.name t.event h
-  open-weaken (Context.in_complex_type t) h = w t.name t.event h
+  open-weaken (Context.in_simple_type t) h = w t.head.name t.head.event h
+  open-weaken (Context.in_complex_type t) h = w t.head.name t.head.event h
 
   pub heads-weaken : (r : Reader) → heads_pass p r ≡ true → heads_pass q r ≡ true
   unfolding heads_pass

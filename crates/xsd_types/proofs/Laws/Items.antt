@@ -92,7 +92,8 @@ facet-back (Facet.max_inclusive v) = refl
 facet-back (Facet.total_digits n) = refl
 facet-back (Facet.fraction_digits n) = refl
 
-pub occurs-back : (name type_name : Text) (min : ℕ) (max : MaxOccurs) → element_of (occurs_row name type_name min max) ≡ record { name = name; type_name = type_name; min_occurs = min; max_occurs = max }
+pub occurs-back : (name type_name : Text) (min : ℕ) (max : MaxOccurs)
+    → element_of (occurs_row name type_name min max) ≡ record { name = name; type_name = type_name; min_occurs = min; max_occurs = max }
 unfolding element_of occurs_row row text0 text1
 occurs-back name type_name min (MaxOccurs.bounded n) = refl
 occurs-back name type_name min MaxOccurs.unbounded = refl
@@ -132,28 +133,31 @@ content-back event name (ComplexContentBuilder.simple_content base xs flag) = ap
 content-back event name (ComplexContentBuilder.any none) = refl
 content-back event name (ComplexContentBuilder.any (some n)) = refl
 
+-- the head of a complex type, whatever it holds
+pub complex-head : (event : ℕ) (name : Text) (c : ComplexContentBuilder) → (text0 (as_group (complex_type_rows event name c)).head ≡ name)
+    × ((as_group (complex_type_rows event name c)).head.c ≡ event) × (between 12 16 (head_tag (complex_type_rows event name c)) ≡ true)
+unfolding as_group head_tag complex_type_rows row text0 between
+complex-head event name ComplexContentBuilder.empty = (refl, refl, refl)
+complex-head event name (ComplexContentBuilder.sequence es) = (refl, refl, refl)
+complex-head event name (ComplexContentBuilder.choice vs) = (refl, refl, refl)
+complex-head event name (ComplexContentBuilder.simple_content base xs flag) = (refl, refl, refl)
+complex-head event name (ComplexContentBuilder.any none) = (refl, refl, refl)
+complex-head event name (ComplexContentBuilder.any (some n)) = (refl, refl, refl)
+
 pub name_back : (event : ℕ) (name : Text) (c : ComplexContentBuilder) → text0 (as_group (complex_type_rows event name c)).head ≡ name
-unfolding as_group complex_type_rows row text0
-name_back event name ComplexContentBuilder.empty = refl
-name_back event name (ComplexContentBuilder.sequence es) = refl
-name_back event name (ComplexContentBuilder.choice vs) = refl
-name_back event name (ComplexContentBuilder.simple_content base xs flag) = refl
-name_back event name (ComplexContentBuilder.any none) = refl
-name_back event name (ComplexContentBuilder.any (some n)) = refl
+name_back event name c = (complex-head event name c).0
 
 pub event-back : (event : ℕ) (name : Text) (c : ComplexContentBuilder) → (as_group (complex_type_rows event name c)).head.c ≡ event
-unfolding as_group complex_type_rows row
-event-back event name ComplexContentBuilder.empty = refl
-event-back event name (ComplexContentBuilder.sequence es) = refl
-event-back event name (ComplexContentBuilder.choice vs) = refl
-event-back event name (ComplexContentBuilder.simple_content base xs flag) = refl
-event-back event name (ComplexContentBuilder.any none) = refl
-event-back event name (ComplexContentBuilder.any (some n)) = refl
+event-back event name c = (complex-head event name c).1
+
+pub head-complex : (event : ℕ) (name : Text) (c : ComplexContentBuilder) → between 12 16 (head_tag (complex_type_rows event name c)) ≡ true
+head-complex event name c = (complex-head event name c).2
 
 unfoldable pub finished : ℕ → Text → ComplexContentBuilder → Item
 finished event name c = Item.complex_type (record { name = name; content = finish c; event = event })
 
-pub complex-back : (event : ℕ) (name : Text) (c : ComplexContent) → item_of (as_group (complex_type_rows event name (started c))) ≡ Item.complex_type (record { name = name; content = c; event = event })
+pub complex-back : (event : ℕ) (name : Text) (c : ComplexContent)
+    → item_of (as_group (complex_type_rows event name (started c))) ≡ Item.complex_type (record { name = name; content = c; event = event })
 unfolding item_of complex_type_rows started finish finished flag_in as_group row text0
 complex-back event name (ComplexContent.sequence es) = ap (finished event name) (content-back event name (ComplexContentBuilder.sequence es))
 complex-back event name (ComplexContent.choice vs) = ap (finished event name) (content-back event name (ComplexContentBuilder.choice vs))

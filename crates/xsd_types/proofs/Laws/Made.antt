@@ -2,12 +2,11 @@
 use mathlib.Core.Path.{◌≡◌, refl, ap}
 use mathlib.Core.Bool.{Bool, true, false, not, ◌&&◌, ◌||◌, false≢true}
 use mathlib.Core.List.{List, [], ◌∷◌, ◌++◌, map, append-nil}
-use mathlib.Core.Option.{some, none}
 use Prim.Native.Nat.{ℕ, ◌+◌}
 use lib.Dec.{eqb, leb}
 use lib.ListN.{length}
 use Prim.Native.Nat.{◌+◌}
-use Rattle.text.specs.Text.{Text, every, is_text, between, join}
+use Rattle.text.specs.Text.{Text, every, is_text, join}
 use Rattle.text.proofs.Laws.Tests.{three, four, or_right, and-true-left, and-true-right, and-true}
 use Rattle.sheet.specs.Rows.{Ten, Row, row, bit, pack_row, pack, names_of}
 use Rattle.sheet.specs.Form.{is_flag}
@@ -20,7 +19,7 @@ use Rattle.xsd_types.proofs.Laws.Row0.{nested_ok}
 use Rattle.xsd_types.proofs.Laws.Order.{tags, tags-append, in_order-append, last_head-append}
 use Rattle.xsd_types.proofs.Laws.Groups.{is_group, head_tag, in_order-group, last_head-group}
 use Rattle.xsd_types.proofs.Laws.Sound.{formed_row, body_rows}
-use Rattle.xsd_types.proofs.Laws.Items.{group-simple, group-complex, group-item, head-item}
+use Rattle.xsd_types.proofs.Laws.Items.{group-simple, group-complex, group-item, head-item, head-complex}
 
 -- packing keeps the tags and the numbers
 pub tags-pack : (k : ℕ) (rs : List Row) → map (λ (t : Ten). t.tag) (pack k rs) ≡ tags rs
@@ -52,8 +51,8 @@ pub order-context : (n : ℕ) (c : Context) → not (eqb n 16) ≡ true → in_o
 unfolding context_rows in_order
 order-context n Context.no_context o = refl
 order-context n (Context.in_schema depth) o = refl
-order-context n (Context.in_simple_type t) o = in_order-group n (simple_type_rows t.event t.name t.base t.facets) o (group-simple t.event t.name t.base t.facets)
-order-context n (Context.in_complex_type t) o = in_order-group n (complex_type_rows t.event t.name t.content) o (group-complex t.event t.name t.content)
+order-context n (Context.in_simple_type t) o = in_order-group n (simple_type_rows t.head.event t.head.name t.base t.facets) o (group-simple t.head.event t.head.name t.base t.facets)
+order-context n (Context.in_complex_type t) o = in_order-group n (complex_type_rows t.head.event t.head.name t.content) o (group-complex t.head.event t.head.name t.content)
 
 pub order-body : (n : ℕ) (s : State) → not (eqb n 16) ≡ true → in_order n (tags (body_rows s)) ≡ true
 unfolding body_rows
@@ -68,24 +67,15 @@ order-body n s o =
 pub head-behind : (n : ℕ) (rs gs : List Row) → is_group gs ≡ true → last_head n (tags (rs ++ gs)) ≡ head_tag gs
 head-behind n rs gs g = rw (tags-append rs gs, last_head-append n (tags rs) (tags gs)) (last_head-group (last_head n (tags rs)) gs g)
 
-pub head-complex : (event : ℕ) (name : Text) (c : ComplexContentBuilder) → between 12 16 (head_tag (complex_type_rows event name c)) ≡ true
-unfolding head_tag complex_type_rows row between
-head-complex event name ComplexContentBuilder.empty = refl
-head-complex event name (ComplexContentBuilder.sequence es) = refl
-head-complex event name (ComplexContentBuilder.choice vs) = refl
-head-complex event name (ComplexContentBuilder.simple_content base xs flag) = refl
-head-complex event name (ComplexContentBuilder.any none) = refl
-head-complex event name (ComplexContentBuilder.any (some n)) = refl
-
 -- the last head is what the context says
 pub test-context : (n : ℕ) (is : List Item) (c : Context) → not (eqb n 16) ≡ true → context_test (context_number c) (last_head n (tags (items_rows is ++ context_rows c))) ≡ true
 unfolding context_test context_number context_rows head_tag simple_type_rows row
 test-context n is Context.no_context o = rw (append-nil (items_rows is)) (and-true-right (in_order n (tags (items_rows is))) _ (order-items n is o))
 test-context n is (Context.in_schema depth) o = rw (append-nil (items_rows is)) (and-true-right (in_order n (tags (items_rows is))) _ (order-items n is o))
-test-context n is (Context.in_simple_type t) o = rw (head-behind n (items_rows is) (simple_type_rows t.event t.name t.base t.facets) (group-simple t.event t.name t.base t.facets))
+test-context n is (Context.in_simple_type t) o = rw (head-behind n (items_rows is) (simple_type_rows t.head.event t.head.name t.base t.facets) (group-simple t.head.event t.head.name t.base t.facets))
 test-context n is (Context.in_complex_type t) o = rw
-    (head-behind n (items_rows is) (complex_type_rows t.event t.name t.content) (group-complex t.event t.name t.content))
-    (head-complex t.event t.name t.content)
+    (head-behind n (items_rows is) (complex_type_rows t.head.event t.head.name t.content) (group-complex t.head.event t.head.name t.content))
+    (head-complex t.head.event t.head.name t.content)
 
 pub flag-complex : (event : ℕ) (name : Text) (c : ComplexContentBuilder) → eqb (content_flag c) 0 || eqb (head_tag (complex_type_rows event name c)) 14 ≡ true
 unfolding head_tag complex_type_rows row content_flag
@@ -101,15 +91,15 @@ test-extension n is Context.no_context = refl
 test-extension n is (Context.in_schema depth) = refl
 test-extension n is (Context.in_simple_type t) = refl
 test-extension n is (Context.in_complex_type t) = rw
-    (head-behind n (items_rows is) (complex_type_rows t.event t.name t.content) (group-complex t.event t.name t.content))
-    (flag-complex t.event t.name t.content)
+    (head-behind n (items_rows is) (complex_type_rows t.head.event t.head.name t.content) (group-complex t.head.event t.head.name t.content))
+    (flag-complex t.head.event t.head.name t.content)
 
 pub test-nesting : (by_standard : Bool) (c : Context) (open_tags : ℕ) → context_ok by_standard c open_tags ≡ true → nested_ok by_standard (context_number c) (nesting c) open_tags ≡ true
 unfolding context_ok context_number nesting nested_ok
 test-nesting b Context.no_context n ok = refl
 test-nesting b (Context.in_schema depth) n ok = ok
-test-nesting b (Context.in_simple_type t) n ok = (four (leb (t.nesting_depth + 2) n) (is_text t.name) (is_text t.base) (every facet_ok t.facets) ok).0
-test-nesting b (Context.in_complex_type t) n ok = (three (leb (t.nesting_depth + 2) n) (is_text t.name) (content_ok t.content) ok).0
+test-nesting b (Context.in_simple_type t) n ok = (four (leb (t.nesting_depth + 2) n) (is_text t.head.name) (is_text t.base) (every facet_ok t.facets) ok).0
+test-nesting b (Context.in_complex_type t) n ok = (three (leb (t.nesting_depth + 2) n) (is_text t.head.name) (content_ok t.content) ok).0
 
 pub small-context : (c : Context) → leb (context_number c) 3 ≡ true
 unfolding context_number
@@ -141,7 +131,12 @@ flag-context (Context.in_complex_type t) = flag-content t.content
 -- without a root there are two rows and no names
 pub test-root : (ns : Text) (is : List Item) (root : Bool) (c : Context) (events open_tags : ℕ) (by_standard : Bool)
     → root || (is_no_context c && is_empty is && is_empty ns) ≡ true
-    → root_test (row0 (record { reader = record { schema = record { target_namespace = ns; items = is }; root_seen = root; context = c }; events = events; open_tags = open_tags; by_standard = by_standard })) ≡ true
+    → root_test (row0 (record {
+      reader = record { schema = record { target_namespace = ns; items = is }; root_seen = root; context = c };
+      events = events;
+      open_tags = open_tags;
+      by_standard = by_standard;
+    })) ≡ true
 unfolding root_test row0 bit context_number rows_used names_used rows_of context_rows items_rows namespace_row row names_of join is_no_context is_empty
 test-root ns is true c events open_tags b ok = refl
 test-root [] [] false Context.no_context events open_tags b ok = refl

@@ -19,8 +19,8 @@ use Rattle.xsd_types.specs.Good.{last_head, context_test}
 use Rattle.xsd_types.proofs.Laws.Row0.{nested_ok}
 use Rattle.xsd_types.proofs.Laws.Order.{tags}
 use Rattle.xsd_types.proofs.Laws.Groups.{head_tag}
-use Rattle.xsd_types.proofs.Laws.Items.{group-item, group-complex}
-use Rattle.xsd_types.proofs.Laws.Made.{head-behind, head-complex}
+use Rattle.xsd_types.proofs.Laws.Items.{group-item, group-complex, head-complex}
+use Rattle.xsd_types.proofs.Laws.Made.{head-behind}
 use Rattle.xsd_types.proofs.Laws.Rows.{bit-again}
 use Rattle.xsd_types.proofs.Laws.Parse.{still_rows}
 use Rattle.text.proofs.Laws.Every.{every_append}
@@ -115,7 +115,7 @@ module _ (by_standard : Bool) (depth open_tags flag : ℕ) (rs : List Row) (is :
   unfolding item_rows context_rows context_ok context_number nesting extension_flag item_ok
   open-simple_type t o l f e =
       let v = three (is_text t.name) (is_text t.base) (every facet_ok t.facets) o in
-      let c = Context.in_simple_type (record { name = t.name; base = t.base; facets = t.facets; nesting_depth = depth; event = t.event }) in
+      let c = Context.in_simple_type (record { head = record { name = t.name; event = t.event }; base = t.base; facets = t.facets; nesting_depth = depth }) in
       record { items = is; context = c; same = e; items_ok = ok; context_is_ok = and-true (and-true (and-true l v.0) v.1) v.2; number_is = refl; depth_is = refl; flag_is = f }
 
   pub open-simple : (i : Item) → item_ok i ≡ true → eqb (head_tag (item_rows i)) 3 ≡ true → leb (depth + 2) open_tags ≡ true → 0 ≡ flag → rs ≡ items_rows is ++ item_rows i
@@ -131,7 +131,7 @@ module _ (by_standard : Bool) (depth open_tags flag : ℕ) (rs : List Row) (is :
       → content_flag c ≡ flag → rs ≡ items_rows is ++ complex_type_rows event name c → Opened by_standard 3 depth open_tags flag rs
   unfolding context_rows context_ok context_number nesting extension_flag
   open-content event name c o p l f e =
-      let d = Context.in_complex_type (record { name = name; content = c; nesting_depth = depth; event = event }) in
+      let d = Context.in_complex_type (record { head = record { name = name; event = event }; content = c; nesting_depth = depth }) in
       record { items = is; context = d; same = e; items_ok = ok; context_is_ok = and-true (and-true l o) p; number_is = refl; depth_is = refl; flag_is = f }
 
   pub open-empty : (event : ℕ) (name : Text) → is_text name ≡ true → leb (depth + 2) open_tags ≡ true → 0 ≡ flag

@@ -12,14 +12,13 @@ use Rattle.text.specs.Text.{every, between}
 use Rattle.text.proofs.Laws.Tests.{two, six, eleven, and-true-left, and-true-right, and-true}
 use Rattle.sheet.specs.Rows.{Ten, Sheet, all_zero}
 use Rattle.sheet.specs.Form.{is_flag, covers, covered, rows_used_of, names_used_of, tens_of, used_parts, zeros_behind}
-use Rattle.sheet.specs.Lengths.{fits}
 use Rattle.sheet.proofs.Laws.Unpacks.{few}
+use Rattle.sheet.proofs.Laws.Formed.{Headed, headed, few-headed, used-two, used-rows, used-names, covers-true, covered-is}
 use Rattle.xsd_types.specs.Row0.{Row0, row0_in}
 use Rattle.xsd_types.specs.Good.{used_pairs, row_form, in_order, row0_form, ten_form, rows_form, names_form, names_test, limits, root_test, nesting_test, context_test}
 use Rattle.xsd_types.specs.Good.{extension_test, head_of, events_test, bare_good}
 use Rattle.xsd_types.proofs.Laws.Shapes.{form-parts}
 use Rattle.xsd_types.proofs.Laws.Rows.{flag-of}
-use Rattle.text.proofs.Laws.Every.{every-weaken}
 
 -- the parts of `good`
 pub record Parts (x : Sheet) : Type 0 where
@@ -49,34 +48,13 @@ parts-of x g =
     record { parts = e.0; row0 = e.1; rows = e.2; names = e.3; zeros = e.4; text = e.5; limit = e.6; root = e.7; nest = e.8; context = e.9; extension = e.10; events = both.1 }
 
 -- row 1 and the rows behind it
-pub record Behind (ts : List Ten) : Type 0 where
-  pub first : Ten
-  pub body : List Ten
-  pub same : ts ≡ first ∷ body
-  pub tag_is : first.tag ≡ 1
-  pub a_is : first.a ≡ 0
-  pub b_is : first.b ≡ 0
-  pub c_is : first.c ≡ 0
-  pub formed : every ten_form body ≡ true
-  pub ordered : in_order 1 (map (λ (t : Ten). t.tag) body) ≡ true
+abbrev pub Behind : List Ten → Type 0
+Behind ts = Headed ten_form (λ bs. in_order 1 (map (λ (t : Ten). t.tag) bs)) ts
 
 pub behind : (ts : List Ten) → rows_form ts ≡ true → Behind ts
 unfolding rows_form
 behind [] e = absurd (false≢true e)
-behind (n ∷ ts) e =
-    let w = six (eqb n.tag 1) (eqb n.a 0) (eqb n.b 0) (eqb n.c 0) (every ten_form ts) (in_order 1 (map (λ (t : Ten). t.tag) ts)) e in
-    record {
-      first = n;
-      body = ts;
-      same = refl;
-      tag_is = eqb-true n.tag 1 w.0;
-      a_is = eqb-true n.a 0 w.1;
-      b_is = eqb-true n.b 0 w.2;
-      c_is = eqb-true
-          n.c 0 w.3;
-      formed = w.4;
-      ordered = w.5;
-    }
+behind (n ∷ ts) e = headed ten_form (λ bs. in_order 1 (map (λ (t : Ten). t.tag) bs)) n ts e
 
 -- a row of a tag's form uses at most three pairs
 pub few-picked : (p q r : Bool) (a : ℕ) → (q ≡ true → a ≤ 1) → leb (if p then 0 else if q then 1 + a else if r then 2 else 1) 3 ≡ true
@@ -95,36 +73,27 @@ few-form t e = few-picked (between 6 7 t.tag || between 10 11 t.tag) (eqb t.tag 
     (form-any t.tag t.a t.b t.c e)
 
 pub few-rows : (ts : List Ten) → rows_form ts ≡ true → every (few used_pairs) ts ≡ true
-unfolding every few used_pairs between
-few-rows ts e =
-    let w = behind ts e in
-    rw (w.same, w.tag_is) (every-weaken ten_form (few used_pairs) few-form w.body w.formed)
+unfolding used_pairs between
+few-rows ts e = few-headed ten_form (λ bs. in_order 1 (map (λ (t : Ten). t.tag) bs)) used_pairs refl few-form ts (behind ts e)
 
 -- the parts of a good sheet as numbers
 module _ (x : Sheet) (p : Parts x) where
   pub rows-two : 2 ≤ rows_used_of x
-  unfolding used_parts
-  rows-two = leb-true 2 (rows_used_of x) (and-true-left _ _ p.parts)
-
-  pub used-fits : fits (rows_used_of x) (names_used_of x) (length x.rows) (length x.names) ≡ true
-  unfolding used_parts
-  used-fits = and-true-right (leb 2 (rows_used_of x)) _ p.parts
+  rows-two = used-two x p.parts
 
   pub rows-room : 10 * rows_used_of x ≤ length x.rows
-  unfolding fits
-  rows-room = leb-true (10 * rows_used_of x) (length x.rows) (and-true-left _ _ used-fits)
+  rows-room = used-rows x p.parts
 
   pub names-room : names_used_of x ≤ length x.names
-  unfolding fits
-  names-room = leb-true (names_used_of x) (length x.names) (and-true-right (leb (10 * rows_used_of x) (length x.rows)) _ used-fits)
+  names-room = used-names x p.parts
 
   pub pairs-cover : covers used_pairs 0 (tens_of x) ≡ true
   unfolding names_form
-  pairs-cover = and-true-left _ _ p.names
+  pairs-cover = covers-true used_pairs (tens_of x) (names_used_of x) p.names
 
   pub names-end : covered 0 (tens_of x) ≡ names_used_of x
   unfolding names_form
-  names-end = eqb-true (covered 0 (tens_of x)) (names_used_of x) (and-true-right (covers used_pairs 0 (tens_of x)) _ p.names)
+  names-end = covered-is used_pairs (tens_of x) (names_used_of x) p.names
 
   pub zero-rows : all_zero (drop (10 * rows_used_of x) x.rows) ≡ true
   unfolding zeros_behind

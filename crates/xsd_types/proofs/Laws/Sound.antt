@@ -66,7 +66,8 @@ unfolding attribute_row attribute_ok
 sound-attribute x ok = sound-flagged x.name x.type_name x.required (and-true-left _ _ ok) (and-true-right (is_text x.name) _ ok)
 
 -- heads of one text and of two
-pub sound-simple : (event : ℕ) (name base : Text) (fs : List Facet) → is_text name ≡ true → is_text base ≡ true → every facet_ok fs ≡ true → every sound_row (simple_type_rows event name base fs) ≡ true
+pub sound-simple : (event : ℕ) (name base : Text) (fs : List Facet) → is_text name ≡ true → is_text base ≡ true
+    → every facet_ok fs ≡ true → every sound_row (simple_type_rows event name base fs) ≡ true
 unfolding simple_type_rows sound_row formed_row text_row counted row row_form is_head used_pairs between every
 sound-simple event name base fs p q ok = and-true (both-texts name base p q) (every_map facet_ok sound_row facet_row sound-facet fs ok)
 
@@ -99,11 +100,11 @@ unfolding context_rows context_ok every
 sound-context b Context.no_context n ok = refl
 sound-context b (Context.in_schema depth) n ok = refl
 sound-context b (Context.in_simple_type t) n ok =
-    let w = four (leb (t.nesting_depth + 2) n) (is_text t.name) (is_text t.base) (every facet_ok t.facets) ok in
-    sound-simple t.event t.name t.base t.facets w.1 w.2 w.3
+    let w = four (leb (t.nesting_depth + 2) n) (is_text t.head.name) (is_text t.base) (every facet_ok t.facets) ok in
+    sound-simple t.head.event t.head.name t.base t.facets w.1 w.2 w.3
 sound-context b (Context.in_complex_type t) n ok =
-    let w = three (leb (t.nesting_depth + 2) n) (is_text t.name) (content_ok t.content) ok in
-    sound-complex t.event t.name t.content w.1 w.2
+    let w = three (leb (t.nesting_depth + 2) n) (is_text t.head.name) (content_ok t.content) ok in
+    sound-complex t.head.event t.head.name t.content w.1 w.2
 
 module _ (r : Row) (e : sound_row r ≡ true) where
   pub sound-formed : formed_row r ≡ true

@@ -23,11 +23,12 @@ use Rattle.xsd_types.proofs.Laws.Items.{group-item}
 use Rattle.xsd_types.proofs.Laws.Sound.{text_row}
 use Rattle.xsd_types.proofs.Laws.Rows.{bit-again}
 use Rattle.xsd_types.proofs.Laws.Events.{body-events}
-use Rattle.xsd_types.proofs.Laws.Parts.{Parts, parts-of, used-fits, first_of}
+use Rattle.xsd_types.proofs.Laws.Parts.{Parts, parts-of, first_of}
 use Rattle.xsd_types.proofs.Laws.Read.{names-length, names-text, sheet-again, rows-length, body_in, namespace_at, rows_split, body-numbered, body-opened}
 use Rattle.xsd_types.proofs.Laws.SheetOf.{bare_good-bare_sheet_of, bare_state_of-bare_sheet_of}
 use Rattle.text.proofs.Laws.Every.{every-head}
 use Rattle.sheet.specs.Form.{rows_used_of, names_used_of, words}
+use Rattle.sheet.proofs.Laws.Formed.{used-fits}
 
 -- a state of row 0's numbers
 unfoldable pub state_with : Row0 → Text → List Item → Context → State
@@ -84,7 +85,19 @@ module _ (x : Sheet) (p : Parts x) (w : words x.rows ≡ true) where
   held-row0 =
       let o = body-opened x p w in
       let f = first_of (row0_in x) p.row0 in
-      λ i. record { first = sym f.first_is i; rows_used = held-rows_used i; names_used = held-names_used i; context = o.number_is i; nesting = o.depth_is i; root_seen = bit-again (row0_in x).root_seen f.root_is i; events = (row0_in x).events; open_tags = (row0_in x).open_tags; extension = o.flag_is i; choice = bit-again (row0_in x).choice f.choice_is i }
+      λ i. record {
+        first = sym f.first_is i;
+        rows_used = held-rows_used i;
+        names_used = held-names_used i;
+        context = o.number_is i;
+        nesting = o.depth_is i;
+        root_seen = bit-again
+            (row0_in x).root_seen f.root_is i;
+        events = (row0_in x).events;
+        open_tags = (row0_in x).open_tags;
+        extension = o.flag_is i;
+        choice = bit-again (row0_in x).choice f.choice_is i;
+      }
 
   pub held-sheet : bare_sheet_of held (length x.rows) (length x.names) ≡ x
   unfolding bare_sheet_of
@@ -92,7 +105,7 @@ module _ (x : Sheet) (p : Parts x) (w : words x.rows ≡ true) where
 
   pub held_fits : state_fits (length x.rows) (length x.names) held ≡ true
   unfolding state_fits
-  held_fits = rw (held-rows_used, held-names_used) (used-fits x p)
+  held_fits = rw (held-rows_used, held-names_used) (used-fits x p.parts)
 
   pub held-namespace : is_text (namespace_at x p) ≡ true
   unfolding text_row namespace_row row every

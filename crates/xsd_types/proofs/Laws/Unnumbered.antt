@@ -9,7 +9,7 @@ use Rattle.xsd_types.specs.Types.{Facet, MaxOccurs, SequenceElement, Item}
 use Rattle.xsd_types.specs.State.{ComplexContentBuilder, Context, State, started}
 use Rattle.xsd_types.specs.Rows.{namespace_row, facet_row, occurs_row, element_row, variant_row, attribute_row, simple_type_rows, complex_type_rows, item_rows, items_rows, context_rows, rows_of}
 use Rattle.xsd_types.specs.Good.{is_head}
-use Rattle.xsd_types.specs.Unnumbered.{cleared_row, unnumbered_item, unnumbered_simple, unnumbered_complex, unnumbered_context, unnumbered_schema, unnumbered_reader, unnumbered}
+use Rattle.xsd_types.specs.Unnumbered.{cleared_row, unnumbered_item, unnumbered_head, unnumbered_simple, unnumbered_complex, unnumbered_context, unnumbered_schema, unnumbered_reader, unnumbered}
 
 -- rows of children are left
 pub kept-all : {A : Type 0} (f : A → Row) → ((x : A) → cleared_row (f x) ≡ f x) → (xs : List A) → map cleared_row (map f xs) ≡ map f xs
@@ -61,11 +61,11 @@ items-cleared [] = refl
 items-cleared (i ∷ is) = map-append cleared_row (item_rows i) (items_rows is) ∙ rw (item-cleared i, items-cleared is)
 
 pub context-cleared : (c : Context) → map cleared_row (context_rows c) ≡ context_rows (unnumbered_context c)
-unfolding context_rows unnumbered_context unnumbered_simple unnumbered_complex
+unfolding context_rows unnumbered_context unnumbered_head unnumbered_simple unnumbered_complex
 context-cleared Context.no_context = refl
 context-cleared (Context.in_schema n) = refl
-context-cleared (Context.in_simple_type t) = simple-cleared t.event t.name t.base t.facets
-context-cleared (Context.in_complex_type t) = complex-cleared t.event t.name t.content
+context-cleared (Context.in_simple_type t) = simple-cleared t.head.event t.head.name t.base t.facets
+context-cleared (Context.in_complex_type t) = complex-cleared t.head.event t.head.name t.content
 
 pub rows-cleared : (s : State) → map cleared_row (rows_of s) ≡ rows_of (unnumbered s)
 unfolding rows_of unnumbered unnumbered_reader unnumbered_schema namespace_row cleared_row row is_head between

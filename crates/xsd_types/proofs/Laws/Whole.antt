@@ -1,30 +1,26 @@
 -- A good sheet's used names tested as a whole first: where they are plain, each used pair by itself is a text. Assumes nothing.
 --     whole_good     `bare_good` with that test; plain_good: with the test of before, that all are plain; whole_paper: `paper_good`
-use Prim.Native.Nat.{◌*◌}
 use mathlib.Core.Path.{◌≡◌, ap, ◌∙◌}
 use mathlib.Core.Bool.{Bool, true, ◌&&◌, ◌||◌}
-use lib.Dec.{leb}
-use lib.ListN.{length, take}
-use borrow.Author.Tests.{eqb-true, leb-true}
+use lib.ListN.{take}
 use Rattle.text.specs.Text.{is_plain, is_text}
-use Rattle.text.proofs.Laws.Tests.{and-true-left, and-true-right, sixth-under}
+use Rattle.text.proofs.Laws.Tests.{sixth-under}
 use Rattle.text.proofs.Laws.Class.{plain-text}
 use Rattle.sheet.specs.Rows.{Sheet}
-use Rattle.sheet.specs.Form.{covers, covered, rows_used_of, names_used_of, tens_of, used_parts, zeros_behind}
-use Rattle.sheet.specs.Lengths.{fits}
+use Rattle.sheet.specs.Form.{names_used_of, tens_of, used_parts, zeros_behind}
 use Rattle.sheet.proofs.Laws.Sheets.{plain-or-each}
+use Rattle.sheet.proofs.Laws.Formed.{used-names, covers-true, covered-is}
 use Rattle.xsd_types.specs.Row0.{row0_in}
 use Rattle.xsd_types.specs.Good.{used_pairs, row0_form, rows_form, names_form, names_test, limits, root_test, nesting_test, context_test, extension_test, head_of, events_test, bare_good}
 use Rattle.xsd_types.specs.Choice.{paper_form, paper_nesting, no_numbers, paper_good}
 use Rattle.xsd_types.proofs.Laws.Parts.{few-rows}
 
-names-whole : (x : Sheet) → used_parts x ≡ true → rows_form (tens_of x) ≡ true → names_form (names_used_of x) (tens_of x) ≡ true → names_test x ≡ is_plain (take (names_used_of x) x.names) || names_test x
-unfolding names_test names_form used_parts fits
+names-whole : (x : Sheet) → used_parts x ≡ true → rows_form (tens_of x) ≡ true → names_form (names_used_of x) (tens_of x) ≡ true
+    → names_test x ≡ is_plain (take (names_used_of x) x.names) || names_test x
+unfolding names_test names_form
 names-whole x u r n =
     let ts = tens_of x in
-    let room = and-true-right (leb (10 * rows_used_of x) (length x.rows)) _ (and-true-right (leb 2 (rows_used_of x)) _ u) in
-    plain-or-each is_text plain-text used_pairs x (few-rows ts r) (and-true-left (covers used_pairs 0 ts) _ n)
-    (eqb-true (covered 0 ts) (names_used_of x) (and-true-right (covers used_pairs 0 ts) _ n)) (leb-true (names_used_of x) (length x.names) room)
+    plain-or-each is_text plain-text used_pairs x (few-rows ts r) (covers-true used_pairs ts (names_used_of x) n) (covered-is used_pairs ts (names_used_of x) n) (used-names x u)
 
 abbrev pub whole_good : Sheet → Bool
 whole_good x =

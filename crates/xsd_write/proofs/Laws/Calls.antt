@@ -34,7 +34,7 @@ use Rattle.xsd_good.proofs.Laws.Held.{root-held}
 use Rattle.xsd_good.proofs.Laws.Bare.{row1-bare, bare-used, bare-held, bare-end}
 use Rattle.xsd_written.specs.Schema.{schema_text}
 use Rattle.xsd_written.specs.ByRows.{schema_by_rows}
-use Rattle.xsd_written.specs.Call.{Wrote, holds, unheld_from, first_unheld, unchanged, zeroed, written, unheld_or_written, write_state, write_back}
+use Rattle.xsd_written.specs.Call.{Wrote, holds, unheld_from, first_unheld, text_unchanged, zeroed, text_written, unheld_or_written, write_state, write_back}
 use Rattle.xsd_written.proofs.Laws.ByRows.{schema-by-rows}
 use Rattle.xsd_write.specs.Puts.{Puts}
 use Rattle.xsd_write.specs.Texts.{schema_rows}
@@ -54,8 +54,8 @@ module _ {t : Text} {o : List ℕ} {r : ℕ} {o' : List ℕ} (p : Puts t 0 o r o
       (λ k. let fit : 0 + length t ≤ length o = omega (arith, leb-true (length t) (length o) k) in absurd (omega (arith, (p.fits fit).0)))
       (λ k. k)
 
-  pub written-short : {after : List ℕ} → length o < r → after ≡ filled (length o') [] → wrote (answered 23 0) after ≡ written t (length o)
-  unfolding written zeroed
+  pub written-short : {after : List ℕ} → length o < r → after ≡ filled (length o') [] → wrote (answered 23 0) after ≡ text_written t (length o)
+  unfolding text_written zeroed
   written-short h e = rw (short h) (λ i. wrote (answered 23 0) ((e ∙ ap (λ (n : ℕ). filled n []) p.kept) i))
 
   room : r ≤ length o → 0 + length t ≤ length o
@@ -70,8 +70,8 @@ module _ {t : Text} {o : List ℕ} {r : ℕ} {o' : List ℕ} (p : Puts t 0 o r o
       let n : 0 + length t ≡ length t = omega arith in
       sets-eq t o 0 k ∙ ap (λ (m : ℕ). t ++ drop m o) n ∙ ap (λ (l : List ℕ). t ++ l) (ap (drop (length t)) z ∙ drop-filled (length o) (length t) [] (omega arith))
 
-  pub written-whole : r ≤ length o → o ≡ filled (length o) [] → wrote (answered 0 r) o' ≡ written t (length o)
-  unfolding written
+  pub written-whole : r ≤ length o → o ≡ filled (length o) [] → wrote (answered 0 r) o' ≡ text_written t (length o)
+  unfolding text_written
   written-whole h z =
       let k = room h in
       let f = p.fits k in
@@ -93,8 +93,8 @@ module _ (root : Bool) (o : Option ℕ) (t : Text) (lent : ℕ) (u : Answered �
   unfolding zeroed
   finished-unheld {place} q z = (λ i. wrote (answered 22 place) (z i)) ∙ judged (Some place) q
 
-  pub finished-held : (n : ℕ) {w : Wrote} → u ≡ None → n ≡ lent → w ≡ written t n → w ≡ finished root o t lent
-  finished-held n q l w = w ∙ ap (written t) l ∙ judged None q
+  pub finished-held : (n : ℕ) {w : Wrote} → u ≡ None → n ≡ lent → w ≡ text_written t n → w ≡ finished root o t lent
+  finished-held n q l w = w ∙ ap (text_written t) l ∙ judged None q
 
 -- ---- the state
 
@@ -184,11 +184,11 @@ write_lengths rows names text = sheet_lengths (length rows) (length names) && le
 
 module _ (rows names text : List ℕ) where
   pub write-one : write_lengths rows names text ≡ false → wrote (answered 1 0) text ≡ write_back (sheet rows names) text
-  unfolding write_back unchanged good_lengths lengths_of
+  unfolding write_back text_unchanged good_lengths lengths_of
   write-one f = rw f
 
   pub write_two : write_lengths rows names text ≡ true → good (sheet rows names) ≡ false → wrote (answered 2 0) text ≡ write_back (sheet rows names) text
-  unfolding write_back unchanged good_lengths lengths_of
+  unfolding write_back text_unchanged good_lengths lengths_of
   write_two t f = rw (t, f)
 
   pub write-through : {w : Wrote} → write_lengths rows names text ≡ true → good (sheet rows names) ≡ true → w ≡ write_state (state_of (sheet rows names)) (length text)

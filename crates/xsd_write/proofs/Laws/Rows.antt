@@ -17,9 +17,10 @@ use Rattle.xsd_types.specs.Back.{text0, text1}
 use Rattle.xsd_types.specs.Places.{row_at, rows_from}
 use Rattle.xsd_types.proofs.Laws.Places.{rows_from-cons, rows_from-end}
 use Rattle.xsd_written.specs.Decimal.{decimal}
-use Rattle.xsd_written.specs.ByRows.{attribute_text, empty_text, named_text, complex_text, head_text, facet_word_text, facet_value_text, max_occurs_text, occurs_text, use_text, child_text, close_text, rows_text}
+use Rattle.xsd_written.specs.ByRows.{attribute_text, empty_text, named_text, complex_text, head_markup, facet_word_text, facet_value_text}
+use Rattle.xsd_written.specs.ByRows.{max_occurs_text, occurs_text, use_text, child_text, close_text, rows_text}
 use Rattle.xsd_write.specs.declared.part.Row.{Row as Given}
-use Rattle.xsd_write.specs.Texts.{row_of, as_row, content_text, row_text}
+use Rattle.xsd_write.specs.Texts.{given_row, as_row, content_text, row_text}
 
 -- no text where no pair is used
 first-none : (n : ℕ) (x y z : Text) → n < 1 → get_or (take n (x ∷ y ∷ z ∷ [])) 0 [] ≡ []
@@ -45,18 +46,18 @@ pub content-extension : (r : Row) → r.tag ≡ 14 → content_text r ≡ bytes 
 unfolding content_text
 content-extension r e = rw e
 
-pub head-element : (r : Row) → r.tag ≡ 2 → head_text r ≡ empty_text (bytes "element") (named_text r)
-unfolding head_text
+pub head-element : (r : Row) → r.tag ≡ 2 → head_markup r ≡ empty_text (bytes "element") (named_text r)
+unfolding head_markup
 head-element r e = rw e
 
 pub head-simple : (r : Row) → r.tag ≡ 3
-    → head_text r ≡ bytes "<xs:simpleType" ++ (attribute_text "name" (text0 r) ++ (bytes "><xs:restriction" ++ (attribute_text "base" (text1 r) ++ bytes ">")))
-unfolding head_text
+    → head_markup r ≡ bytes "<xs:simpleType" ++ (attribute_text "name" (text0 r) ++ (bytes "><xs:restriction" ++ (attribute_text "base" (text1 r) ++ bytes ">")))
+unfolding head_markup
 head-simple r e = rw e
 
 -- a head that is no element and no simple type is a complex type
-pub head-complex : (r : Row) → eqb r.tag 2 ≡ false → eqb r.tag 3 ≡ false → head_text r ≡ complex_text r (content_text r)
-unfolding head_text content_text
+pub head-complex : (r : Row) → eqb r.tag 2 ≡ false → eqb r.tag 3 ≡ false → head_markup r ≡ complex_text r (content_text r)
+unfolding head_markup content_text
 head-complex r e f =
     rw (e, f)
     (sym (if-in (complex_text r) (eqb r.tag 12) refl (if-in (complex_text r) (eqb r.tag 13) refl (if-in (complex_text r) (eqb r.tag 14) refl refl))))
@@ -66,11 +67,11 @@ pub rows_on : (pending : ℕ) (r : Row) (rs : List Row) → rows_text pending (r
 unfolding rows_text row_text head_after
 rows_on pending r rs =
     bool_cases (is_head r.tag)
-    (λ e. rw e (sym (append_assoc (close_text pending) (head_text r) (rows_text r.tag rs))))
+    (λ e. rw e (sym (append_assoc (close_text pending) (head_markup r) (rows_text r.tag rs))))
     (λ e. rw e)
 
 -- the row at a place, by the numbers that were read
-pub row_read : (rows names : List ℕ) (place : ℕ) (t : Numbers) → as_ten t ≡ ten (drop (10 * place) rows) → row_of names t ≡ row_at rows names place
+pub row_read : (rows names : List ℕ) (place : ℕ) (t : Numbers) → as_ten t ≡ ten (drop (10 * place) rows) → given_row names t ≡ row_at rows names place
 unfolding row_at
 row_read rows names place t e = ap (unpack_row used_pairs names) e
 

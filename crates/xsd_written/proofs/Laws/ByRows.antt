@@ -20,9 +20,9 @@ use Rattle.xml.specs.Written.{quote_of, written_attributes, tag_end, written_tag
 use Rattle.xml.proofs.Laws.Written.{written-more}
 use Rattle.xsd_written.specs.Decimal.{decimal}
 use Rattle.xsd_written.specs.Markup.{Markup, starts, empties, ends, markup_text, markups_text}
-use Rattle.xsd_written.specs.Schema.{attr, prefixed, tag_of, around, valued, facet_markup, element_markup, variant_markup, attribute_markup, content_markup, item_markup}
+use Rattle.xsd_written.specs.Schema.{attr, prefixed, prefixed_tag, around, valued, facet_markup, element_markup, variant_markup, attribute_markup, content_markup, item_markup}
 use Rattle.xsd_written.specs.Schema.{items_markup, schema_markup, schema_text}
-use Rattle.xsd_written.specs.ByRows.{attribute_text, empty_text, named_text, complex_text, any_text, head_text, facet_word_text, facet_value_text, max_occurs_text, occurs_text}
+use Rattle.xsd_written.specs.ByRows.{attribute_text, empty_text, named_text, complex_text, any_text, head_markup, facet_word_text, facet_value_text, max_occurs_text, occurs_text}
 use Rattle.xsd_written.specs.ByRows.{use_text, child_text, close_text, rows_text, schema_by_rows}
 
 -- ---- markup as text
@@ -36,12 +36,12 @@ attributes-apart : (x : Attr) (xs : List Attr) → written_attributes (x ∷ xs)
 unfolding written_attributes
 attributes-apart x xs = sym (written-more x [] (written_attributes xs))
 
-empty-text : (word : String) (xs : List Attr) → markup_text (empties (tag_of word xs)) ≡ empty_text (bytes word) (written_attributes xs)
-unfolding markup_text written_tag tag_of prefixed empty_text bytes tag_end
+empty-text : (word : String) (xs : List Attr) → markup_text (empties (prefixed_tag word xs)) ≡ empty_text (bytes word) (written_attributes xs)
+unfolding markup_text written_tag prefixed_tag prefixed empty_text bytes tag_end
 empty-text word xs = refl
 
-start-text : (word : String) (xs : List Attr) → markup_text (starts (tag_of word xs)) ≡ bytes "<xs:" ++ (bytes word ++ (written_attributes xs ++ bytes ">"))
-unfolding markup_text written_tag tag_of prefixed bytes tag_end
+start-text : (word : String) (xs : List Attr) → markup_text (starts (prefixed_tag word xs)) ≡ bytes "<xs:" ++ (bytes word ++ (written_attributes xs ++ bytes ">"))
+unfolding markup_text written_tag prefixed_tag prefixed bytes tag_end
 start-text word xs = refl
 
 end-text : (word : String) → markup_text (ends (prefixed word)) ≡ bytes "</xs:" ++ (bytes word ++ bytes ">")
@@ -49,10 +49,10 @@ unfolding markup_text prefixed bytes
 end-text word = refl
 
 around-text : (word : String) (xs : List Attr) (ms : List Markup)
-    → markups_text (around word xs ms) ≡ markup_text (starts (tag_of word xs)) ++ (markups_text ms ++ markup_text (ends (prefixed word)))
+    → markups_text (around word xs ms) ≡ markup_text (starts (prefixed_tag word xs)) ++ (markups_text ms ++ markup_text (ends (prefixed word)))
 unfolding around markups_text
 around-text word xs ms =
-    ap (λ (u : Text). markup_text (starts (tag_of word xs)) ++ u) (markups-append ms (ends (prefixed word) ∷ [])
+    ap (λ (u : Text). markup_text (starts (prefixed_tag word xs)) ++ u) (markups-append ms (ends (prefixed word) ∷ [])
     ∙ ap (λ (u : Text). markups_text ms ++ u) (append-nil (markup_text (ends (prefixed word)))))
 
 -- ---- children
@@ -87,7 +87,7 @@ facet-text (Facet.total_digits n) = sym (valued-text "totalDigits" (decimal n))
 facet-text (Facet.fraction_digits n) = sym (valued-text "fractionDigits" (decimal n))
 
 element-of : (n t low high : Text)
-    → markup_text (empties (tag_of "element" (attr "name" n ∷ attr "type" t ∷ attr "minOccurs" low ∷ attr "maxOccurs" high ∷ [])))
+    → markup_text (empties (prefixed_tag "element" (attr "name" n ∷ attr "type" t ∷ attr "minOccurs" low ∷ attr "maxOccurs" high ∷ [])))
     ≡ empty_text (bytes "element") ((attribute_text "name" n ++ attribute_text "type" t) ++ (attribute_text "minOccurs" low ++ attribute_text "maxOccurs" high))
 unfolding attribute_text
 element-of n t low high =
@@ -106,7 +106,7 @@ element-text : (e : SequenceElement) → child_text (element_row e) ≡ markup_t
 unfolding element_row
 element-text e = occurs-text e.name e.type_name e.min_occurs e.max_occurs
 
-variant-of : (n t : Text) → markup_text (empties (tag_of "element" (attr "name" n ∷ attr "type" t ∷ []))) ≡ empty_text (bytes "element") (attribute_text "name" n ++ attribute_text "type" t)
+variant-of : (n t : Text) → markup_text (empties (prefixed_tag "element" (attr "name" n ∷ attr "type" t ∷ []))) ≡ empty_text (bytes "element") (attribute_text "name" n ++ attribute_text "type" t)
 variant-of n t = empty-text "element" (attr "name" n ∷ attr "type" t ∷ []) ∙ ap (empty_text (bytes "element")) (named-only n t)
 
 variant-text : (v : ChoiceVariant) → child_text (variant_row v) ≡ markup_text (variant_markup v)
@@ -162,7 +162,7 @@ unfolding attribute_row row is_head between
 attribute-child x = refl
 
 -- a head closes the one before it
-head_rows : (pending : ℕ) (r : Row) (rs : List Row) → is_head r.tag ≡ true → rows_text pending (r ∷ rs) ≡ close_text pending ++ (head_text r ++ rows_text r.tag rs)
+head_rows : (pending : ℕ) (r : Row) (rs : List Row) → is_head r.tag ≡ true → rows_text pending (r ∷ rs) ≡ close_text pending ++ (head_markup r ++ rows_text r.tag rs)
 unfolding rows_text
 head_rows pending r rs h = rw h
 
@@ -252,7 +252,7 @@ extension-level n ys ms r =
 
 any-level : (n : Text) (xs : List Attr) (r : Text)
     → complex_head n (bytes "><xs:sequence>" ++ empty_text (bytes "any") (written_attributes xs)) ++ ((shuts "sequence" ++ shuts "complexType") ++ r)
-    ≡ markups_text (around "complexType" (named n) (around "sequence" [] (empties (tag_of "any" xs) ∷ []))) ++ r
+    ≡ markups_text (around "complexType" (named n) (around "sequence" [] (empties (prefixed_tag "any" xs) ∷ []))) ++ r
 unfolding bytes written_attributes markups_text
 any-level n xs r =
     let a = complex_head n (bytes "><xs:sequence>") in
@@ -261,7 +261,7 @@ any-level n xs r =
     ap (λ (u : Text). u ++ (d ++ r)) (sym (more (bytes "<xs:complexType") (written_attributes (named n)) (bytes "><xs:sequence>") m))
     ∙ one-shape a m d r
     ∙ ap (λ (u : Text). a ++ ((u ++ []) ++ (d ++ r))) (sym (empty-text "any" xs))
-    ∙ two-levels "complexType" "sequence" (named n) [] (empties (tag_of "any" xs) ∷ []) a d r refl refl
+    ∙ two-levels "complexType" "sequence" (named n) [] (empties (prefixed_tag "any" xs) ∷ []) a d r refl refl
 
 module _ (is : List Item) where
   abbrev behind : Text
@@ -270,37 +270,37 @@ module _ (is : List Item) where
   -- a head and its children
   module _ {A : Type 0} (f : A → Row) (g : A → Markup) (child : (x : A) → is_head (f x).tag ≡ false) (text : (x : A) → child_text (f x) ≡ markup_text (g x)) where
     group-rows : (h : Row) (xs : List A) → is_head h.tag ≡ true
-        → rows_text 0 (h ∷ (map f xs ++ items_rows is)) ≡ head_text h ++ (markups_text (map g xs) ++ (close_text h.tag ++ rows_text 0 (items_rows is)))
+        → rows_text 0 (h ∷ (map f xs ++ items_rows is)) ≡ head_markup h ++ (markups_text (map g xs) ++ (close_text h.tag ++ rows_text 0 (items_rows is)))
     unfolding close_text
     group-rows h xs e =
         head_rows 0 h (map f xs ++ items_rows is) e
-        ∙ ap (λ (u : Text). head_text h ++ u) (children-text f g child text h.tag xs (items_rows is) ∙ ap (λ (u : Text). markups_text (map g xs) ++ u) (pending-close h.tag is))
+        ∙ ap (λ (u : Text). head_markup h ++ u) (children-text f g child text h.tag xs (items_rows is) ∙ ap (λ (u : Text). markups_text (map g xs) ++ u) (pending-close h.tag is))
 
   element-rows : (n t : Text) (event : ℕ) → rows_text 0 (row 2 (n ∷ t ∷ []) 0 0 event ∷ items_rows is)
       ≡ markups_text (item_markup (Item.element (record { name = n; type_name = t; event = event }))) ++ behind
-  unfolding row is_head between head_text close_text item_markup markups_text named_text text0 text1
+  unfolding row is_head between head_markup close_text item_markup markups_text named_text text0 text1
   element-rows n t event =
       head_rows 0 (row 2 (n ∷ t ∷ []) 0 0 event) (items_rows is) refl ∙ rw (pending-close 2 is, variant-of n t) (simp append_assoc)
 
   simple-rows : (n b : Text) (fs : List Facet) (event : ℕ) → rows_text 0 (simple_type_rows event n b fs ++ items_rows is)
       ≡ markups_text (item_markup (Item.simple_type (record { name = n; base = b; facets = fs; event = event }))) ++ behind
-  unfolding row is_head between head_text close_text item_markup simple_type_rows attribute_text text0 text1 bytes
+  unfolding row is_head between head_markup close_text item_markup simple_type_rows attribute_text text0 text1 bytes
   simple-rows n b fs event =
       let h = row 3 (n ∷ b ∷ []) 0 0 event in
       group-rows facet_row facet_markup facet-child facet-text h fs refl
-      ∙ two-levels "simpleType" "restriction" (named n) (attr "base" b ∷ []) (map facet_markup fs) (head_text h) (close_text 3) behind refl refl
+      ∙ two-levels "simpleType" "restriction" (named n) (attr "base" b ∷ []) (map facet_markup fs) (head_markup h) (close_text 3) behind refl refl
 
   complex-rows : (n : Text) (c : ComplexContent) (event : ℕ) → rows_text 0 (complex_type_rows event n (started c) ++ items_rows is)
       ≡ markups_text (item_markup (Item.complex_type (record { name = n; content = c; event = event }))) ++ behind
-  unfolding row is_head between head_text close_text item_markup content_markup complex_type_rows started complex_text any_text empty_text attribute_text written_attributes text0 text1 bytes
+  unfolding row is_head between head_markup close_text item_markup content_markup complex_type_rows started complex_text any_text empty_text attribute_text written_attributes text0 text1 bytes
   complex-rows n (ComplexContent.sequence es) event =
       let h = row 12 (n ∷ []) 0 0 event in
       group-rows element_row element_markup element-child element-text h es refl
-      ∙ two-levels "complexType" "sequence" (named n) [] (map element_markup es) (head_text h) (close_text 12) behind refl refl
+      ∙ two-levels "complexType" "sequence" (named n) [] (map element_markup es) (head_markup h) (close_text 12) behind refl refl
   complex-rows n (ComplexContent.choice vs) event =
       let h = row 13 (n ∷ []) 0 0 event in
       group-rows variant_row variant_markup variant-child variant-text h vs refl
-      ∙ two-levels "complexType" "choice" (named n) [] (map variant_markup vs) (head_text h) (close_text 13) behind refl refl
+      ∙ two-levels "complexType" "choice" (named n) [] (map variant_markup vs) (head_markup h) (close_text 13) behind refl refl
   complex-rows n (ComplexContent.simple_content base xs) event =
       group-rows attribute_row attribute_markup attribute-child attribute-text (row 14 (n ∷ base ∷ []) 0 0 event) xs refl
       ∙ extension-level n (attr "base" base ∷ []) (map attribute_markup xs) behind

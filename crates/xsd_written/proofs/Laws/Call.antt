@@ -17,7 +17,7 @@ use Rattle.xsd_types.specs.Types.{Schema}
 use Rattle.xsd_types.specs.State.{State}
 use Rattle.xsd_types.specs.Count.{good, state_of}
 use Rattle.xsd_written.specs.Schema.{schema_text}
-use Rattle.xsd_written.specs.Call.{first_unheld, Wrote, unchanged, zeroed, written, unheld_or_written, write_state, write_back}
+use Rattle.xsd_written.specs.Call.{first_unheld, Wrote, text_unchanged, zeroed, text_written, unheld_or_written, write_state, write_back}
 use Rattle.xsd_written.specs.Round.{finished_of}
 
 -- what is written, by the schema and the bytes lent
@@ -27,7 +27,7 @@ pub record Holds (s : Schema) (lent : ℕ) (w : Wrote) : Type 0 where
   pub text : take w.place w.text ≡ schema_text s
 
 written-holds : (s : Schema) (lent : ℕ) (o : Option ℕ) → first_unheld s ≡ o → (unheld_or_written o s lent).number ≡ accepted → Holds s lent (unheld_or_written o s lent)
-unfolding zeroed written
+unfolding zeroed text_written
 written-holds s lent (some place) e h = absurd (omega arith)
 written-holds s lent none e h =
     bool_cases (leb (length (schema_text s)) lent)
@@ -47,7 +47,7 @@ pub record Accepted (x : Sheet) (lent : List ℕ) : Type 0 where
   pub holds : Holds (finished_of x) (length lent) (write_back x lent)
 
 pub written-accepted : (x : Sheet) (lent : List ℕ) → (write_back x lent).number ≡ accepted → Accepted x lent
-unfolding write_back unchanged finished_of
+unfolding write_back text_unchanged finished_of
 written-accepted x lent h =
     bool_cases (good_lengths (lengths_of x) && leb (length lent) 65536)
     (λ l.

@@ -21,7 +21,7 @@ use Rattle.xsd_parser.specs.Handlers.{ok, is_unbounded}
 use Rattle.xsd_parser.specs.Step.{handled}
 use Rattle.xsd_parser.specs.Unfold.{computes as parses}
 use Rattle.xsd_written.specs.Decimal.{decimal}
-use Rattle.xsd_written.specs.Schema.{attr, prefixed, tag_of, valued, facet_markup, element_markup, variant_markup, attribute_markup}
+use Rattle.xsd_written.specs.Schema.{attr, prefixed, prefixed_tag, valued, facet_markup, element_markup, variant_markup, attribute_markup}
 use Rattle.xsd_written.specs.Reads.{event_of_markup}
 use Rattle.xsd_written.proofs.Laws.Decimals.{decimal-digits, decimal-plain, decimal-number}
 use Rattle.xsd_written.proofs.Laws.Held.{wide, narrow}
@@ -51,15 +51,15 @@ abbrev pub reader : Schema → Context → Reader
 reader z c = record { schema = z; root_seen = true; context = c }
 
 abbrev pub simple : Text → Text → ℕ → ℕ → List Facet → Context
-simple n b depth event fs = Context.in_simple_type (record { name = n; base = b; facets = fs; nesting_depth = depth; event = event })
+simple n b depth event fs = Context.in_simple_type (record { head = record { name = n; event = event }; base = b; facets = fs; nesting_depth = depth })
 
 abbrev pub complex : Text → ℕ → ℕ → ComplexContentBuilder → Context
-complex n depth event c = Context.in_complex_type (record { name = n; content = c; nesting_depth = depth; event = event })
+complex n depth event c = Context.in_complex_type (record { head = record { name = n; event = event }; content = c; nesting_depth = depth })
 
 module _ (by_standard : Bool) (k : ℕ) (z : Schema) (n : Text) (depth event : ℕ) where
   pub facet-read : (b : Text) (fs : List Facet) (f : Facet) → facet_ok f ≡ true
       → handled by_standard k (event_of_markup (facet_markup f)) (reader z (simple n b depth event fs)) ≡ ok (reader z (simple n b depth event (fs ++ f ∷ [])))
-  unfolding texts parses facet_markup valued attr tag_of prefixed facet_ok
+  unfolding texts parses facet_markup valued attr prefixed_tag prefixed facet_ok
   facet-read b fs (Facet.enumeration v) h = refl
   facet-read b fs (Facet.pattern v) h = refl
   facet-read b fs (Facet.min_length m) h = rw (decimal-number 64 m (ltb-true m (2 ^ 64) h) (wide m h))
@@ -72,7 +72,7 @@ module _ (by_standard : Bool) (k : ℕ) (z : Schema) (n : Text) (depth event : �
   pub variant-read : (vs : List ChoiceVariant) (v : ChoiceVariant)
       → handled by_standard k (event_of_markup (variant_markup v)) (reader z (complex n depth event (ComplexContentBuilder.choice vs)))
       ≡ ok (reader z (complex n depth event (ComplexContentBuilder.choice (vs ++ v ∷ []))))
-  unfolding texts parses variant_markup attr tag_of prefixed
+  unfolding texts parses variant_markup attr prefixed_tag prefixed
   variant-read vs v = refl
 
   occurs-read : (es : List SequenceElement) (m t : Text) (low : ℕ) (high : MaxOccurs) → ltb low (2 ^ 32) ≡ true → max_occurs_ok high ≡ true
@@ -84,7 +84,7 @@ module _ (by_standard : Bool) (k : ℕ) (z : Schema) (n : Text) (depth event : �
             high;
       }))) (reader z (complex n depth event (ComplexContentBuilder.sequence es)))
       ≡ ok (reader z (complex n depth event (ComplexContentBuilder.sequence (es ++ record { name = m; type_name = t; min_occurs = low; max_occurs = high } ∷ []))))
-  unfolding texts parses element_markup attr tag_of prefixed max_occurs_ok
+  unfolding texts parses element_markup attr prefixed_tag prefixed max_occurs_ok
   occurs-read es m t low (MaxOccurs.bounded high) a b =
       rw (decimal-number 32 low (ltb-true low (2 ^ 32) a) (narrow low a), bounded-read high b, decimal-number 32 high (ltb-true high (2 ^ 32) b) (narrow high b))
   occurs-read es m t low MaxOccurs.unbounded a b = rw (decimal-number 32 low (ltb-true low (2 ^ 32) a) (narrow low a))
@@ -105,7 +105,7 @@ module _ (by_standard : Bool) (k : ℕ) (z : Schema) (n : Text) (depth event : �
             required;
       }))) (reader z (complex n depth event (ComplexContentBuilder.simple_content base xs true)))
       ≡ ok (reader z (complex n depth event (ComplexContentBuilder.simple_content base (xs ++ record { name = m; type_name = t; required = required } ∷ []) true)))
-  unfolding texts parses attribute_markup attr tag_of prefixed
+  unfolding texts parses attribute_markup attr prefixed_tag prefixed
   use-read base xs m t true = refl
   use-read base xs m t false = refl
 

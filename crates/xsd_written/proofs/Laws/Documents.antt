@@ -18,11 +18,11 @@ use Rattle.xml.specs.Tape.{TapeEvent}
 use Rattle.xml.specs.Tags.{tag}
 use Rattle.xml.specs.Root.{Piece, on, opened, level_of_tag, close, markup, piece, turn, rooted, add_events, on_level, inside, root}
 use Rattle.xml.specs.Document.{well_formed, to_end, document_from, document}
-use Rattle.xml.specs.Written.{is_name_text, attribute_ok, new_keys, written_tag, written_event, written_attributes, tag_end}
+use Rattle.xml.specs.Written.{is_name_text, written_attribute_ok, new_keys, written_tag, written_event, written_attributes, tag_end}
 use Rattle.xml.proofs.Laws.Names.{may_start, begins-low}
 use Rattle.xml.proofs.Laws.Written.{name-written, name_of-written, name-is-whole, name-start, start-other, starts-not, spaces-stop, tag-more, tag-written}
 use Rattle.xsd_written.specs.Markup.{Markup, starts, empties, ends, markup_text, markups_text}
-use Rattle.xsd_written.specs.Reads.{tag_ok, markup_ok, open_behind, closes, nested, placed_one, placed}
+use Rattle.xsd_written.specs.Reads.{written_tag_ok, markup_ok, open_behind, closes, nested, placed_one, placed_events}
 
 -- at the `<` of a tag, whose name follows
 module _ (at : ℕ) (s : Text) (n : may_start (first s) ≡ true) where
@@ -42,11 +42,11 @@ tag-name : (kind : ℕ) (t : Tag) (rest : Text) → is_name_text t.name ≡ true
 tag-name kind t rest n =
     (t.name ++ (written_attributes t.attributes ++ (tag_end kind ++ rest)), tag-more kind t rest, name-start t.name n (written_attributes t.attributes ++ (tag_end kind ++ rest)))
 
-turn-written : (names : List Text) (at kind : ℕ) (t : Tag) (rest : Text) → 1 ≤ kind → kind ≤ 2 → tag_ok t ≡ true
+turn-written : (names : List Text) (at kind : ℕ) (t : Tag) (rest : Text) → 1 ≤ kind → kind ≤ 2 → written_tag_ok t ≡ true
     → turn names at (written_tag kind t ++ rest) ≡ on (opened kind t.name names) (written_event at kind t ∷ []) (at + length (written_tag kind t)) rest
-unfolding tag_ok
+unfolding written_tag_ok
 turn-written names at kind t rest low high ok =
-    let (n, a, k) = three (is_name_text t.name) (every attribute_ok t.attributes) (new_keys [] t.attributes) ok in
+    let (n, a, k) = three (is_name_text t.name) (every written_attribute_ok t.attributes) (new_keys [] t.attributes) ok in
     let (s, e, f) = tag-name kind t rest n in
     ap (turn names at) e ∙ turn-tag at s f names ∙ ap (λ (u : Text). level_of_tag names (tag at u)) (sym e) ∙ ap (level_of_tag names) (tag-written at kind t rest low high n a k)
 
@@ -76,8 +76,8 @@ markup-turn (ends m) n names at rest ok c =
     ap (λ (u : Text). turn (n ∷ names) at (60 ∷ 47 ∷ u)) (append_assoc m (62 ∷ []) rest) ∙ turn-close at m rest ok n names c ∙ ap (λ (a : ℕ). on names (TapeEvent.close ∷ []) a rest) e
 
 inside-written : (ms : List Markup) (turns : ℕ) (names : List Text) (at : ℕ) (rest : Text) → length ms < turns → nested names ms ≡ true → every markup_ok ms ≡ true
-    → inside turns names at (markups_text ms ++ rest) ≡ rooted (placed at ms) (at + length (markups_text ms)) rest
-unfolding inside nested markups_text placed add_events every
+    → inside turns names at (markups_text ms ++ rest) ≡ rooted (placed_events at ms) (at + length (markups_text ms)) rest
+unfolding inside nested markups_text placed_events add_events every
 inside-written [] zero names at rest h e ok = absurd (omega arith)
 inside-written [] (suc turns) [] at rest h e ok = ap (λ (a : ℕ). rooted [] a rest) (omega arith)
 inside-written [] (suc turns) (n ∷ names) at rest h e ok = absurd (false≢true e)
@@ -93,7 +93,7 @@ inside-written (m ∷ ms) (suc turns) (n ∷ names) at rest h e ok =
     ap (λ (u : Text). on_level (inside turns) (turn (n ∷ names) at u)) (append_assoc (markup_text m) (markups_text ms) rest)
     ∙ ap (on_level (inside turns)) (markup-turn m n names at (markups_text ms ++ rest) o c)
     ∙ ap (add_events (placed_one at m ∷ [])) (inside-written ms turns (open_behind m (n ∷ names)) a rest (omega arith) k p)
-    ∙ ap (λ (x : ℕ). rooted (placed_one at m ∷ placed a ms) x rest) z
+    ∙ ap (λ (x : ℕ). rooted (placed_one at m ∷ placed_events a ms) x rest) z
 
 markup-some : (m : Markup) → 1 ≤ length (markup_text m)
 unfolding markup_text written_tag
@@ -124,13 +124,13 @@ unfolding to_end misc misc_from is_misc spaces many starts_with bytes
 misc-end es a = refl
 
 -- a start tag and what it holds, up to its end tag
-pub document-written : (t : Tag) (ms : List Markup) → tag_ok t ≡ true → every markup_ok ms ≡ true → nested (t.name ∷ []) ms ≡ true
-    → document (markups_text (starts t ∷ ms)) ≡ well_formed (placed 0 (starts t ∷ ms))
-unfolding tag_ok markups_text markup_text placed document_from root opened add_events
+pub document-written : (t : Tag) (ms : List Markup) → written_tag_ok t ≡ true → every markup_ok ms ≡ true → nested (t.name ∷ []) ms ≡ true
+    → document (markups_text (starts t ∷ ms)) ≡ well_formed (placed_events 0 (starts t ∷ ms))
+unfolding written_tag_ok markups_text markup_text placed_events document_from root opened add_events
 document-written t ms ok all e =
-    let (n, a, k) = three (is_name_text t.name) (every attribute_ok t.attributes) (new_keys [] t.attributes) ok in
+    let (n, a, k) = three (is_name_text t.name) (every written_attribute_ok t.attributes) (new_keys [] t.attributes) ok in
     let (s, d, f) = tag-name 1 t (markups_text ms) n in
     let z : inside (suc (length (markups_text ms))) (t.name ∷ []) (0 + length (written_tag 1 t)) (markups_text ms)
-    ≡ rooted (placed (0 + length (written_tag 1 t)) ms) (0 + length (written_tag 1 t) + length (markups_text ms)) [] =
+    ≡ rooted (placed_events (0 + length (written_tag 1 t)) ms) (0 + length (written_tag 1 t) + length (markups_text ms)) [] =
     rw append-nil at (inside-written ms (suc (length (markups_text ms))) (t.name ∷ []) (0 + length (written_tag 1 t)) [] (omega (arith, markups-long ms)) e all) in
     ap document d ∙ no-prolog s f ∙ ap (document_from 0) (sym d) ∙ rw (tag-written 0 1 t (markups_text ms) (omega arith) (omega arith) n a k, z) (misc-end _ _)

@@ -13,10 +13,10 @@ use Rattle.text.proofs.Laws.Every.{every-head, every-tail, every-weaken}
 use Rattle.text.proofs.Laws.Class.{empty-text, texts-append, text-behind}
 use Rattle.xsd_parser.specs.Event.{Attr, Tag}
 use Rattle.xml.specs.Accepted.{few_attributes}
-use Rattle.xml.specs.Written.{is_name_text, quote_of, attribute_ok, new_keys, written_attributes, tag_end, written_tag, attribute_places}
+use Rattle.xml.specs.Written.{is_name_text, quote_of, written_attribute_ok, new_keys, written_attributes, tag_end, written_tag, attribute_places}
 use Rattle.xsd_written.specs.Markup.{Markup, starts, empties, ends, markup_text, markups_text}
 use Rattle.xsd_written.specs.Call.{holds}
-use Rattle.xsd_written.specs.Reads.{tag_ok, markup_ok, placed}
+use Rattle.xsd_written.specs.Reads.{written_tag_ok, markup_ok, placed_events}
 
 unfoldable pub name_fine : Text → Bool
 name_fine n = is_name_text n && is_text n
@@ -37,17 +37,17 @@ markup_fine (ends n) = name_fine n
 
 -- ---- it may be written
 
-attr-ok : (x : Attr) → attr_fine x ≡ true → attribute_ok x ≡ true
-unfolding attr_fine name_fine value_fine holds attribute_ok
+attr-ok : (x : Attr) → attr_fine x ≡ true → written_attribute_ok x ≡ true
+unfolding attr_fine name_fine value_fine holds written_attribute_ok
 attr-ok x h =
     let (k, v) = two (name_fine x.key) (value_fine x.value) h in
     and-true (and-true-left (is_name_text x.key) (is_text x.key) k) (and-true-left (holds x.value) (is_text x.value) v)
 
-tag-ok : (t : Tag) → tag_fine t ≡ true → tag_ok t ≡ true
-unfolding tag_fine name_fine tag_ok
+tag-ok : (t : Tag) → tag_fine t ≡ true → written_tag_ok t ≡ true
+unfolding tag_fine name_fine written_tag_ok
 tag-ok t h =
     let (n, a, k, l) = four (name_fine t.name) (every attr_fine t.attributes) (new_keys [] t.attributes) (leb (length t.attributes) 32) h in
-    and-true (and-true (and-true-left (is_name_text t.name) (is_text t.name) n) (every-weaken attr_fine attribute_ok attr-ok t.attributes a)) k
+    and-true (and-true (and-true-left (is_name_text t.name) (is_text t.name) n) (every-weaken attr_fine written_attribute_ok attr-ok t.attributes a)) k
 
 markup-ok : (m : Markup) → markup_fine m ≡ true → markup_ok m ≡ true
 unfolding markup_fine name_fine markup_ok
@@ -115,8 +115,8 @@ unfolding tag_fine
 tag-few at t h =
     rw (places-length at t.attributes) (four (name_fine t.name) (every attr_fine t.attributes) (new_keys [] t.attributes) (leb (length t.attributes) 32) h).3
 
-pub markups-few : (at : ℕ) (ms : List Markup) → every markup_fine ms ≡ true → every few_attributes (placed at ms) ≡ true
-unfolding every placed few_attributes markup_fine
+pub markups-few : (at : ℕ) (ms : List Markup) → every markup_fine ms ≡ true → every few_attributes (placed_events at ms) ≡ true
+unfolding every placed_events few_attributes markup_fine
 markups-few at [] h = refl
 markups-few at (starts t ∷ ms) h =
     and-true (tag-few _ t (and-true-left (tag_fine t) (every markup_fine ms) h)) (markups-few (at + length (markup_text (starts t))) ms (and-true-right (tag_fine t) (every markup_fine ms) h))

@@ -31,7 +31,7 @@ use Rattle.xml.specs.Values.{is_plain}
 use Rattle.xml.specs.Written.{is_name_text, is_value, quote_of, new_keys}
 use Rattle.xsd_written.specs.Decimal.{decimal}
 use Rattle.xsd_written.specs.Markup.{Markup, empties, ends}
-use Rattle.xsd_written.specs.Schema.{attr, prefixed, tag_of, around, valued, facet_markup, element_markup, max_text, variant_markup, attribute_markup, content_markup}
+use Rattle.xsd_written.specs.Schema.{attr, prefixed, prefixed_tag, around, valued, facet_markup, element_markup, max_text, variant_markup, attribute_markup, content_markup}
 use Rattle.xsd_written.specs.Schema.{item_markup, items_markup, schema_markup}
 use Rattle.xsd_written.specs.Call.{holds, unheld_from, first_unheld}
 use Rattle.xsd_written.proofs.Laws.Decimals.{decimal-digits}
@@ -95,12 +95,12 @@ attr-fine : (key : String) (v : Text) → name_fine (bytes key) ≡ true → val
 unfolding attr_fine attr
 attr-fine key v k h = and-true k h
 
-tag-fine : (word : String) (xs : List Attr) → name_fine (prefixed word) ≡ true → every attr_fine xs ≡ true → new_keys [] xs ≡ true → leb (length xs) 32 ≡ true → tag_fine (tag_of word xs) ≡ true
-unfolding tag_fine tag_of
+tag-fine : (word : String) (xs : List Attr) → name_fine (prefixed word) ≡ true → every attr_fine xs ≡ true → new_keys [] xs ≡ true → leb (length xs) 32 ≡ true → tag_fine (prefixed_tag word xs) ≡ true
+unfolding tag_fine prefixed_tag
 tag-fine word xs n a k l = and-true (and-true (and-true n a) k) l
 
-around-fine : (word : String) (xs : List Attr) (ms : List Markup) → tag_fine (tag_of word xs) ≡ true → every markup_fine ms ≡ true → every markup_fine (around word xs ms) ≡ true
-unfolding around every markup_fine tag_fine tag_of
+around-fine : (word : String) (xs : List Attr) (ms : List Markup) → tag_fine (prefixed_tag word xs) ≡ true → every markup_fine ms ≡ true → every markup_fine (around word xs ms) ≡ true
+unfolding around every markup_fine tag_fine prefixed_tag
 around-fine word xs ms t h =
     and-true t (every-append-true markup_fine ms (ends (prefixed word) ∷ []) h (and-true (four (name_fine (prefixed word)) (every attr_fine xs) (new_keys [] xs) (leb (length xs) 32) t).0 refl))
 
@@ -109,11 +109,11 @@ unfoldable words : Unit {0}
 unfolding computes name_fine is_name_text begins is_byte_of name_of is_name_start is_name is_letter prefixed attr new_keys is_among
 words = tt
 
-one-fine : (word key : String) (v : Text) → name_fine (prefixed word) ≡ true → name_fine (bytes key) ≡ true → value_fine v ≡ true → tag_fine (tag_of word (attr key v ∷ [])) ≡ true
+one-fine : (word key : String) (v : Text) → name_fine (prefixed word) ≡ true → name_fine (bytes key) ≡ true → value_fine v ≡ true → tag_fine (prefixed_tag word (attr key v ∷ [])) ≡ true
 unfolding every new_keys is_among
 one-fine word key v w k h = tag-fine word (attr key v ∷ []) w (and-true (attr-fine key v k h) refl) refl refl
 
-bare-fine : (word : String) → name_fine (prefixed word) ≡ true → tag_fine (tag_of word []) ≡ true
+bare-fine : (word : String) → name_fine (prefixed word) ≡ true → tag_fine (prefixed_tag word []) ≡ true
 unfolding every new_keys
 bare-fine word w = tag-fine word [] w refl refl refl
 
@@ -143,14 +143,14 @@ named-fine n t xs n_text t_text h a =
     and-true (attr-fine "name" n refl v) (and-true (attr-fine "type" t refl w) a)
 
 occurs-fine : (n t low high : Text) → is_text n ≡ true → is_text t ≡ true → every holds (n ∷ t ∷ []) ≡ true → value_fine low ≡ true → value_fine high ≡ true
-    → tag_fine (tag_of "element" (attr "name" n ∷ attr "type" t ∷ attr "minOccurs" low ∷ attr "maxOccurs" high ∷ [])) ≡ true
+    → tag_fine (prefixed_tag "element" (attr "name" n ∷ attr "type" t ∷ attr "minOccurs" low ∷ attr "maxOccurs" high ∷ [])) ≡ true
 unfolding words
 occurs-fine n t low high n_text t_text h a b =
     tag-fine "element" (attr "name" n ∷ attr "type" t ∷ attr "minOccurs" low ∷ attr "maxOccurs" high ∷ []) refl
     (named-fine n t (attr "minOccurs" low ∷ attr "maxOccurs" high ∷ []) n_text t_text h (and-true (attr-fine "minOccurs" low refl a) (and-true (attr-fine "maxOccurs" high refl b) refl))) refl refl
 
 pair-fine : (word : String) (n t : Text) → name_fine (prefixed word) ≡ true → is_text n ≡ true → is_text t ≡ true → every holds (n ∷ t ∷ []) ≡ true
-    → tag_fine (tag_of word (attr "name" n ∷ attr "type" t ∷ [])) ≡ true
+    → tag_fine (prefixed_tag word (attr "name" n ∷ attr "type" t ∷ [])) ≡ true
 unfolding words
 pair-fine word n t w n_text t_text h = tag-fine word (attr "name" n ∷ attr "type" t ∷ []) w (named-fine n t [] n_text t_text h refl) refl refl
 
@@ -163,7 +163,7 @@ unfolding words value_fine holds is_value quote_of contains is_plain is_char
 required-fine = refl
 
 bounds-fine : (n t : Text) (low : ℕ) (high : MaxOccurs) → is_text n ≡ true → is_text t ≡ true → ltb low (2 ^ 32) ≡ true → max_occurs_ok high ≡ true → row_holds (occurs_row n t low high) ≡ true
-    → tag_fine (tag_of "element" (attr "name" n ∷ attr "type" t ∷ attr "minOccurs" (decimal low) ∷ attr "maxOccurs" (max_text high) ∷ [])) ≡ true
+    → tag_fine (prefixed_tag "element" (attr "name" n ∷ attr "type" t ∷ attr "minOccurs" (decimal low) ∷ attr "maxOccurs" (max_text high) ∷ [])) ≡ true
 unfolding occurs_row row max_occurs_ok
 bounds-fine n t low (MaxOccurs.bounded high) a b c d h = occurs-fine n t (decimal low) (decimal high) a b h (decimal-fine low (narrow low c)) (decimal-fine high (narrow high d))
 bounds-fine n t low MaxOccurs.unbounded a b c d h = occurs-fine n t (decimal low) (bytes "unbounded") a b h (decimal-fine low (narrow low c)) unbounded-fine
@@ -215,9 +215,9 @@ simple-fine n b fs event n_text b_text k h =
     (around-fine "restriction" (attr "base" b ∷ []) (map facet_markup fs) (one-fine "restriction" "base" b refl refl w)
     (children-fine facet_ok facet_row facet_markup facet-fine fs k (every-tail row_holds (row 3 (n ∷ b ∷ []) 0 0 event) (map facet_row fs) h)))
 
-any-fine : (xs : List Attr) → tag_fine (tag_of "any" xs) ≡ true → every markup_fine (around "sequence" [] (empties (tag_of "any" xs) ∷ [])) ≡ true
+any-fine : (xs : List Attr) → tag_fine (prefixed_tag "any" xs) ≡ true → every markup_fine (around "sequence" [] (empties (prefixed_tag "any" xs) ∷ [])) ≡ true
 unfolding words markup_fine
-any-fine xs h = around-fine "sequence" [] (empties (tag_of "any" xs) ∷ []) (bare-fine "sequence" refl) (and-true h refl)
+any-fine xs h = around-fine "sequence" [] (empties (prefixed_tag "any" xs) ∷ []) (bare-fine "sequence" refl) (and-true h refl)
 
 content-fine : (n : Text) (c : ComplexContent) (event : ℕ) → content_ok (started c) ≡ true → every row_holds (complex_type_rows event n (started c)) ≡ true
     → (holds n ≡ true) × (every markup_fine (content_markup c) ≡ true)

@@ -24,7 +24,8 @@ use Rattle.xsd_parser.specs.Handlers.{ok}
 use Rattle.xsd_parser.specs.Step.{handled, tags_after, counted}
 use Rattle.xsd_parser.specs.Unfold.{computes as parses}
 use Rattle.xsd_written.specs.Markup.{Markup, empties, ends}
-use Rattle.xsd_written.specs.Schema.{attr, prefixed, tag_of, around, valued, facet_markup, element_markup, variant_markup, attribute_markup, namespace_of, content_markup, item_markup, items_markup}
+use Rattle.xsd_written.specs.Schema.{attr, prefixed, prefixed_tag, around, valued, facet_markup, element_markup, variant_markup}
+use Rattle.xsd_written.specs.Schema.{attribute_markup, namespace_of, content_markup, item_markup, items_markup}
 use Rattle.xsd_written.specs.Reads.{event_of_markup, events_of, Below, Handled, none_left, one_more}
 use Rattle.xsd_written.proofs.Laws.Handled.{below-same, below_then, below_more, below-behind, handled-then}
 use Rattle.xsd_written.proofs.Laws.Children.{reader, simple, complex, facet-read, element-read, variant-read, attribute-read}
@@ -36,7 +37,7 @@ unfolding events_of
 events-append [] ns = refl
 events-append (m ∷ ms) ns = ap (λ (js : List Judged). event (event_of_markup m) ∷ js) (events-append ms ns)
 
-pub around-handled : (word : String) (xs : List Attr) (ms : List Markup) {s s₁ s₂ s₃ : State} → Handled s (event (Event.start (tag_of word xs)) ∷ []) s₁ → Handled s₁ (events_of ms) s₂
+pub around-handled : (word : String) (xs : List Attr) (ms : List Markup) {s s₁ s₂ s₃ : State} → Handled s (event (Event.start (prefixed_tag word xs)) ∷ []) s₁ → Handled s₁ (events_of ms) s₂
     → Handled s₂ (event Event.close ∷ []) s₃ → Handled s (events_of (around word xs ms)) s₃
 unfolding around events_of
 around-handled word xs ms a b c = rw (events-append ms (ends (prefixed word) ∷ [])) (handled-then a (handled-then b c))
@@ -137,7 +138,7 @@ module _ (y : Bool) (z : Schema) (n : Text) (e : ℕ) where
   simple-handled : (b : Text) (fs : List Facet) → every facet_ok fs ≡ true
       → Handled top (events_of (around "simpleType" (attr "name" n ∷ []) (around "restriction" (attr "base" b ∷ []) (map facet_markup fs))))
       (behind_item (Item.simple_type (record { name = n; base = b; facets = fs; event = e })) (suc (suc (suc (suc e) + length fs))))
-  unfolding texts parses attr tag_of prefixed context_rows simple_type_rows item_rows row
+  unfolding texts parses attr prefixed_tag prefixed context_rows simple_type_rows item_rows row
   simple-handled b fs h =
       let c : List Facet → Context = λ gs. simple n b 1 e gs in
       around-handled "simpleType" (attr "name" n ∷ []) (around "restriction" (attr "base" b ∷ []) (map facet_markup fs))
@@ -160,7 +161,7 @@ module _ (y : Bool) (z : Schema) (n : Text) (e : ℕ) where
 
   complex-handled : (ms : List Markup) (c : ComplexContentBuilder) (k : ℕ) → Handled opened (events_of ms) (within y z (inside 0 c) 2 k)
       → Handled top (events_of (around "complexType" (attr "name" n ∷ []) ms)) (behind_item (Item.complex_type (record { name = n; content = finish c; event = e })) (suc k))
-  unfolding texts parses attr tag_of prefixed context_rows item_rows
+  unfolding texts parses attr prefixed_tag prefixed context_rows item_rows
   complex-handled ms c k h =
       around-handled "complexType" (attr "name" n ∷ []) ms
       (one-handled y z z (Context.in_schema 0) (inside 0 ComplexContentBuilder.empty) _ 1 2 e refl refl
@@ -189,7 +190,7 @@ module _ (y : Bool) (z : Schema) (n : Text) (e : ℕ) where
 
   sequence-handled : (es : List SequenceElement) → every sequence_element_ok es ≡ true
       → Handled opened (events_of (around "sequence" [] (map element_markup es))) (within y z (inside 0 (ComplexContentBuilder.sequence es)) 2 (suc (suc (suc e) + length es)))
-  unfolding texts parses tag_of prefixed context_rows complex_type_rows element_markup
+  unfolding texts parses prefixed_tag prefixed context_rows complex_type_rows element_markup
   sequence-handled es h =
       around-handled "sequence" [] (map element_markup es) (content-starts (ComplexContentBuilder.sequence []) _ refl refl (same_head 12))
       (children-handled y sequence_element_ok element_row element_markup z (λ xs. inside 1 (ComplexContentBuilder.sequence xs)) 3 (λ x. refl) (λ k xs x. element-read y k z n 1 e xs x)
@@ -198,7 +199,7 @@ module _ (y : Bool) (z : Schema) (n : Text) (e : ℕ) where
 
   choice-handled : (vs : List ChoiceVariant) → every choice_variant_ok vs ≡ true
       → Handled opened (events_of (around "choice" [] (map variant_markup vs))) (within y z (inside 0 (ComplexContentBuilder.choice vs)) 2 (suc (suc (suc e) + length vs)))
-  unfolding texts parses tag_of prefixed context_rows complex_type_rows variant_markup
+  unfolding texts parses prefixed_tag prefixed context_rows complex_type_rows variant_markup
   choice-handled vs h =
       around-handled "choice" [] (map variant_markup vs) (content-starts (ComplexContentBuilder.choice []) _ refl refl (same_head 13))
       (children-handled y choice_variant_ok variant_row variant_markup z (λ xs. inside 1 (ComplexContentBuilder.choice xs)) 3 (λ x. refl) (λ k xs x _. variant-read y k z n 1 e xs x)
@@ -208,7 +209,7 @@ module _ (y : Bool) (z : Schema) (n : Text) (e : ℕ) where
   extension-handled : (base : Text) (xs : List Attribute) → every attribute_ok xs ≡ true
       → Handled opened (events_of (around "simpleContent" [] (around "extension" (attr "base" base ∷ []) (map attribute_markup xs))))
       (within y z (inside 0 (ComplexContentBuilder.simple_content base xs true)) 2 (suc (suc (suc (suc (suc e)) + length xs))))
-  unfolding texts parses attr tag_of prefixed context_rows complex_type_rows attribute_markup row
+  unfolding texts parses attr prefixed_tag prefixed context_rows complex_type_rows attribute_markup row
   extension-handled base xs h =
       let c : List Attribute → Context = λ ys. inside 2 (ComplexContentBuilder.simple_content base ys true) in
       let empty = ComplexContentBuilder.simple_content [] [] false in
@@ -227,19 +228,19 @@ module _ (y : Bool) (z : Schema) (n : Text) (e : ℕ) where
   any_below none = below-cons (row 12 (n ∷ []) 0 0 e) (row 15 (n ∷ []) 0 0 e) (omega arith) (below-same refl)
   any_below (some v) = below-cons (row 12 (n ∷ []) 0 0 e) (row 15 (n ∷ v ∷ []) 1 0 e) (omega (arith, length-append n [], length-append n (v ++ []))) (below-same refl)
 
-  any-read : (k : ℕ) (v : Option Text) → handled y k (Event.empty (tag_of "any" (namespace_of v))) (reader z (inside 1 (ComplexContentBuilder.sequence [])))
+  any-read : (k : ℕ) (v : Option Text) → handled y k (Event.empty (prefixed_tag "any" (namespace_of v))) (reader z (inside 1 (ComplexContentBuilder.sequence [])))
       ≡ ok (reader z (inside 1 (ComplexContentBuilder.any v)))
-  unfolding texts parses attr tag_of prefixed
+  unfolding texts parses attr prefixed_tag prefixed
   any-read k none = refl
   any-read k (some v) = refl
 
   any-handled : (v : Option Text)
-      → Handled opened (events_of (around "sequence" [] (empties (tag_of "any" (namespace_of v)) ∷ []))) (within y z (inside 0 (ComplexContentBuilder.any v)) 2 (suc (suc (suc (suc e)))))
-  unfolding texts parses tag_of prefixed context_rows complex_type_rows events_of
+      → Handled opened (events_of (around "sequence" [] (empties (prefixed_tag "any" (namespace_of v)) ∷ []))) (within y z (inside 0 (ComplexContentBuilder.any v)) 2 (suc (suc (suc (suc e)))))
+  unfolding texts parses prefixed_tag prefixed context_rows complex_type_rows events_of
   any-handled v =
       let s = inside 1 (ComplexContentBuilder.sequence []) in
       let a = inside 1 (ComplexContentBuilder.any v) in
-      around-handled "sequence" [] (empties (tag_of "any" (namespace_of v)) ∷ []) (content-starts (ComplexContentBuilder.sequence []) _ refl refl (same_head 12))
+      around-handled "sequence" [] (empties (prefixed_tag "any" (namespace_of v)) ∷ []) (content-starts (ComplexContentBuilder.sequence []) _ refl refl (same_head 12))
       (one-handled y z z s a _ 3 3 (suc (suc e)) refl (any-read (suc (suc e)) v) (context-below y z s a 3 _ 3 _ (any_below v)))
       (content-closes 0 (ComplexContentBuilder.any v) (suc (suc (suc e))))
 
@@ -253,11 +254,11 @@ module _ (y : Bool) (z : Schema) (n : Text) (e : ℕ) where
     complex-handled (around "simpleContent" [] (around "extension" (attr "base" base ∷ []) (map attribute_markup xs))) (ComplexContentBuilder.simple_content base xs true) _
         (extension-handled base xs (and-true-right (is_text base) (every attribute_ok xs) h)),
   )
-  content-handled (ComplexContent.any v) h = (_, complex-handled (around "sequence" [] (empties (tag_of "any" (namespace_of v)) ∷ [])) (ComplexContentBuilder.any v) _ (any-handled v))
+  content-handled (ComplexContent.any v) h = (_, complex-handled (around "sequence" [] (empties (prefixed_tag "any" (namespace_of v)) ∷ [])) (ComplexContentBuilder.any v) _ (any-handled v))
 
-  element-handled : (t : Text) → Handled top (event (Event.empty (tag_of "element" (attr "name" n ∷ attr "type" t ∷ []))) ∷ [])
+  element-handled : (t : Text) → Handled top (event (Event.empty (prefixed_tag "element" (attr "name" n ∷ attr "type" t ∷ []))) ∷ [])
       (behind_item (Item.element (record { name = n; type_name = t; event = e })) (suc e))
-  unfolding texts parses attr tag_of prefixed context_rows
+  unfolding texts parses attr prefixed_tag prefixed context_rows
   element-handled t =
       let i = Item.element (record { name = n; type_name = t; event = e }) in
       one-handled y z (with_one z i) (Context.in_schema 0) (Context.in_schema 0) _ 1 1 e refl refl (item-below y z (Context.in_schema 0) i 1 e 1 (suc e) (below_more [] (item_rows i)))

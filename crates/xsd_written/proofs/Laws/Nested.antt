@@ -9,7 +9,7 @@ use Rattle.text.proofs.Laws.Texts.{same_refl}
 use Rattle.xsd_types.specs.Types.{Facet, ComplexContent, Item}
 use Rattle.xsd_parser.specs.Event.{Attr, Tag}
 use Rattle.xsd_written.specs.Markup.{Markup, starts, empties, ends}
-use Rattle.xsd_written.specs.Schema.{prefixed, tag_of, around, valued, facet_markup, element_markup, variant_markup, attribute_markup, content_markup, item_markup, items_markup}
+use Rattle.xsd_written.specs.Schema.{prefixed, prefixed_tag, around, valued, facet_markup, element_markup, variant_markup, attribute_markup, content_markup, item_markup, items_markup}
 use Rattle.xsd_written.specs.Reads.{open_behind, closes, nested}
 
 abbrev Balanced : List Markup → Type 0
@@ -22,7 +22,7 @@ both-balanced : (ms ns : List Markup) → Balanced ms → Balanced ns → Balanc
 both-balanced ms ns f g n names rest = ap (nested (n ∷ names)) (append_assoc ms ns rest) ∙ f n names (ns ++ rest) ∙ g n names rest
 
 around-balanced : (word : String) (xs : List Attr) (ms : List Markup) → Balanced ms → Balanced (around word xs ms)
-unfolding around nested closes open_behind tag_of
+unfolding around nested closes open_behind prefixed_tag
 around-balanced word xs ms f n names rest =
     ap (nested (prefixed word ∷ n ∷ names)) (append_assoc ms (ends (prefixed word) ∷ []) rest) ∙ f (prefixed word) (n ∷ names) (ends (prefixed word) ∷ rest) ∙ rw (same_refl (prefixed word))
 

@@ -12,7 +12,7 @@ use Rattle.xml.specs.Accepted.{event_read, records_read, few_attributes}
 use Rattle.xml.proofs.Laws.Back.{tag_back, drop_past}
 use Rattle.xml.proofs.Laws.Records.{tape-records}
 use Rattle.xsd_written.specs.Markup.{Markup, starts, empties, ends, markup_text, markups_text}
-use Rattle.xsd_written.specs.Reads.{tag_ok, markup_ok, nested, placed_one, placed, event_of_markup, events_of}
+use Rattle.xsd_written.specs.Reads.{written_tag_ok, markup_ok, nested, placed_one, placed_events, event_of_markup, events_of}
 use Rattle.xsd_written.proofs.Laws.Documents.{document-written}
 
 markup-back : (m : Markup) (text : Text) (at : ℕ) (rest : Text) → drop at text ≡ markup_text m ++ rest → event_read text (placed_one at m) ≡ event_of_markup m
@@ -21,8 +21,8 @@ markup-back (starts t) text at rest e = tag_back text at 1 t rest e
 markup-back (empties t) text at rest e = tag_back text at 2 t rest e
 markup-back (ends n) text at rest e = refl
 
-pub markups-back : (ms : List Markup) (text : Text) (at : ℕ) → drop at text ≡ markups_text ms → records_read text (placed at ms) ≡ events_of ms
-unfolding records_read placed markups_text events_of
+pub markups-back : (ms : List Markup) (text : Text) (at : ℕ) → drop at text ≡ markups_text ms → records_read text (placed_events at ms) ≡ events_of ms
+unfolding records_read placed_events markups_text events_of
 markups-back [] text at e = refl
 markups-back (m ∷ ms) text at e =
     let h = markup-back m text at (markups_text ms) e in
@@ -30,9 +30,9 @@ markups-back (m ∷ ms) text at e =
     rw (h, k)
 
 -- a whole document of markup, read as records
-pub records-written : (t : Tag) (ms : List Markup) → tag_ok t ≡ true → every markup_ok ms ≡ true → nested (t.name ∷ []) ms ≡ true
-    → is_text (markups_text (starts t ∷ ms)) ≡ true → every few_attributes (placed 0 (starts t ∷ ms)) ≡ true
-    → records (markups_text (starts t ∷ ms)) (tape_marks (placed 0 (starts t ∷ ms))) ≡ events_of (starts t ∷ ms)
+pub records-written : (t : Tag) (ms : List Markup) → written_tag_ok t ≡ true → every markup_ok ms ≡ true → nested (t.name ∷ []) ms ≡ true
+    → is_text (markups_text (starts t ∷ ms)) ≡ true → every few_attributes (placed_events 0 (starts t ∷ ms)) ≡ true
+    → records (markups_text (starts t ∷ ms)) (tape_marks (placed_events 0 (starts t ∷ ms))) ≡ events_of (starts t ∷ ms)
 records-written t ms ok all nest plain few =
     let text = markups_text (starts t ∷ ms) in
-    tape-records text (placed 0 (starts t ∷ ms)) (document-written t ms ok all nest) plain few ∙ markups-back (starts t ∷ ms) text 0 refl
+    tape-records text (placed_events 0 (starts t ∷ ms)) (document-written t ms ok all nest) plain few ∙ markups-back (starts t ∷ ms) text 0 refl

@@ -29,14 +29,14 @@ use Rattle.xsd_parser.specs.Unfold.{computes as parses}
 use Rattle.xsd_parser.proofs.Laws.Reads.{stopped}
 use Rattle.xsd_parser.proofs.Laws.Cleared.{room-unnumbered}
 use Rattle.xml.specs.Tape.{TapeEvent, attribute_marks, event_marks, tape_marks}
-use Rattle.xml.specs.Document.{well_formed, document, written, refused, taken_of, tape_of}
+use Rattle.xml.specs.Document.{well_formed, document, tape_written, refused, taken_of, tape_of}
 use Rattle.xml.specs.Written.{tag_places}
 use Rattle.xml.proofs.Laws.Tags.{marks-length}
 use Rattle.xml.proofs.Laws.Reads.{tape-taken, accepted-tape}
 use Rattle.xsd_written.specs.Markup.{Markup, starts, empties, ends, markup_text}
-use Rattle.xsd_written.specs.Schema.{attr, prefixed, tag_of, around, items_markup, schema_markup, schema_text}
+use Rattle.xsd_written.specs.Schema.{attr, prefixed, prefixed_tag, around, items_markup, schema_markup, schema_text}
 use Rattle.xsd_written.specs.Call.{first_unheld}
-use Rattle.xsd_written.specs.Reads.{tag_ok, markup_ok, nested, placed, events_of, Handled, none_left, one_more}
+use Rattle.xsd_written.specs.Reads.{written_tag_ok, markup_ok, nested, placed_events, events_of, Handled, none_left, one_more}
 use Rattle.xsd_written.specs.Round.{mark_count, marks_of, marks_needed, finished_state}
 use Rattle.xsd_written.proofs.Laws.Documents.{markups-long, document-written}
 use Rattle.xsd_written.proofs.Laws.Records.{records-written}
@@ -53,15 +53,15 @@ tag-marks at t rest =
     let xs = tag_places at t in
     omega (arith, length-append (attribute_marks xs) rest, marks-length xs, places-length (at + 1 + length t.name) t.attributes)
 
-pub marks-placed : (at : ℕ) (ms : List Markup) → length (tape_marks (placed at ms)) ≡ marks_of ms
-unfolding tape_marks event_marks placed marks_of mark_count
+pub marks-placed : (at : ℕ) (ms : List Markup) → length (tape_marks (placed_events at ms)) ≡ marks_of ms
+unfolding tape_marks event_marks placed_events marks_of mark_count
 marks-placed at [] = refl
 marks-placed at (starts t ∷ ms) =
     let b = at + length (markup_text (starts t)) in
-    omega (arith, tag-marks at t (tape_marks (placed b ms)), marks-placed b ms)
+    omega (arith, tag-marks at t (tape_marks (placed_events b ms)), marks-placed b ms)
 marks-placed at (empties t ∷ ms) =
     let b = at + length (markup_text (empties t)) in
-    omega (arith, tag-marks at t (tape_marks (placed b ms)), marks-placed b ms)
+    omega (arith, tag-marks at t (tape_marks (placed_events b ms)), marks-placed b ms)
 marks-placed at (ends n ∷ ms) = omega (arith, marks-placed (at + length (markup_text (ends n))) ms)
 
 -- ---- the events
@@ -78,12 +78,12 @@ pub record SchemaRead (y : Bool) (s : Schema) : Type 0 where
   pub events : Handled (first_state y) (events_of (schema_markup s)) (behind_all y last s.target_namespace read)
   pub aside : map unnumbered_item read ≡ map unnumbered_item s.items
 
-root-handled : (y : Bool) (n : Text) → Handled (first_state y) (event (Event.start (tag_of "schema" (schema_attributes n))) ∷ []) (within y (record {
+root-handled : (y : Bool) (n : Text) → Handled (first_state y) (event (Event.start (prefixed_tag "schema" (schema_attributes n))) ∷ []) (within y (record {
   target_namespace = n;
   items =
       [];
 }) (Context.in_schema 0) 1 1)
-unfolding texts parses attr tag_of prefixed first_state counted rows_of items_rows context_rows namespace_row row
+unfolding texts parses attr prefixed_tag prefixed first_state counted rows_of items_rows context_rows namespace_row row
 root-handled y n =
     one_more {open_tags = 1} {r = record { schema = record { target_namespace = n; items = [] }; root_seen = true; context = Context.in_schema 0 }} refl refl
     (below-cons (namespace_row []) (namespace_row n) (omega arith) (below-same refl)) none_left
@@ -140,19 +140,19 @@ events-length (m ∷ ms) = ap suc (events-length ms)
 
 module _ (s : Schema) (ok₁ : schema_ok s ≡ true) (held : first_unheld s ≡ none) where
   abbrev root : Tag
-  root = tag_of "schema" (schema_attributes s.target_namespace)
+  root = prefixed_tag "schema" (schema_attributes s.target_namespace)
 
   abbrev inner : List Markup
   inner = items_markup s.items ++ ends (prefixed "schema") ∷ []
 
   abbrev pub tape_events : List TapeEvent
-  tape_events = placed 0 (schema_markup s)
+  tape_events = placed_events 0 (schema_markup s)
 
   fine : every markup_fine (starts root ∷ inner) ≡ true
   unfolding schema_markup around
   fine = schema-fine s ok₁ held
 
-  root_ok : tag_ok root ≡ true
+  root_ok : written_tag_ok root ≡ true
   unfolding markup_ok
   root_ok = every-head markup_ok (starts root) inner (markups-ok (starts root ∷ inner) fine)
 
@@ -160,7 +160,7 @@ module _ (s : Schema) (ok₁ : schema_ok s ≡ true) (held : first_unheld s ≡ 
   inner-ok = every-tail markup_ok (starts root) inner (markups-ok (starts root ∷ inner) fine)
 
   inner-nested : nested (root.name ∷ []) inner ≡ true
-  unfolding tag_of
+  unfolding prefixed_tag
   inner-nested = schema-nested s.items (prefixed "schema")
 
   pub schema-text : is_text (schema_text s) ≡ true
@@ -178,18 +178,18 @@ module _ (s : Schema) (ok₁ : schema_ok s ≡ true) (held : first_unheld s ≡ 
   -- ---- its tape
 
   module _ (marks : List ℕ) (short : length (schema_text s) ≤ 65536) (few : length marks ≤ 16384) where
-    schema-taken : tape_of (schema_text s) marks ≡ written (length marks) (tape_marks tape_events)
+    schema-taken : tape_of (schema_text s) marks ≡ tape_written (length marks) (tape_marks tape_events)
     unfolding tape_lengths taken_of
     schema-taken =
         let l = and-true (le-leb (length (schema_text s)) 65536 short) (le-leb (length marks) 16384 few) in
         tape-taken (schema_text s) marks l schema-text ∙ ap (taken_of (length marks)) schema-document
 
     pub tape-enough : marks_needed s ≤ length marks → (tape_of (schema_text s) marks).number ≡ accepted
-    unfolding written marks_needed
+    unfolding tape_written marks_needed
     tape-enough h = rw (schema-taken, le-leb (length (tape_marks tape_events)) (length marks) (omega (arith, marks-placed 0 (schema_markup s))))
 
     pub tape-few : length marks < marks_needed s → (tape_of (schema_text s) marks).number ≡ short_marks
-    unfolding written refused marks_needed
+    unfolding tape_written refused marks_needed
     tape-few h = rw (schema-taken, lt-leb (length (tape_marks tape_events)) (length marks) (omega (arith, marks-placed 0 (schema_markup s))))
 
     pub tape-used : (tape_of (schema_text s) marks).number ≡ accepted → take (tape_of (schema_text s) marks).place (tape_of (schema_text s) marks).marks ≡ tape_marks tape_events

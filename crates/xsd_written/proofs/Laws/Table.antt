@@ -97,7 +97,7 @@ module _ (s : Schema) where
 -- ---- the table
 
 schema-outcome : (s : State) (lent : ℕ) (o : Option ℕ) → s.reader.root_seen ≡ true → call.first_unheld s.reader.schema ≡ o → WriteOutcome s lent (unheld_or_written o s.reader.schema lent)
-unfolding call.written
+unfolding call.text_written
 schema-outcome s lent (some place) r e = unheld r (schema-unheld s.reader.schema place e) refl
 schema-outcome s lent none r e =
     let t = schema_text s.reader.schema in
@@ -159,7 +159,7 @@ module _ (s : Schema) where
   unheld-schema place f = first-by-rows ∙ unheld-row 1 finished_rows place f.before f.texts f.behind f.made f.held f.unheld f.stands
 
 outcome-is : (s : State) (lent : ℕ) (w : Wrote) → WriteOutcome s lent w → w ≡ write_state s lent
-unfolding write_state call.written
+unfolding write_state call.text_written
 outcome-is s lent w (no_root r e) = rw r e
 outcome-is s lent w (unheld {place = k} r f e) = rw (r, unheld-schema s.reader.schema k f) e
 outcome-is s lent w (short r h l e) = rw (r, held-schema s.reader.schema h, lt-leb (length (schema_text s.reader.schema)) lent l) e

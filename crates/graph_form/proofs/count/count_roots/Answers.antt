@@ -1,17 +1,24 @@
--- `graph_form::count::count_roots` meets its contract: as many places pass the test as roots are there. Assumes nothing.
-use Prim.Native.Nat.{ℕ, ◌*◌, ◌-◌}
-use mathlib.Core.Path.{refl, ◌∙◌}
-use lib.ListN.{get_or}
-use Rattle.std.proofs.Common.{rules, tests}
-use Rattle.std.proofs.lemmas.Iterator.{YieldsList-from_range}
-use Rattle.std.proofs.lemmas.Iterator.Consumers.{YieldsList-from_filter, count_from_yields_List}
+-- `graph_form::count::count_roots` meets its contract. The invariant: the roots so far and those of the rows from the place at hand on are all. Assumes nothing.
+use Prim.Native.Nat.{ℕ}
+use mathlib.Core.Path.{ap, ◌∙◌}
+use mir.Val.{bool_byte}
+use native.Mathlib.Omega.{arith}
 use Rattle.graph_form.specs.Tests.{is_root}
-use Rattle.graph_form.proofs.Laws.Count.{tags-counted}
+use Rattle.graph_form.proofs.Laws.Count.{flag-small, counted-on, counted-end}
 use Rattle.graph_form.proofs.count.count_roots.Goals as goal
 
+pub loop-place-init : goal.loop-place-init
+loop-place-init c = (omega arith, omega arith)
+
+pub overflow_add-n : goal.overflow_add-n
+overflow_add-n c = omega (arith, flag-small _ c.from-n.ensures, c.loop-place.invariant.0, c.loop-place-test.true)
+
+pub loop-place-preserved : goal.loop-place-preserved
+loop-place-preserved c =
+    let loop = c.loop-place in (
+      omega (arith, flag-small _ c.from-n.ensures, loop.invariant.0),
+      counted-on is_root _ loop.n loop.place _ c.loop-place-test.true (c.from-n.ensures ∙ ap (λ (t : ℕ). bool_byte (is_root t)) c.tag.ensures) ∙ loop.invariant.1,
+    )
+
 pub returns : goal.returns
-returns c =
-    let part = c.args.part.now in
-    count_from_yields_List _ c.count.result c.count.ensures.ran
-    (YieldsList-from_filter _ (λ (place : ℕ). is_root (get_or part.rows.now (10 * place) 0)) (YieldsList-from_range 2 part.end (part.end - 2) c.filter.ensures.source refl) c.filter.ensures.closure (λ p b q k. search (rules, tests)))
-    ∙ tags-counted is_root part.rows.now (part.end - 2) 2
+returns c = counted-end is_root _ c.loop-place.n c.loop-place.place _ c.loop-place-test.false c.loop-place.invariant.1

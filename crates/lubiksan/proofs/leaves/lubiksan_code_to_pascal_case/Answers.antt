@@ -1,9 +1,9 @@
 -- `lubiksan::leaves::lubiksan_code_to_pascal_case` meets its contract: the count is that of the writer's answer. Assumes nothing.
 use mathlib.Core.Path.{ap, ◌∙◌}
-use Rattle.lubiksan.specs.Exported.{count_of}
+use Rattle.lubiksan.specs.Exported.{stored_count}
 use Rattle.lubiksan.proofs.leaves.lubiksan_code_to_pascal_case.Goals as goal
 
 pub returns : goal.returns
 returns c =
     let put = c.code_to_pascal_case.ensures in
-    (c.count_of.ensures ∙ ap count_of put.counted, put.holds)
+    (c.count_of.ensures ∙ ap stored_count put.counted, put.holds)

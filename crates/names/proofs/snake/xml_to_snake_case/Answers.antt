@@ -1,13 +1,14 @@
 -- `names::snake::xml_to_snake_case` meets its contract. The loop's invariant: len bytes of the target are written, and the snake form of the name
 -- from i on is what is still to be written. Assumes nothing.
-use Rattle.std.proofs.Common.{sym, ◌∙◌, arith}
+use Rattle.std.proofs.Common.{◌+◌, [], ◌∷◌, get_or, drop, sym, ◌∙◌, arith}
+use Rattle.text.specs.Text.{lower}
 use Rattle.text.specs.Characters.{characters}
-use Rattle.names.specs.Names.{xml_to_snake_case}
-use Rattle.names.proofs.Laws.Writing.{writing_start, writing-length, writing-as, writing_more, writing-end, writing-full, put_again}
+use Rattle.names.specs.Names.{snake_from, xml_to_snake_case}
+use Rattle.names.proofs.Laws.Writing.{Writing, writing_start, writing-length, writing-as, writing_more, writing-end, writing-full, put_again}
 use Rattle.names.proofs.Laws.Scans.{snake-start, snake-end}
 use Rattle.names.proofs.Laws.Snake.{put-marked, full-marked, put-plain}
 use Rattle.names.proofs.snake.xml_to_snake_case.Goals as goal
-use Rattle.names.proofs.snake.xml_to_snake_case.Goals.{then-byte_starts+else-out-len, else-byte_starts}
+use Rattle.names.proofs.snake.xml_to_snake_case.Goals.{then-byte_starts+else-out-len, else-byte_starts, Joined-byte_starts}
 
 pub loop-i-init : goal.loop-i-init
 unfolding xml_to_snake_case
@@ -18,29 +19,32 @@ returns-then-c-next-ge128 c = put_again c.loop-i.invariant c.put_characters.ensu
 
 pub returns-then-out-len : goal.returns-then-out-len
 returns-then-out-len c =
-    full-marked c.loop-i.prev c.args.name.now c.loop-i.i c.loop-i.invariant c.loop-i-test.true c.if-c-next-ge128.false c.byte_at-next.ensures (sym c.byte_starts.ensures ∙ c.if-byte_starts.true) c.if-out-len.true
+    full-marked c.loop-i.prev c.args.name.now c.loop-i.i c.loop-i.invariant c.loop-i-test.true c.if-c-next-ge128.false c.byte_at-next.ensures (sym c.byte_starts.ensures
+    ∙ c.if-byte_starts.true) c.if-out-len.true
+
+-- behind the underscore, where one stands before the byte, its lower form is what is still to be written
+marked-or-plain : (c : Joined-byte_starts) → Writing (xml_to_snake_case c.args.name.now) c.args.out.now c.if-byte_starts.len c.if-byte_starts.out
+    (lower (get_or c.args.name.now c.loop-i.i 0) ∷ snake_from (get_or c.args.name.now c.loop-i.i 0 ∷ []) (characters (drop (c.loop-i.i + 1) c.args.name.now)))
+marked-or-plain c =
+    elim c.if-byte_starts.branch [
+      | then-byte_starts+else-out-len w ↦
+          rw (w.out-is, w.len-is)
+          (put-marked c.loop-i.prev c.args.name.now c.loop-i.i c.loop-i.invariant c.loop-i-test.true c.if-c-next-ge128.false c.byte_at-next.ensures
+          (sym c.byte_starts.ensures ∙ w.if-byte_starts.true) w.if-out-len.false)
+      | else-byte_starts w ↦
+          rw (w.out-is, w.len-is)
+          (put-plain c.loop-i.prev c.args.name.now c.loop-i.i c.loop-i.invariant c.loop-i-test.true c.if-c-next-ge128.false c.byte_at-next.ensures (sym c.byte_starts.ensures ∙ w.if-byte_starts.false))
+    ]
 
 pub returns-then-out-len-2 : goal.returns-then-out-len-2
 returns-then-out-len-2 c =
-    elim c.if-byte_starts.branch [
-      | then-byte_starts+else-out-len w ↦
-          (let v = put-marked c.loop-i.prev c.args.name.now c.loop-i.i c.loop-i.invariant c.loop-i-test.true c.if-c-next-ge128.false c.byte_at-next.ensures (sym c.byte_starts.ensures ∙ w.if-byte_starts.true) w.if-out-len.false in
-          rw w.out-is (writing-full v (omega (arith, writing-length v, rw (w.out-is, w.len-is) at c.if-out-len-2.true))))
-      | else-byte_starts w ↦
-          (let v = put-plain c.loop-i.prev c.args.name.now c.loop-i.i c.loop-i.invariant c.loop-i-test.true c.if-c-next-ge128.false c.byte_at-next.ensures (sym c.byte_starts.ensures ∙ w.if-byte_starts.false) in
-          rw w.out-is (writing-full v (omega (arith, writing-length v, rw (w.out-is, w.len-is) at c.if-out-len-2.true))))
-    ]
+    let v = marked-or-plain (goal.at.returns-then-out-len-2 c).Joined-byte_starts in
+    writing-full v (omega (arith, writing-length v, c.if-out-len-2.true))
 
 pub loop-i-preserved : goal.loop-i-preserved
 loop-i-preserved c =
-    elim c.if-byte_starts.branch [
-      | then-byte_starts+else-out-len w ↦
-          (let v = put-marked c.loop-i.prev c.args.name.now c.loop-i.i c.loop-i.invariant c.loop-i-test.true c.if-c-next-ge128.false c.byte_at-next.ensures (sym c.byte_starts.ensures ∙ w.if-byte_starts.true) w.if-out-len.false in
-          rw (w.out-is, w.len-is, c.to_lower.ensures) (writing_more v (omega (arith, writing-length v, rw (w.out-is, w.len-is) at c.if-out-len-2.false))))
-      | else-byte_starts w ↦
-          (let v = put-plain c.loop-i.prev c.args.name.now c.loop-i.i c.loop-i.invariant c.loop-i-test.true c.if-c-next-ge128.false c.byte_at-next.ensures (sym c.byte_starts.ensures ∙ w.if-byte_starts.false) in
-          rw (w.out-is, w.len-is, c.to_lower.ensures) (writing_more v (omega (arith, writing-length v, rw (w.out-is, w.len-is) at c.if-out-len-2.false))))
-    ]
+    let v = marked-or-plain (goal.at.loop-i-preserved c).Joined-byte_starts in
+    rw c.to_lower.ensures (writing_more v (omega (arith, writing-length v, c.if-out-len-2.false)))
 
 pub returns : goal.returns
 returns c =

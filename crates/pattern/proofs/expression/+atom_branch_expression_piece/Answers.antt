@@ -3,14 +3,14 @@ use native.Mathlib.Omega.{arith}
 use Prim.Native.Nat.{ℕ, suc, ◌+◌}
 use mathlib.Core.Path.{◌≡◌, refl, sym, ap, ◌∙◌}
 use mathlib.Core.Bool.{true}
-use lib.ListN.{drop}
 use borrow.Author.Tests.{eqb-true}
 use Rattle.pattern.specs.Scan as scanning
 use Rattle.pattern.specs.Scan.{is_escaped, go, scan, step, fresh, leave, final, start}
 use Rattle.pattern.specs.Answers.{is_close, is_tail, any_byte}
-use Rattle.pattern.proofs.Laws.Places.{end-at, to_at, off_at, byte-to, before, open-final, close-byte, fresh-off, unmarked-at, unmarked-end, mark-at, escaped-on}
-use Rattle.pattern.proofs.Laws.Places.{escaped-off, escaped-inside}
+use Rattle.pattern.proofs.Laws.Places.{end-at, to_at, off_at, byte-to, before, behind, open-final, close-byte, fresh-off, unmarked-at, unmarked-end, mark-at}
+use Rattle.pattern.proofs.Laws.Places.{escaped-off, escaped-part, plain-no_tail}
 use Rattle.pattern.proofs.Laws.Derived.{plain-fresh}
+use Rattle.pattern.proofs.expression.+atom_branch_expression_piece.Goals.{branch-else-not-is_plain-via-then-not-is_plain+else-s-i, branch-else-not-is_plain-via-else-not-is_plain}
 use Rattle.pattern.proofs.expression.+atom_branch_expression_piece.Goals as goal
 
 closing : (b : ℕ) → is_close b ≡ true → b ≡ 41
@@ -56,15 +56,8 @@ unfolding step fresh final
 atom-returns-then-is_escaped t c =
     let s = c.args.s.now in
     let at = c.args.at in
-    let x = sym (c.is_escaped.ensures ∙ ap is_escaped c.byte_at.ensures) ∙ c.if-is_escaped.true in
-    let two : at + 1 + 1 ≡ at + 2 = omega arith in
-    record {
-      onward = omega arith;
-      within = omega (arith, escaped-inside s (at + 1) x);
-      stops = λ _. refl;
-      reads = λ d. byte-to (go d start) s at 92 c.requires.0 c.if-b-eq92.true refl
-          ∙ escaped-on scanning.escape scanning.atom (λ d b. refl) (λ d. refl) s (at + 1) x d ∙ ap (λ (k : ℕ). scan (go d scanning.atom) (drop k s)) two;
-    }
+    escaped-part scanning.escape scanning.atom (λ d b. refl) (λ d. refl) s start at (λ d. byte-to (go d start) s at 92 c.requires.0 c.if-b-eq92.true refl)
+    (sym (c.is_escaped.ensures ∙ ap is_escaped c.byte_at.ensures) ∙ c.if-is_escaped.true)
 
 pub atom-returns-then-b-eq92 : goal.atom-returns-then-b-eq92
 unfolding step fresh final
@@ -99,7 +92,16 @@ branch-returns-then-s-i t c =
 
 pub branch-piece-requires : goal.branch-piece-requires
 unfolding is_tail
-branch-piece-requires t c = (omega arith, (omega arith, c.if-s-i.false))
+branch-piece-requires t c = (
+  omega arith,
+  (
+    omega arith,
+    elim c.else-not-is_plain.branch [
+      | branch-else-not-is_plain-via-then-not-is_plain+else-s-i w ↦ w.if-s-i.false
+      | branch-else-not-is_plain-via-else-not-is_plain w ↦ plain-no_tail _ (sym c.is_plain.ensures ∙ w.if-not-is_plain.false)
+    ],
+  ),
+)
 
 pub expression-returns-then-s-e-ne124 : goal.expression-returns-then-s-e-ne124
 expression-returns-then-s-e-ne124 t c =
@@ -123,19 +125,13 @@ expression-loop-e-preserved t c =
 pub piece-returns-then-s-e : goal.piece-returns-then-s-e
 piece-returns-then-s-e t c =
     let g = c.in_ok-e.ensures in
-    record { onward = g.onward; within = g.within; stops = λ _. refl; reads = λ d. g.reads d ∙ unmarked-end d c.args.s.now c.in_ok-e.e c.if-s-e.true }
+    behind g (omega arith) g.within (λ d. unmarked-end d c.args.s.now c.in_ok-e.e c.if-s-e.true)
 
 pub piece-returns-then-is_mark : goal.piece-returns-then-is_mark
 piece-returns-then-is_mark t c =
-    let g = c.in_ok-e.ensures in
-    record {
-      onward = omega (arith, g.onward);
-      within = omega arith;
-      stops = λ _. refl;
-      reads = λ d. g.reads d ∙ mark-at d c.args.s.now c.in_ok-e.e c.if-s-e.false (sym c.is_mark.ensures ∙ c.if-is_mark.true);
-    }
+    behind c.in_ok-e.ensures (omega arith) (omega arith) (λ d. mark-at d c.args.s.now c.in_ok-e.e c.if-s-e.false (sym c.is_mark.ensures ∙ c.if-is_mark.true))
 
 pub piece-returns-else-is_mark : goal.piece-returns-else-is_mark
 piece-returns-else-is_mark t c =
     let g = c.in_ok-e.ensures in
-    record { onward = g.onward; within = g.within; stops = λ _. refl; reads = λ d. g.reads d ∙ unmarked-at d c.args.s.now c.in_ok-e.e (sym c.is_mark.ensures ∙ c.if-is_mark.false) }
+    behind g (omega arith) g.within (λ d. unmarked-at d c.args.s.now c.in_ok-e.e (sym c.is_mark.ensures ∙ c.if-is_mark.false))

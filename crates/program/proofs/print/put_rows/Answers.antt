@@ -2,7 +2,7 @@
 use Rattle.std.proofs.Common.{◌≡◌, ◌++◌, [], refl, ap, sym, subst, ◌∙◌, append-nil, min, length}
 use Rattle.std.proofs.KnownBytes.{Appends-nil, Appends-trans}
 use Rattle.std.specs.Io.KnownBytes.{Appends}
-use Rattle.program.specs.Print.{numbers_text, rows_text}
+use Rattle.program.specs.Print.{numbers_text, printed_rows}
 use Rattle.program.proofs.Laws.Print.{recut, rows-step, rows-end}
 use Rattle.program.proofs.print.put_rows.Goals as goal
 
@@ -20,7 +20,7 @@ loop-row-preserved g c =
     let behind = c.next.new.self in
     let ten = subst (λ k. length row ≡ min k (length at.iter.rest.now)) inv.0 steps.0.1.1 in
     let step = rows-step at.n behind.n at.iter.rest.now row behind.iter.rest.now steps.0.1.0 ten steps.1 in
-    let whole = recut inv.1.0 (numbers_text 0 row) (rows_text behind.n behind.iter.rest.now) (rows_text at.n at.iter.rest.now) (rows_text c.args.used c.args.rows.now) step inv.1.2 in
+    let whole = recut inv.1.0 (numbers_text 0 row) (printed_rows behind.n behind.iter.rest.now) (printed_rows at.n at.iter.rest.now) (printed_rows c.args.used c.args.rows.now) step inv.1.2 in
     (steps.0.0 ∙ inv.0, (inv.1.0 ++ numbers_text 0 row, Appends-trans _ _ _ _ _ inv.1.1 c.in_ok-put_row.ensures, whole))
 
 pub returns : goal.returns

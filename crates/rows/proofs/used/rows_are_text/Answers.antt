@@ -1,7 +1,6 @@
 -- `rows::used::rows_are_text` meets its contract: the test is asked at each row's place. Assumes nothing.
 use Prim.Native.Nat.{ℕ, ◌*◌, ◌-◌}
-use mathlib.Core.Path.{refl, ap₂, ◌∙◌}
-use mathlib.Core.Bool.{◌&&◌}
+use mathlib.Core.Path.{refl, ◌∙◌}
 use lib.ListN.{drop}
 use Rattle.std.proofs.Common.{rules, tests}
 use Rattle.std.proofs.lemmas.Iterator.{YieldsList-from_range}
@@ -17,7 +16,6 @@ unfolding every
 returns g c =
     let part = c.args.part.now in
     let test = row_texts g.R.RowTests.tests part.names.now in
-    ap₂ ◌&&◌ c.row_is_text.ensures
-    (all_from_yields_List (λ (k : ℕ). test (ten (drop (10 * k) part.rows.now))) _ _ c.all.result c.all.ensures.ran
-    (YieldsList-from_range 2 part.end (part.end - 2) refl refl) (λ p b q k. search (rules, tests))
-    ∙ tens-all test part.rows.now (part.end - 2) 2)
+    all_from_yields_List (λ (k : ℕ). test (ten (drop (10 * k) part.rows.now))) _ _ c.all.result c.all.ensures.ran
+    (YieldsList-from_range 1 part.end (part.end - 1) refl refl) (λ p b q k. search (rules, tests))
+    ∙ tens-all test part.rows.now (part.end - 1) 1

@@ -124,34 +124,33 @@ pub misc-complete : {t : Text} → Many Misc t → (at : ℕ) (r : Text) → Fol
 unfolding misc
 misc-complete m at r f = let h = misc-leads m at r f in rw h.2 (h.3 (suc (length h.1)) (omega arith))
 
+-- a step between two quotes of one kind
+quoted-by : (P : Text → Type 0) (body : ℕ → Text → Step) → Sound P body → (q : ℕ) → ((v : Text) → P v → Quoted P (q ∷ (v ++ (q ∷ []))))
+    → (at : ℕ) (s : Text) (e : ℕ) (r : Text) → body (suc at) s and_then literal (q ∷ []) ≡ behind e r → Splits (Quoted P) at (q ∷ s) e r
+quoted-by P body k q made at s e r h =
+    let z = then-ends (body (suc at) s) (literal (q ∷ [])) e r h in
+    let d = k (suc at) s z.0 z.1 z.2 in
+    let l = literal-sound (q ∷ []) z.0 z.1 e r z.3 in (
+      q ∷ (d.0 ++ (q ∷ [])),
+      made d.0 d.1,
+      ap (λ (t : Text). q ∷ t) (d.2 ∙ ap (λ (t : Text). d.0 ++ t) l.0 ∙ sym (append_assoc d.0 (q ∷ []) r)),
+      omega (arith, d.3, l.1, length-append d.0 (q ∷ [])),
+    )
+
 -- a quoted step
 quoted-sound : (P : Text → Type 0) (body : ℕ → Text → Step) → Sound P body → Sound (Quoted P) (quoted body)
 unfolding quoted is_quote bytes
 quoted-sound P body k at [] e r h = absurd (bad-not h)
 quoted-sound P body k at (b ∷ s) e r h =
     bool_cases (eqb b 34)
-    (λ y.
-    let q = eqb-true b 34 y in
-    let z = then-ends (body (suc at) s) (literal (34 ∷ [])) e r (subst (λ (x : ℕ). quoted body at (x ∷ s) ≡ behind e r) q h) in
-    let d = k (suc at) s z.0 z.1 z.2 in
-    let l = literal-sound (34 ∷ []) z.0 z.1 e r z.3 in (
-      34 ∷ (d.0 ++ (34 ∷ [])),
-      double d.1,
-      ap (λ (x : ℕ). x ∷ s) q ∙ ap (λ (t : Text). 34 ∷ t) (d.2 ∙ ap (λ (t : Text). d.0 ++ t) l.0 ∙ sym (append_assoc d.0 (34 ∷ []) r)),
-      omega (arith, d.3, l.1, length-append d.0 (34 ∷ [])),
-    ))
+    (λ y. let q = eqb-true b 34 y in
+    subst (λ (x : ℕ). Splits (Quoted P) at (x ∷ s) e r) (sym q)
+    (quoted-by P body k 34 (λ v p. double p) at s e r (subst (λ (x : ℕ). quoted body at (x ∷ s) ≡ behind e r) q h)))
     (λ y.
     bool_cases (eqb b 39)
-    (λ x.
-    let q = eqb-true b 39 x in
-    let z = then-ends (body (suc at) s) (literal (39 ∷ [])) e r (subst (λ (x : ℕ). quoted body at (x ∷ s) ≡ behind e r) q h) in
-    let d = k (suc at) s z.0 z.1 z.2 in
-    let l = literal-sound (39 ∷ []) z.0 z.1 e r z.3 in (
-      39 ∷ (d.0 ++ (39 ∷ [])),
-      single d.1,
-      ap (λ (x : ℕ). x ∷ s) q ∙ ap (λ (t : Text). 39 ∷ t) (d.2 ∙ ap (λ (t : Text). d.0 ++ t) l.0 ∙ sym (append_assoc d.0 (39 ∷ []) r)),
-      omega (arith, d.3, l.1, length-append d.0 (39 ∷ [])),
-    ))
+    (λ x. let q = eqb-true b 39 x in
+    subst (λ (x : ℕ). Splits (Quoted P) at (x ∷ s) e r) (sym q)
+    (quoted-by P body k 39 (λ v p. single p) at s e r (subst (λ (x : ℕ). quoted body at (x ∷ s) ≡ behind e r) q h)))
     (λ x. absurd (bad-not (rw (y, x) at h))))
 
 -- a step passes over each derivation that stands before a quote

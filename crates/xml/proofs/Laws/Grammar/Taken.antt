@@ -13,7 +13,7 @@ use Rattle.sheet.specs.Lengths.{tape_lengths}
 use Rattle.sheet.specs.Returned.{malformed, doctype}
 use Rattle.xml.specs.Grammar.{Derived, BegunByDoctype}
 use Rattle.xml.specs.Tape.{TapeEvent, tape_marks}
-use Rattle.xml.specs.Document.{Document, with_doctype, not_well_formed, well_formed, document, Taken, refused, written, taken_of, tape_of}
+use Rattle.xml.specs.Document.{Document, with_doctype, not_well_formed, well_formed, document, Taken, refused, tape_written, taken_of, tape_of}
 use Rattle.xml.specs.Call.{Readable, TapeIs, is_too_long, is_high, is_begun, is_malformed, is_short, is_accepted}
 use Rattle.xml.proofs.Laws.Reads.{tape-taken}
 use Rattle.xml.proofs.Laws.Grammar.Documents.{document-sound, document-complete, doctype-sound, doctype-complete, malformed-exactly}
@@ -23,7 +23,7 @@ abbrev pub TakenIs : Text → List ℕ → Taken → Type 0
 TakenIs text before t = TapeIs text before t.number t.place t.marks
 
 document-taken : (text : Text) (before : List ℕ) → Readable text before → (d : Document) → document text ≡ d → TakenIs text before (taken_of (length before) d)
-unfolding taken_of refused written
+unfolding taken_of refused tape_written
 document-taken text before k with_doctype e = is_begun k (doctype-sound text e)
 document-taken text before k not_well_formed e = let n = (malformed-exactly text).0 e in is_malformed k n.0 n.1
 document-taken text before k (well_formed es) e =
@@ -47,12 +47,12 @@ taken number place after = record { number = number; place = place; marks = afte
 pub tape-is : (text : Text) (before : List ℕ) (number place : ℕ) (after : List ℕ) → taken number place after ≡ tape_of text before → TapeIs text before number place after
 tape-is text before number place after h = subst (TakenIs text before) (sym h) (tape-by-grammar text before)
 
-written-long : (lent : ℕ) (es : List TapeEvent) → lent < length (tape_marks es) → written lent (tape_marks es) ≡ refused lent 19
-unfolding written
+written-long : (lent : ℕ) (es : List TapeEvent) → lent < length (tape_marks es) → tape_written lent (tape_marks es) ≡ refused lent 19
+unfolding tape_written
 written-long lent es h = rw (lt-leb (length (tape_marks es)) lent h)
 
 is-tape : {text : Text} {before : List ℕ} {number place : ℕ} {after : List ℕ} → TapeIs text before number place after → taken number place after ≡ tape_of text before
-unfolding tape_of refused taken_of written
+unfolding tape_of refused taken_of tape_written
 is-tape (is_too_long y) = rw y
 is-tape (is_high y z) = rw (y, z)
 is-tape (is_begun k b) = rw (k.0, k.1, doctype-complete b)

@@ -8,7 +8,8 @@ use Rattle.xml_parts.proofs.steps.until.Goals as goal
 pub returns-then-starts : goal.returns-then-starts
 returns-then-starts c =
     let a = c.args in
-    sym (literal-yes a.word.now a.text.now c.loop-i.i (sym c.starts.ensures ∙ c.if-starts.true)) ∙ sym (until-hit a.word.now a.text.now c.loop-i.i c.loop-i.i (omega arith) (sym c.starts.ensures ∙ c.if-starts.true)) ∙ c.loop-i.invariant
+    sym (literal-yes a.word.now a.text.now c.loop-i.i (sym c.starts.ensures ∙ c.if-starts.true))
+    ∙ sym (until-hit a.word.now a.text.now c.loop-i.i c.loop-i.i (omega arith) (sym c.starts.ensures ∙ c.if-starts.true)) ∙ c.loop-i.invariant
 
 pub returns-then-not-is_char : goal.returns-then-not-is_char
 returns-then-not-is_char c =

@@ -13,7 +13,8 @@ loop-i-init g c = until-over c.skip-i.ensures c.args.word.now c.requires
 pub returns-then-starts : goal.returns-then-starts
 returns-then-starts g c =
     let a = c.args in
-    sym (literal-yes a.word.now a.text.now c.loop-i.i (sym c.starts.ensures ∙ c.if-starts.true)) ∙ sym (until-hit a.word.now a.text.now c.loop-i.i c.loop-i.i (omega arith) (sym c.starts.ensures ∙ c.if-starts.true)) ∙ c.loop-i.invariant
+    sym (literal-yes a.word.now a.text.now c.loop-i.i (sym c.starts.ensures ∙ c.if-starts.true))
+    ∙ sym (until-hit a.word.now a.text.now c.loop-i.i c.loop-i.i (omega arith) (sym c.starts.ensures ∙ c.if-starts.true)) ∙ c.loop-i.invariant
 
 pub returns-then-not-is_char : goal.returns-then-not-is_char
 returns-then-not-is_char g c =

@@ -1,21 +1,35 @@
--- `xml_parts::values::char_data` meets its contract: a run of bytes that need no look, then the byte that does. The loop's invariant: the character data from i on ends
+-- `xml_parts::values::char_data` meets its contract: a run up to a `<`, or a run of bytes that need no look, then the byte that does. The loop's invariant: the character data from i on ends
 -- where that from the start on ends. The measure is how much is left. Assumes nothing.
 use native.Mathlib.Omega.{arith}
-use Prim.Native.Nat.{◌+◌}
-use mathlib.Core.Path.{sym, ap, ◌∙◌}
+use Prim.Native.Nat.{ℕ, ◌+◌}
+use mathlib.Core.Path.{◌≡◌, sym, ap, ◌∙◌}
 use native.Mathlib.Numerals.{add-one}
 use lib.ListN.{drop}
-use Rattle.text.specs.Text.{bytes}
-use Rattle.xml.specs.Steps.{Step, ◌and_then◌}
+use Rattle.text.specs.Text.{Text, bytes}
+use Rattle.text.proofs.Laws.Texts.{first-drop}
+use Rattle.xml.specs.Steps.{Step, ◌and_then◌, many}
 use Rattle.xml.specs.Values.{char_data, is_in_text}
 use Rattle.xml.proofs.Laws.Moves.{many-moves}
+use Rattle.xml.proofs.Laws.Steps.{inside-some}
 use Rattle.xml.proofs.Laws.Values.{data-less, data-section, data-wrong, data-on, data-end, data-run}
 use Rattle.xml_parts.proofs.values.char_data.Goals as goal
+
+-- the character data goes on where the run does
+on : (text : Text) (i at : ℕ) → many is_in_text i (drop i text) ≡ many is_in_text at (drop at text) → char_data i (drop i text) ≡ char_data at (drop at text)
+on text i at e = data-run i (drop i text) ∙ ap (λ (d : Step). d and_then char_data) e ∙ sym (data-run at (drop at text))
+
+pub returns-then-byte_at-eq60 : goal.returns-then-byte_at-eq60
+returns-then-byte_at-eq60 c =
+    let text = c.args.text.now in
+    let i = c.skip_lines-first.result in
+    let here = sym (first-drop text i) ∙ sym c.byte_at.ensures ∙ c.if-byte_at-eq60.true in
+    sym (data-less text i i (inside-some text i 59 here) here) ∙ on text i c.args.at c.skip_lines-first.ensures
 
 pub loop-i-init : goal.loop-i-init
 loop-i-init c =
     let a = c.args in
-    ap (λ (d : Step). d and_then char_data) c.text_run-i.ensures ∙ sym (data-run a.at (drop a.at a.text.now))
+    ap (λ (d : Step). d and_then char_data) c.many-i.ensures ∙ sym (data-run c.skip_lines-first.result (drop c.skip_lines-first.result a.text.now))
+    ∙ on a.text.now c.skip_lines-first.result a.at c.skip_lines-first.ensures
 
 pub returns-then-text-i-eq60 : goal.returns-then-text-i-eq60
 returns-then-text-i-eq60 c =
@@ -36,14 +50,14 @@ returns-then-not-is_plain c =
     (sym c.is_plain.ensures ∙ c.if-not-is_plain.true)) ∙ c.loop-i.invariant
 
 pub loop-i-smaller : goal.loop-i-smaller
-loop-i-smaller c = omega (arith, many-moves is_in_text _ _ _ _ (sym c.text_run-i-in-loop-i.ensures))
+loop-i-smaller c = omega (arith, many-moves is_in_text _ _ _ _ (sym c.text_run-i.ensures))
 
 pub loop-i-preserved : goal.loop-i-preserved
 unfolding bytes
 loop-i-preserved c =
     let a = c.args in
     let i = c.loop-i.i in
-    ap (λ (d : Step). d and_then char_data) c.text_run-i-in-loop-i.ensures ∙ sym (data-run (i + 1) (drop (i + 1) a.text.now))
+    ap (λ (d : Step). d and_then char_data) c.text_run-i.ensures ∙ sym (data-run (i + 1) (drop (i + 1) a.text.now))
     ∙ rw (add-one i) (sym (data-on a.text.now i i (omega arith) c.if-text-i-eq60.false (sym c.starts.ensures ∙ c.if-starts.false)
     (sym c.is_plain.ensures ∙ c.if-not-is_plain.false)) ∙ c.loop-i.invariant)
 

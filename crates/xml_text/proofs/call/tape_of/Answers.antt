@@ -20,8 +20,10 @@ stored-used-requires c =
 pub returns-in_err-used : goal.returns-in_err-used
 returns-in_err-used c =
     let e = err_from_is_err_and c.from_residual.result c.from_residual.ensures.1 in
-    rw (e.1, e.2) (tape-refused c.args.text.now c.args.marks.now _ _ (sym c.tape_lengths.ensures ∙ c.if-not-tape_lengths.false) _ c.stored-used.result _ c.in_err-used.was (rw c.in_err-used.was at c.unwrap_or.ensures) c.stored-used.ensures c.zero_marks.ensures)
+    rw (e.1, e.2) (tape-refused c.args.text.now c.args.marks.now _ _ (sym c.tape_lengths.ensures
+    ∙ c.if-not-tape_lengths.false) _ c.stored-used.result _ c.in_err-used.was (rw c.in_err-used.was at c.unwrap_or.ensures) c.stored-used.ensures c.zero_marks.ensures)
 
 pub returns : goal.returns
 returns c =
-    tape-accepted c.args.text.now c.args.marks.now _ _ (sym c.tape_lengths.ensures ∙ c.if-not-tape_lengths.false) _ c.stored-used.result _ c.in_ok-used.was (rw c.in_ok-used.was at c.unwrap_or.ensures) c.stored-used.ensures c.zero_marks.ensures
+    tape-accepted c.args.text.now c.args.marks.now _ _ (sym c.tape_lengths.ensures
+    ∙ c.if-not-tape_lengths.false) _ c.stored-used.result _ c.in_ok-used.was (rw c.in_ok-used.was at c.unwrap_or.ensures) c.stored-used.ensures c.zero_marks.ensures

@@ -39,7 +39,8 @@ returns-then-starts c = (
 
 pub returns-in_err-section : goal.returns-in_err-section
 unfolding markup bytes
-returns-in_err-section c = rw c.from_residual-in_err-section.ensures (rw (c.requires, sym c.starts.ensures ∙ c.if-starts.false, sym c.starts-2.ensures ∙ c.if-starts-2.true, sym c.in_err-section.ensures), tt)
+returns-in_err-section c = rw c.from_residual-in_err-section.ensures
+    (rw (c.requires, sym c.starts.ensures ∙ c.if-starts.false, sym c.starts-2.ensures ∙ c.if-starts-2.true, sym c.in_err-section.ensures), tt)
 
 pub returns-then-starts-2 : goal.returns-then-starts-2
 unfolding markup bytes
@@ -50,7 +51,8 @@ returns-then-starts-2 c = (
 
 pub returns-in_err-instruction : goal.returns-in_err-instruction
 unfolding markup bytes
-returns-in_err-instruction c = rw c.from_residual-in_err-instruction.ensures (rw (c.requires, sym c.starts.ensures ∙ c.if-starts.false, sym c.starts-2.ensures ∙ c.if-starts-2.false, sym c.starts-3.ensures ∙ c.if-starts-3.true, sym c.in_err-instruction.ensures), tt)
+returns-in_err-instruction c = rw c.from_residual-in_err-instruction.ensures
+    (rw (c.requires, sym c.starts.ensures ∙ c.if-starts.false, sym c.starts-2.ensures ∙ c.if-starts-2.false, sym c.starts-3.ensures ∙ c.if-starts-3.true, sym c.in_err-instruction.ensures), tt)
 
 pub returns-then-starts-3 : goal.returns-then-starts-3
 unfolding markup bytes

@@ -42,7 +42,8 @@ returns-in-Last c =
 pub returns-then-is_among : goal.returns-then-is_among
 returns-then-is_among c =
     sym c.loop-part.invariant.3 ∙ attributes-twice c.loop-part.invariant.0 _ c.loop-part.invariant.1 c.loop-part.i _ _ _ _ _ (sym (rw c.in-More.is at c.in_ok-part.ensures).0)
-    (sym (c.is_among.ensures ∙ ap (is_among _) (names-part c.args.text.now c.loop-part.keys c.loop-part.count (omega (arith, (rw c.in-More.is at c.in_ok-part.ensures).1, c.loop-part.invariant.6, c.loop-part.invariant.7, c.requires)))) ∙ c.if-is_among.true)
+    (sym (c.is_among.ensures ∙ ap (is_among _) (names-part c.args.text.now c.loop-part.keys c.loop-part.count
+    (omega (arith, (rw c.in-More.is at c.in_ok-part.ensures).1, c.loop-part.invariant.6, c.loop-part.invariant.7, c.requires)))) ∙ c.if-is_among.true)
 
 pub loop-part-preserved : goal.loop-part-preserved
 loop-part-preserved c =
@@ -51,7 +52,8 @@ loop-part-preserved c =
     let x = (attribute_from c.in-More.it.key c.in-More.it.key_end c.in-More.it.quote c.in-More.it.behind) in
     let p = (rw c.in-More.is at c.in_ok-part.ensures).1 in
     let next = attributes-on (length a.text.now) c.loop-part.invariant.0 _ xs c.loop-part.i _ x _ _ _ _ c.loop-part.invariant.2 (omega (arith, p)) p.4
-    (sym (rw c.in-More.is at c.in_ok-part.ensures).0) (sym (c.is_among.ensures ∙ ap (is_among _) (names-part c.args.text.now c.loop-part.keys c.loop-part.count (omega (arith, (rw c.in-More.is at c.in_ok-part.ensures).1, c.loop-part.invariant.6, c.loop-part.invariant.7, c.requires)))) ∙ c.if-is_among.false) c.loop-part.invariant.3 in
+    (sym (rw c.in-More.is at c.in_ok-part.ensures).0) (sym (c.is_among.ensures ∙ ap (is_among _) (names-part c.args.text.now c.loop-part.keys c.loop-part.count
+    (omega (arith, (rw c.in-More.is at c.in_ok-part.ensures).1, c.loop-part.invariant.6, c.loop-part.invariant.7, c.requires)))) ∙ c.if-is_among.false) c.loop-part.invariant.3 in
     let stored = c.put_attribute.ensures ∙ ap (λ (l : List ℕ). sets l (a.from + 4 * c.loop-part.count) (attribute_marks (x ∷ []))) c.loop-part.invariant.5 ∙ marks-more
     a.marks.now a.from c.loop-part.count xs x c.loop-part.invariant.4 in (
       next.0,

@@ -12,7 +12,8 @@ use Rattle.xml_text.proofs.tags.attributes.Given as goal
 
 abbrev pub invariant-loop-part : goal.invariant-loop-part
 invariant-loop-part l =
-    (turns : ℕ) × (xs : List AttributePairs) × (length l.text - l.i < turns) × (attributes_from turns (names_up_to l.text l.keys l.count) xs l.i (drop l.i l.text) ≡ attributes l.at (drop l.at l.text)) × (l.count ≡ length xs)
+    (turns : ℕ) × (xs : List AttributePairs) × (length l.text - l.i < turns)
+    × (attributes_from turns (names_up_to l.text l.keys l.count) xs l.i (drop l.i l.text) ≡ attributes l.at (drop l.at l.text)) × (l.count ≡ length xs)
     × (l.marks ≡ sets l.initial.marks l.from (attribute_marks xs)) × (l.at + 3 * l.count ≤ l.i) × (length l.keys ≡ length l.initial.keys) × (length l.marks ≡ length l.initial.marks)
 
 abbrev pub decreases-loop-part : goal.decreases-loop-part

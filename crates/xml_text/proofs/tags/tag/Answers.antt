@@ -41,10 +41,15 @@ unfolding tag bytes
 returns-in_err-last c =
     rw (c.from_residual-in_err-last.ensures, sym c.in_ok-start.ensures, sym c.in_ok-end.ensures, c.in_err-last.ensures)
 
-pub put_pair-requires : goal.put_pair-requires
-put_pair-requires c =
+pub overflow_sub-size : goal.overflow_sub-size
+overflow_sub-size c =
     let n = name-inside-tag c.args.text.now c.args.at _ _ c.in_ok-start.ensures c.in_ok-end.ensures in
-    (omega (arith, c.requires), omega (arith, n), omega (arith, n, c.requires))
+    omega (arith, n)
+
+pub overflow_cast-start : goal.overflow_cast-start
+overflow_cast-start c =
+    let n = name-inside-tag c.args.text.now c.args.at _ _ c.in_ok-start.ensures c.in_ok-end.ensures in
+    omega (arith, n, c.requires)
 
 pub returns : goal.returns
 unfolding tag bytes event_marks
@@ -63,8 +68,7 @@ returns c =
       xs,
       tag-found a.at _ (sym c.in_ok-start.ensures) (sym c.in_ok-end.ensures) e.1,
       omega (arith, size, e.2),
-      c.put_pair.ensures
-          ∙ ap (λ (m : List ℕ). set (set m (used + 2) start) (used + 2 + 1) (end - start)) c.put_two.ensures
+      c.put_four.ensures
           ∙ ap (λ (m : List ℕ). set (set (set m (used + 1) count) (used + 2) start) (used + 2 + 1) (end - start)) (ap (set c.attributes.new.marks used) (numbered c.in_ok-last.last.kind))
           ∙ ap (λ (m : List ℕ). set (set (set (set m used kind) (used + 1) count) (used + 2) start) (used + 2 + 1) (end - start)) e.3
           ∙ put-tag a.marks.now used kind count start (end - start) (attribute_marks xs)

@@ -14,4 +14,5 @@ mode_after-m-requires c = omega (arith, ap (λ (m : Mode). m.nesting) c.mode_of.
 pub returns : goal.returns
 returns c =
     let a = c.args.a in
-    changed (mode-as c.kind_of-kind.ensures (subst (λ (m : Mode). ModeAfter a.by_standard (kind_number c.kind_of-kind.result) a.decision m c.mode_after-m.result) c.mode_of.ensures c.mode_after-m.ensures))
+    changed (mode-as c.kind_of-kind.ensures (subst
+    (λ (m : Mode). ModeAfter a.by_standard (kind_number c.kind_of-kind.result) a.decision m c.mode_after-m.result) c.mode_of.ensures c.mode_after-m.ensures))

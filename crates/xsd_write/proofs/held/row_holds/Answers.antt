@@ -26,19 +26,22 @@ pub returns-then-not-pair_holds : goal.returns-then-not-pair_holds
 unfolding unpack_row
 returns-then-not-pair_holds c =
     let u = sym c.used_pairs-used.ensures in
-    sym (first-fails _ (text0 c.args.row.names.now c.args.row.numbers) (text1 c.args.row.names.now c.args.row.numbers) (text2 c.args.row.names.now c.args.row.numbers) (λ e. c.if-used-eq0.false (sym u ∙ e)) (sym c.pair_holds.ensures ∙ c.if-not-pair_holds.true))
+    sym (first-fails _ (text0 c.args.row.names.now c.args.row.numbers) (text1 c.args.row.names.now c.args.row.numbers) (text2 c.args.row.names.now c.args.row.numbers)
+    (λ e. c.if-used-eq0.false (sym u ∙ e)) (sym c.pair_holds.ensures ∙ c.if-not-pair_holds.true))
 
 pub returns-then-used-eq1 : goal.returns-then-used-eq1
 unfolding unpack_row
 returns-then-used-eq1 c =
     let u = sym c.used_pairs-used.ensures in
-    sym (one-pair _ (text0 c.args.row.names.now c.args.row.numbers) (text1 c.args.row.names.now c.args.row.numbers) (text2 c.args.row.names.now c.args.row.numbers) (u ∙ c.if-used-eq1.true) (sym c.pair_holds.ensures ∙ c.if-not-pair_holds.false))
+    sym (one-pair _ (text0 c.args.row.names.now c.args.row.numbers) (text1 c.args.row.names.now c.args.row.numbers) (text2 c.args.row.names.now c.args.row.numbers) (u
+    ∙ c.if-used-eq1.true) (sym c.pair_holds.ensures ∙ c.if-not-pair_holds.false))
 
 pub returns-then-not-pair_holds-2 : goal.returns-then-not-pair_holds-2
 unfolding unpack_row
 returns-then-not-pair_holds-2 c =
     let u = sym c.used_pairs-used.ensures in
-    sym (second-fails _ (text0 c.args.row.names.now c.args.row.numbers) (text1 c.args.row.names.now c.args.row.numbers) (text2 c.args.row.names.now c.args.row.numbers) (λ e. c.if-used-eq0.false (sym u ∙ e))
+    sym (second-fails _ (text0 c.args.row.names.now c.args.row.numbers) (text1 c.args.row.names.now c.args.row.numbers)
+    (text2 c.args.row.names.now c.args.row.numbers) (λ e. c.if-used-eq0.false (sym u ∙ e))
     (λ e. c.if-used-eq1.false (sym u ∙ e)) (sym c.pair_holds.ensures ∙ c.if-not-pair_holds.false)
     (sym c.pair_holds-2.ensures ∙ c.if-not-pair_holds-2.true))
 
@@ -54,7 +57,8 @@ pub returns : goal.returns
 unfolding unpack_row
 returns c =
     let u = sym c.used_pairs-used.ensures in
-    c.pair_holds-3.ensures ∙ sym (third-decides _ (text0 c.args.row.names.now c.args.row.numbers) (text1 c.args.row.names.now c.args.row.numbers) (text2 c.args.row.names.now c.args.row.numbers) (λ e. c.if-used-eq0.false (sym u ∙ e))
+    c.pair_holds-3.ensures ∙ sym (third-decides _ (text0 c.args.row.names.now c.args.row.numbers) (text1 c.args.row.names.now c.args.row.numbers)
+    (text2 c.args.row.names.now c.args.row.numbers) (λ e. c.if-used-eq0.false (sym u ∙ e))
     (λ e. c.if-used-eq1.false (sym u ∙ e)) (λ e. c.if-used-eq2.false (sym u ∙ e))
     (sym c.pair_holds.ensures ∙ c.if-not-pair_holds.false)
     (sym c.pair_holds-2.ensures ∙ c.if-not-pair_holds-2.false))

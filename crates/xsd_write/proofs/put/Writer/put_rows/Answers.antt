@@ -4,7 +4,7 @@ use native.Mathlib.Omega.{arith}
 use Prim.Native.Nat.{◌+◌}
 use Rattle.xsd_written.specs.ByRows.{rows_text}
 use Rattle.xsd_write.specs.Texts.{as_row, row_text}
-use Rattle.xsd_write.specs.Parts.{part_rows}
+use Rattle.xsd_write.specs.Parts.{rows_of_part}
 use Rattle.xsd_write.proofs.Laws.Puts.{going_start, going_step}
 use Rattle.xsd_write.proofs.Laws.Rows.{rest-on, rest_end}
 use Rattle.xsd_write.proofs.put.Writer.put_rows.Goals as goal
@@ -15,7 +15,7 @@ loop-place-init c = going_start _ _
 pub loop-place-preserved : goal.loop-place-preserved
 loop-place-preserved c =
     let part = c.args.part.now in
-    going_step (row_text c.loop-place.pending (as_row c.at-row.result)) (rows_text c.head_after-pending.result (part_rows part (c.loop-place.place + 1))) c.loop-place.invariant
+    going_step (row_text c.loop-place.pending (as_row c.at-row.result)) (rows_text c.head_after-pending.result (rows_of_part part (c.loop-place.place + 1))) c.loop-place.invariant
     (rest-on part.rows.now part.names.now c.at-row.result c.loop-place.place part.end c.loop-place.pending
     c.head_after-pending.result c.at-row.ensures.row c.loop-place-test.true
     c.head_after-pending.ensures) c.put_row.ensures
