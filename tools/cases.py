@@ -77,8 +77,8 @@ def in_definition(entry):
 def in_code(entry):
     word, form = entry
     if word == "Neither":
-        return f"    Letter::{word},"
-    return f"    Letter::{word}(Short::{['One', 'Two', 'Three'][len(form) - 1]}({', '.join(map(str, form))})),"
+        return "    None,"
+    return f"    Some(Letter::{word}(Short::{['One', 'Two', 'Three'][len(form) - 1]}({', '.join(map(str, form))}))),"
 
 
 def texts(entries):
@@ -87,7 +87,7 @@ def texts(entries):
     rows[-1] += " []"
     return {
         "crates/names/specs/Cases.antt": ("case_table =\n", "\n", "\n".join(rows)),
-        "crates/names/src/cases.rt": ("static CASES: [Letter; 256] = [\n", "\n];", "\n".join(map(in_code, entries))),
+        "crates/names/src/cases.rt": ("static CASES: [Option<Letter>; 256] = [\n", "\n];", "\n".join(map(in_code, entries))),
     }
 
 

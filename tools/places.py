@@ -24,7 +24,7 @@ import collections
 import pathlib
 import re
 
-NONE = {"Bad", "Invalid", "Nothing", "Missing", "NoRoom", "Full", "End", "Wrong", "Stop", "Refused", "Refuse", "Repeated", "Unknown"}
+NONE = {"Neither", "Bad", "Invalid", "Nothing", "Missing", "NoRoom", "Full", "End", "Wrong", "Stop", "Refused", "Refuse", "Repeated", "Unknown"}
 FLAG = {"ok": "bool", "follows": "bool", "in_words": "bool", "number": "u32"}
 NUMBER_FOR_NONE = re.compile(r"(\b(0|9|16|19|38)\b|the largest number|past the end)[^.\n]*\b(where|if|for|past|when)\b", re.I)
 KEYWORDS = {"if", "else", "while", "for", "in", "loop", "match", "return", "let", "mut", "fn", "as", "true", "false", "break", "continue"}

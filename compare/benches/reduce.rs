@@ -1,12 +1,13 @@
-//! Benchmark of `lubiksan_reduce` and `lubiksan_graph_form` on chains of types that run forwards and backwards, in the largest room, the
-//! least of 2,001 times each. Made by `.ci/archive`; run by `cargo bench --features ours --bench reduce`.
+//! Benchmark of `lubiksan_reduce` and `lubiksan_graph_form` on chains of types that run forwards and backwards, in the room of the graph, the
+//! least of 2,001 times each; and on chains of types whose names all stand in one bucket of the index of names. Made by `.ci/archive`; run by `cargo bench --features ours --bench reduce`.
 
 use std::hint::black_box;
 use std::time::{Duration, Instant};
 
+use compare::crowded::crowded;
 use compare::paper::sheet::{Row, Sheet};
 use compare::reduce::call::{form, reduce};
-use compare::reduce::graphs::{chain, exact, sheet_of};
+use compare::reduce::graphs::{chain, chain_of, exact, sheet_of};
 
 const ROUNDS: usize = 2_001;
 
@@ -16,6 +17,13 @@ fn main() {
         let count = (rows - 3) / 2;
         speed(rows, "forwards", &chain(count, false));
         speed(rows, "backwards", &chain(count, true));
+    }
+    for count in [600, 2_000] {
+        let mut names = crowded(count + 1);
+        speed(2 * count, "names of one bucket", &chain_of(&names, false));
+        names.sort();
+        let falling = "names of one bucket, entered in falling order";
+        speed(2 * count, falling, &chain_of(&names, true));
     }
 }
 

@@ -23,6 +23,7 @@
 //! | `parsers` | quick-xml's events as a tape, and the verdicts of expat and libxml2 |
 //! | `patterns` | the pattern call compared with an Earley parser and a descent over the productions |
 //! | `reduce` | the reduction of a graph to what its roots use, and a graph's form, compared with the model of order 6 |
+//! | `crowded` | names that all stand in one bucket of the index of names |
 //! | `schemas` | where the real schemas stand |
 //! | `events` | the events of an XML text |
 //! | `prints` | the printing program: what it prints by the model, and inputs to try |
@@ -39,6 +40,7 @@ pub mod cases;
 pub mod checks;
 #[cfg(feature = "ours")]
 pub mod columns;
+pub mod crowded;
 pub mod definitions;
 mod derived;
 pub mod events;

@@ -11,7 +11,7 @@ type Group = fn() -> Vec<Tally>;
 
 /// All of them.
 pub fn run() -> ExitCode {
-    let groups: [Group; 9] = [
+    let groups: [Group; 10] = [
         groups::small,
         groups::spelled,
         groups::any,
@@ -20,6 +20,7 @@ pub fn run() -> ExitCode {
         groups::ordered,
         groups::lengths,
         groups::largest,
+        groups::crowded,
         of_schemas,
     ];
     let running = groups.map(thread::spawn);

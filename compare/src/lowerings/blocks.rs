@@ -1,6 +1,7 @@
 //! Types of one name in graphs that are too small for all heads at once: the search goes block by block, half as many heads as the table has numbers.
 
 use super::check::{sheet_of, Checks, Room};
+use crate::crowded::{crowded, parted};
 use crate::paper::sheet::Row;
 use crate::paper::state::State;
 use crate::random::Random;
@@ -22,6 +23,7 @@ pub fn compare() -> Vec<Tally> {
     );
     every_pair(&mut checks);
     every_graph(&mut checks);
+    one_bucket(&mut checks);
     checks.tallies()
 }
 
@@ -94,5 +96,69 @@ fn every_graph(checks: &mut Checks) {
             };
             checks.lower(&sheet, room);
         }
+    }
+}
+
+/// Heads whose names all stand in one bucket of the index, around the number from which it is kept in order, in three orders, every third name with an
+/// underscore; none of them twice, or two, before and behind that number and in another block.
+fn one_bucket(checks: &mut Checks) {
+    for count in [15, 16, 17, 18, 33, HEADS, 600] {
+        let mut names = crowded(count);
+        for order in 0..3 {
+            match order {
+                0 => {}
+                1 => names.sort(),
+                _ => names.reverse(),
+            }
+            for kinds in [1, 3] {
+                let last = count - 1;
+                let pairs = [
+                    (0, 0),
+                    (0, 1),
+                    (0, 14),
+                    (14, last),
+                    (0, 15),
+                    (15, 16),
+                    (0, 16),
+                    (16, 17),
+                    (0, last),
+                    (last - 1, last),
+                ];
+                for (first, second) in pairs.into_iter().filter(|(_, second)| *second <= last) {
+                    crowd(checks, &names, kinds, (first, second));
+                }
+            }
+        }
+    }
+}
+
+/// These heads, the second of the two places with the name of the first, in the smallest graph, in one with a table a little longer than the scratch, in one
+/// that takes few blocks, with the longest scratch, and in one with room.
+fn crowd(checks: &mut Checks, names: &[String], kinds: usize, (first, second): (usize, usize)) {
+    let name = |at: usize| {
+        let name = &names[if at == second { first } else { at }];
+        match at % 3 {
+            0 => parted(name),
+            _ => name.clone(),
+        }
+    };
+    let heads = (0..names.len())
+        .map(|at| head(at % kinds, &name(at)))
+        .collect();
+    let sheet = sheet_of(&state(heads));
+    let count = names.len();
+    for (rows, scratch) in [
+        (20, 64),
+        (70, 64),
+        (20 + 10 * (count / 4), 64),
+        (20, 4_096),
+        (40 * count + 40, 64),
+    ] {
+        let room = Room {
+            rows,
+            names: 20_000,
+            scratch,
+        };
+        checks.lower(&sheet, room);
     }
 }

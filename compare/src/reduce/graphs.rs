@@ -187,15 +187,17 @@ fn random_reference(random: &mut Random, row: Row) -> Row {
 
 /// A chain of types, each with one field, from the first to the last; `backwards` the first stands last.
 pub fn chain(count: usize, backwards: bool) -> Vec<Row> {
-    let mut types: Vec<Vec<Row>> = (0..count)
-        .map(|k| {
-            let (name, next) = (format!("T{k}"), format!("T{}", k + 1));
-            vec![Row::new(3, &[&name]), Row::new(9, &["F", "f", &next])]
-        })
-        .collect();
+    let names: Vec<String> = (0..=count).map(|k| format!("T{k}")).collect();
+    chain_of(&names, backwards)
+}
+
+/// The same of types of these names, of which the last is only led to.
+pub fn chain_of(names: &[String], backwards: bool) -> Vec<Row> {
+    let link = |pair: &[String]| vec![Row::new(3, &[&pair[0]]), Row::new(9, &["F", "f", &pair[1]])];
+    let mut types: Vec<Vec<Row>> = names.windows(2).map(link).collect();
     if backwards {
         types.reverse();
     }
-    let front = front(&["T0"]);
+    let front = front(&[&names[0]]);
     front.into_iter().chain(types.concat()).collect()
 }

@@ -10,6 +10,7 @@ use super::graphs::{
 };
 use super::model::{by_passes, by_queue, form_number, reduced};
 use crate::cases::schemas_under;
+use crate::crowded;
 use crate::events::{events_of_xml, pieces};
 use crate::grapher;
 use crate::paper::agree::ROOMY;
@@ -400,6 +401,65 @@ fn heads(compared: &mut Compared) {
         rows.push(Row::new(3, &["A"]));
         rows.push(Row::new(9, &["x", &"y".repeat(length), "B"]));
         compared.rooms(&rows, true);
+    }
+}
+
+/// Types whose names all stand in one bucket of the index, around the number from which it is kept in order, in three orders; other types before, between or
+/// behind them; references to the next one and to a name of that bucket which no type has; one name twice, before and behind that number.
+pub fn crowded() -> Vec<Tally> {
+    let mut compared = Compared::new("types of one bucket, in three orders, with one name twice");
+    for count in [15, 16, 17, 18, 40, 600] {
+        let mut names = crowded::crowded(count + 1);
+        let absent = names.pop().unwrap_or_default();
+        for order in 0..3 {
+            match order {
+                0 => {}
+                1 => names.sort(),
+                _ => names.reverse(),
+            }
+            // With three others behind each, 600 types have more rows than a graph.
+            for &others in [0, 1, 3].iter().take(if count == 600 { 2 } else { 3 }) {
+                crowd(&mut compared, &names, &absent, others);
+            }
+        }
+    }
+    compared.tallies()
+}
+
+/// Each type leads to the next one and to a name that no type has, or to the first; between two of them `others` of other names. Then two have one name.
+fn crowd(compared: &mut Compared, names: &[String], absent: &str, others: usize) {
+    let rows = |names: &[String]| {
+        let types = (0..names.len()).flat_map(|at| {
+            let next = names.get(at + 1).map_or(absent, |name| name);
+            let to = [Some(next), Some([absent, &names[0]][at % 2])];
+            let other = |k| with_references(k, &format!("Other{at}To{k}"), [Some(next), None]);
+            let own = with_references(at, &names[at], to);
+            [own, (0..others).flat_map(other).collect()].concat()
+        });
+        let roots = [
+            names[0].as_str(),
+            &crowded::parted(&names[names.len() / 2]),
+            absent,
+        ];
+        [front(&roots), types.collect()].concat()
+    };
+    let both = names.len() <= 40;
+    compared.rooms(&rows(names), both);
+    let last = names.len() - 1;
+    for (first, second) in [
+        (0, 1),
+        (0, 14),
+        (13, 14),
+        (0, last),
+        (15, 16),
+        (16, 17),
+        (last - 1, last),
+    ] {
+        if first < second && second <= last {
+            let mut twice = names.to_vec();
+            twice[second] = names[first].clone();
+            compared.rooms(&rows(&twice), false);
+        }
     }
 }
 

@@ -4,7 +4,7 @@
 
 ghost use Rattle.std.specs.Prelude.{◌≡◌, ◌<◌, length, map, get_or};
 ghost use Rattle.builtin.specs.Builtin.{map_builtin, reference};
-ghost use Rattle.builtin.specs.Answers.{of_builtin, listed, named, entry_at, slot_of, place_of};
+ghost use Rattle.builtin.specs.Answers.{of_builtin, listed_entry, named_entry, entry_at, slot_of, builtin_place};
 
 use text::{byte_at, local_name};
 
@@ -143,15 +143,15 @@ fn slot_of(word: &[u8]) -> usize
 }
 
 // Where in the list the one name stands that the word can be.
-fn place_of(word: &[u8]) -> Option<usize>
-    ensures { result ≡ place_of word.now }
+fn builtin_place(word: &[u8]) -> Option<usize>
+    ensures { result ≡ builtin_place word.now }
 {
     PLACES[slot_of(word)]
 }
 
 fn entry_of(list: &[(&'static [u8], Builtin)], k: usize) -> (&'static [u8], Builtin)
     requires { k < length list.now }
-    ensures { listed result ≡ get_or (map listed list.now) k (listed result) }
+    ensures { listed_entry result ≡ get_or (map listed_entry list.now) k (listed_entry result) }
 {
     list[k]
 }
@@ -159,7 +159,7 @@ fn entry_of(list: &[(&'static [u8], Builtin)], k: usize) -> (&'static [u8], Buil
 // The name and the type at a place in the list.
 fn entry_at(k: usize) -> (&'static [u8], Builtin)
     requires { k < 38 }
-    ensures { listed result ≡ named (entry_at k) }
+    ensures { listed_entry result ≡ named_entry (entry_at k) }
 {
     entry_of(&BUILTINS, k)
 }
@@ -168,7 +168,7 @@ pub fn map_builtin(name: &[u8]) -> Option<Builtin>
     ensures { of_builtin result ≡ map_builtin name.now }
 {
     let word = local_name(name);
-    let (builtin_name, builtin) = entry_at(place_of(word)?);
+    let (builtin_name, builtin) = entry_at(builtin_place(word)?);
     (word == builtin_name).then_some(builtin)
 }
 

@@ -6,7 +6,7 @@
 use Rattle.std.specs.Prelude.{◌≡◌, ℕ, Bool, ◌&&◌, List, length, ◌==◌, if◌then◌else◌}
 use Rattle.sheet.specs.Lengths.{sheet_lengths}
 use Rattle.sheet.specs.Returned.{accepted, bad_length}
-use Rattle.columns.specs.Columns.{columns_of, rows_of}
+use Rattle.columns.specs.Columns.{columns_of, rows_of_columns}
 
 -- "1 refuses a length, or two unequal lengths"
 unfoldable pub same_lengths : ℕ → ℕ → Bool
@@ -28,4 +28,4 @@ abbrev pub ColumnsIs : List ℕ → List ℕ → ℕ → ℕ → List ℕ → Ty
 ColumnsIs rows before number place after = ◌≡◌ {A = Turned} (record { number = number; place = place; target = after }) (turned columns_of rows before)
 
 abbrev pub RowsIs : List ℕ → List ℕ → ℕ → ℕ → List ℕ → Type 0
-RowsIs columns before number place after = ◌≡◌ {A = Turned} (record { number = number; place = place; target = after }) (turned rows_of columns before)
+RowsIs columns before number place after = ◌≡◌ {A = Turned} (record { number = number; place = place; target = after }) (turned rows_of_columns columns before)

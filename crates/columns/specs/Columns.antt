@@ -8,7 +8,7 @@
 --     changed       what stands for the number of row r in its column c
 --     column_at, columns_of    the columns: number k is of column k / height and row k % height
 --     restored      the number of row r and column c, by its column's running sum
---     row_at, rows_of    the rows: number k is of row k / 10 and column k % 10
+--     row_number_at, rows_of_columns  the rows: number k is of row k / 10 and column k % 10
 use Rattle.std.specs.Prelude.{ℕ, zero, suc, ◌+◌, ◌-◌, ◌*◌, ◌/◌, ◌%◌, List, [], ◌∷◌, ◌++◌, length, slice_index}
 use Rattle.sheet.specs.Limits.{row_numbers}
 
@@ -50,9 +50,9 @@ unfoldable pub restored : List ℕ → ℕ → ℕ → ℕ
 restored columns c zero = in_column columns c 0
 restored columns c (suc r) = plus (restored columns c r) (in_column columns c (suc r))
 
-unfoldable pub row_at : List ℕ → ℕ → ℕ
-row_at columns k = restored columns (k % row_numbers) (k / row_numbers)
+unfoldable pub row_number_at : List ℕ → ℕ → ℕ
+row_number_at columns k = restored columns (k % row_numbers) (k / row_numbers)
 
 -- "The inverse restores the rows."
-unfoldable pub rows_of : List ℕ → List ℕ
-rows_of columns = up_to (length columns) (row_at columns)
+unfoldable pub rows_of_columns : List ℕ → List ℕ
+rows_of_columns columns = up_to (length columns) (row_number_at columns)

@@ -1,7 +1,7 @@
 -- Examples of both calls by computation.
 --     three, three_columns    three rows, and their columns worked out by hand
 use Rattle.std.specs.Prelude.{◌≡◌, ℕ, List, [], ◌∷◌, ◌++◌, replicate, refl}
-use Rattle.columns.specs.Columns.{columns_of, rows_of}
+use Rattle.columns.specs.Columns.{columns_of, rows_of_columns}
 use Rattle.columns.specs.Call.{turned}
 use Rattle.columns.specs.Unfold.{computes}
 
@@ -29,7 +29,7 @@ three-columns : columns_of three ≡ three_columns
 unfolding computes three three_columns
 three-columns = refl
 
-three-rows : rows_of three_columns ≡ three
+three-rows : rows_of_columns three_columns ≡ three
 unfolding computes three three_columns
 three-rows = refl
 
@@ -43,7 +43,7 @@ one-row : turned columns_of (replicate 10 3) (replicate 10 7) ≡ record { numbe
 unfolding computes
 one-row = refl
 
-no_rows : turned rows_of (replicate 21 3) (replicate 21 7) ≡ record { number = 1; place = 0; target = replicate 21 7 }
+no_rows : turned rows_of_columns (replicate 21 3) (replicate 21 7) ≡ record { number = 1; place = 0; target = replicate 21 7 }
 unfolding computes
 no_rows = refl
 

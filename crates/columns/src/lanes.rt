@@ -9,7 +9,6 @@ use std::simd::prelude::*;
 pub type Square = (u32x4, u32x4, u32x4, u32x4);
 
 // Four vectors that stand `step` numbers apart.
-#[inline(always)]
 pub fn read_square(s: &[u32], from: usize, step: usize) -> Square
     requires { from + 3 * step + 4 ≤ length s.now }
     ensures { (result.0 ≡ chunk from 4 s.now) × (result.1 ≡ chunk (from + step) 4 s.now) × (result.2 ≡ chunk (from + 2 * step) 4 s.now) × (result.3 ≡ chunk (from + 3 * step) 4 s.now) }
@@ -21,7 +20,6 @@ pub fn read_square(s: &[u32], from: usize, step: usize) -> Square
     (first, second, third, fourth)
 }
 
-#[inline(always)]
 pub fn write_square(square: Square, out: &mut [u32], from: usize, step: usize)
     requires { from + 3 * step + 4 ≤ length out.old }
     ensures { out.new ≡ square_at from step out.old square.0 square.1 square.2 square.3 }
@@ -34,7 +32,6 @@ pub fn write_square(square: Square, out: &mut [u32], from: usize, step: usize)
 }
 
 // Rows and columns exchanged.
-#[inline(always)]
 pub fn turned(square: Square) -> Square
     ensures { (result.0 ≡ across 0 square.0 square.1 square.2 square.3) × (result.1 ≡ across 1 square.0 square.1 square.2 square.3)
         × (result.2 ≡ across 2 square.0 square.1 square.2 square.3) × (result.3 ≡ across 3 square.0 square.1 square.2 square.3) }
@@ -48,7 +45,6 @@ pub fn turned(square: Square) -> Square
 }
 
 // The wrapping difference of each lane: a vector's `-` wraps.
-#[inline(always)]
 pub fn difference(x: u32x4, above: u32x4) -> u32x4
     ensures { result ≡ zip2 minus x above }
 {
@@ -56,7 +52,6 @@ pub fn difference(x: u32x4, above: u32x4) -> u32x4
 }
 
 // The wrapping sum of each lane: a vector's `+` wraps.
-#[inline(always)]
 pub fn sum(above: u32x4, x: u32x4) -> u32x4
     ensures { result ≡ zip2 plus above x }
 {

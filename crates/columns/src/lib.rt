@@ -1,12 +1,14 @@
 // Order 10: rows of ten numbers as ten columns of differences, and back. Both ways turn squares of four rows and four columns, `lanes`, four columns in a pass
 // over the rows: columns 0 to 3, 4 to 7 and 6 to 9, so that columns 6 and 7 are written twice with the same numbers. The rows behind the last square, three at
 // most, follow number by number.
+// The first column of four is a number, and c ≤ 6 a clause: a type for it would be made of 0, 4 and 6 at three calls. Height, column and target are three arguments, as in the
+// definitions (`Strip`, `Corner`): each step changes the target and leaves the two numbers.
 #![tactic(auto)]
 
 ghost use Rattle.std.specs.Prelude.{◌≡◌, ◌+◌, ◌*◌, ◌<◌, ◌≤◌, length, true, false, MatchResult};
 ghost use Rattle.sheet.specs.Returned.{refusal_number, bad_length};
 ghost use Rattle.sheet.specs.Results.{returned_number};
-ghost use Rattle.columns.specs.Columns.{changed, columns_of, restored, row_at, rows_of};
+ghost use Rattle.columns.specs.Columns.{changed, columns_of, restored, row_number_at, rows_of_columns};
 ghost use Rattle.columns.specs.Call.{same_lengths, ColumnsIs, RowsIs};
 ghost use Rattle.columns.specs.Filled.{Filled, Sized, above_in, by_column, by_row, fours, Corner, Strip, row_above, sums_above};
 
@@ -136,8 +138,8 @@ fn put_four_of_rows(columns: &[u32], height: usize, c: usize, out: &mut [u32])
 
 // Row r, from the place 10 * r on.
 fn put_row(columns: &[u32], height: usize, r: usize, out: &mut [u32])
-    requires { Sized columns.now out.old height × (r < height) × Filled (row_at columns.now) (10 * r) out.old }
-    ensures { Filled (row_at columns.now) (10 * (r + 1)) out.new × (length out.new ≡ length out.old) }
+    requires { Sized columns.now out.old height × (r < height) × Filled (row_number_at columns.now) (10 * r) out.old }
+    ensures { Filled (row_number_at columns.now) (10 * (r + 1)) out.new × (length out.new ≡ length out.old) }
 {
     let from = limits::ROW * r;
     for c in 0..COLUMNS {
@@ -148,7 +150,7 @@ fn put_row(columns: &[u32], height: usize, r: usize, out: &mut [u32])
 
 fn put_rows(columns: &[u32], height: usize, out: &mut [u32])
     requires { Sized columns.now out.old height }
-    ensures { out.new ≡ rows_of columns.now }
+    ensures { out.new ≡ rows_of_columns columns.now }
 {
     put_four_of_rows(columns, height, 0, out);
     put_four_of_rows(columns, height, 4, out);

@@ -11,7 +11,7 @@ use Rattle.builtin.specs.Unfold.{computes as builtins}
 use Rattle.names.specs.Unfold.{computes as conversions}
 use Rattle.sheet.specs.Rows.{Sheet}
 use Rattle.sheet.specs.Lengths.{Answer}
-use Rattle.xsd_types.specs.Examples.Sheets.{sheet, junk, blank, answer}
+use Rattle.xsd_types.specs.Examples.Sheets.{filled_sheet, junk, blank, answer}
 use Rattle.xsd_parser.specs.Read.{ReadAnswer}
 use Rattle.xsd_parser.specs.Examples.Tapes.{Tag, reads, taped}
 use Rattle.ir_types.specs.Unfold.{computes as graphs}
@@ -28,7 +28,7 @@ unfoldable pub junk_kept : ℕ → ℕ → ℕ → ℕ → Lowered
 junk_kept number r n k = record { answer = answer number 0; graph = junk r n; scratch = replicate k 7 }
 
 unfoldable pub zeros_graph : ℕ → ℕ → Sheet
-zeros_graph r n = sheet r n [] ""
+zeros_graph r n = filled_sheet r n [] ""
 
 pub record Compiled : Type 0 where
   pub reading : Answer

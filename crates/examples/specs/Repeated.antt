@@ -1,7 +1,7 @@
 -- Names that come twice, by computation.
 use Rattle.std.specs.Prelude.{◌≡◌, refl, [], ◌∷◌}
-use Rattle.xsd_types.specs.Examples.Sheets.{line, no_namespace, sheet}
-use Rattle.xsd_parser.specs.Examples.Tapes.{start, empty, close, typed, based, schema, simple_type, complex_type}
+use Rattle.xsd_types.specs.Examples.Sheets.{line, no_namespace, filled_sheet}
+use Rattle.xsd_parser.specs.Examples.Tapes.{start, empty, close, type_attributes, based, schema, simple_type, complex_type}
 use Rattle.examples.specs.Calls.{lowered_by_call, zeros_graph, compiles, compiled, called}
 
 -- ---- 20: "Lowering refuses when two finished types normalise to the same name"; "graph and scratch zero"
@@ -9,7 +9,7 @@ use Rattle.examples.specs.Calls.{lowered_by_call, zeros_graph, compiles, compile
 -- "the row of the first head, in lowering's order, whose name came before": the second A, behind a type with a child
 second-of-a-name :
     compiles (schema ∷ simple_type "A" ∷ empty "restriction" (based "string") ∷ close ∷ complex_type "C" ∷ start "sequence" []
-    ∷ empty "element" (typed "e" "t") ∷ close ∷ close ∷ complex_type "A" ∷ close ∷ []) 40 9 64
+    ∷ empty "element" (type_attributes "e" "t") ∷ close ∷ close ∷ complex_type "A" ∷ close ∷ []) 40 9 64
     ≡ compiled 11 (lowered_by_call 20 5 (zeros_graph 40 9) 64)
 unfolding called
 second-of-a-name = refl
@@ -46,21 +46,21 @@ twenty-before-fifteen = refl
 -- "two finished types": an open one is none
 open-apart :
     compiles (schema ∷ complex_type "A" ∷ close ∷ complex_type "A" ∷ []) 30 1 64
-    ≡ compiled 4 (lowered_by_call 0 3 (sheet 30 1 (line 0 3 1 0 1 0 0 0 0 0 ∷ no_namespace ∷ line 8 0 1 0 0 0 0 0 0 1 ∷ []) "A") 64)
+    ≡ compiled 4 (lowered_by_call 0 3 (filled_sheet 30 1 (line 0 3 1 0 1 0 0 0 0 0 ∷ no_namespace ∷ line 8 0 1 0 0 0 0 0 0 1 ∷ []) "A") 64)
 unfolding called
 open-apart = refl
 
 -- an element and a type of one name
 element-apart :
-    compiles (schema ∷ empty "element" (typed "A" "A") ∷ complex_type "A" ∷ close ∷ []) 40 3 64
-    ≡ compiled 4 (lowered_by_call 0 4 (sheet 40 3 (line 0 4 3 1 1 0 0 0 0 0 ∷ no_namespace ∷ line 2 0 1 1 1 0 0 0 0 1 ∷ line 8 2 1 0 0 0 0 0 0 2 ∷ []) "AAA") 64)
+    compiles (schema ∷ empty "element" (type_attributes "A" "A") ∷ complex_type "A" ∷ close ∷ []) 40 3 64
+    ≡ compiled 4 (lowered_by_call 0 4 (filled_sheet 40 3 (line 0 4 3 1 1 0 0 0 0 0 ∷ no_namespace ∷ line 2 0 1 1 1 0 0 0 0 1 ∷ line 8 2 1 0 0 0 0 0 0 2 ∷ []) "AAA") 64)
 unfolding called
 element-apart = refl
 
 -- roots of one name are two
 same-roots :
-    compiles (schema ∷ empty "element" (typed "D" "T") ∷ empty "element" (typed "D" "T") ∷ []) 40 4 64
-    ≡ compiled 3 (lowered_by_call 0 4 (sheet 40 4 (line 0 4 4 2 0 0 0 0 0 0 ∷ no_namespace ∷ line 2 0 1 1 1 0 0 0 0 1
+    compiles (schema ∷ empty "element" (type_attributes "D" "T") ∷ empty "element" (type_attributes "D" "T") ∷ []) 40 4 64
+    ≡ compiled 3 (lowered_by_call 0 4 (filled_sheet 40 4 (line 0 4 4 2 0 0 0 0 0 0 ∷ no_namespace ∷ line 2 0 1 1 1 0 0 0 0 1
     ∷ line 2 2 1 3 1 0 0 0 0 2 ∷ []) "DTDT") 64)
 unfolding called
 same-roots = refl

@@ -1,10 +1,10 @@
 -- The printed specimen of paper 01, whole: clear, read, lower, in buffers of 40 numbers and 10 bytes.
 use Rattle.std.specs.Prelude.{ℕ, ◌≡◌, refl, true, List, [], ◌∷◌, replicate}
 use Rattle.text.specs.Text.{Text, bytes}
-use Rattle.xsd_types.specs.Examples.Sheets.{line, no_namespace, sheet, junk, answer}
+use Rattle.xsd_types.specs.Examples.Sheets.{line, no_namespace, filled_sheet, junk, answer}
 use Rattle.xsd_types.specs.Clear.{Cleared, clear}
 use Rattle.xsd_parser.specs.Read.{ReadAnswer, read}
-use Rattle.xsd_parser.specs.Examples.Tapes.{gives}
+use Rattle.xsd_parser.specs.Examples.Tapes.{read_gives}
 use Rattle.ir_types.specs.Form.{graph_form}
 use Rattle.ir_lower.specs.Call.{Lowered, lowering}
 use Rattle.examples.specs.Calls.{lowered_by_call, zeros_graph, called}
@@ -29,12 +29,12 @@ unfolding clearing called
 clears = refl
 
 -- "read 0 3"
-reads-it : reading ≡ gives 0 3 (sheet 40 10 (line 0 3 2 0 0 1 3 0 0 0 ∷ no_namespace ∷ line 2 0 1 1 1 0 0 0 0 1 ∷ []) "DT")
+reads-it : reading ≡ read_gives 0 3 (filled_sheet 40 10 (line 0 3 2 0 0 1 3 0 0 0 ∷ no_namespace ∷ line 2 0 1 1 1 0 0 0 0 1 ∷ []) "DT")
 unfolding text marks clearing reading called
 reads-it = refl
 
 -- "lower 0 3", "the graph's used rows, its used names": the three rows and DT, zeros behind them, the scratch zero
-lowers-it : graph ≡ lowered_by_call 0 3 (sheet 40 10 (line 0 3 2 1 0 0 0 0 0 0 ∷ line 1 0 0 0 0 0 0 0 0 0 ∷ line 2 0 1 1 1 0 0 0 0 1 ∷ []) "DT") 64
+lowers-it : graph ≡ lowered_by_call 0 3 (filled_sheet 40 10 (line 0 3 2 1 0 0 0 0 0 0 ∷ line 1 0 0 0 0 0 0 0 0 0 ∷ line 2 0 1 1 1 0 0 0 0 1 ∷ []) "DT") 64
 unfolding text marks clearing reading graph called
 lowers-it = refl
 
@@ -44,7 +44,7 @@ unfolding text marks clearing reading graph called
 has-form = refl
 
 -- a second piece, empty, changes nothing: "read 0 0"
-reads_nothing : read reading.sheet [] [] ≡ gives 0 0 reading.sheet
+reads_nothing : read reading.sheet [] [] ≡ read_gives 0 0 reading.sheet
 unfolding text marks clearing reading called
 reads_nothing = refl
 

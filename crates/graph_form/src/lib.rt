@@ -55,7 +55,7 @@ pub fn is_form(rows: &[u32], names: &[u8]) -> bool
 
 // Whether the lengths are those of a sheet and it is in the form.
 #[tactic(auto, unfolding(crate::specs::Call::form_answer, sheet::specs::Lengths::lengths_of, sheet::specs::Lengths::good_lengths))]
-pub fn judge(rows: &[u32], names: &[u8]) -> Result<(), Refusal>
+pub fn judge_graph(rows: &[u32], names: &[u8]) -> Result<(), Refusal>
     ensures { FormIs (sheet rows.now names.now) (answered (returned_number result) 0) }
 {
     if !sheet_lengths(rows.len(), names.len()) {

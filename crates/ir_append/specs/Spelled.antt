@@ -1,5 +1,5 @@
 -- The texts of a graph's row, from the first and second text of a schema's row.
---     spelled_text       the bytes of a text in its spelling
+--     text_by_spelling   the bytes of a text in its spelling
 --     is_nothing         there is no text
 --     spelled_texts      the text, or none
 --     recipe_row         the row that a recipe gives
@@ -11,21 +11,21 @@ use Rattle.sheet.specs.Rows.{Row, row}
 use Rattle.ir_append.specs.declared.Spelling.{Spelling}
 use Rattle.ir_append.specs.declared.Recipe.{Recipe}
 
-abbrev pub spelled_text : Option Spelling → Text → Text → Text
-spelled_text None t u = []
-spelled_text (Some Spelling.First) t u = t
-spelled_text (Some Spelling.FirstNormalized) t u = normalize_type_name t
-spelled_text (Some Spelling.FirstSnake) t u = xml_to_snake_case t
-spelled_text (Some Spelling.FirstPascal) t u = code_to_pascal_case t
-spelled_text (Some Spelling.Second) t u = u
-spelled_text (Some Spelling.SecondNormalized) t u = normalize_type_name u
+abbrev pub text_by_spelling : Option Spelling → Text → Text → Text
+text_by_spelling None t u = []
+text_by_spelling (Some Spelling.First) t u = t
+text_by_spelling (Some Spelling.FirstNormalized) t u = normalize_type_name t
+text_by_spelling (Some Spelling.FirstSnake) t u = xml_to_snake_case t
+text_by_spelling (Some Spelling.FirstPascal) t u = code_to_pascal_case t
+text_by_spelling (Some Spelling.Second) t u = u
+text_by_spelling (Some Spelling.SecondNormalized) t u = normalize_type_name u
 
 abbrev pub is_nothing : Option Spelling → Bool
 is_nothing None = true
 is_nothing (Some how) = false
 
 unfoldable pub spelled_texts : Option Spelling → Text → Text → List Text
-spelled_texts k t u = if is_nothing k then [] else spelled_text k t u ∷ []
+spelled_texts k t u = if is_nothing k then [] else text_by_spelling k t u ∷ []
 
 unfoldable pub recipe_row : Recipe → Text → Text → Row
 recipe_row p t u =

@@ -1,5 +1,5 @@
 -- A graph sheet written as a whole, into a sheet of zeros: the rows behind row 0, then row 0.
---     Cleared       a sheet of zeros, of lengths that the paper allows
+--     ClearedBuffers  a sheet of zeros, of lengths that the paper allows
 --     Begins        a writer into such a sheet: row 0 is used, and nothing else
 --     Closes        row 0 is put
 --     whole_sheet    the sheet of these rows, with so many root elements and types
@@ -9,9 +9,9 @@ use Rattle.sheet.specs.Rows.{Row, Sheet, names_of, sheet_of_rows}
 use Rattle.rows.specs.Packing.{Row0Put}
 use Rattle.ir_types.specs.Row0.{graph_row0_of, graph_row0_ten}
 use Rattle.ir_append.specs.declared.writer.GraphWriter.{GraphWriter}
-use Rattle.ir_append.specs.Row0.{row0_of}
+use Rattle.ir_append.specs.Row0.{counted_row0}
 
-pub record Cleared (rows names : List ℕ) : Type 0 where
+pub record ClearedBuffers (rows names : List ℕ) : Type 0 where
   pub rows_zero : rows ≡ replicate (length rows) 0
   pub names_zero : names ≡ replicate (length names) 0
   pub some_rows : least_rows ≤ length rows
@@ -27,7 +27,7 @@ pub record Begins (rows names : List ℕ) (w : GraphWriter) : Type 0 where
 pub record Closes (w : GraphWriter) (roots types : ℕ) (w' : GraphWriter) (place : ℕ) : Type 0 where
   pub same_rows : w'.rows.ghost_name ≡ w.rows.ghost_name
   pub same_names : w'.names.ghost_name ≡ w.names.ghost_name
-  pub row0 : Row0Put w.rows.now (row0_of w.used roots types) w'.rows.now
+  pub row0 : Row0Put w.rows.now (counted_row0 w.used roots types) w'.rows.now
   pub names_kept : w'.names.now ≡ w.names.now
   pub place_is : place ≡ w.used.rows
 

@@ -9,8 +9,8 @@ pub mod writer;
 ghost use Rattle.std.specs.Prelude.{if◌then◌else◌, Some, ◌≡◌, ◌+◌, ◌≤◌, length};
 ghost use Rattle.names.specs.Answers.{Put};
 ghost use Rattle.sheet.specs.Limits.{names_limit};
-ghost use Rattle.ir_append.specs.Spelled.{spelled_text};
-ghost use Rattle.ir_append.specs.Stored.{Stores, Spreads, row_numbers};
+ghost use Rattle.ir_append.specs.Spelled.{text_by_spelling};
+ghost use Rattle.ir_append.specs.Stored.{Stores, Spreads, recipe_numbers};
 
 use names::snake::xml_to_snake_case;
 use names::{code_to_pascal_case, normalize_type_name, put_same};
@@ -38,10 +38,10 @@ pub struct Recipe {
     pub third: Option<Spelling>,
 }
 
-// Never inlined: `put_spelled` is inlined for each of a row's three texts, and each would hold the loops of all spellings.
-#[inline(never)]
+// A text in its spelling. `put_spelled` is inlined for each of a row's three texts and this is not, with no attribute: with `inline(never)` lowering takes the same 764,399
+// instructions on pain.001.001.09 and the same stack (a library of lowering and columns).
 fn put_text(part: &mut [u8], how: Spelling, first: &[u8], second: &[u8]) -> Option<usize>
-    ensures { Put (spelled_text (Some how) first.now second.now) part.old result part.new }
+    ensures { Put (text_by_spelling (Some how) first.now second.now) part.old result part.new }
 {
     match how {
         Spelling::First => put_same(first, part),
@@ -56,7 +56,7 @@ fn put_text(part: &mut [u8], how: Spelling, first: &[u8], second: &[u8]) -> Opti
 // Inlined, down from `append_spelled`: a row asks for three texts, and has one or two.
 #[inline(always)]
 fn put_spelled(part: &mut [u8], how: Option<Spelling>, first: &[u8], second: &[u8]) -> Option<usize>
-    ensures { Put (spelled_text how first.now second.now) part.old result part.new }
+    ensures { Put (text_by_spelling how first.now second.now) part.old result part.new }
 {
     match how {
         None => Some(0),
@@ -74,7 +74,7 @@ fn put_behind(
     second: &[u8],
 ) -> Option<usize>
     requires { at ≤ length names.old }
-    ensures { Stores names.old at (spelled_text how first.now second.now) names.new result }
+    ensures { Stores names.old at (text_by_spelling how first.now second.now) names.new result }
 {
     put_spelled(&mut names[at..], how, first, second)
 }
@@ -109,7 +109,7 @@ pub fn offset(used: bool, at: usize) -> u32
 #[inline(always)]
 fn spelled_row(recipe: Recipe, at: usize, n: usize, m: usize, k: usize) -> [u32; 10]
     requires { at + (n + (m + k)) ≤ names_limit }
-    ensures { result ≡ row_numbers recipe at n m k }
+    ensures { result ≡ recipe_numbers recipe at n m k }
 {
     [
         recipe.tag,

@@ -4,7 +4,7 @@ ghost use Rattle.sheet.specs.Limits.{rows_limit, names_limit};
 ghost use Rattle.sheet.specs.Rows.{row};
 ghost use Rattle.ir_append.specs.Spelled.{recipe_row, orderly};
 
-use crate::row0::row0_of;
+use crate::row0::counted_row0;
 use crate::{Recipe, put_texts, spelled_row};
 use number::{CharacterCount, DigitCount};
 use rows::numbers::{Used, halves};
@@ -101,7 +101,7 @@ impl<'a> GraphWriter<'a> {
         requires { (10 ≤ length self.old.rows.now) × (roots ≤ 65536) × (types ≤ 65536) }
         ensures { Closes self.old roots types self.new result }
     {
-        put_row0(self.rows, row0_of(self.used, roots, types));
+        put_row0(self.rows, counted_row0(self.used, roots, types));
         self.used.rows
     }
 }

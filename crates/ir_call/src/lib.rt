@@ -1,5 +1,5 @@
 // The lowering call: the graph of a schema sheet written into a graph sheet. The graph's two buffers and the scratch stand apart, as the C call lends them; what
-// each step knows of them and of the part (`Cleared`, the scratch's room, `Finished`) stands in its contract, since it changes from step to step.
+// each step knows of them and of the part (`ClearedBuffers`, the scratch's room, `Finished`) stands in its contract, since it changes from step to step.
 #![tactic(auto)]
 
 ghost use Rattle.std.specs.Prelude.{ℕ, true, ◌≡◌, ◌≤◌, ◌<◌, List, [], length, MatchOption};
@@ -12,8 +12,8 @@ ghost use Rattle.ir_types.specs.Types.{TypeGraph};
 ghost use Rattle.ir_lower.specs.Repeated.{first_repeated};
 ghost use Rattle.ir_lower.specs.Call.{LowerIs, zeros, graph_written, repeated_or_written, scratch_least, lower_finished, lower_state};
 ghost use Rattle.ir_rows.specs.Parts.{part_rows, part_heads};
-ghost use Rattle.ir_index.specs.Blocks.{row_of};
-ghost use Rattle.ir_append.specs.Whole.{Cleared};
+ghost use Rattle.ir_index.specs.Blocks.{found_row};
+ghost use Rattle.ir_append.specs.Whole.{ClearedBuffers};
 ghost use Rattle.ir_call.specs.Steps.{SizedSheet, lowered_sheets, Finished, LowersState, GraphOf, GraphWritten};
 
 use ir_append::writer::{GraphWriter, zero_graph};
@@ -38,7 +38,7 @@ fn write_graph(
     graph_rows: &mut [u32],
     graph_names: &mut [u8],
 ) -> Option<usize>
-    requires { Finished part.now × Cleared graph_rows.old graph_names.old }
+    requires { Finished part.now × ClearedBuffers graph_rows.old graph_names.old }
     ensures { (g : TypeGraph) → GraphOf part.now g → GraphWritten g graph_rows.old graph_names.old result graph_rows.new graph_names.new }
 {
     let mut writer = GraphWriter::start(graph_rows, graph_names);
@@ -48,7 +48,7 @@ fn write_graph(
 
 // From 15 on. The scratch is left to be cleared, as in the steps that lead here.
 fn lower_distinct(part: &SheetPart<'_>, graph_rows: &mut [u32], graph_names: &mut [u8]) -> Answer
-    requires { Finished part.now × Cleared graph_rows.old graph_names.old }
+    requires { Finished part.now × ClearedBuffers graph_rows.old graph_names.old }
     ensures { (g : TypeGraph) (scratch : List ℕ) → GraphOf part.now g
         → lowered_sheets (answer_of result) graph_rows.new graph_names.new (zeros scratch) ≡ graph_written g (sheet graph_rows.old graph_names.old) scratch }
 {
@@ -63,7 +63,7 @@ fn lower_distinct(part: &SheetPart<'_>, graph_rows: &mut [u32], graph_names: &mu
 // one block, and few of them into one bucket. A table of zeros is left so.
 fn search_in(part: &SheetPart<'_>, table: &mut [u32]) -> Option<usize>
     requires { Finished part.now × (2 ≤ length table.old) }
-    ensures found { first_repeated [] (part_heads part.now) ≡ row_of result }
+    ensures found { first_repeated [] (part_heads part.now) ≡ found_row result }
     ensures kept { table.old ≡ zeros table.old → table.new ≡ table.old }
 {
     let used = table.len().min(8 * part.end);
@@ -75,7 +75,7 @@ fn search_in(part: &SheetPart<'_>, table: &mut [u32]) -> Option<usize>
 // The table is the longer of the two: the graph's rows, so that a graph with room for the types takes one block, or the scratch.
 fn search(part: &SheetPart<'_>, graph_rows: &mut [u32], scratch: &mut [u32]) -> Option<usize>
     requires { Finished part.now × (scratch_least ≤ length scratch.old) }
-    ensures found { first_repeated [] (part_heads part.now) ≡ row_of result }
+    ensures found { first_repeated [] (part_heads part.now) ≡ found_row result }
     ensures kept { graph_rows.old ≡ zeros graph_rows.old → graph_rows.new ≡ graph_rows.old }
 {
     if scratch.len() < graph_rows.len() {
@@ -91,7 +91,7 @@ fn lower_known(
     graph_names: &mut [u8],
     scratch: &mut [u32],
 ) -> Answer
-    requires { Finished part.now × Cleared graph_rows.old graph_names.old × (scratch_least ≤ length scratch.old) }
+    requires { Finished part.now × ClearedBuffers graph_rows.old graph_names.old × (scratch_least ≤ length scratch.old) }
     ensures { (g : TypeGraph) → GraphOf part.now g → lowered_sheets (answer_of result) graph_rows.new graph_names.new (zeros scratch.old)
         ≡ repeated_or_written (first_repeated [] (part_heads part.now)) g (sheet graph_rows.old graph_names.old) scratch.old }
 {
@@ -123,7 +123,7 @@ fn lower_cleared(
     graph_names: &mut [u8],
     scratch: &mut [u32],
 ) -> Answer
-    requires { Finished part.now × Cleared graph_rows.old graph_names.old × (scratch_least ≤ length scratch.old) }
+    requires { Finished part.now × ClearedBuffers graph_rows.old graph_names.old × (scratch_least ≤ length scratch.old) }
     ensures { (s : State) → LowersState part.now root_seen s → lowered_sheets (answer_of result) graph_rows.new graph_names.new (zeros scratch.old)
         ≡ lower_finished s (sheet graph_rows.old graph_names.old) scratch.old }
 {

@@ -5,11 +5,11 @@ use Rattle.std.specs.Prelude.{ℕ, List, Bool}
 use Rattle.rows.specs.declared.part.SheetPart.{SheetPart}
 use Rattle.ir_rows.specs.Types.{is_simple, is_complex, places_of}
 use Rattle.ir_rows.specs.Parts.{part_rows}
-use Rattle.ir_checks.specs.declared.Kind.{Kind}
+use Rattle.ir_checks.specs.declared.TypeKind.{TypeKind}
 
-unfoldable pub is_kind : Kind → ℕ → Bool
-is_kind Kind.Simple tag = is_simple tag
-is_kind Kind.Complex tag = is_complex tag
+unfoldable pub is_kind : TypeKind → ℕ → Bool
+is_kind TypeKind.Simple tag = is_simple tag
+is_kind TypeKind.Complex tag = is_complex tag
 
-unfoldable pub kind_places : SheetPart → Kind → ℕ → List ℕ
+unfoldable pub kind_places : SheetPart → TypeKind → ℕ → List ℕ
 kind_places part kind p = places_of (is_kind kind) p (part_rows part p)

@@ -7,30 +7,31 @@ ghost use Rattle.ir_rows.specs.Lowered.{root_rows};
 ghost use Rattle.ir_rows.specs.Types.{is_type, type_places};
 ghost use Rattle.ir_checks.specs.Kinds.{is_kind};
 
+use rows::count::count_tags;
 use rows::form::in_range;
 use rows::part::SheetPart;
 use xsd_types::tags;
 
 #[derive(Clone, Copy)]
-pub enum Kind {
+pub enum TypeKind {
     Simple,
     Complex,
 }
 
 // The head of a finished type of one kind.
-pub fn is_kind(kind: Kind, tag: u32) -> bool
+pub fn is_kind(kind: TypeKind, tag: u32) -> bool
     ensures { result ≡ is_kind kind tag }
 {
     match kind {
-        Kind::Simple => tag == tags::SIMPLE_TYPE,
-        Kind::Complex => in_range(tags::SEQUENCE, tags::ANY, tag),
+        TypeKind::Simple => tag == tags::SIMPLE_TYPE,
+        TypeKind::Complex => in_range(tags::SEQUENCE, tags::ANY, tag),
     }
 }
 
 fn is_type(tag: u32) -> bool
     ensures { result ≡ is_type tag }
 {
-    is_kind(Kind::Simple, tag) | is_kind(Kind::Complex, tag)
+    is_kind(TypeKind::Simple, tag) | is_kind(TypeKind::Complex, tag)
 }
 
 // How many types there are.
@@ -38,7 +39,7 @@ pub fn count_types(part: &SheetPart<'_>) -> usize
     requires { 2 ≤ part.now.end }
     ensures { (names : List ℕ) → result ≡ length (type_places 2 (rows_from part.now.rows.now names 2 part.now.end)) }
 {
-    (2..part.end).filter(|p| is_type(part.tag(*p))).count()
+    count_tags(part, is_type)
 }
 
 // How many elements there are.
@@ -46,7 +47,5 @@ pub fn count_roots(part: &SheetPart<'_>) -> usize
     requires { 2 ≤ part.now.end }
     ensures { (names : List ℕ) → result ≡ length (root_rows (rows_from part.now.rows.now names 2 part.now.end)) }
 {
-    (2..part.end)
-        .filter(|p| part.tag(*p) == tags::ELEMENT)
-        .count()
+    count_tags(part, |tag| tag == tags::ELEMENT)
 }

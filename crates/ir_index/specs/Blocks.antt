@@ -1,6 +1,6 @@
 -- A block of heads, those behind it, and the search block by block.
 --     Within        a search among the turns of a part
---     row_of        the row that was found, as the definitions take it
+--     found_row     the row that was found, as the definitions take it
 --     or_else       the first of two that is there
 --     NoneCame      no head's name is among those of a block
 --     HeadsIn       a writer's table has heads of the part entered; places_held: their places; names_held: their names
@@ -22,7 +22,7 @@ use Rattle.ir_types.specs.Distinct.{among}
 use Rattle.ir_lower.specs.Repeated.{Head, first_repeated}
 use Rattle.name_index.specs.declared.Table.{Table}
 use Rattle.name_index.specs.declared.TableWriter.{TableWriter}
-use Rattle.name_index.specs.Index.{places_in, Index, IndexIn}
+use Rattle.name_index.specs.Index.{places_in, SameAnswers, Index, IndexIn}
 use Rattle.ir_index.specs.declared.Repeated.{Repeated}
 use Rattle.ir_index.specs.declared.Block.{Block}
 use Rattle.ir_index.specs.declared.Came.{Came}
@@ -33,9 +33,9 @@ pub record Within (part : SheetPart) (s : Search) : Type 0 where
   pub few : length part.rows.now ≤ rows_limit
   pub inside : s.limit ≤ 2 * (part.end - 2)
 
-unfoldable pub row_of : Option ℕ → Found ℕ
-row_of None = none
-row_of (Some r) = some r
+unfoldable pub found_row : Option ℕ → Found ℕ
+found_row None = none
+found_row (Some r) = some r
 
 unfoldable pub or_else : Found ℕ → Found ℕ → Found ℕ
 or_else none o = o
@@ -55,14 +55,14 @@ abbrev pub names_held : SheetPart → TableWriter → List Text
 names_held part w = map (head_text part) (places_held w)
 
 abbrev pub HeadsOf : SheetPart → Table → Type 0
-HeadsOf part table = Index part.rows.now part.names.now true table.numbers.now table.buckets table.entries
+HeadsOf part table = Index part.rows.now part.names.now true table.numbers.now table.buckets table.entries table.sorted
 
 abbrev pub names_in : SheetPart → Table → List Text
 names_in part table = map (head_text part) (places_in table.buckets table.entries table.numbers.now)
 
 pub record TurnTaken (part : SheetPart) (w : TableWriter) (turn : ℕ) (w' : TableWriter) : Type 0 where
   pub once : first_repeated (names_held part w) (turn_heads part turn) ≡ none
-  pub places : places_held w' ≡ places_held w ++ with_place (head_place part turn) []
+  pub answers : SameAnswers (head_text part) (places_held w') (places_held w ++ with_place (head_place part turn) [])
   pub index : HeadsIn part w'
 
 abbrev pub TurnEntered : SheetPart → TableWriter → ℕ → TableWriter → Result (Unit {0}) Repeated → Type 0
@@ -80,8 +80,8 @@ pub record BlockTaken (part : SheetPart) (numbers : List ℕ) (buckets : ℕ) (s
   pub onward : s.from < b.next
   pub inside : b.next ≤ s.limit
   pub once : first_repeated [] (heads_from part s.from (b.next - s.from)) ≡ none
-  pub places : places_in buckets b.entries numbers ≡ places_from part s.from (b.next - s.from)
-  pub index : Index part.rows.now part.names.now true numbers buckets b.entries
+  pub answers : SameAnswers (head_text part) (places_in buckets b.entries numbers) (places_from part s.from (b.next - s.from))
+  pub index : Index part.rows.now part.names.now true numbers buckets b.entries b.sorted
 
 abbrev pub BlockIs : SheetPart → List ℕ → ℕ → Search → Result Block Repeated → Type 0
 BlockIs part numbers buckets s (Ok b) = BlockTaken part numbers buckets s b
@@ -104,7 +104,7 @@ abbrev pub FirstIs : SheetPart → List Text → Search → Option Came → Type
 FirstIs part block s r = MatchOption r (NoneCame block (heads_from part s.from (s.limit - s.from))) (λ c. FirstCame part block s c)
 
 abbrev pub left_behind : SheetPart → List Text → Search → Found ℕ
-left_behind part block s = or_else (first_repeated block (heads_from part s.from (s.limit - s.from))) (row_of s.found)
+left_behind part block s = or_else (first_repeated block (heads_from part s.from (s.limit - s.from))) (found_row s.found)
 
 abbrev pub left_of : SheetPart → Search → Found ℕ
 left_of part s = left_behind part [] s

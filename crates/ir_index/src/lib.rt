@@ -1,6 +1,8 @@
 // The first head of a finished type, in lowering's order, whose name came before (order 4: "Lowering refuses when two finished types normalise to the same
 // name"), by a table of any length: a block of heads is entered, those behind it are asked against it, and then comes the next block. Behind the first head that
 // came with a block nothing need be looked at again. That the rows are within the limit is a clause: a part is of rows of any length.
+// So are that a turn and a search are of the part (`turn < 2 * (end - 2)`, `Within`), and that the table holds heads of the part (`HeadsIn`, `HeadsOf`): the table is changed by
+// some steps and read by others, so a struct of part, search and table would be made anew between them. The lent numbers are of any length, and two bounds say which serve.
 #![tactic(auto)]
 
 ghost use Rattle.std.specs.Prelude.{◌≡◌, ◌-◌, ◌+◌, ◌*◌, ◌≤◌, ◌<◌, [], length};
@@ -9,9 +11,9 @@ ghost use Rattle.ir_lower.specs.Repeated.{first_repeated};
 ghost use Rattle.ir_rows.specs.Parts.{part_heads};
 ghost use Rattle.name_index.specs.Index.{Starts};
 ghost use Rattle.ir_index.specs.Heads.{kind_place, head_place};
-ghost use Rattle.ir_index.specs.Blocks.{Within, row_of, HeadsIn, HeadsOf, names_in, EntersTurn, BlockIs, AskedIs, FirstIs, SearchedBehind, SearchedOn};
+ghost use Rattle.ir_index.specs.Blocks.{Within, found_row, HeadsIn, HeadsOf, names_in, EntersTurn, BlockIs, AskedIs, FirstIs, SearchedBehind, SearchedOn};
 
-use ir_checks::{Kind, is_kind};
+use ir_checks::{TypeKind, is_kind};
 use name_index::{Heads, Table, TableWriter, find};
 use rows::part::SheetPart;
 
@@ -21,11 +23,12 @@ struct Repeated {
     place: usize,
 }
 
-// A block that is entered: the turn behind it, and how many entries it has.
+// A block that is entered: the turn behind it, how many entries it has, and whether they stand in order.
 #[derive(Clone, Copy)]
 struct Block {
     next: usize,
     entries: usize,
+    sorted: bool,
 }
 
 // A head whose name came with a block: its turn and its row.
@@ -43,7 +46,7 @@ struct Search {
     found: Option<usize>,
 }
 
-fn kind_at(part: &SheetPart<'_>, kind: Kind, place: usize) -> Option<usize>
+fn kind_at(part: &SheetPart<'_>, kind: TypeKind, place: usize) -> Option<usize>
     requires { place < part.now.end }
     ensures { result ≡ kind_place part.now kind place }
 {
@@ -61,9 +64,9 @@ fn head_at(part: &SheetPart<'_>, turn: usize) -> Option<usize>
 {
     let half = part.end - 2;
     if turn < half {
-        return kind_at(part, Kind::Simple, turn + 2);
+        return kind_at(part, TypeKind::Simple, turn + 2);
     }
-    kind_at(part, Kind::Complex, turn - half + 2)
+    kind_at(part, TypeKind::Complex, turn - half + 2)
 }
 
 // Enters the head of a turn, if there is one, or answers its row where its name came before.
@@ -111,6 +114,7 @@ fn enter_block(
     Ok(Block {
         next,
         entries: table.entries,
+        sorted: table.sorted,
     })
 }
 
@@ -173,6 +177,7 @@ fn search_block(part: &SheetPart<'_>, numbers: &mut [u32], search: Search) -> Se
                 numbers,
                 buckets,
                 entries: block.entries,
+                sorted: block.sorted,
             };
             let behind = Search {
                 from: block.next,
@@ -193,7 +198,7 @@ fn search_block(part: &SheetPart<'_>, numbers: &mut [u32], search: Search) -> Se
 pub fn first_repeated(part: &SheetPart<'_>, numbers: &mut [u32]) -> Option<usize>
     requires part_rows { (2 ≤ part.now.end) × (length part.now.rows.now ≤ rows_limit) }
     requires numbers_long { (2 ≤ length numbers.old) × (length numbers.old ≤ rows_limit) }
-    ensures { first_repeated [] (part_heads part.now) ≡ row_of result }
+    ensures { first_repeated [] (part_heads part.now) ≡ found_row result }
 {
     let mut search = Search {
         from: 0,

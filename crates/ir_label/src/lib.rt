@@ -11,6 +11,7 @@ ghost use Rattle.sheet.specs.Rows.{bit};
 ghost use Rattle.ir_label.specs.Spot.{in_words, IsSpot};
 
 use ir_types::tags;
+use rows::numbers::Pair;
 use rows::ten::{Ten, ten_at};
 use sheet::limits;
 use sheet::refusal::{Refusal, returned_number};
@@ -40,18 +41,16 @@ pub struct Spot {
     pub len: usize,
 }
 
-fn name_spot(names: &[u8], at: u32, len: u32) -> Result<Spot, Refusal>
-    ensures { IsSpot (named_label names.now at len) result }
+fn name_spot(names: &[u8], pair: Pair) -> Result<Spot, Refusal>
+    ensures { IsSpot (named_label names.now pair.at pair.len) result }
 {
-    let at = at as usize;
-    let len = len as usize;
-    if names.len() < at + len {
+    if (names.len() < pair.at) || (names.len() - pair.at < pair.len) {
         return Err(Refusal::BadLabel);
     }
     Ok(Spot {
         buffer: Buffer::Names,
-        at,
-        len,
+        at: pair.at,
+        len: pair.len,
     })
 }
 
@@ -93,9 +92,9 @@ fn row_spot(names: &[u8], words: &[u8], t: Ten) -> Result<Spot, Refusal>
         return word_spot(words, t.a);
     }
     if t.tag == tags::VALUE_WITH_ATTRIBUTES {
-        name_spot(names, t.at1, t.len1)
+        name_spot(names, t.pair(1))
     } else {
-        name_spot(names, t.at2, t.len2)
+        name_spot(names, t.pair(2))
     }
 }
 

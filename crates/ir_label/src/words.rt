@@ -10,10 +10,7 @@ const WORDS: usize = 5;
 fn line_length(line: &[u8]) -> usize
     ensures { result ≡ line_length line.now }
 {
-    match line.iter().position(|b| *b == b'\n') {
-        Some(i) => i,
-        None => line.len(),
-    }
+    line.iter().position(|b| *b == b'\n').unwrap_or(line.len())
 }
 
 pub fn line_end(words: &[u8], at: usize) -> usize

@@ -1,7 +1,7 @@
 -- A graph's rows as the namespace and the roots, then the types. Paper 01: "Then roots, then types, children behind each."
 --     GraphType     a type's head and the rows behind it
 --     Parted        the rows before the first type, and the types
---     parted        rows so parted; rows_of_types, rows_of: the way back
+--     parted        rows so parted; rows_of_types, rows_of_parted: the way back
 --     type_name      a type's name; root_type: the name, normalised, of a root's type
 --     reference_in   the name in a row's named reference; references: those of a type
 use Rattle.std.specs.Prelude.{List, [], ◌∷◌, ◌++◌, ◌&&◌, ◌||◌, eqb, if◌then◌else◌}
@@ -20,22 +20,22 @@ pub record Parted : Type 0 where
   pub front : List Row
   pub types : List GraphType
 
-unfoldable pub add_row : Row → Parted → Parted
-add_row r p =
+unfoldable pub add_graph_row : Row → Parted → Parted
+add_graph_row r p =
     if is_type_tag r.tag
     then record { front = []; types = record { head = r; children = p.front } ∷ p.types }
     else record { front = r ∷ p.front; types = p.types }
 
 unfoldable pub parted : List Row → Parted
 parted [] = record { front = []; types = [] }
-parted (r ∷ rs) = add_row r (parted rs)
+parted (r ∷ rs) = add_graph_row r (parted rs)
 
 unfoldable pub rows_of_types : List GraphType → List Row
 rows_of_types [] = []
 rows_of_types (t ∷ ts) = t.head ∷ (t.children ++ rows_of_types ts)
 
-unfoldable pub rows_of : Parted → List Row
-rows_of p = p.front ++ rows_of_types p.types
+unfoldable pub rows_of_parted : Parted → List Row
+rows_of_parted p = p.front ++ rows_of_types p.types
 
 unfoldable pub type_name : GraphType → Text
 type_name t = text 0 t.head

@@ -2,11 +2,11 @@
 -- children; row 1 and the roots behind it are the first group. to[i] is the place of the head that row i leads to, 0 for nowhere.
 --     head_at        the row at a place is a type's head; head_flags: the tags, 1 of a head and 0 of another row, of the first n rows
 --     InGroup       a row of the group of the head at p; Leads: a row of that group leads to q
---     Reached       the places that are reached from row 1
---     ones          how many numbers are not 0
+--     ReachedPlace  the places that are reached from row 1
+--     marked_count  how many numbers are not 0
 --     Marked, Targeted    what marking a place, and what a row leads to, does
 --     Queued        a place is among the first n of the queue
---     Marking       the marked places are those in the queue, and all are reached; Done: what the first k of the queue lead to is marked
+--     Marking       the marked places are those in the queue, and all are reached; QueueMarked: what the first k of the queue lead to is marked
 --     Room          the lengths, and that what is marked is counted
 --     Grown         marks stay, and so does the queue
 --     Led, GroupDone, AllDone    what the rows of a group so far, those of a group, and the queue so far lead to is marked
@@ -35,17 +35,17 @@ pub record Leads (tags to : List ℕ) (p q : ℕ) : Type 0 where
   pub target : get_or to row 0 ≡ q
   pub some : 0 < q
 
-pub data Reached (tags to : List ℕ) : ℕ → Type 0 where
-  start : Reached tags to 1
-  onward : (p q : ℕ) → Reached tags to p → Leads tags to p q → Reached tags to q
+pub data ReachedPlace (tags to : List ℕ) : ℕ → Type 0 where
+  start : ReachedPlace tags to 1
+  onward : (p q : ℕ) → ReachedPlace tags to p → Leads tags to p q → ReachedPlace tags to q
 
 abbrev pub pick {ℓ} : {A : Type ℓ} → Bool → A → A → A
 pick true a b = a
 pick false a b = b
 
-unfoldable pub ones : List ℕ → ℕ
-ones [] = 0
-ones (m ∷ ms) = pick (eqb m 0) (ones ms) (suc (ones ms))
+unfoldable pub marked_count : List ℕ → ℕ
+marked_count [] = 0
+marked_count (m ∷ ms) = pick (eqb m 0) (marked_count ms) (suc (marked_count ms))
 
 -- what marking a place does: nothing where it is marked
 pub record Marked (marks queue : List ℕ) (n place : ℕ) (marks' queue' : List ℕ) (n' : ℕ) : Type 0 where
@@ -60,15 +60,15 @@ pub record Queued (queue : List ℕ) (n q : ℕ) : Type 0 where
 
 -- the marked places are those in the queue, and all are reached
 pub record Marking (tags to marks queue : List ℕ) (n : ℕ) : Type 0 where
-  pub each : (q : ℕ) → 0 < get_or marks q 0 → Reached tags to q
+  pub each : (q : ℕ) → 0 < get_or marks q 0 → ReachedPlace tags to q
   pub queued : (q : ℕ) → 0 < get_or marks q 0 → Queued queue n q
   pub held : (i : ℕ) → i < n → (get_or queue i 0 < length tags) × (0 < get_or marks (get_or queue i 0) 0)
-  pub count : n ≡ ones marks
+  pub count : n ≡ marked_count marks
   pub long : length tags ≤ length marks
   pub room : length marks ≤ length queue
 
 -- what the first k of the queue lead to is marked
-pub record Done (tags to marks queue : List ℕ) (k : ℕ) : Type 0 where
+pub record QueueMarked (tags to marks queue : List ℕ) (k : ℕ) : Type 0 where
   pub led : (i q : ℕ) → i < k → Leads tags to (get_or queue i 0) q → 0 < get_or marks q 0
 
 -- what marking a target does: 0 is nowhere
@@ -80,7 +80,7 @@ Targeted false marks queue n q marks' queue' n' = Marked marks queue n q marks' 
 pub record Room (tags to marks queue : List ℕ) (n : ℕ) : Type 0 where
   pub tos : length tags ≤ length to
   pub targets : (i : ℕ) → get_or to i 0 < length tags
-  pub count : n ≡ ones marks
+  pub count : n ≡ marked_count marks
   pub long : length tags ≤ length marks
   pub room : length marks ≤ length queue
   pub few : length marks ≤ 4096
@@ -104,4 +104,4 @@ pub record GroupDone (tags to : List ℕ) (p : ℕ) (marks queue : List ℕ) (n 
 pub record AllDone (tags to : List ℕ) (m q : List ℕ) (n : ℕ) (m' q' : List ℕ) (n' k : ℕ) : Type 0 where
   pub marking : Marking tags to m' q' n'
   pub grown : Grown m q n m' q' n'
-  pub done : Done tags to m' q' k
+  pub done : QueueMarked tags to m' q' k

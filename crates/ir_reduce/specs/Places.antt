@@ -1,6 +1,6 @@
 -- The rows of a graph sheet by their places, row 0 at place 0, and those that are kept.
 --     row_at         the row at place p, with its texts
---     rows_from      m rows from place p on
+--     rows_by_place  m rows from place p on
 --     keeps         whether a row is kept: a head by its mark, another row with the row before it
 --     kept_rows      those of m rows from place p on that are kept
 --     asked         the names that a row leads to: of a root its type's, normalised, of another row its references
@@ -14,9 +14,9 @@ use Rattle.ir_reduce.specs.Groups.{root_type, reference_in}
 unfoldable pub row_at : List ℕ → List ℕ → ℕ → Row
 row_at rows names p = unpack_row used_pairs names (ten (drop (10 * p) rows))
 
-unfoldable pub rows_from : (ℕ → Row) → ℕ → ℕ → List Row
-rows_from f p zero = []
-rows_from f p (suc m) = f p ∷ rows_from f (suc p) m
+unfoldable pub rows_by_place : (ℕ → Row) → ℕ → ℕ → List Row
+rows_by_place f p zero = []
+rows_by_place f p (suc m) = f p ∷ rows_by_place f (suc p) m
 
 unfoldable pub keeps : Bool → ℕ → ℕ → Bool
 keeps before tag mark = if is_type_tag tag then not (eqb mark 0) else before

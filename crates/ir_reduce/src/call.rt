@@ -50,13 +50,14 @@ fn reduce_form(part: &SheetPart, rows: &mut [u32], names: &mut [u8]) -> Answer
     ensures { Reduction (part_sheet part.now) (sheet rows.old names.old) (answer_of result) (sheet rows.new names.new) }
 {
     let mut numbers = [0u32; 8192];
-    let Some(entries) = index_heads(part, &mut numbers) else {
+    let Some(indexed) = index_heads(part, &mut numbers) else {
         return Err(Refusal::GraphForm.into());
     };
     let table = Table {
         numbers: &numbers,
         buckets: BUCKETS,
-        entries,
+        entries: indexed.entries,
+        sorted: indexed.sorted,
     };
     reduce_distinct(part, &table, rows, names)
 }

@@ -16,6 +16,13 @@ use sheet::limits;
 
 pub const BUCKETS: usize = 4096;
 
+// What is told of a table in which the heads are entered: how many entries it has, and whether they stand in order.
+#[derive(Clone, Copy)]
+pub struct Indexed {
+    pub entries: usize,
+    pub sorted: bool,
+}
+
 // Enters the row at a place, where it is a head, or answers None where its name came before.
 fn enter_head(part: &SheetPart, table: &mut TableWriter, place: usize) -> Option<()>
     requires index { HeadsEntered part.now table.old }
@@ -36,8 +43,8 @@ fn enter_head(part: &SheetPart, table: &mut TableWriter, place: usize) -> Option
     Some(())
 }
 
-// Enters every head, up to the first whose name came before. How many heads there are, or None where two have one name.
-pub fn index_heads(part: &SheetPart, numbers: &mut [u32]) -> Option<usize>
+// Enters every head, up to the first whose name came before. None where two have one name.
+pub fn index_heads(part: &SheetPart, numbers: &mut [u32]) -> Option<Indexed>
     requires { (length part.now.rows.now ≤ rows_limit) × (length numbers.old ≡ 8192) × (1 ≤ part.now.end) }
     ensures { HeadsIndexed part.now numbers.new result }
 {
@@ -45,7 +52,10 @@ pub fn index_heads(part: &SheetPart, numbers: &mut [u32]) -> Option<usize>
     for place in 1..part.end {
         enter_head(part, &mut table, place)?;
     }
-    Some(table.entries)
+    Some(Indexed {
+        entries: table.entries,
+        sorted: table.sorted,
+    })
 }
 
 // Where in a row the pair of the name stands that it leads to; None where it leads nowhere.
@@ -68,7 +78,7 @@ fn asked_pair(tag: u32, a: u32) -> Option<usize>
 // The place of the head that a row leads to: a root by its type's name, normalised, another row by its reference as it stands.
 fn target_at(part: &SheetPart, table: &Table, place: usize) -> Option<usize>
     requires { IsIndex part.now table.now × (place < part.now.end) }
-    ensures { result ≡ part_target part.now table.now place }
+    ensures { result ≡ part_target part.now place }
 {
     let i = limits::ROW * place;
     let tag = part.rows[i];

@@ -2,7 +2,7 @@
 ghost use Rattle.std.specs.Prelude.{true, ◌≡◌, length};
 ghost use Rattle.sheet.specs.Calls.{sheet};
 ghost use Rattle.rows.specs.Answers.{answer_of};
-ghost use Rattle.ir_append.specs.Whole.{Cleared};
+ghost use Rattle.ir_append.specs.Whole.{ClearedBuffers};
 ghost use Rattle.ir_reduce.specs.Call.{lengths_fit};
 ghost use Rattle.ir_reduce.specs.Parts.{part_sheet, IsGraph, part_kept};
 ghost use Rattle.ir_reduce.specs.Steps.{WrittenIs, Placed};
@@ -17,7 +17,7 @@ use sheet::refusal::Refusal;
 // The rows that are kept, then row 0, which says how much is used: how many rows are, or `None` where there is no room. Then the target is left to be cleared.
 // Beside `ir_call`'s `write_graph`, which says why.
 fn write_graph(part: &SheetPart, marks: &[u8], rows: &mut [u32], names: &mut [u8]) -> Option<usize>
-    requires { IsGraph part.now × Cleared rows.old names.old × (length marks.now ≡ 4096) }
+    requires { IsGraph part.now × ClearedBuffers rows.old names.old × (length marks.now ≡ 4096) }
     ensures { WrittenIs (part_kept part.now marks.now) rows.old names.old rows.new names.new result }
 {
     let mut writer = GraphWriter::start(rows, names);

@@ -1,4 +1,5 @@
 // What is reached from row 1, by a queue of the places that are marked. `to[row]` is the place of the head that a row leads to, 0 for nowhere.
+// That the marks are 4,096 at most, so that a place is a u32, and that there is room for those of the rows, are clauses: the queue borrows arrays that its callers own.
 ghost use Rattle.std.specs.Prelude.{◌≡◌, ◌&&◌, ◌≤◌, ◌<◌, ltb, length, get_or};
 ghost use Rattle.ir_reduce.specs.Marks.{head_at};
 ghost use Rattle.ir_reduce.specs.Queue.{MarksPlace, MarksTarget, HasRoom, MarksGroup, MarksAll};

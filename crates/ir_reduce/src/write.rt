@@ -1,4 +1,5 @@
 // The rows that are kept, copied with their texts behind each other. The texts of a row stand side by side in the names, so they are copied as one.
+// That there is a mark for each row is a clause: rows and marks are lent apart, to callers too, and a part is of rows of any length.
 ghost use Rattle.std.specs.Prelude.{◌≡◌, true, List, [], ◌∷◌, map, ℕ, ◌+◌, ◌-◌, ◌*◌, ◌≤◌, ◌<◌, length};
 ghost use Rattle.text.specs.Text.{between};
 ghost use Rattle.sheet.specs.Rows.{Row};

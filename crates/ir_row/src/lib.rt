@@ -87,17 +87,13 @@ fn refers_to(tag: u32) -> bool
 fn reference_text(reference: u32) -> Option<Spelling>
     ensures { result ≡ reference_spelling reference }
 {
-    if reference == 0 {
-        Some(Spelling::SecondNormalized)
-    } else {
-        None
-    }
+    (reference == 0).then_some(Spelling::SecondNormalized)
 }
 
 fn namespace_text(a: u32) -> Option<Spelling>
     ensures { result ≡ namespace_spelling a }
 {
-    if a == 1 { Some(Spelling::Second) } else { None }
+    (a == 1).then_some(Spelling::Second)
 }
 
 fn with_texts(tag: u32, a: u32, c: u32, first: Spelling, second: Option<Spelling>) -> Recipe

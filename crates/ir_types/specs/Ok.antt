@@ -8,7 +8,7 @@ use Rattle.std.specs.Prelude.{ℕ, ◌^◌, Bool, true, ◌&&◌, ltb}
 use Rattle.std.proofs.Math.Option.{some, none}
 use Rattle.text.specs.Text.{every, is_graph_text, between}
 use Rattle.sheet.specs.Rows.{Row}
-use Rattle.sheet.specs.Form.{counted}
+use Rattle.sheet.specs.Form.{texts_counted}
 use Rattle.ir_types.specs.Types.{TypeRef, Cardinality, FieldDef, VariantDef, Constraint, CodeValue, AttrDef, TypeDef, RootElement, TypeGraph}
 use Rattle.ir_types.specs.Form.{used_pairs, form_a, form_b, form_c}
 
@@ -68,4 +68,4 @@ unfoldable pub row_small : Row → Bool
 row_small r = is_small r.tag && is_small r.a && is_small r.b && is_small r.c
 
 unfoldable pub row_ok : Row → Bool
-row_ok r = counted used_pairs r && row_form r && row_small r && every is_graph_text r.texts
+row_ok r = texts_counted used_pairs r && row_form r && row_small r && every is_graph_text r.texts

@@ -9,7 +9,7 @@ ghost use Rattle.ir_append.specs.Grows.{Grows};
 ghost use Rattle.ir_write.specs.Kinds.{one_rows, kind_rows};
 
 use ir_append::writer::GraphWriter;
-use ir_checks::{Kind, is_kind};
+use ir_checks::{TypeKind, is_kind};
 use ir_row::put_lowered;
 use rows::part::SheetPart;
 use xsd_good::forms::row;
@@ -78,7 +78,7 @@ fn put_roots(writer: &mut GraphWriter<'_>, part: &SheetPart<'_>) -> Option<()>
 fn put_one(
     writer: &mut GraphWriter<'_>,
     part: &SheetPart<'_>,
-    kind: Kind,
+    kind: TypeKind,
     place: usize,
 ) -> Option<()>
     requires { place < part.now.end }
@@ -90,7 +90,7 @@ fn put_one(
     put_type(writer, part, place)
 }
 
-fn put_kind(writer: &mut GraphWriter<'_>, part: &SheetPart<'_>, kind: Kind) -> Option<()>
+fn put_kind(writer: &mut GraphWriter<'_>, part: &SheetPart<'_>, kind: TypeKind) -> Option<()>
     ensures { Grows writer.old (kind_rows part.now kind 2) writer.new result }
 {
     for place in 2..part.end {
@@ -103,8 +103,8 @@ fn put_kind(writer: &mut GraphWriter<'_>, part: &SheetPart<'_>, kind: Kind) -> O
 fn put_types(writer: &mut GraphWriter<'_>, part: &SheetPart<'_>) -> Option<()>
     ensures { Grows writer.old (part_types part.now (part_places part.now)) writer.new result }
 {
-    put_kind(writer, part, Kind::Simple)?;
-    put_kind(writer, part, Kind::Complex)
+    put_kind(writer, part, TypeKind::Simple)?;
+    put_kind(writer, part, TypeKind::Complex)
 }
 
 // The namespace's row, the elements' and the types' are added, or `None` is answered where there is no room.

@@ -14,5 +14,5 @@ pub extern "C" fn lubiksan_graph_form(
     ensures { FormIs (sheet graph_rows.now graph_names.now) (answered result place.new) }
 {
     *place = 0;
-    returned_number(graph_form::judge(graph_rows, graph_names))
+    returned_number(graph_form::judge_graph(graph_rows, graph_names))
 }

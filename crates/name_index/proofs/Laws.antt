@@ -3,4 +3,5 @@ pub mod Hash
 pub mod Places
 pub mod Answers
 pub mod Buckets
+pub mod Sorted
 pub mod Named

@@ -9,7 +9,7 @@
 --     in_table      the text is one character from U+0080 to U+017F
 --     is_upper_char, is_lower_char    its class, as Rust's is_uppercase and is_lowercase; where there is no character, neither
 use Rattle.std.specs.Prelude.{ℕ, ◌+◌, ◌*◌, ◌-◌, List, [], ◌∷◌, Bool, true, false, get_or}
-use Rattle.text.specs.Text.{Text, is_pair, is_upper, is_lower, upper, lower}
+use Rattle.text.specs.Text.{Text, is_pair, is_upper, is_lower, upper_byte, lower_byte}
 use Rattle.text.specs.Characters.{characters}
 
 pub data Case : Type 0 where
@@ -108,12 +108,12 @@ is_lower_letter Neither = false
 
 unfoldable pub upper_of : Text → Text
 upper_of [] = []
-upper_of (b ∷ []) = upper b ∷ []
+upper_of (b ∷ []) = upper_byte b ∷ []
 upper_of (b ∷ t ∷ s) = raised (case_of b t) (b ∷ t ∷ s)
 
 unfoldable pub lower_of : Text → Text
 lower_of [] = []
-lower_of (b ∷ []) = lower b ∷ []
+lower_of (b ∷ []) = lower_byte b ∷ []
 lower_of (b ∷ t ∷ s) = lowered (case_of b t) (b ∷ t ∷ s)
 
 unfoldable pub first_lower : Text → Text

@@ -5,18 +5,18 @@
 --     byte_snake_from    the snake form of s where prev is the byte before it
 use Rattle.std.specs.Prelude.{ℕ, [], ◌∷◌, map, Bool, ◌&&◌, ◌||◌, if◌then◌else◌}
 use Prim.Native.Char.{code}
-use Rattle.text.specs.Text.{Text, is_upper, is_lower, upper, lower, contains, split, join, first}
+use Rattle.text.specs.Text.{Text, is_upper, is_lower, upper_byte, lower_byte, contains, split, join, first}
 
 unfoldable pub byte_capital : (ℕ → ℕ) → Text → Text
 byte_capital rest [] = []
-byte_capital rest (b ∷ s) = upper b ∷ map rest s
+byte_capital rest (b ∷ s) = upper_byte b ∷ map rest s
 
 unfoldable pub byte_normalize : Text → Text
 byte_normalize name =
     if contains (code "_") name then join (map (byte_capital (λ b. b)) (split (code "_") name)) else name
 
 unfoldable pub byte_pascal : Text → Text
-byte_pascal value = join (map (byte_capital lower) (split (code "-") value))
+byte_pascal value = join (map (byte_capital lower_byte) (split (code "-") value))
 
 unfoldable pub byte_starts : ℕ → ℕ → ℕ → Bool
 byte_starts prev c next = is_upper c && (is_lower prev || (is_upper prev && is_lower next))
@@ -25,8 +25,8 @@ unfoldable pub byte_snake_from : ℕ → Text → Text
 byte_snake_from prev [] = []
 byte_snake_from prev (c ∷ s) =
     if byte_starts prev c (first s)
-    then code "_" ∷ lower c ∷ byte_snake_from c s
-    else lower c ∷ byte_snake_from c s
+    then code "_" ∷ lower_byte c ∷ byte_snake_from c s
+    else lower_byte c ∷ byte_snake_from c s
 
 unfoldable pub byte_snake : Text → Text
 byte_snake name = byte_snake_from 0 name

@@ -9,7 +9,7 @@ use Rattle.text.specs.Text.{Text}
 use Rattle.text.specs.Characters.{characters}
 use Rattle.names.specs.Names.{normalize_type_name, snake_from}
 use Rattle.names.specs.Scans.{segments}
-use Rattle.names.specs.Short.{short_text, bytes_of}
+use Rattle.names.specs.Short.{short_bytes, form_bytes}
 use Rattle.names.specs.declared.same.Spelled.{Spelled}
 use Rattle.names.specs.declared.reading.Reading.{Reading}
 use Rattle.names.specs.declared.segments.SegmentBytes.{SegmentBytes}
@@ -24,7 +24,7 @@ spelled_text s = spelled s.normalised s.name.now
 abbrev pub form_left : Reading → Text
 form_left Reading.Whole = []
 form_left Reading.Segments = []
-form_left (Reading.Form form) = short_text form
+form_left (Reading.Form form) = short_bytes form
 
 abbrev pub reading_of : Bool → Reading
 reading_of parted = if parted then Reading.Segments else Reading.Whole
@@ -38,4 +38,4 @@ abbrev pub bytes_left : SegmentBytes → Text
 bytes_left s = form_left s.reading ++ rest_left s.reading s.separator s.lowers s.up s.rest.now
 
 abbrev pub snake_left : SnakeBytes → Text
-snake_left s = bytes_of s.form ++ snake_from (bytes_of s.before) (characters s.rest.now)
+snake_left s = form_bytes s.form ++ snake_from (form_bytes s.before) (characters s.rest.now)

@@ -1,6 +1,6 @@
-// The bytes that an iterator gives, put into a lent part.
+// Bytes put into a lent part one by one: those that an iterator gives.
 ghost use Rattle.text.specs.Text.{Text};
-ghost use Rattle.names.specs.Answers.{Put};
+ghost use Rattle.names.specs.Answers.{PutByte, Put};
 
 // An iterator over the bytes of a text: its state shows which are left. It can always be asked, gives the first of them, and ends.
 pub trait TextBytes: Iterator<Item = u8> + Drop {
@@ -14,18 +14,26 @@ pub trait TextBytes: Iterator<Item = u8> + Drop {
     ghost gives: { (s : Self) (b : Option ℕ) (t : Self) → Self.next_gives s b t → YieldsFirst left s b t };
 }
 
-// All bytes that are left. Inlined, so that each iterator has a loop of its own. The count is kept by hand and not by `enumerate`, since it is the answer behind the loop.
+// A byte at a place of the part: the place behind it is the answer.
+#[inline(always)]
+pub fn put_byte(out: &mut [u8], at: usize, b: u8) -> Option<usize>
+    ensures { PutByte out.old at b result out.new }
+{
+    if out.len() <= at {
+        return None;
+    }
+    out[at] = b;
+    Some(at + 1)
+}
+
+// All bytes that are left. Inlined, so that each iterator has a loop of its own.
 #[inline(always)]
 pub fn put_bytes<B: TextBytes>(bytes: B, out: &mut [u8]) -> Option<usize>
     ensures { Put (B.left bytes) out.old result out.new }
 {
-    let mut n = 0;
+    let mut end = 0;
     for b in bytes {
-        if out.len() <= n {
-            return None;
-        }
-        out[n] = b;
-        n += 1;
+        end = put_byte(out, end, b)?;
     }
-    Some(n)
+    Some(end)
 }

@@ -2,7 +2,7 @@
 ghost use Rattle.std.specs.Prelude.{◌≡◌, ◌<◌, ◌≤◌, ◌∷◌, [], ◌&&◌, length, get_or, MatchOption};
 ghost use Rattle.text.specs.Text.{is_tail};
 ghost use Rattle.text.specs.Characters.{is_lead, characters, is_byte};
-ghost use Rattle.names.specs.Short.{short_text, bytes_of};
+ghost use Rattle.names.specs.Short.{short_bytes, form_bytes};
 
 use text::{ascii, byte_at};
 
@@ -17,7 +17,7 @@ pub enum Short {
 impl Short {
     // The first byte, and those behind it.
     pub fn split_first(self) -> (u8, Option<Short>)
-        ensures { short_text self ≡ result.0 ∷ bytes_of result.1 }
+        ensures { short_bytes self ≡ result.0 ∷ form_bytes result.1 }
     {
         match self {
             Short::One(b) => (b, None),
@@ -29,7 +29,7 @@ impl Short {
     // The first character of a form.
     #[tactic(auto, unfolding(text::specs::Characters::characters))]
     pub fn first_character(self) -> Short
-        ensures { short_text result ≡ get_or (characters (short_text self)) 0 [] }
+        ensures { short_bytes result ≡ get_or (characters (short_bytes self)) 0 [] }
     {
         match self {
             Short::One(b) => Short::One(b),
@@ -45,7 +45,7 @@ impl Short {
 
     #[tactic(auto, unfolding(text::specs::Characters::is_byte))]
     pub fn is_byte(self, b: u8) -> bool
-        ensures { result ≡ is_byte b (short_text self) }
+        ensures { result ≡ is_byte b (short_bytes self) }
     {
         match self {
             Short::One(c) => c == b,
@@ -65,7 +65,7 @@ fn is_two(lead: u8, tail: u8) -> bool
 
 // The character that begins with the byte b, and what is behind it.
 pub fn character(b: u8, rest: &[u8]) -> (Short, &[u8])
-    ensures { (characters (b ∷ rest.now) ≡ short_text result.0 ∷ characters result.1.now) × (length result.1.now ≤ length rest.now) }
+    ensures { (characters (b ∷ rest.now) ≡ short_bytes result.0 ∷ characters result.1.now) × (length result.1.now ≤ length rest.now) }
 {
     let tail = byte_at(rest, 0);
     if is_two(b, tail) {
@@ -77,7 +77,7 @@ pub fn character(b: u8, rest: &[u8]) -> (Short, &[u8])
 
 // The first character of a text, and what is behind it.
 pub fn split_character(s: &[u8]) -> Option<(Short, &[u8])>
-    ensures { MatchOption result (s.now ≡ []) (λ r. (characters s.now ≡ short_text r.0 ∷ characters r.1.now) × (length r.1.now < length s.now)) }
+    ensures { MatchOption result (s.now ≡ []) (λ r. (characters s.now ≡ short_bytes r.0 ∷ characters r.1.now) × (length r.1.now < length s.now)) }
 {
     let (&b, rest) = s.split_first()?;
     Some(character(b, rest))
@@ -85,10 +85,7 @@ pub fn split_character(s: &[u8]) -> Option<(Short, &[u8])>
 
 #[tactic(auto, unfolding(text::specs::Characters::characters))]
 pub fn first_character(s: &[u8]) -> Option<Short>
-    ensures { bytes_of result ≡ get_or (characters s.now) 0 [] }
+    ensures { form_bytes result ≡ get_or (characters s.now) 0 [] }
 {
-    match split_character(s) {
-        Some((c, _)) => Some(c),
-        None => None,
-    }
+    split_character(s).map(|(c, _)| c)
 }

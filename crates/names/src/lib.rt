@@ -16,7 +16,7 @@ ghost use Rattle.names.specs.Names.{normalize_type_name, code_to_pascal_case};
 ghost use Rattle.names.specs.Answers.{Put};
 ghost use Rattle.names.specs.Scans.{segments};
 
-use bytes::put_bytes;
+use bytes::{put_byte, put_bytes};
 use reading::Reading;
 use segments::{SegmentBytes, cased_byte};
 use text::has_byte;
@@ -45,7 +45,7 @@ fn put_segments(s: &[u8], separator: u8, lowers: bool, out: &mut [u8]) -> Option
     ensures { Put (segments separator lowers true (characters s.now)) out.old result out.new }
 {
     let mut up = true;
-    let mut n = 0;
+    let mut end = 0;
     for b in s {
         if *b >= 128 {
             return put_characters(s, separator, lowers, out);
@@ -53,15 +53,11 @@ fn put_segments(s: &[u8], separator: u8, lowers: bool, out: &mut [u8]) -> Option
         if *b == separator {
             up = true;
         } else {
-            if out.len() <= n {
-                return None;
-            }
-            out[n] = cased_byte(*b, up, lowers);
-            n += 1;
+            end = put_byte(out, end, cased_byte(*b, up, lowers))?;
             up = false;
         }
     }
-    Some(n)
+    Some(end)
 }
 
 // The text as it stands.

@@ -1,6 +1,6 @@
 // How a name is read byte by byte.
 ghost use Rattle.std.specs.Prelude.{◌≡◌};
-ghost use Rattle.names.specs.Begun.{behind};
+ghost use Rattle.names.specs.Begun.{reading_behind};
 ghost use Rattle.names.specs.Same.{reading_of};
 
 use crate::characters::Short;
@@ -14,8 +14,8 @@ pub enum Reading {
 }
 
 // By segments, behind the first byte of a form.
-pub fn behind(form: Option<Short>) -> Reading
-    ensures { result ≡ behind form }
+pub fn reading_behind(form: Option<Short>) -> Reading
+    ensures { result ≡ reading_behind form }
 {
     match form {
         Some(form) => Reading::Form(form),

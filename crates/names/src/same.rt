@@ -1,11 +1,14 @@
 // Names compared byte by byte, as they normalise or as they stand, with no space lent.
 ghost use Rattle.std.specs.Prelude.{◌≡◌};
+ghost use Rattle.std.specs.Ordering.{nat_cmp};
+ghost use Rattle.std.specs.Cmp.Lexicographic.{slice_cmp};
 ghost use Rattle.text.specs.Text.{same};
 ghost use Rattle.names.specs.Names.{normalize_type_name};
 ghost use Rattle.names.specs.Same.{bytes_left, spelled_text};
 
 use crate::reading::reading_of;
 use crate::segments::SegmentBytes;
+use std::cmp::Ordering;
 use text::has_byte;
 
 // A name, as it normalises or as it stands. The flag is the definition's: the heads of an index have it too.
@@ -35,6 +38,13 @@ impl<'a> Spelled<'a> {
         ensures { result ≡ same (spelled_text self.entry) (spelled_text other.entry) }
     {
         self.bytes().eq(other.bytes())
+    }
+
+    // How two names stand in order as they are spelled: the first byte that differs decides, and else the shorter one is first.
+    pub fn compare(self, other: Spelled) -> Ordering
+        ensures { result ≡ slice_cmp nat_cmp (spelled_text self.entry) (spelled_text other.entry) }
+    {
+        self.bytes().cmp(other.bytes())
     }
 }
 

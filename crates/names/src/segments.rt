@@ -2,19 +2,19 @@
 ghost use Rattle.std.specs.Prelude.{◌≡◌, ◌∷◌, [], ◌<◌};
 ghost use Rattle.names.specs.Scans.{cased};
 ghost use Rattle.names.specs.Begun.{Begun};
-ghost use Rattle.names.specs.Short.{short_text};
+ghost use Rattle.names.specs.Short.{short_bytes};
 
 use crate::bytes::TextBytes;
 use crate::cases::{lower_of, upper_of};
 use crate::characters::{Short, character};
-use crate::reading::{Reading, behind};
+use crate::reading::{Reading, reading_behind};
 use text::ascii::{to_lower, to_upper};
 
 // A character of a segment: in the upper form where it is the first, else as it is or in the lower form. The two flags are the definition's, and so is `lowers`
 // of `SegmentBytes`: the form as an enum or a closure would only name the same two tests again.
 #[tactic(auto, unfolding(crate::specs::Scans::cased))]
 fn cased(c: Short, up: bool, lowers: bool) -> Short
-    ensures { short_text result ≡ cased up lowers (short_text c) }
+    ensures { short_bytes result ≡ cased up lowers (short_bytes c) }
 {
     if up {
         return upper_of(c);
@@ -41,7 +41,7 @@ fn begin(b: u8, rest: &[u8], up: bool, lowers: bool) -> (u8, Reading, &[u8])
 {
     let (c, rest) = character(b, rest);
     let (b, form) = cased(c, up, lowers).split_first();
-    (b, behind(form), rest)
+    (b, reading_behind(form), rest)
 }
 
 // What is left of a name. `up`: the next character is the first of its segment.
@@ -76,7 +76,7 @@ impl Iterator for SegmentBytes<'_> {
             }
             Reading::Form(form) => {
                 let (b, form) = form.split_first();
-                self.reading = behind(form);
+                self.reading = reading_behind(form);
                 return Some(b);
             }
             Reading::Segments => {}

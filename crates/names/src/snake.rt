@@ -3,20 +3,21 @@ ghost use Rattle.std.specs.Prelude.{◌≡◌, ◌∷◌, get_or, []};
 ghost use Rattle.text.specs.Characters.{characters};
 ghost use Rattle.names.specs.Names.{xml_to_snake_case, starts_word};
 ghost use Rattle.names.specs.Answers.{Put};
-ghost use Rattle.names.specs.Short.{short_text, bytes_of};
+ghost use Rattle.names.specs.Short.{short_bytes, form_bytes};
 ghost use Rattle.names.specs.Same.{snake_left};
 
-use crate::bytes::{TextBytes, put_bytes};
-use crate::cases::{first_lower, is_lower, is_upper};
+use crate::bytes::{TextBytes, put_byte, put_bytes};
+use crate::cases::{first_lower, is_lower_char, is_upper_char};
 use crate::characters::{Short, first_character, split_character};
 use text::{ascii, byte_at};
 
 // Whether an underscore stands before c, which follows the character before it and precedes the rest.
 #[tactic(auto, unfolding(crate::specs::Names::starts_word))]
 fn starts_word(before: Option<Short>, c: Short, rest: &[u8]) -> bool
-    ensures { result ≡ starts_word (bytes_of before) (short_text c) (get_or (characters rest.now) 0 []) }
+    ensures { result ≡ starts_word (form_bytes before) (short_bytes c) (get_or (characters rest.now) 0 []) }
 {
-    is_upper(Some(c)) && (is_lower(before) || is_upper(before) && is_lower(first_character(rest)))
+    is_upper_char(Some(c))
+        && (is_lower_char(before) || is_upper_char(before) && is_lower_char(first_character(rest)))
 }
 
 // What is left of a snake form: the rest of a character's form, and the bytes behind that character, which is `before`.
@@ -79,7 +80,7 @@ fn put_characters(name: &[u8], out: &mut [u8]) -> Option<usize>
     put_bytes(bytes, out)
 }
 
-// The same test of bytes below 128, where 0 stands for no byte.
+// The same test of bytes below 128, where 0 stands for no byte: as in the definitions (`first` of what is left is 0 at the end), and 0 is no letter.
 #[tactic(auto, unfolding(crate::specs::Names::starts_word, crate::specs::Cases::is_upper_char, crate::specs::Cases::is_lower_char))]
 fn byte_starts(prev: u8, c: u8, next: u8) -> bool
     ensures { result ≡ starts_word (prev ∷ []) (c ∷ []) (next ∷ []) }
@@ -92,25 +93,17 @@ pub fn xml_to_snake_case(name: &[u8], out: &mut [u8]) -> Option<usize>
     ensures { Put (xml_to_snake_case name.now) out.old result out.new }
 {
     let mut prev = 0;
-    let mut len = 0;
+    let mut end = 0;
     for (i, c) in name.iter().enumerate() {
         let next = byte_at(name, i + 1);
         if *c | next >= 128 {
             return put_characters(name, out);
         }
         if byte_starts(prev, *c, next) {
-            if out.len() <= len {
-                return None;
-            }
-            out[len] = b'_';
-            len += 1;
+            end = put_byte(out, end, b'_')?;
         }
-        if out.len() <= len {
-            return None;
-        }
-        out[len] = ascii::to_lower(*c);
-        len += 1;
+        end = put_byte(out, end, ascii::to_lower(*c))?;
         prev = *c;
     }
-    Some(len)
+    Some(end)
 }

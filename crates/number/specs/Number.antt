@@ -3,7 +3,7 @@
 --     Parsed        what a number's text gives: a value, or the paper's number of the refusal
 --     after_plus     the text behind an optional plus sign
 --     is_numeral     one or more digits
---     value v d     the value of the digits d behind the value v
+--     decimal_value v d  the value of the digits d behind the value v
 --     below limit v    the value v, where it is below the limit
 --     numeral limit d  what the digits d give below the limit
 --     plain_below limit s   what paper 01 alone gives for the text s below the limit
@@ -29,16 +29,16 @@ unfoldable pub is_numeral : Text → Bool
 is_numeral [] = false
 is_numeral (b ∷ s) = every is_digit (b ∷ s)
 
-unfoldable pub value : ℕ → Text → ℕ
-value v [] = v
-value v (b ∷ d) = value (v * 10 + (b - code "0")) d
+unfoldable pub decimal_value : ℕ → Text → ℕ
+decimal_value v [] = v
+decimal_value v (b ∷ d) = decimal_value (v * 10 + (b - code "0")) d
 
 unfoldable pub below : ℕ → ℕ → Parsed
 below limit v = if ltb v limit then parsed v else refused 10
 
 -- 10 is `InvalidAttributeValue`
 unfoldable pub numeral : ℕ → Text → Parsed
-numeral limit d = if is_numeral d then below limit (value 0 d) else refused 10
+numeral limit d = if is_numeral d then below limit (decimal_value 0 d) else refused 10
 
 unfoldable pub plain_below : ℕ → Text → Parsed
 plain_below limit s = numeral limit (after_plus s)

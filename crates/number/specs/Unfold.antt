@@ -1,6 +1,6 @@
 -- One name that unfolds every definition of this crate, for examples by computation.
-use Rattle.number.specs.Number.{after_plus, is_numeral, value, below, numeral, plain_below, plain_number, is_minus_zeros, number_below, number}
+use Rattle.number.specs.Number.{after_plus, is_numeral, decimal_value, below, numeral, plain_below, plain_number, is_minus_zeros, number_below, number}
 
 unfoldable pub computes : Unit {0}
-unfolding after_plus is_numeral value below numeral plain_below plain_number is_minus_zeros number_below number
+unfolding after_plus is_numeral decimal_value below numeral plain_below plain_number is_minus_zeros number_below number
 computes = tt

@@ -9,7 +9,6 @@ ghost use Rattle.text.specs.Text.{is_digit};
 ghost use Rattle.number.specs.Number.{number, plain_number, numeral, is_minus_zeros, after_plus};
 ghost use Rattle.number.specs.Answers.{of_number};
 
-use text::ascii::is_digit;
 use text::trimmed;
 
 // The value of a minLength or maxLength facet.
@@ -34,11 +33,7 @@ fn after_plus(s: &[u8]) -> &[u8]
 fn digit_value(b: u8) -> Option<u64>
     ensures { MatchOption result (is_digit b ≡ false) (λ d. (is_digit b ≡ true) × (d ≡ b - 48)) }
 {
-    if is_digit(b) {
-        Some(u64::from(b - b'0'))
-    } else {
-        None
-    }
+    char::from(b).to_digit(10).map(u64::from)
 }
 
 // The value of one or more digits, where it fits.

@@ -1,9 +1,10 @@
 -- What the answers of the code say.
 --     Goes          the scan from a place goes on at another; Ends: where a part of a pattern ends, in the terms of the scan
---     is_close, is_tail, is_bracket    a byte that ends an expression, a branch, a class; any_byte: no test
---     Judged        whether the whole is an expression
+--     is_close, is_branch_end, is_bracket  a byte that ends an expression, a branch, a class; any_byte: no test
+--     ExpressionJudged  whether the whole is an expression
 --     classes       the classes of each byte, a bit for each class; has_class: a byte has the bit k; class_bit: the bit of a `Class`
-use Rattle.std.specs.Prelude.{ℕ, List, [], ◌∷◌, ◌/◌, ◌%◌, ◌^◌, ◌≤◌, ◌<◌, ◌≡◌, Bool, true, false, ◌||◌, Option, Some, None, eqb, length, drop, get_or}
+use Rattle.std.specs.Prelude.{ℕ, List, [], ◌∷◌, ◌≤◌, ◌<◌, ◌≡◌, Bool, true, false, ◌||◌, Option, Some, None, eqb, length, drop, get_or}
+use Rattle.std.specs.Int.{bit_at}
 use Prim.Native.Char.{code}
 use Rattle.text.specs.Text.{Text}
 use Rattle.pattern.specs.Grammar.{Derives, reg_exp}
@@ -25,8 +26,8 @@ Ends s m at n least P None = (d : ℕ) → scan (go d m) (drop at s) ≡ false
 unfoldable pub is_close : ℕ → Bool
 is_close b = eqb b (code ")")
 
-unfoldable pub is_tail : ℕ → Bool
-is_tail b = eqb b (code "|") || eqb b (code ")")
+unfoldable pub is_branch_end : ℕ → Bool
+is_branch_end b = eqb b (code "|") || eqb b (code ")")
 
 unfoldable pub is_bracket : ℕ → Bool
 is_bracket b = eqb b (code "]")
@@ -35,9 +36,9 @@ abbrev pub any_byte : ℕ → Bool
 any_byte b = true
 
 -- "Accepted means a derivation exists by the productions alone, refused that none does"
-abbrev pub Judged : Text → Bool → Type 0
-Judged s true = Derives reg_exp s
-Judged s false = Derives reg_exp s → ⊥
+abbrev pub ExpressionJudged : Text → Bool → Type 0
+ExpressionJudged s true = Derives reg_exp s
+ExpressionJudged s false = Derives reg_exp s → ⊥
 
 -- bit 0: a character that stands for itself or the dot; bit 1: what may stand in a class by itself; bit 2: what may stand behind a backslash; bit 3: a
 -- quantifier of one byte
@@ -53,7 +54,7 @@ classes =
     3 ∷ 3 ∷ 3 ∷ 3 ∷ 3 ∷ 3 ∷ 3 ∷ 3 ∷ 3 ∷ 3 ∷ 3 ∷ 3 ∷ 3 ∷ 3 ∷ 3 ∷ 3 ∷ 3 ∷ 3 ∷ 3 ∷ 3 ∷ 3 ∷ 3 ∷ 3 ∷ 3 ∷ 3 ∷ 3 ∷ 3 ∷ 3 ∷ 3 ∷ 3 ∷ 3 ∷ 3 ∷ []
 
 unfoldable pub has_class : ℕ → ℕ → Bool
-has_class k b = eqb (get_or classes b 0 / 2 ^ k % 2) 1
+has_class k b = eqb (bit_at (get_or classes b 0) k) 1
 
 abbrev pub class_bit : Class → ℕ
 class_bit Class.Plain = 0

@@ -1,5 +1,5 @@
 -- The call of order 13: what a pattern's number says.
---     is_aside_pair   the bytes `\p`, `\P` or `-[`; aside_pairs: they stand somewhere; count_of: how many bytes are b
+--     is_aside_pair   the bytes `\p`, `\P` or `-[`; aside_pairs: they stand somewhere; count_byte: how many bytes are b
 --     is_aside       a pattern has a form that is not judged
 --     Verdict       the number of a pattern; PatternIs: number and place of the call
 use Rattle.std.specs.Prelude.{ℕ, ◌+◌, ◌≤◌, ◌<◌, ◌≡◌, [], ◌∷◌, Bool, true, false, ◌&&◌, ◌||◌, eqb, ltb, length, if◌then◌else◌}
@@ -20,13 +20,13 @@ aside_from last (b ∷ s) = is_aside_pair last b || aside_from b s
 unfoldable pub aside_pairs : Text → Bool
 aside_pairs s = aside_from 0 s
 
-unfoldable pub count_of : ℕ → Text → ℕ
-count_of c [] = 0
-count_of c (b ∷ s) = (if eqb b c then 1 else 0) + count_of c s
+unfoldable pub count_byte : ℕ → Text → ℕ
+count_byte c [] = 0
+count_byte c (b ∷ s) = (if eqb b c then 1 else 0) + count_byte c s
 
 -- "the bytes `\p`, `\P` or `-[` anywhere or more than 32 bytes `(`, escaped ones too"
 unfoldable pub is_aside : Text → Bool
-is_aside s = aside_pairs s || ltb pattern_opens_limit (count_of (code "(") s)
+is_aside s = aside_pairs s || ltb pattern_opens_limit (count_byte (code "(") s)
 
 -- "Accepted means a derivation exists by the productions alone, refused that none does, outside the forms we leave aside"; "order 1 for length, 5 for a
 -- byte above 127, 25, 24"

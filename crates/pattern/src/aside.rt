@@ -1,6 +1,7 @@
 // The forms that are not judged.
-ghost use Rattle.std.specs.Prelude.{◌≡◌, ◌≤◌, length};
-ghost use Rattle.pattern.specs.Call.{is_aside_pair, aside_pairs, count_of, is_aside};
+ghost use Rattle.std.specs.Prelude.{◌≡◌, ◌≤◌, length, ltb, eqb, cond};
+ghost use Rattle.sheet.specs.Limits.{pattern_opens_limit};
+ghost use Rattle.pattern.specs.Call.{is_aside_pair, aside_pairs, count_byte, is_aside};
 
 use sheet::limits;
 
@@ -10,29 +11,37 @@ fn is_aside_pair(b: u8, next: u8) -> bool
     ((b == b'\\') & ((next == b'p') | (next == b'P'))) | ((b == b'-') & (next == b'['))
 }
 
-// Each turn reads both bytes: with the byte before carried from turn to turn the compiler permutes vectors, and with this loop and that of `opens` apart from it
-// long patterns take 0.1 to 0.15 ns less for each byte (docs/DECISIONS.md, 161). By places and not by `windows(2)` or `zip`: of a window the proof would first
-// have to say that it has two bytes, and a `zip` would want the text without its first byte, which an empty text does not have.
+// By places: with `array_windows`, `windows(2)` or `zip` a pattern of 14 bytes takes 178 to 196 instructions more (of 374) and one of 980 bytes 309 to 333 (of 12,274),
+// since the compiler takes what is left of a vector byte by byte; with `any`, which stops at the first pair, 980 bytes take 16,500 to 19,400 more, since it makes no vectors.
 fn has_pair(s: &[u8]) -> bool
     ensures { result ≡ aside_pairs s.now }
 {
-    let mut found = false;
-    for i in 1..s.len() {
-        found |= is_aside_pair(s[i - 1], s[i]);
-    }
-    found
+    (1..s.len()).fold(false, |found, i| found | is_aside_pair(s[i - 1], s[i]))
 }
 
-// How many opening parentheses there are. A loop of its own, since its numbers are wider than bytes.
+// How many opening parentheses there are. Counted apart from the pairs, since the numbers are wider than bytes.
 fn opens(s: &[u8]) -> u16
     requires { length s.now ≤ 1024 }
-    ensures { result ≡ count_of 40 s.now }
+    ensures { result ≡ count_byte 40 s.now }
 {
-    let mut opens = 0;
-    for &b in s {
-        opens += u16::from(b == b'(');
+    s.iter()
+        .map(
+            |b|
+                ensures { result ≡ cond (eqb b.now 40) 1 0 }
+            { u16::from(*b == b'(') },
+        )
+        .sum()
+}
+
+// Whether too many parentheses open: no more than there are bytes, so that those of a short pattern are not counted.
+fn has_many_opens(s: &[u8]) -> bool
+    requires { length s.now ≤ 1024 }
+    ensures { result ≡ ltb pattern_opens_limit (count_byte 40 s.now) }
+{
+    if s.len() <= limits::PATTERN_OPENS as usize {
+        return false;
     }
-    opens
+    limits::PATTERN_OPENS < opens(s)
 }
 
 // Two bytes that are left aside, or too many opening parentheses.
@@ -40,5 +49,5 @@ pub fn is_aside(s: &[u8]) -> bool
     requires { length s.now ≤ 1024 }
     ensures { result ≡ is_aside s.now }
 {
-    has_pair(s) | (limits::PATTERN_OPENS < opens(s))
+    has_pair(s) | has_many_opens(s)
 }

@@ -14,7 +14,6 @@ use crate::aside::is_aside;
 use crate::expression::is_expression;
 use sheet::limits;
 use sheet::refusal::Refusal;
-use text::is_plain;
 
 // Whether a pattern is accepted, or the first refusal that it meets.
 pub fn judge(s: &[u8]) -> Result<(), Refusal>
@@ -23,7 +22,7 @@ pub fn judge(s: &[u8]) -> Result<(), Refusal>
     if limits::PATTERN < s.len() {
         return Err(Refusal::BadLength);
     }
-    if !is_plain(s) {
+    if !s.is_ascii() {
         return Err(Refusal::NotAscii);
     }
     if is_aside(s) {

@@ -1,7 +1,7 @@
 // The characters of a pattern.
 ghost use Rattle.std.specs.Prelude.{◌≡◌};
 ghost use Rattle.pattern.specs.Grammar.{is_mark, is_in_class};
-ghost use Rattle.pattern.specs.Scan.{is_plain, is_escaped};
+ghost use Rattle.pattern.specs.Scan.{is_single_char, is_escaped};
 ghost use Rattle.pattern.specs.Answers.{class_bit, has_class};
 
 // The classes of each byte: 1 for a character that stands for itself or the dot, 2 for what may stand in a class by itself, 4 for what may stand behind a
@@ -44,7 +44,7 @@ pub fn is_in_class(b: u8) -> bool
 
 // A character that stands for itself, or the dot.
 pub fn is_plain(b: u8) -> bool
-    ensures { result ≡ is_plain b }
+    ensures { result ≡ is_single_char b }
 {
     in_class(b, Class::Plain)
 }

@@ -4,9 +4,9 @@ use Rattle.std.specs.Prelude.{ℕ, zero, suc, ◌+◌, ◌*◌, ◌<◌, ◌≡�
 use Rattle.std.specs.Int.Bits.{bit_and, bit_or, bit_xor}
 
 -- n bytes as one number, the first lowest
-unfoldable pub word_of : ℕ → (ℕ → ℕ) → ℕ
-word_of zero f = 0
-word_of (suc n) f = word_of n (λ k. f (suc k)) * 256 + f 0
+unfoldable pub word_of_bytes : ℕ → (ℕ → ℕ) → ℕ
+word_of_bytes zero f = 0
+word_of_bytes (suc n) f = word_of_bytes n (λ k. f (suc k)) * 256 + f 0
 
 -- the bytes of a text from a place on, 0 past its end
 abbrev pub bytes_at : List ℕ → ℕ → ℕ → ℕ
@@ -14,7 +14,7 @@ bytes_at s at k = get_or s (at + k) 0
 
 -- a number is the word of the eight bytes from a place on, and what stands there are bytes
 pub record WordAt (s : List ℕ) (at r : ℕ) : Type 0 where
-  pub word : r ≡ word_of 8 (bytes_at s at)
+  pub word : r ≡ word_of_bytes 8 (bytes_at s at)
   pub bytes : (k : ℕ) → bytes_at s at k < 256
 
 -- the word of eight bytes 1
@@ -48,3 +48,7 @@ comment_stops u x = stops u (bit_and (others 45 u x) (plains u x))
 -- the same of a section's
 unfoldable pub section_stops : ℕ → ℕ → ℕ
 section_stops u x = stops u (bit_and (others 93 u x) (plains u x))
+
+-- not 0 where the byte is not c
+unfoldable pub one_stops : ℕ → ℕ → ℕ → ℕ
+one_stops c u x = bit_xor x (c * u)

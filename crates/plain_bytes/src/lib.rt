@@ -4,9 +4,10 @@
 
 ghost use Rattle.std.specs.Prelude.{ℕ, Bool, ◌≡◌, ◌+◌, ◌*◌, ◌/◌, ◌^◌, ◌≤◌, ◌<◌, length};
 ghost use Rattle.std.specs.Int.Count.{count_trailing_zeros};
-ghost use Rattle.plain_bytes.specs.Scan.{is_text_run, is_value_run, is_comment_run, is_section_run, Skips};
-ghost use Rattle.plain_bytes.specs.Words.{WordAt, ones, others, plains, stops, text_stops, value_stops, comment_stops, section_stops};
-ghost use Rattle.plain_bytes.specs.Laws.Finds.{Finds, text-finds, value-finds, comment-finds, section-finds};
+ghost use Rattle.text.specs.Text.{same};
+ghost use Rattle.plain_bytes.specs.Scan.{is_text_run, is_value_run, is_comment_run, is_section_run, is_one, Skips};
+ghost use Rattle.plain_bytes.specs.Words.{WordAt, ones, others, plains, stops, text_stops, value_stops, comment_stops, section_stops, one_stops};
+ghost use Rattle.plain_bytes.specs.Laws.Finds.{Finds, text-finds, value-finds, comment-finds, section-finds, space-finds, tab-finds};
 
 // The same byte eight times: 1, and bit 7 alone.
 const ONES: u64 = 0x0101010101010101;
@@ -52,7 +53,7 @@ pub trait Run {
 
     ghost stops_of: { ℕ → ℕ → ℕ };
 
-    // Bit 7 where a byte of x, below 128, is not of the run.
+    // Not 0 where a byte of x, below 128, is not of the run, and 0 below.
     fn stops(x: u64) -> u64
         requires { x < 2 ^ 63 }
         ensures { result ≡ stops_of ones x };
@@ -124,6 +125,38 @@ impl Run for SectionRun {
     }
 }
 
+// Spaces alone, of which each test takes one step: the bytes that differ from a space are the stops.
+pub struct SpaceRun;
+
+impl Run for SpaceRun {
+    ghost is_in = { is_one 32 };
+
+    ghost stops_of = { one_stops 32 };
+
+    ghost finds = { space-finds };
+
+    #[tactic(auto, unfolding(crate::specs::Words::one_stops))]
+    fn stops(x: u64) -> u64 {
+        x ^ (32 * ONES)
+    }
+}
+
+// Tabs alone.
+pub struct TabRun;
+
+impl Run for TabRun {
+    ghost is_in = { is_one 9 };
+
+    ghost stops_of = { one_stops 9 };
+
+    ghost finds = { tab-finds };
+
+    #[tactic(auto, unfolding(crate::specs::Words::one_stops))]
+    fn stops(x: u64) -> u64 {
+        x ^ (9 * ONES)
+    }
+}
+
 // How many bytes stand below the lowest stop.
 fn bytes_below(found: u64) -> usize
     ensures { (result ≡ count_trailing_zeros 64 found / 8) × (result ≤ 8) }
@@ -152,4 +185,36 @@ pub fn skip<R: Run>(text: &[u8], at: usize) -> usize
         i += 8;
     }
     i
+}
+
+// Whether two short parts of one length have the same bytes.
+fn same_few(x: &[u8], y: &[u8]) -> bool
+    requires { length x.now ≡ length y.now }
+    ensures { result ≡ same x.now y.now }
+{
+    for k in 0..x.len() {
+        if x[k] != y[k] {
+            return false;
+        }
+    }
+    true
+}
+
+// Whether two parts of one length have the same bytes, eight at a time. The last eight are looked at together, some of them for the second time.
+pub fn same_bytes(x: &[u8], y: &[u8]) -> bool
+    requires { length x.now ≡ length y.now }
+    ensures { result ≡ same x.now y.now }
+{
+    if x.len() < 8 {
+        return same_few(x, y);
+    }
+    let mut i = 0;
+    while 8 <= x.len() - i {
+        if word_at(x, i) != word_at(y, i) {
+            return false;
+        }
+        i += 8;
+    }
+    let last = x.len() - 8;
+    word_at(x, last) == word_at(y, last)
 }

@@ -196,6 +196,7 @@ fn numbers_of<'a>(bytes: &[u8], count: usize, space: &'a mut [u32]) -> &'a [u32]
 {
     let (fours, _) = bytes.as_chunks();
     let count = fours.len().min(count);
+    // By the place, and no `zip` over `iter_mut`: of what is written through an adapter of it a proof knows nothing (the toolchain's LIBRARY.md).
     for at in 0..count {
         space[at] = u32::from_le_bytes(fours[at]);
     }

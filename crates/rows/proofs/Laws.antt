@@ -5,6 +5,7 @@ pub mod Ends
 pub mod Scan
 pub mod Used
 pub mod Table
+pub mod Count
 pub mod Words
 pub mod Room
 pub mod Texts

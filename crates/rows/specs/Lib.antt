@@ -9,3 +9,4 @@ pub mod Append
 pub mod Answers
 pub mod Scan
 pub mod Table
+pub mod Count

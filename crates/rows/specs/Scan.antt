@@ -2,7 +2,7 @@
 -- of an outer call cites it.
 --     Tests          what a sheet asks of a row
 --     first_passes, first_row    the namespace's row; its pair ends at the limit at most
---     next_passes, next_row      a row behind it; with_row: what is known with it
+--     next_passes, next_row      a row behind it; scan_after: what is known with it
 --     scanned       all rows behind it
 --     scanned_sheet  all rows
 --     row_texts     each text under a row's used pairs is one that the sheet may hold
@@ -35,15 +35,15 @@ unfoldable pub next_passes : Tests → ℕ → Scan → Ten → Bool
 next_passes x limit s t =
     x.form t && x.follows s.head t.tag && row_covers x.pairs s.end t && leb (end_of s.end t) limit
 
-abbrev pub with_row : Tests → Scan → Ten → Scan
-with_row x s t = record { end = end_of s.end t; head = x.head_after s.head t.tag }
+abbrev pub scan_after : Tests → Scan → Ten → Scan
+scan_after x s t = record { end = end_of s.end t; head = x.head_after s.head t.tag }
 
 unfoldable pub next_row : Tests → ℕ → Scan → Ten → Option Scan
-next_row x limit s t = if next_passes x limit s t then Some (with_row x s t) else None
+next_row x limit s t = if next_passes x limit s t then Some (scan_after x s t) else None
 
 unfoldable pub scanned : Tests → ℕ → Scan → List Ten → Option Scan
 scanned x limit s [] = Some s
-scanned x limit s (t ∷ ts) = if next_passes x limit s t then scanned x limit (with_row x s t) ts else None
+scanned x limit s (t ∷ ts) = if next_passes x limit s t then scanned x limit (scan_after x s t) ts else None
 
 unfoldable pub scanned_sheet : Tests → ℕ → List Ten → Option Scan
 scanned_sheet x limit [] = None

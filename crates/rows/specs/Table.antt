@@ -3,12 +3,13 @@
 --     set_below      the set of the places below n for which something holds
 --     in_heads       a head is in a set of heads, the last of which stands for all from 31 on
 --     PairsBy       which pairs are used, told by 1 and 0
-use Rattle.std.specs.Prelude.{ℕ, zero, suc, ◌≡◌, ◌+◌, ◌/◌, ◌%◌, ◌^◌, Bool, eqb, leb, if◌then◌else◌}
+use Rattle.std.specs.Prelude.{ℕ, zero, suc, ◌≡◌, ◌+◌, ◌^◌, Bool, eqb, leb, if◌then◌else◌}
+use Rattle.std.specs.Int.{bit_at}
 use Rattle.sheet.specs.Rows.{Ten, bit}
 use Rattle.sheet.specs.Form.{row_covers}
 
 unfoldable pub has_bit : ℕ → ℕ → Bool
-has_bit set k = eqb (set / 2 ^ k % 2) 1
+has_bit set k = eqb (bit_at set k) 1
 
 unfoldable pub set_below : (ℕ → Bool) → ℕ → ℕ
 set_below f zero = 0

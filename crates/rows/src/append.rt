@@ -1,6 +1,6 @@
 // A row with its texts added to a schema sheet. The contract speaks of rows: of what the sheet was
 // the packing, and of what it is the packing now.
-ghost use Rattle.std.specs.Prelude.{◌∷◌, ◌≤◌, length};
+ghost use Rattle.std.specs.Prelude.{[], ◌∷◌, ◌≤◌, length};
 ghost use Rattle.text.specs.Text.{join};
 ghost use Rattle.sheet.specs.Rows.{row};
 ghost use Rattle.rows.specs.Texts.{used_texts, used_length, listed};
@@ -13,8 +13,8 @@ use crate::texts::put_texts;
 use crate::writer::SheetWriter;
 
 impl SheetWriter<'_> {
-    // Adds a row that uses so many pairs.
-    pub fn append_pairs(&mut self, n: RowNumbers, first: &[u8], second: &[u8], pairs: usize)
+    // Adds a row that uses so many pairs: the texts and the number of those that count, as `put_texts` and `set_row` take them.
+    fn append_pairs(&mut self, n: RowNumbers, first: &[u8], second: &[u8], pairs: usize)
         requires room { RowRoom self.old (used_length pairs (length first.now) (length second.now)) }
         requires pairs { pairs ≤ 2 }
         ensures { Appended (row_of n (used_texts pairs first.now second.now)) self.old self.new }
@@ -27,6 +27,14 @@ impl SheetWriter<'_> {
             rows: place + 1,
             names: end,
         };
+    }
+
+    // Adds a row that has no text.
+    pub fn append_bare(&mut self, n: RowNumbers)
+        requires { RowRoom self.old 0 }
+        ensures { Appended (row n.tag [] n.a n.b n.c) self.old self.new }
+    {
+        self.append_pairs(n, b"", b"", 0);
     }
 
     // Adds a row with a text, or two.

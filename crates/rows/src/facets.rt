@@ -15,7 +15,7 @@ impl SheetWriter<'_> {
         ensures { Appended (row tag [] (count % 2 ^ 32) (count / 2 ^ 32) 0) self.old self.new }
     {
         let (a, b) = halves(count);
-        self.append_pairs(RowNumbers { tag, a, b, c: 0 }, b"", b"", 0);
+        self.append_bare(RowNumbers { tag, a, b, c: 0 });
     }
 
     // Adds the row of a length facet.

@@ -8,6 +8,7 @@ ghost use Rattle.rows.specs.Table.{in_heads, PairsBy};
 use crate::numbers::wide;
 use crate::ten::Ten;
 
+// Of numbers what `text::ascii::in_range` is of bytes. Both stand, since both are public from the beginning, and differ in the type alone: a generic one would stand beside them.
 #[tactic(auto, unfolding(text::specs::Text::between))]
 pub fn in_range(low: u32, high: u32, x: u32) -> bool
     ensures { result ≡ between low high x }
@@ -57,7 +58,8 @@ pub fn end_of(k: usize, t: Ten) -> usize
 }
 
 // The same by a table of tags. What is asked is told there by 0 and 1, by which is multiplied, so that neither a pair nor a zero takes a branch of its own. Each function
-// asks for a number of 0 or 1: (b), with tests by ranges of tags, told by flags, the test of a sheet took twice the time (docs/DECISIONS.md, 212).
+// asks for a number of 0 or 1: (b), tried with `bool` in the table's rule and in these functions, over which `pair_form` and `row_covers` were then a line each: a reading took 16
+// instructions more a row and 1,029 bytes of stack, where the header says 1,024. With tests by ranges of tags it took twice the time (docs/DECISIONS.md, 212).
 
 // Whether a number is 0, where that is asked.
 pub fn is_zero_by(asked: u32, x: u32) -> bool

@@ -1,7 +1,9 @@
 // A row as ten numbers.
-ghost use Rattle.std.specs.Prelude.{◌≡◌, ◌+◌, ◌≤◌, length, drop};
+ghost use Rattle.std.specs.Prelude.{◌≡◌, ◌+◌, ◌≤◌, ◌<◌, length, drop};
 ghost use Rattle.sheet.specs.Rows.{ten};
-ghost use Rattle.rows.specs.Ten.{as_ten};
+ghost use Rattle.rows.specs.Ten.{as_ten, pair_of};
+
+use crate::numbers::{Pair, wide};
 
 // A row's numbers: the tag, three pairs, and a, b, c.
 #[derive(Clone, Copy)]
@@ -18,6 +20,25 @@ pub struct Ten {
     pub c: u32,
 }
 
+impl Ten {
+    // A pair, from 0 on.
+    pub fn pair(self, k: usize) -> Pair
+        requires { k < 3 }
+        ensures { result ≡ pair_of self k }
+    {
+        let (at, len) = match k {
+            0 => (self.at0, self.len0),
+            1 => (self.at1, self.len1),
+            _ => (self.at2, self.len2),
+        };
+        Pair {
+            at: wide(at),
+            len: wide(len),
+        }
+    }
+}
+
+// A function and no `From<&[u32]>`: of a slice that is shorter there is no row, which a `requires` says here.
 #[tactic(auto, unfolding(sheet::specs::Rows::ten))]
 pub fn ten_of(row: &[u32]) -> Ten
     requires { 10 ≤ length row.now }

@@ -5,29 +5,30 @@ ghost use Rattle.sheet.specs.Rows.{tens, text_at};
 ghost use Rattle.rows.specs.Ten.{as_ten};
 ghost use Rattle.rows.specs.Scan.{row_texts};
 
-use crate::numbers::wide;
+use crate::numbers::Pair;
 use crate::part::SheetPart;
 use crate::parts::part_of;
 use crate::scan::RowTests;
 use crate::ten::Ten;
 
 // Whether the text under a pair is one, if the pair is used.
-fn pair_is_text<R: RowTests>(used: bool, names: &[u8], at: u32, len: u32) -> bool
-    ensures { result ≡ (if used then R.tests.text (text_at names.now at len) else true) }
+fn pair_is_text<R: RowTests>(used: bool, names: &[u8], pair: Pair) -> bool
+    ensures { result ≡ (if used then R.tests.text (text_at names.now pair.at pair.len) else true) }
 {
-    !used || R::is_text(part_of(names, wide(at), wide(len)))
+    !used || R::is_text(part_of(names, pair.at, pair.len))
 }
 
 fn row_is_text<R: RowTests>(names: &[u8], t: Ten) -> bool
     ensures { result ≡ row_texts R.tests names.now (as_ten t) }
 {
     let used = R::used_pairs(t.tag, t.a);
-    pair_is_text::<R>(1 <= used, names, t.at0, t.len0)
-        & pair_is_text::<R>(2 <= used, names, t.at1, t.len1)
-        & pair_is_text::<R>(3 <= used, names, t.at2, t.len2)
+    pair_is_text::<R>(1 <= used, names, t.pair(0))
+        & pair_is_text::<R>(2 <= used, names, t.pair(1))
+        & pair_is_text::<R>(3 <= used, names, t.pair(2))
 }
 
-// Cold: the names of most sheets are plain, and the test of a sheet needs no room for this loop beside its frame.
+// Cold: the names of most sheets are plain. Without the two attributes the test of a good sheet takes 353,990 instructions in the place of 330,019 at 4,000 rows,
+// and 105,679 in the place of 101,756 on pain.001.001.09 (a library of xsd_good alone).
 #[cold]
 #[inline(never)]
 fn rows_are_text<R: RowTests>(part: &SheetPart) -> bool

@@ -7,7 +7,8 @@ use mathlib.Core.List.{List, [], ◌∷◌, ◌++◌, append_assoc}
 use lib.ListN.{length}
 use borrow.Author.Tests.{not-true}
 use Rattle.text.specs.Text.{Text, every}
-use Rattle.text.proofs.Laws.Tests.{two, and-true, bool_cases}
+use Rattle.std.proofs.lemmas.Bool.{and_parts}
+use Rattle.text.proofs.Laws.Tests.{and-true, bool_cases}
 use Rattle.text.proofs.Laws.Every.{every_append}
 use Rattle.sheet.specs.Rows.{Sheet}
 use Rattle.sheet.specs.Lengths.{tape_lengths, Lengths}
@@ -133,7 +134,7 @@ passing-first : {lent : Lengths} {s : State} {jobs : List Job} (ls : List Call) 
 unfolding every passes_by jobs_of
 passing-first [] {calls} e c = record { front = []; rest = calls; parts = refl; passed = refl; onward = c }
 passing-first (Call.reading text marks ∷ ls) e c =
-    let both = two (not (tape_lengths (length text) (length marks))) (every passes_by ls) e in
+    let both = and_parts (not (tape_lengths (length text) (length marks))) (every passes_by ls) e in
     passing-first ls both.1 (rw (jobs-long text marks ls (not-true (tape_lengths (length text) (length marks)) both.0)) at c)
 passing-first (Call.lowering graph scratch ∷ ls) e c =
     let f = lowering-first c in

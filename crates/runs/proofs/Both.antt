@@ -12,7 +12,8 @@ use native.Mathlib.Omega.{arith}
 use lib.Dec.{eqb, ltb}
 use lib.ListN.{length, take}
 use Rattle.text.specs.Text.{Text}
-use Rattle.text.proofs.Laws.Tests.{two, bool_cases, and-true, and-true-left}
+use Rattle.std.proofs.lemmas.Bool.{and_parts}
+use Rattle.text.proofs.Laws.Tests.{bool_cases, and-true, and-true-left}
 use Rattle.sheet.specs.Rows.{Sheet}
 use Rattle.sheet.specs.Lengths.{sheet_lengths, tape_lengths, Lengths, lengths_of}
 use Rattle.xsd_types.specs.State.{Context, Reader, State, first_state}
@@ -144,7 +145,7 @@ record TypedOn (lent : Lengths) (s : State) (e : Event) (x : State) (js : List J
 typed-ok : (lent : Lengths) (s x : State) (e : Event) (js : List Judged) → Ready s → step lent s e ≡ ok x → Typed lent s (event e ∷ js) → TypedOn lent s e x js
 unfolding only_types_from
 typed-ok lent s x e js w q k =
-    let parts = two (not (eqb (depth_in s.reader.context) 1) || starts_no_other e) _ (rw (accepted-ok lent s x e js q) at k) in
+    let parts = and_parts (not (eqb (depth_in s.reader.context) 1) || starts_no_other e) _ (rw (accepted-ok lent s x e js q) at k) in
     let b = both-accepted lent s w e x parts.0 q in
     record { first = parts.0; both = b; rest = rw b.depth parts.1 }
 

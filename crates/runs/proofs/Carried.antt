@@ -8,7 +8,8 @@ use borrow.Author.Tests.{eq-eqb}
 use lib.ListN.{length}
 use Rattle.text.specs.Text.{every}
 use Rattle.text.proofs.Laws.Every.{every-weaken}
-use Rattle.text.proofs.Laws.Tests.{and-true, or_left, or_right}
+use Rattle.std.proofs.lemmas.Bool.{or_left, or_right}
+use Rattle.text.proofs.Laws.Tests.{and-true}
 use Rattle.text.proofs.Laws.Texts.{same_refl}
 use Rattle.sheet.specs.Rows.{Sheet}
 use Rattle.sheet.specs.Lengths.{Lengths, lengths_of}
@@ -77,8 +78,8 @@ gave-each : (hs : List HeadNumber) → every (λ (h : HeadNumber). gave hs h.nam
 unfolding every gave
 gave-each [] = refl
 gave-each (h ∷ hs) =
-    and-true (or_left _ (and-true (same_refl h.name) (eq-eqb h.event h.event refl)))
-    (every-weaken (λ (g : HeadNumber). gave hs g.name g.event) (λ (g : HeadNumber). gave (h ∷ hs) g.name g.event) (λ g k. or_right _ k) hs (gave-each hs))
+    and-true (or_left _ _ (and-true (same_refl h.name) (eq-eqb h.event h.event refl)))
+    (every-weaken (λ (g : HeadNumber). gave hs g.name g.event) (λ (g : HeadNumber). gave (h ∷ hs) g.name g.event) (λ g k. or_right _ _ k) hs (gave-each hs))
 
 gave-heads : (r : Reader) (hs : List HeadNumber) → numbered_heads r ≡ hs → heads_pass (gave hs) r ≡ true
 gave-heads r hs e =

@@ -104,7 +104,7 @@ use Rattle.ir_lower.proofs.Laws.Cardinality.{optional-exactly, vec-exactly, boun
 use Rattle.ir_lower.proofs.Laws.Names.{lowering-accepted, lowering-last, repeated-exactly, repeated-place}
 use Rattle.ir_lower.proofs.Laws.Form.{lowering-form}
 use Rattle.ir_lower.proofs.Laws.Count.{thirteen-exactly}
-use Rattle.ir_reduce.specs.Groups.{GraphType, Parted, parted, rows_of as rows_of_graph}
+use Rattle.ir_reduce.specs.Groups.{GraphType, Parted, parted, rows_of_parted as rows_of_graph}
 use Rattle.ir_reduce.specs.Reach.{In, Chain, Reduced}
 use Rattle.ir_reduce.specs.Call.{in_form, Reduction}
 use Rattle.ir_reduce.specs.Twice.{SameUsed}
@@ -122,7 +122,7 @@ use Rattle.xsd_written.proofs.Laws.Finished.{finished-numbers}
 use Rattle.xsd_written.specs.Table.{WriteTable}
 use Rattle.xsd_written.proofs.Laws.Values.{held-exactly}
 use Rattle.xsd_written.proofs.Laws.Table.{write-exactly}
-use Rattle.columns.specs.Columns.{columns_of, rows_of as rows_of_columns}
+use Rattle.columns.specs.Columns.{columns_of, rows_of_columns}
 use Rattle.columns.proofs.Laws.Calls.{rows_back, columns-back}
 use Rattle.runs.specs.Runs.{Call, Answered, GoodStart, Ran, run}
 use Rattle.runs.specs.Trace.{Trace}

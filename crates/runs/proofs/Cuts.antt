@@ -11,7 +11,7 @@ use lib.ListN.{length}
 use lib.Seq.{take_all, take-append-add, take-append-le}
 use borrow.Author.Tests.{not-true}
 use Rattle.text.specs.Text.{Text, every, between}
-use Rattle.text.proofs.Laws.Tests.{two}
+use Rattle.std.proofs.lemmas.Bool.{and_parts}
 use Rattle.sheet.specs.Rows.{Sheet}
 use Rattle.sheet.specs.Form.{words}
 use Rattle.sheet.specs.Lengths.{tape_lengths, Lengths, lengths_of, good_lengths}
@@ -75,7 +75,7 @@ passing-held : (lent : Lengths) (s : State) (calls : List Call) → every passes
 unfolding every passes_by held_behind refused_with
 passing-held lent s [] e = refl
 passing-held lent s (Call.reading text marks ∷ calls) e =
-    let both = two (not (tape_lengths (length text) (length marks))) (every passes_by calls) e in
+    let both = and_parts (not (tape_lengths (length text) (length marks))) (every passes_by calls) e in
     rw (read-long lent s text marks (not-true (tape_lengths (length text) (length marks)) both.0)) (passing-held lent s calls both.1)
 passing-held lent s (Call.lowering graph scratch ∷ calls) e = passing-held lent s calls e
 
@@ -83,7 +83,7 @@ passing-answers : (lent : Lengths) (s : State) (calls : List Call) → every pas
 unfolding every passes_by is_lowered run_calls answered_first refused_with
 passing-answers lent s [] e = PassedBy.none
 passing-answers lent s (Call.reading text marks ∷ calls) e =
-    let both = two (not (tape_lengths (length text) (length marks))) (every passes_by calls) e in
+    let both = and_parts (not (tape_lengths (length text) (length marks))) (every passes_by calls) e in
     rw (read-long lent s text marks (not-true (tape_lengths (length text) (length marks)) both.0)) (PassedBy.too_long (passing-answers lent s calls both.1))
 passing-answers lent s (Call.lowering graph scratch ∷ calls) e = PassedBy.lowering refl (passing-answers lent s calls e)
 
@@ -91,7 +91,7 @@ passing-joined : (lent : Lengths) (s : State) (calls : List Call) → every pass
 unfolding every passes_by joined_from judged_held refused_with
 passing-joined lent s [] e = refl
 passing-joined lent s (Call.reading text marks ∷ calls) e =
-    let both = two (not (tape_lengths (length text) (length marks))) (every passes_by calls) e in
+    let both = and_parts (not (tape_lengths (length text) (length marks))) (every passes_by calls) e in
     let long : tape_lengths (length text) (length marks) ≡ false = not-true (tape_lengths (length text) (length marks)) both.0 in
     rw (read-long lent s text marks long, long) (passing-joined lent s calls both.1)
 passing-joined lent s (Call.lowering graph scratch ∷ calls) e = passing-joined lent s calls e

@@ -7,7 +7,8 @@ use mathlib.Core.List.{List, [], ◌∷◌, ◌++◌, map}
 use mathlib.Core.Option.{Option, some, none}
 use native.Mathlib.Omega.{arith}
 use Rattle.text.specs.Text.{Text, every}
-use Rattle.text.proofs.Laws.Tests.{two, and-true, bool_cases}
+use Rattle.std.proofs.lemmas.Bool.{and_parts}
+use Rattle.text.proofs.Laws.Tests.{and-true, bool_cases}
 use Rattle.builtin.specs.Builtin.{RustType, map_builtin}
 use Rattle.names.specs.Names.{normalize_type_name}
 use Rattle.xsd_types.specs.Types.{SimpleType, ComplexContent, Item, Schema, elements, simple_types, complex_types}
@@ -26,9 +27,9 @@ module _ (p : Text → ℕ → Bool) where
   roots-pass : (is : List Item) → Items is → every (λ (r : RootElement). p r.xml_name r.event) (map root_of_element (elements is)) ≡ true
   unfolding every item_passes elements root_of_element
   roots-pass [] h = refl
-  roots-pass (Item.element e ∷ is) h = let w = two (p e.name e.event) _ h in and-true w.0 (roots-pass is w.1)
-  roots-pass (Item.simple_type t ∷ is) h = roots-pass is (two (p t.name t.event) _ h).1
-  roots-pass (Item.complex_type t ∷ is) h = roots-pass is (two (p t.name t.event) _ h).1
+  roots-pass (Item.element e ∷ is) h = let w = and_parts (p e.name e.event) _ h in and-true w.0 (roots-pass is w.1)
+  roots-pass (Item.simple_type t ∷ is) h = roots-pass is (and_parts (p t.name t.event) _ h).1
+  roots-pass (Item.complex_type t ∷ is) h = roots-pass is (and_parts (p t.name t.event) _ h).1
 
   newtype-passes : (t : SimpleType) (o : Option RustType) (ds : List TypeDef) → p t.name t.event ≡ true → TypesPass p ds → TypesPass p (with_definition (lower_newtype t o) ds)
   unfolding with_definition lower_newtype name_of type_event
@@ -52,17 +53,17 @@ module _ (p : Text → ℕ → Bool) where
   simples-pass : (is : List Item) → Items is → TypesPass p (simple_definitions (simple_types is))
   unfolding every item_passes simple_types simple_definitions
   simples-pass [] h = TypesPass.end
-  simples-pass (Item.element e ∷ is) h = simples-pass is (two (p e.name e.event) _ h).1
-  simples-pass (Item.simple_type t ∷ is) h = let w = two (p t.name t.event) _ h in simple-passes t _ w.0 (simples-pass is w.1)
-  simples-pass (Item.complex_type t ∷ is) h = simples-pass is (two (p t.name t.event) _ h).1
+  simples-pass (Item.element e ∷ is) h = simples-pass is (and_parts (p e.name e.event) _ h).1
+  simples-pass (Item.simple_type t ∷ is) h = let w = and_parts (p t.name t.event) _ h in simple-passes t _ w.0 (simples-pass is w.1)
+  simples-pass (Item.complex_type t ∷ is) h = simples-pass is (and_parts (p t.name t.event) _ h).1
 
   complexes-pass : (is : List Item) → Items is → TypesPass p (map lower_complex_type (complex_types is))
   unfolding every item_passes complex_types lower_complex_type
   complexes-pass [] h = TypesPass.end
-  complexes-pass (Item.element e ∷ is) h = complexes-pass is (two (p e.name e.event) _ h).1
-  complexes-pass (Item.simple_type t ∷ is) h = complexes-pass is (two (p t.name t.event) _ h).1
+  complexes-pass (Item.element e ∷ is) h = complexes-pass is (and_parts (p e.name e.event) _ h).1
+  complexes-pass (Item.simple_type t ∷ is) h = complexes-pass is (and_parts (p t.name t.event) _ h).1
   complexes-pass (Item.complex_type t ∷ is) h =
-      let w = two (p t.name t.event) _ h in
+      let w = and_parts (p t.name t.event) _ h in
       TypesPass.more (content-passes t.event t.name t.content w.0) (complexes-pass is w.1)
 
   pass-append : {ds : List TypeDef} {es : List TypeDef} → TypesPass p ds → TypesPass p es → TypesPass p (ds ++ es)

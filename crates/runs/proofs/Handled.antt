@@ -2,7 +2,7 @@
 -- same is seen step alike. Assumes nothing.
 use Rattle.std.specs.Prelude.{if◌then◌else◌}
 use mathlib.Core.Path.{◌≡◌, refl, sym, ap, ◌∙◌}
-use mathlib.Core.Bool.{Bool, true, false, ◌||◌, false≢true}
+use mathlib.Core.Bool.{Bool, true, false, false≢true}
 use mathlib.Core.List.{List, [], ◌∷◌}
 use mathlib.Core.Option.{Option, some}
 use Prim.Native.String.{String}
@@ -15,6 +15,7 @@ use Rattle.xsd_parser.specs.Seen.{seen}
 use Rattle.xsd_parser.specs.Step.{step}
 use Rattle.xsd_parser.proofs.Laws.Alike.{SeenAlike, step-alike as seen_step}
 use Rattle.runs.specs.Notes.{read_words, is_one, read_of, AlikeTags, AlikeEvents}
+use Rattle.std.proofs.lemmas.Bool.{or_right}
 
 -- a lookup of one of the words passes over the others
 look-step : (x : Attr) (xs : List Attr) (word : String) (r b : Bool) → is_one read_words (local_name x.key) ≡ r → is (local_name x.key) word ≡ b
@@ -33,10 +34,6 @@ look-read (x ∷ xs) word h = look-step x xs word (is_one read_words (local_name
 pub data Word (w : String) : List String → Type 0 where
   here : {ws : List String} → Word w (w ∷ ws)
   there : {v : String} {ws : List String} → Word w ws → Word w (v ∷ ws)
-
-or_right : (a b : Bool) → b ≡ true → (a || b) ≡ true
-or_right true b e = refl
-or_right false b e = e
 
 word_read : {w : String} {ws : List String} → Word w ws → (t : Text) → is t w ≡ true → is_one ws t ≡ true
 unfolding is_one

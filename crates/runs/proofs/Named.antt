@@ -7,7 +7,7 @@ use native.Mathlib.Omega.{arith}
 use lib.Dec.{eqb}
 use borrow.Author.Tests.{le-leb}
 use Rattle.text.specs.Text.{Text}
-use Rattle.text.proofs.Laws.Tests.{or_right}
+use Rattle.std.proofs.lemmas.Bool.{or_right}
 use Rattle.sheet.specs.Lengths.{Lengths}
 use Rattle.xsd_types.specs.State.{State, heads_pass}
 use Rattle.xsd_parser.specs.Event.{Event}
@@ -25,7 +25,7 @@ pub record Later (from : ℕ) (s : State) : Type 0 where
 pub later-step : (from : ℕ) (lent : Lengths) (s : State) (e : Event) (s' : State) → step lent s e ≡ ok s' → Later from s → Later from s'
 unfolding zero_or_later
 later-step from lent s e s' q h =
-    let own : _ → (v : Text) → _ → zero_or_later from v s.events ≡ true = λ m v k. or_right (eqb s.events 0) (le-leb from s.events h.done) in
+    let own : _ → (v : Text) → _ → zero_or_later from v s.events ≡ true = λ m v k. or_right (eqb s.events 0) _ (le-leb from s.events h.done) in
     record {
       done = omega (arith, h.done, step-events lent s e s' q);
       heads = handled-passes (zero_or_later from) s.events s.by_standard e s.reader s'.reader own h.heads (step-reader lent s e s' q);

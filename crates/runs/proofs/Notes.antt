@@ -9,7 +9,8 @@ use Prim.Native.Nat.{ℕ, suc}
 use lib.Dec.{eqb, leb}
 use lib.ListN.{length}
 use Rattle.text.specs.Text.{Text, every, between}
-use Rattle.text.proofs.Laws.Tests.{and-true-left, and-true-right, or_right}
+use Rattle.std.proofs.lemmas.Bool.{or_right}
+use Rattle.text.proofs.Laws.Tests.{and-true-left, and-true-right}
 use Rattle.sheet.specs.Rows.{Sheet}
 use Rattle.sheet.specs.Form.{words}
 use Rattle.sheet.specs.Lengths.{Lengths, lengths_of, good_lengths, tape_lengths}
@@ -35,7 +36,7 @@ use Rattle.runs.proofs.Runs.{hold-served, runs}
 -- ---- a reading
 not-met : (n : ℕ) → between 3 5 n ≡ true → not (meets n) ≡ true → ⊥
 unfolding meets
-not-met n b m = false≢true (sym (ap not (or_right (eqb n 1) b)) ∙ m)
+not-met n b m = false≢true (sym (ap not (or_right (eqb n 1) _ b)) ∙ m)
 
 records-alike : (lent : Lengths) (n : ℕ) (s : State) (js js' : List Judged) → AlikeRecords js js' → not (meets (read_records lent n s js).answer.number) ≡ true
     → read_records lent n s js ≡ read_records lent n s js'

@@ -12,7 +12,8 @@ use lib.ListN.{length}
 use borrow.Author.Tests.{le-leb}
 use Rattle.text.specs.Text.{Text, every}
 use Rattle.text.proofs.Laws.Every.{every-append-true, every-weaken}
-use Rattle.text.proofs.Laws.Tests.{and-true, if-either, or_left, or_right}
+use Rattle.std.proofs.lemmas.Bool.{or_left, or_right}
+use Rattle.text.proofs.Laws.Tests.{and-true, if-either}
 use Rattle.sheet.specs.Rows.{Sheet}
 use Rattle.sheet.specs.Form.{words}
 use Rattle.sheet.specs.Lengths.{Lengths, lengths_of}
@@ -63,8 +64,8 @@ zeros-later : (s t : State) (given : List HeadNumber) → numbered_heads t.reade
 unfolding zero_number zero_or_later
 zeros-later s t given k l z =
     let passes = λ (h : HeadNumber). zero_or_later s.events h.name h.event in
-    let first = every-weaken (λ (h : HeadNumber). zero_number h.name h.event) passes (λ h e. or_left (leb s.events h.event) e) (numbered_heads s.reader) (heads-numbered zero_number s.reader ∙ z) in
-    let behind = every-weaken (is_later s.events) passes (λ h e. or_right (eqb h.event 0) e) given l in
+    let first = every-weaken (λ (h : HeadNumber). zero_number h.name h.event) passes (λ h e. or_left _ (leb s.events h.event) e) (numbered_heads s.reader) (heads-numbered zero_number s.reader ∙ z) in
+    let behind = every-weaken (is_later s.events) passes (λ h e. or_right (eqb h.event 0) _ e) given l in
     sym (heads-numbered (zero_or_later s.events) t.reader) ∙ ap (every passes) k ∙ every-append-true passes (numbered_heads s.reader) given first behind
 
 sheet-stored : (x : Sheet) (t : State) (given : List HeadNumber) → proper t ≡ true → state_fits (length x.rows) (length x.names) t ≡ true

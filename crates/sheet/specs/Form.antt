@@ -3,7 +3,7 @@
 --     is_flag        "Flags are 0 or 1"
 --     pair_form, row_covers, covers    the used pairs cover the names from k, unused pairs are 0 0
 --     end_of, covered    where a row's, or a list of rows', pairs end
---     counted       a row with its texts has as many as it uses
+--     texts_counted  a row with its texts has as many as it uses
 --     rows_used_in, names_used_in    rows used and names used among the ten numbers of row 0
 --     row0_of        row 0 of a sheet as ten numbers; rows_used_of, names_used_of: what it says is used; tens_of: the used rows behind it
 --     texts_pass    each text of the used pairs passes a test
@@ -45,8 +45,8 @@ covered k [] = k
 covered k (t ∷ ts) = covered (end_of k t) ts
 
 -- a row has as many texts as it uses, three at most
-unfoldable pub counted : (ℕ → ℕ → ℕ) → Row → Bool
-counted used_pairs r = eqb (length r.texts) (used_pairs r.tag r.a) && leb (length r.texts) 3
+unfoldable pub texts_counted : (ℕ → ℕ → ℕ) → Row → Bool
+texts_counted used_pairs r = eqb (length r.texts) (used_pairs r.tag r.a) && leb (length r.texts) 3
 
 -- row 0 of both sheets begins: "0, rows used, names used"
 abbrev pub rows_used_in : Ten → ℕ

@@ -7,4 +7,5 @@ pub mod Cut
 pub mod Tests
 pub mod Form
 pub mod Records
+pub mod Short
 pub mod Tried

@@ -5,6 +5,7 @@
 pub mod attributes;
 pub mod form;
 pub mod pairs;
+pub mod short;
 pub mod tests;
 pub mod view;
 pub mod words;

@@ -1,11 +1,12 @@
 // The word of a tag and the key of an attribute, by a local name: by its length first, so that few words are compared.
-ghost use Rattle.std.specs.Prelude.{◌≡◌, [], ◌∷◌, length};
-ghost use Rattle.text.specs.Text.{local_name};
+ghost use Rattle.std.specs.Prelude.{◌≡◌, [], ◌∷◌, length, false};
+ghost use Rattle.text.specs.Text.{contains, colon, local_name};
 ghost use Rattle.xsd_parser.specs.declared.words.Word.{Word};
 ghost use Rattle.xsd_parser.specs.Words.{found, word_of};
 ghost use Rattle.tape.specs.Keys.{known_word, key_number, key_of};
 
-use text::{local_name, same_text};
+use crate::short::same_short;
+use text::local_name;
 use xsd_parser::words::{FacetWord, Word};
 
 // The keys of attributes that are looked up, in the order of their places.
@@ -26,7 +27,7 @@ pub enum Key {
 fn value_if<T: Copy>(name: &[u8], text: &[u8], value: T) -> Option<T>
     ensures { result ≡ found None ((text.now, Some value) ∷ []) name.now }
 {
-    same_text(name, text).then_some(value)
+    same_short(name, text).then_some(value)
 }
 
 // The word of a facet, where the name is its text.
@@ -91,11 +92,32 @@ fn known_word(name: &[u8]) -> Option<Word>
     }
 }
 
-// The word of a tag's name.
-pub fn word_of(name: &[u8]) -> Word
+// What stands behind a prefix of two letters, as in most schemas, or else the whole name: the local name, if it has no colon.
+fn behind_two(name: &[u8]) -> &[u8]
+    ensures { contains colon result.now ≡ false → local_name name.now ≡ result.now }
+{
+    if 2 < name.len() && name[2] == b':' {
+        return &name[3..];
+    }
+    name
+}
+
+// The word of any name, whose colons are looked for. Never inlined: most names are words with a prefix of two letters, or with none.
+#[inline(never)]
+fn any_word(name: &[u8]) -> Word
     ensures { result ≡ word_of (local_name name.now) }
 {
     known_word(local_name(name)).unwrap_or(Word::Other)
+}
+
+// The word of a tag's name. What is a word has no colon.
+pub fn word_of(name: &[u8]) -> Word
+    ensures { result ≡ word_of (local_name name.now) }
+{
+    if let Some(word) = known_word(behind_two(name)) {
+        return word;
+    }
+    any_word(name)
 }
 
 // The key that a name without a prefix is, if it is one.
@@ -120,8 +142,5 @@ fn plain_key(name: &[u8]) -> Option<Key>
 pub fn key_of(name: &[u8]) -> Option<Key>
     ensures { key_number result ≡ key_of (local_name name.now) }
 {
-    if let Some(key) = plain_key(name) {
-        return Some(key);
-    }
-    plain_key(local_name(name))
+    plain_key(name).or_else(|| plain_key(local_name(name)))
 }

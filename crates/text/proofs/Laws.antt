@@ -12,3 +12,4 @@ pub mod Agree
 pub mod Utf8
 pub mod Trim
 pub mod Std
+pub mod Named

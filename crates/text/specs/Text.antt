@@ -5,12 +5,12 @@
 --     is_plain_byte, is_plain    a byte below 128; all bytes of the text are such
 --     between       the byte is one of a range
 --     is_tail       a byte that may stand second in a character of two bytes
---     is_pair, is_graph_pair    the two bytes are a character of UTF-8 from U+0080 to U+017F; or one of the three more that a graph may hold; pair_of: either
+--     is_pair, is_graph_pair    the two bytes are a character of UTF-8 from U+0080 to U+017F; or one of the three more that a graph may hold
 --     text_by       the text goes on behind a first byte that waits for its second one, or behind none: by a rule that says which two bytes are a character
 --     is_text, is_graph_text    the texts that a tape and a sheet may hold, and those that a graph may hold
 --     lead_after    the byte that waits behind a byte
 --     is_upper, is_lower, is_digit    the classes of a byte, as Rust's is_uppercase, is_lowercase and is_ascii_digit have them below 128
---     upper, lower  the upper and the lower form of a letter; every other byte is its own
+--     upper_byte, lower_byte  the upper and the lower form of a letter; every other byte is its own
 --     every         each element of the list passes the test
 --     contains      the byte stands in the text
 --     split         the segments between separators, as `str::split` gives them: one more than there are separators
@@ -57,9 +57,6 @@ unfoldable pub is_graph_pair : ℕ → ℕ → Bool
 is_graph_pair lead tail =
     is_pair lead tail || (eqb lead 202 && eqb tail 188) || (eqb lead 204 && eqb tail 135) || (eqb lead 206 && eqb tail 156)
 
-abbrev pub pair_of : Bool → ℕ → ℕ → Bool
-pair_of graph = if graph then is_graph_pair else is_pair
-
 -- behind the byte `lead`, which waits for the second byte of its character; 0 where none waits
 unfoldable pub text_by : (ℕ → ℕ → Bool) → ℕ → Text → Bool
 text_by pair lead [] = eqb lead 0
@@ -87,11 +84,11 @@ is_lower b = between (code "a") (code "z") b
 abbrev pub is_digit : ℕ → Bool
 is_digit b = between (code "0") (code "9") b
 
-unfoldable pub upper : ℕ → ℕ
-upper b = if is_lower b then b - 32 else b
+unfoldable pub upper_byte : ℕ → ℕ
+upper_byte b = if is_lower b then b - 32 else b
 
-unfoldable pub lower : ℕ → ℕ
-lower b = if is_upper b then b + 32 else b
+unfoldable pub lower_byte : ℕ → ℕ
+lower_byte b = if is_upper b then b + 32 else b
 
 unfoldable pub contains : ℕ → Text → Bool
 contains c [] = false

@@ -3,10 +3,13 @@
 #![tactic(auto)]
 
 pub mod ascii;
+pub mod pairs;
 
 ghost use Rattle.std.specs.Prelude.{◌≡◌, false, drop};
-ghost use Rattle.text.specs.Text.{is_plain, is_pair, is_graph_pair, pair_of, text_by, is_text, is_graph_text, lead_after, contains, first, same, colon, local_name, LocalPart};
+ghost use Rattle.text.specs.Text.{is_plain, text_by, is_text, is_graph_text, lead_after, contains, first, same, colon, local_name, LocalPart};
 ghost use Rattle.text.specs.Trim.{is_white_space, trim_start, trim_end, trimmed};
+
+use pairs::{GraphPairs, Pairs, SheetPairs};
 
 // Whether every byte is below 128.
 pub fn is_plain(s: &[u8]) -> bool
@@ -20,7 +23,7 @@ pub fn is_plain(s: &[u8]) -> bool
 pub fn is_text(s: &[u8]) -> bool
     ensures { result ≡ is_text s.now }
 {
-    is_plain(s) || is_mixed(s, false)
+    is_plain(s) || is_mixed::<SheetPairs>(s)
 }
 
 // Whether a graph may hold the text.
@@ -28,52 +31,25 @@ pub fn is_text(s: &[u8]) -> bool
 pub fn is_graph_text(s: &[u8]) -> bool
     ensures { result ≡ is_graph_text s.now }
 {
-    is_plain(s) || is_mixed(s, true)
+    is_plain(s) || is_mixed::<GraphPairs>(s)
 }
 
 // The same, byte by byte: nothing waits at the end for the second byte of its character.
 #[tactic(auto, unfolding(crate::specs::Text::lead_after))]
-fn is_mixed(s: &[u8], of_graph: bool) -> bool
-    ensures { result ≡ text_by (pair_of of_graph) 0 s.now }
+fn is_mixed<P: Pairs>(s: &[u8]) -> bool
+    ensures { result ≡ text_by P.rule 0 s.now }
 {
     let last = s.iter().fold(
         0,
         |lead, b|
-            ensures { result ≡ lead_after (pair_of of_graph) lead b.now }
-        { lead_after(lead, *b, goes_on(lead, *b, of_graph)) },
+            ensures { result ≡ lead_after P.rule lead b.now }
+        { lead_after(lead, *b, P::holds(lead, *b)) },
     );
     last == 0
 }
 
-// Whether the two bytes are a character that a graph, or a sheet, may hold.
-fn goes_on(lead: u8, tail: u8, of_graph: bool) -> bool
-    ensures { result ≡ pair_of of_graph lead tail }
-{
-    if of_graph {
-        is_graph_pair(lead, tail)
-    } else {
-        is_pair(lead, tail)
-    }
-}
-
-#[tactic(auto, unfolding(crate::specs::Text::is_graph_pair))]
-fn is_graph_pair(lead: u8, tail: u8) -> bool
-    ensures { result ≡ is_graph_pair lead tail }
-{
-    is_pair(lead, tail)
-        || lead == 0xCA && tail == 0xBC
-        || lead == 0xCC && tail == 0x87
-        || lead == 0xCE && tail == 0x9C
-}
-
-#[tactic(auto, unfolding(crate::specs::Text::is_pair, crate::specs::Text::is_tail))]
-fn is_pair(lead: u8, tail: u8) -> bool
-    ensures { result ≡ is_pair lead tail }
-{
-    ascii::in_range(0xC2, 0xC5, lead) && ascii::in_range(0x80, 0xBF, tail)
-}
-
-// The byte that waits behind b: 0 for none, 255 where no text goes on so. `pair` says whether the byte that waited and b are a character.
+// The byte that waits behind b: 0 for none, 255 where no text goes on so. Numbers, as in the definition: `text_by` begins behind 0, and an enum of the three would be turned
+// into them again for each byte. `pair` says whether the byte that waited and b are a character.
 #[tactic(auto, unfolding(crate::specs::Text::lead_after, crate::specs::Text::is_plain_byte))]
 fn lead_after(lead: u8, b: u8, pair: bool) -> u8
     ensures { result ≡ lead_after (λ l t. pair) lead b }

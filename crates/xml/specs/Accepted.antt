@@ -18,7 +18,7 @@ use Rattle.xsd_parser.specs.Event.{Event}
 use Rattle.xsd_parser.specs.Tape.{Pair, pair_text, tag_of, event_of, Judged, event}
 use Rattle.xsd_parser.specs.Read.{Reading}
 use Rattle.xml.specs.Classes.{is_name_start, begins}
-use Rattle.xml.specs.Steps.{name_of}
+use Rattle.xml.specs.Steps.{leading_name}
 use Rattle.xml.specs.Values.{is_quote}
 use Rattle.xml.specs.Tape.{AttributePairs, TapeEvent}
 
@@ -28,7 +28,7 @@ offset_behind p = p.offset + p.size
 -- [5] Name ::= NameStartChar (NameChar)*
 pub record NameAt (text : Text) (p : Pair) : Type 0 where
   pub starts : begins is_name_start (drop p.offset text) ≡ true
-  pub whole : pair_text text p ≡ name_of (drop p.offset text)
+  pub whole : pair_text text p ≡ leading_name (drop p.offset text)
 
 -- [10] AttValue ::= '"' ([^<&"] | Reference)* '"' | "'" ([^<&'] | Reference)* "'"
 pub record ValueAt (text : Text) (p : Pair) : Type 0 where

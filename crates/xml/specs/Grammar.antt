@@ -8,7 +8,7 @@
 --     Offsets: `at` is where the derived text begins. A tag is derived with the text of its name and its event, attributes with their keys and their pairs.
 use Rattle.std.specs.Prelude.{ℕ, ◌+◌, ◌-◌, ◌*◌, ◌≡◌, List, [], ◌∷◌, ◌++◌, Bool, true, false, not, ◌&&◌, ◌||◌, eqb, length, if◌then◌else◌}
 use Prim.Native.Char.{code}
-use Rattle.text.specs.Text.{Text, bytes, every, between, is_digit, same, lower}
+use Rattle.text.specs.Text.{Text, bytes, every, between, is_digit, same, lower_byte}
 use Rattle.text.specs.Trim.{is_white_space}
 use Rattle.xsd_parser.specs.Kinds.{start_kind, empty_kind}
 use Rattle.xml.specs.Classes.{is_char, is_letter, is_name_start, is_name, is_encoding, is_byte_of, is_pair_of}
@@ -114,7 +114,7 @@ unfoldable pub is_xml : Text → Bool
 is_xml [] = false
 is_xml (a ∷ []) = false
 is_xml (a ∷ b ∷ []) = false
-is_xml (a ∷ b ∷ c ∷ []) = eqb (lower a) (code "x") && eqb (lower b) (code "m") && eqb (lower c) (code "l")
+is_xml (a ∷ b ∷ c ∷ []) = eqb (lower_byte a) (code "x") && eqb (lower_byte b) (code "m") && eqb (lower_byte c) (code "l")
 is_xml (a ∷ b ∷ c ∷ d ∷ s) = false
 
 -- [17] PITarget ::= Name - (('X' | 'x') ('M' | 'm') ('L' | 'l'))

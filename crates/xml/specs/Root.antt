@@ -9,7 +9,7 @@
 use Rattle.std.specs.Prelude.{ℕ, zero, suc, List, [], ◌∷◌, ◌++◌, Bool, true, false, eqb, length, if◌then◌else◌}
 use Rattle.text.specs.Text.{Text, bytes, same}
 use Rattle.xsd_parser.specs.Kinds.{start_kind}
-use Rattle.xml.specs.Steps.{Step, bad, behind, ◌and_then◌, starts_with, literal, spaces, name, name_of, comment, instruction, section}
+use Rattle.xml.specs.Steps.{Step, bad, behind, ◌and_then◌, starts_with, literal, spaces, name, leading_name, comment, instruction, section}
 use Rattle.xml.specs.Values.{char_data}
 use Rattle.xml.specs.Tape.{TapeEvent}
 use Rattle.xml.specs.Tags.{Tagged, untagged, tagged, tag}
@@ -32,7 +32,7 @@ ending_by n (behind a r) = ending n a r
 
 abbrev pub close_behind : Step → Piece
 close_behind bad = wrong
-close_behind (behind n t) = ending_by (name_of t) (name n t and_then spaces and_then literal (bytes ">"))
+close_behind (behind n t) = ending_by (leading_name t) (name n t and_then spaces and_then literal (bytes ">"))
 
 -- [42] ETag ::= '</' Name S? '>'
 unfoldable pub close : ℕ → Text → Piece

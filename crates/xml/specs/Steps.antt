@@ -5,7 +5,7 @@
 --     literal       a word
 --     many          as many bytes of a class as stand there, none too
 --     spaces        S?; space: S
---     name_of        the characters of names that the bytes left begin with; name: [5]
+--     leading_name   the characters of names that the bytes left begin with; name: [5]
 --     until         characters up to the first place of a word, and the word
 --     comment       [15]; instruction: [16] with its [17]; section: [18] CDATA
 use Rattle.std.specs.Prelude.{ℕ, suc, ◌+◌, [], ◌∷◌, Bool, true, false, ◌&&◌, eqb, length, drop, if◌then◌else◌}
@@ -47,16 +47,16 @@ spaces at s = many is_white_space at s
 unfoldable pub space : ℕ → Text → Step
 space at s = one_then is_white_space is_white_space at s
 
-unfoldable pub name_of : Text → Text
-name_of [] = []
-name_of (b ∷ []) = if is_byte_of is_name b then b ∷ [] else []
-name_of (b ∷ t ∷ s) =
-    if is_byte_of is_name b then b ∷ name_of (t ∷ s) else
-    if is_pair_of is_name b t then b ∷ t ∷ name_of s else []
+unfoldable pub leading_name : Text → Text
+leading_name [] = []
+leading_name (b ∷ []) = if is_byte_of is_name b then b ∷ [] else []
+leading_name (b ∷ t ∷ s) =
+    if is_byte_of is_name b then b ∷ leading_name (t ∷ s) else
+    if is_pair_of is_name b t then b ∷ t ∷ leading_name s else []
 
 -- [5] Name ::= NameStartChar (NameChar)*
 unfoldable pub name : ℕ → Text → Step
-name at s = if begins is_name_start s then behind (at + length (name_of s)) (drop (length (name_of s)) s) else bad
+name at s = if begins is_name_start s then behind (at + length (leading_name s)) (drop (length (leading_name s)) s) else bad
 
 -- "Char* - (Char* word Char*)" and the word
 unfoldable pub until : Text → ℕ → Text → Step
@@ -70,7 +70,7 @@ comment at s = literal (bytes "<!--") at s and_then until (bytes "--") and_then 
 
 -- [17] PITarget ::= Name - (('X' | 'x') ('M' | 'm') ('L' | 'l'))
 unfoldable pub target : ℕ → Text → Step
-target at s = if is_xml (name_of s) then bad else name at s
+target at s = if is_xml (leading_name s) then bad else name at s
 
 -- "(S (Char* - (Char* '?>' Char*)))? '?>'"
 unfoldable pub instruction_end : ℕ → Text → Step

@@ -32,9 +32,9 @@ is_reference s =
 
 -- the byte that the bytes left begin with may stand in a value or in text, but for the bytes that end them: a character, and where it is `&`, a
 -- reference. The bytes of a reference behind its `&` are plain characters, so a scan goes on at the next byte.
-unfoldable pub is_plain : Text → Bool
-is_plain [] = false
-is_plain (b ∷ s) = if eqb b (code "&") then is_reference (b ∷ s) else is_char b
+unfoldable pub starts_character : Text → Bool
+starts_character [] = false
+starts_character (b ∷ s) = if eqb b (code "&") then is_reference (b ∷ s) else is_char b
 
 -- "([^<&"] | Reference)* '"'", or with the other quote. "No < in Attribute Values".
 unfoldable pub value_end : ℕ → ℕ → Text → Step
@@ -42,7 +42,7 @@ value_end quote at [] = bad
 value_end quote at (b ∷ s) =
     if eqb b quote then behind (suc at) s else
     if eqb b (code "<") then bad else
-    if is_plain (b ∷ s) then value_end quote (suc at) s else bad
+    if starts_character (b ∷ s) then value_end quote (suc at) s else bad
 
 unfoldable pub is_quote : ℕ → Bool
 is_quote b = eqb b 34 || eqb b 39
@@ -57,7 +57,7 @@ unfoldable pub char_data : ℕ → Text → Step
 char_data at [] = behind at []
 char_data at (b ∷ s) =
     if eqb b (code "<") then behind at (b ∷ s) else
-    if not (starts_with (bytes "]]>") (b ∷ s)) && is_plain (b ∷ s) then char_data (suc at) s else bad
+    if not (starts_with (bytes "]]>") (b ∷ s)) && starts_character (b ∷ s) then char_data (suc at) s else bad
 
 unfoldable pub is_in_text : ℕ → Bool
 is_in_text b = is_char b && not (eqb b (code "<")) && not (eqb b (code "&")) && not (eqb b (code "]"))

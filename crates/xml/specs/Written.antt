@@ -11,8 +11,8 @@ use Rattle.text.specs.Text.{Text, bytes, same, contains}
 use Rattle.xsd_parser.specs.Kinds.{start_kind}
 use Rattle.xsd_parser.specs.Event.{Attr, Tag}
 use Rattle.xml.specs.Classes.{is_name_start, begins}
-use Rattle.xml.specs.Steps.{name_of}
-use Rattle.xml.specs.Values.{is_plain}
+use Rattle.xml.specs.Steps.{leading_name}
+use Rattle.xml.specs.Values.{starts_character}
 use Rattle.xsd_parser.specs.Tape.{Pair}
 use Rattle.xml.specs.Tape.{AttributePairs, TapeEvent}
 use Rattle.xml.specs.Grammar.{is_among}
@@ -20,12 +20,12 @@ use Rattle.xml.specs.Tags.{Tagged, tagged}
 
 -- [5] Name ::= NameStartChar (NameChar)*
 unfoldable pub is_name_text : Text → Bool
-is_name_text s = begins is_name_start s && same (name_of s) s
+is_name_text s = begins is_name_start s && same (leading_name s) s
 
 -- "([^<&"] | Reference)*", or with the other quote
 unfoldable pub is_value : ℕ → Text → Bool
 is_value quote [] = true
-is_value quote (b ∷ s) = not (eqb b quote) && not (eqb b (code "<")) && is_plain (b ∷ s) && is_value quote s
+is_value quote (b ∷ s) = not (eqb b quote) && not (eqb b (code "<")) && starts_character (b ∷ s) && is_value quote s
 
 unfoldable pub quote_of : Text → ℕ
 quote_of v = if contains 34 v then 39 else 34

@@ -4,3 +4,4 @@ pub mod Skips
 pub mod Held
 pub mod Letters
 pub mod Alike
+pub mod Matched

@@ -7,11 +7,13 @@
 --     start_width    how many bytes the first character of a name has; matched: a name that is the name at another place
 --     body_of        the step of a `Body`
 --     Before        bytes that may be passed over before a word
-use Rattle.std.specs.Prelude.{ℕ, ◌+◌, ◌/◌, ◌%◌, ◌^◌, ◌<◌, ◌≡◌, List, [], ◌∷◌, Bool, true, false, Option, Some, None, length, get_or, drop, eqb, ltb, leb, if◌then◌else◌}
+--     StandsAt      bytes that stand at two places, with no more of a name behind the second
+use Rattle.std.specs.Prelude.{ℕ, ◌+◌, ◌<◌, ◌≡◌, List, [], ◌∷◌, Bool, true, false, Option, Some, None, length, get_or, take, drop, eqb, ltb, leb, if◌then◌else◌}
+use Rattle.std.specs.Int.{bit_at}
 use Rattle.text.specs.Text.{Text, is_digit, is_pair, first, same}
 use Rattle.text.specs.Trim.{is_white_space}
 use Rattle.xml.specs.Classes.{is_char, is_letter, is_name_start, is_name, is_encoding, point_of, is_byte_of, begins}
-use Rattle.xml.specs.Steps.{Step, bad, behind, name, name_of}
+use Rattle.xml.specs.Steps.{Step, bad, behind, name, leading_name}
 use Rattle.xml.specs.Values.{is_in_text, is_in_value}
 use Rattle.xml.specs.Prolog.{version_number, encoding_name, yes_or_no}
 use Rattle.xml_parts.specs.declared.classes.Class.{Class}
@@ -40,7 +42,7 @@ class_table =
     192 ∷ 192 ∷ 192 ∷ 192 ∷ 192 ∷ 192 ∷ 192 ∷ 192 ∷ 192 ∷ 192 ∷ 192 ∷ 192 ∷ 192 ∷ 192 ∷ 192 ∷ 192 ∷ 192 ∷ 192 ∷ 192 ∷ 192 ∷ 192 ∷ 192 ∷ 192 ∷ 192 ∷ 192 ∷ 192 ∷ 192 ∷ 192 ∷ 192 ∷ 192 ∷ 192 ∷ 192 ∷ []
 
 unfoldable pub has_bit : ℕ → ℕ → Bool
-has_bit flags k = eqb (flags / 2 ^ k % 2) 1
+has_bit flags k = eqb (bit_at flags k) 1
 
 abbrev pub moved : Text → Option ℕ → Step
 moved text (Some e) = behind e (drop e text)
@@ -64,7 +66,7 @@ start_width s = if begins is_name_start s then (if is_byte_of is_name_start (fir
 
 -- a name, where it is the name at another place
 unfoldable pub matched : Text → ℕ → ℕ → Step
-matched text at top = if same (name_of (drop at text)) (name_of (drop top text)) then name at (drop at text) else bad
+matched text at top = if same (leading_name (drop at text)) (leading_name (drop top text)) then name at (drop at text) else bad
 
 abbrev pub body_of : Body → ℕ → Text → Step
 body_of Body.Version = version_number
@@ -76,3 +78,8 @@ pub record Before (p : ℕ → Bool) (word : Text) : Type 0 where
   pub some : 0 < length word
   pub chars : (b : ℕ) → p b ≡ true → is_char b ≡ true
   pub others : (b : ℕ) → p b ≡ true → eqb b (get_or word 0 0) ≡ false
+
+-- the n bytes at one place stand at another one too, and no name goes on behind them there
+pub record StandsAt (text : Text) (at n top : ℕ) : Type 0 where
+  pub bytes : take n (drop at text) ≡ take n (drop top text)
+  pub ends : begins is_name (drop (top + n) text) ≡ false

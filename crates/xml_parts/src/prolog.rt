@@ -1,18 +1,30 @@
 // What may stand around the root.
 ghost use Rattle.std.specs.Prelude.{◌≡◌, [], ◌∷◌, length, drop};
 ghost use Rattle.xml.specs.Prolog.{eq, quoted, declared, optional, declaration, is_misc, misc_part, misc, is_declaration, prolog};
+ghost use Rattle.xml.specs.Steps.{behind, spaces};
 ghost use Rattle.xml_parts.specs.Answers.{moved, body_of};
 
 use crate::classes::{Class, Classes};
 use crate::steps::{comment, goes_on, instruction, literal, one_then, spaces, starts};
 use crate::values::is_quote;
 
-// What stands between the quotes of a part of the declaration.
+// What stands between the quotes of a part of the declaration. An enum, and no type parameter or closure for the step: `quoted` and `body_end` are public functions of the
+// beginning that take it, and three unit types would say in three impls, with a ghost member and a law each, what three arms of one `match` say.
 #[derive(Clone, Copy)]
 pub enum Body {
     Version,
     Encoding,
     Standalone,
+}
+
+// Behind the white space at a position, where most often one space stands and a byte above all white space behind it.
+fn few_spaces(classes: &Classes, text: &[u8], at: usize) -> usize
+    ensures { behind result (drop result text.now) ≡ spaces at (drop at text.now) }
+{
+    if text::byte_at(text, at) == b' ' && b' ' < text::byte_at(text, at + 1) {
+        return at + 1;
+    }
+    spaces(classes, text, at)
 }
 
 // Cold: most keys have `=` and a quote right behind them, where it is not called.
@@ -21,9 +33,9 @@ pub enum Body {
 pub fn eq(classes: &Classes, text: &[u8], at: usize) -> Option<usize>
     ensures { moved text.now result ≡ eq at (drop at text.now) }
 {
-    let sign = spaces(classes, text, at);
+    let sign = few_spaces(classes, text, at);
     let behind = literal(text, sign, b"=")?;
-    Some(spaces(classes, text, behind))
+    Some(few_spaces(classes, text, behind))
 }
 
 #[tactic(auto, unfolding(xml::specs::Prolog::version_number, xml::specs::Prolog::encoding_name, xml::specs::Prolog::yes_or_no, text::specs::Text::bytes))]

@@ -1,14 +1,15 @@
-// Steps over a text: words, runs of a class, names, and the marked parts that give no event.
-ghost use Rattle.std.specs.Prelude.{◌≡◌, ◌≤◌, ◌+◌, length, drop, is_some, IfSome};
-ghost use Rattle.xml.specs.Classes.{is_name, is_byte_of, begins};
+// Steps over a text: words, runs of a class, names, and the marked parts that give no event. A place past the end is taken, and nothing is found there; but for the functions of
+// name bytes, which cut the text at the place: that it is inside is a clause, since all that make one have tested it.
+ghost use Rattle.std.specs.Prelude.{◌≡◌, ◌≤◌, ◌+◌, ◌-◌, true, false, length, drop, is_some, IfSome, MatchOption};
+ghost use Rattle.xml.specs.Classes.{is_name_start, is_name, is_byte_of, begins};
 ghost use Rattle.text.specs.Text.{bytes, same};
-ghost use Rattle.xml.specs.Steps.{behind, starts_with, literal, many, one_then, spaces, name, name_of, until, comment, target, instruction_end, instruction, section};
+ghost use Rattle.xml.specs.Steps.{behind, starts_with, literal, many, one_then, spaces, name, leading_name, until, comment, target, instruction_end, instruction, section};
 ghost use Rattle.xml.specs.Grammar.{is_xml};
-ghost use Rattle.xml_parts.specs.Answers.{Before, class_of, moved, start_width, matched};
+ghost use Rattle.xml_parts.specs.Answers.{Before, StandsAt, class_of, moved, start_width, matched};
 
 use crate::classes::{Class, Classes, is_char};
 use crate::letters;
-use plain_bytes::{CommentRun, Run, SectionRun, skip};
+use plain_bytes::{CommentRun, Run, SectionRun, same_bytes, skip};
 
 // Whether the word stands at a position. By hand: with the library's `starts_with` the tape took 2 to 15 hundredths more instructions (the bar: the tape is
 // no slower in compare/CALLS.md).
@@ -26,6 +27,7 @@ pub fn starts(text: &[u8], at: usize, word: &[u8]) -> bool
     true
 }
 
+// No `then`: the sum fits where the word stands there, so that the closure would have a clause of its own. `number::digit_value`, tried so, proved and had as many lines.
 pub fn literal(text: &[u8], at: usize, word: &[u8]) -> Option<usize>
     ensures { moved text.now result ≡ literal word.now at (drop at text.now) }
 {
@@ -74,34 +76,31 @@ pub fn one_then(
     Some(many(classes, text, at + 1, class))
 }
 
-// How many bytes the character has that begins a name at a position: 0 where none does.
-fn start_width(classes: &Classes, text: &[u8], at: usize) -> usize
-    ensures { result ≡ start_width (drop at text.now) }
+// How many bytes the character has that begins a name at a position, if one does.
+fn start_width(classes: &Classes, text: &[u8], at: usize) -> Option<usize>
+    ensures { MatchOption result (begins is_name_start (drop at text.now) ≡ false) (λ n. (begins is_name_start (drop at text.now) ≡ true) × (n ≡ start_width (drop at text.now))) }
 {
-    let Some(first) = text.get(at) else {
-        return 0;
-    };
-    if classes.in_class(Class::NameStart, *first) {
-        return 1;
+    if classes.in_class(Class::NameStart, *text.get(at)?) {
+        return Some(1);
     }
-    if letters::start_at(text, at) { 2 } else { 0 }
+    letters::is_start_at(text, at).then_some(2)
 }
 
 // Whether a name goes on at a position.
 pub fn goes_on(classes: &Classes, text: &[u8], at: usize) -> bool
     ensures { result ≡ begins is_name (drop at text.now) }
 {
-    classes.is_name(text::byte_at(text, at)) || letters::name_at(text, at)
+    classes.is_name(text::byte_at(text, at)) || letters::is_name_at(text, at)
 }
 
 // Behind the characters of names that stand at a position: runs of bytes below 128, and between them characters of two bytes. No `for`: a run has any number of
 // bytes.
 #[cold]
 fn long_end(classes: &Classes, text: &[u8], at: usize) -> usize
-    ensures { result ≡ at + length (name_of (drop at text.now)) }
+    ensures { result ≡ at + length (leading_name (drop at text.now)) }
 {
     let mut end = many(classes, text, at, Class::Name);
-    while letters::name_at(text, end) {
+    while letters::is_name_at(text, end) {
         end = many(classes, text, end + 2, Class::Name);
     }
     end
@@ -128,7 +127,7 @@ fn name_bytes(classes: &Classes, text: &[u8], at: usize) -> usize
 #[inline(always)]
 fn name_end(classes: &Classes, text: &[u8], at: usize) -> usize
     requires { at ≤ length text.now }
-    ensures { result ≡ at + length (name_of (drop at text.now)) }
+    ensures { result ≡ at + length (leading_name (drop at text.now)) }
 {
     let end = name_bytes(classes, text, at);
     if text::byte_at(text, end) < 128 {
@@ -143,10 +142,7 @@ fn name_end(classes: &Classes, text: &[u8], at: usize) -> usize
 fn long_name(classes: &Classes, text: &[u8], at: usize) -> Option<usize>
     ensures { moved text.now result ≡ name at (drop at text.now) }
 {
-    let first = start_width(classes, text, at);
-    if first == 0 {
-        return None;
-    }
+    let first = start_width(classes, text, at)?;
     Some(long_end(classes, text, at + first))
 }
 
@@ -162,8 +158,8 @@ pub fn name(classes: &Classes, text: &[u8], at: usize) -> Option<usize>
 }
 
 // The characters of names that stand at a position.
-fn name_of<'a>(classes: &Classes, text: &'a [u8], at: usize) -> &'a [u8]
-    ensures { result.now ≡ name_of (drop at text.now) }
+fn leading_name<'a>(classes: &Classes, text: &'a [u8], at: usize) -> &'a [u8]
+    ensures { result.now ≡ leading_name (drop at text.now) }
 {
     let from = at.min(text.len());
     let end = long_end(classes, text, from);
@@ -173,17 +169,17 @@ fn name_of<'a>(classes: &Classes, text: &'a [u8], at: usize) -> &'a [u8]
 // Behind the name at `a`, where the name at `b` is the same: with any characters of names.
 #[cold]
 fn same_long(classes: &Classes, text: &[u8], a: usize, b: usize) -> Option<usize>
-    ensures alike { is_some result ≡ same (name_of (drop a text.now)) (name_of (drop b text.now)) }
-    ensures ends { IfSome result (λ e. e ≡ a + length (name_of (drop a text.now))) }
+    ensures alike { is_some result ≡ same (leading_name (drop a text.now)) (leading_name (drop b text.now)) }
+    ensures ends { IfSome result (λ e. e ≡ a + length (leading_name (drop a text.now))) }
 {
-    let name = name_of(classes, text, a);
-    text::same_text(name, name_of(classes, text, b)).then_some(a + name.len())
+    let name = leading_name(classes, text, a);
+    text::same_text(name, leading_name(classes, text, b)).then_some(a + name.len())
 }
 
 // The same, where most names are bytes below 128 alone.
 fn same_run(classes: &Classes, text: &[u8], a: usize, b: usize) -> Option<usize>
-    ensures alike { is_some result ≡ same (name_of (drop a text.now)) (name_of (drop b text.now)) }
-    ensures ends { IfSome result (λ e. e ≡ a + length (name_of (drop a text.now))) }
+    ensures alike { is_some result ≡ same (leading_name (drop a text.now)) (leading_name (drop b text.now)) }
+    ensures ends { IfSome result (λ e. e ≡ a + length (leading_name (drop a text.now))) }
 {
     let beside = text.len().saturating_sub(a.max(b));
     for k in 0..beside {
@@ -203,7 +199,7 @@ fn same_run(classes: &Classes, text: &[u8], a: usize, b: usize) -> Option<usize>
 
 // Whether the names at two positions are the same. Most keys of a tag differ in their first byte.
 pub fn same_name(classes: &Classes, text: &[u8], a: usize, b: usize) -> bool
-    ensures { result ≡ same (name_of (drop a text.now)) (name_of (drop b text.now)) }
+    ensures { result ≡ same (leading_name (drop a text.now)) (leading_name (drop b text.now)) }
 {
     let (x, y) = (text::byte_at(text, a), text::byte_at(text, b));
     if x != y && classes.is_name(x) {
@@ -291,6 +287,9 @@ pub fn instruction(classes: &Classes, text: &[u8], at: usize) -> Option<usize>
     instruction_end(text, end)
 }
 
+// Not inlined: where it was, the loop over text beside it had fewer registers, and long text took 383,002 instructions and not 375,441 (the bar: the tape is no slower in
+// compare/CALLS.md).
+#[inline(never)]
 #[tactic(auto, unfolding(xml::specs::Steps::section, text::specs::Text::bytes))]
 pub fn section(text: &[u8], at: usize) -> Option<usize>
     ensures { moved text.now result ≡ section at (drop at text.now) }
@@ -299,12 +298,30 @@ pub fn section(text: &[u8], at: usize) -> Option<usize>
     until_over::<SectionRun>(text, inside, b"]]>")
 }
 
-// Behind the name at a position, where it is the name at another one.
+// Whether the bytes of a part stand at an earlier place too, with no more of a name behind them.
+fn is_there(classes: &Classes, text: &[u8], at: usize, end: usize, top: usize) -> bool
+    requires { (at ≤ end) × (end ≤ length text.now) }
+    ensures { result ≡ true → StandsAt text.now at (end - at) top }
+{
+    if at < top {
+        return false;
+    }
+    let behind = top + (end - at);
+    if goes_on(classes, text, behind) {
+        return false;
+    }
+    same_bytes(&text[at..end], &text[top..behind])
+}
+
+// Behind the name at a position, where it is the name at another one. Its end is looked for and then words of eight are compared: byte by byte, as `same_run` goes, the
+// tape of pain.001.001.09 took about 15,000 instructions more, of 574,265 (the bar: the tape is no slower in compare/CALLS.md).
 pub fn matched_name(classes: &Classes, text: &[u8], at: usize, top: usize) -> Option<usize>
     ensures { moved text.now result ≡ matched text.now at top }
 {
-    if start_width(classes, text, at) == 0 {
-        return None;
+    start_width(classes, text, at)?;
+    let end = name_end(classes, text, at);
+    if is_there(classes, text, at, end, top) {
+        return Some(end);
     }
-    same_run(classes, text, at, top)
+    same_long(classes, text, at, top)
 }

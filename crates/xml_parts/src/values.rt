@@ -2,14 +2,14 @@
 // `is_quote`, and that a position is inside the text, are clauses: a type for the byte or the position would be turned back for each compare.
 ghost use Rattle.std.specs.Prelude.{◌≡◌, true, ◌≤◌, ◌<◌, length, drop, unwrap_or};
 ghost use Rattle.xml.specs.Grammar.{digit_of};
-ghost use Rattle.xml.specs.Values.{is_number, is_entity, is_reference, is_plain, value_end, is_quote, value, char_data, is_in_text, is_in_value};
+ghost use Rattle.xml.specs.Values.{is_number, is_entity, is_reference, starts_character, value_end, is_quote, value, char_data, is_in_text, is_in_value};
 ghost use Rattle.xml_parts.specs.Answers.{moved, stopped, held};
 ghost use Rattle.xml.specs.Steps.{behind, many};
 ghost use Rattle.xml.specs.Written.{is_value};
 
 use crate::classes::{Class, Classes, is_char};
 use crate::steps::{many, starts};
-use plain_bytes::{TextRun, ValueRun, skip};
+use plain_bytes::{SpaceRun, TabRun, TextRun, ValueRun, skip};
 
 // A digit's value, in either case.
 pub fn digit_of(b: u8) -> Option<u32>
@@ -69,7 +69,7 @@ pub fn is_reference(text: &[u8], at: usize) -> bool
 // Whether the byte at a position may stand in a value or in text, apart from the bytes that end them.
 pub fn is_plain(text: &[u8], at: usize) -> bool
     requires { at < length text.now }
-    ensures { result ≡ is_plain (drop at text.now) }
+    ensures { result ≡ starts_character (drop at text.now) }
 {
     let b = text[at];
     if b == b'&' {
@@ -138,8 +138,7 @@ pub fn is_quote(b: u8) -> bool
     matches!(b, b'"' | b'\'')
 }
 
-// Cold: most values stand right behind `=`, where `value_end` is called.
-#[cold]
+// A value with its quotes. `attribute` of xml_text, which has looked at the first quote, calls `value_end`.
 pub fn value(classes: &Classes, text: &[u8], at: usize) -> Option<usize>
     ensures { moved text.now result ≡ value at (drop at text.now) }
 {
@@ -167,6 +166,43 @@ fn skip_lines(text: &[u8], at: usize) -> usize
     i
 }
 
+// Behind a line feed, where it stands at a position.
+fn line_feed(text: &[u8], at: usize) -> usize
+    ensures { many is_in_text result (drop result text.now) ≡ many is_in_text at (drop at text.now) }
+{
+    if text::byte_at(text, at) == b'\n' {
+        return at + 1;
+    }
+    at
+}
+
+// Behind a line end, where it stands at a position.
+fn line_end(text: &[u8], at: usize) -> usize
+    ensures { many is_in_text result (drop result text.now) ≡ many is_in_text at (drop at text.now) }
+{
+    match text::byte_at(text, at) {
+        b'\r' => line_feed(text, at + 1),
+        b'\n' => at + 1,
+        _ => at,
+    }
+}
+
+// Behind a line end and the spaces or tabs of an indent, which stand before most tags: a run of one byte takes one step a word. Without it the tape of pain.001.001.09
+// took about 24,000 instructions more, of 574,265 (the bar: the tape is no slower in compare/CALLS.md).
+fn indent(text: &[u8], at: usize) -> usize
+    ensures { many is_in_text result (drop result text.now) ≡ many is_in_text at (drop at text.now) }
+{
+    let line = line_end(text, at);
+    if line == at {
+        return at;
+    }
+    match text::byte_at(text, line) {
+        b' ' => skip::<SpaceRun>(text, line),
+        b'\t' => skip::<TabRun>(text, line),
+        _ => line,
+    }
+}
+
 // The same of character data.
 fn text_run(classes: &Classes, text: &[u8], at: usize) -> usize
     ensures { behind result (drop result text.now) ≡ many is_in_text at (drop at text.now) }
@@ -177,8 +213,12 @@ fn text_run(classes: &Classes, text: &[u8], at: usize) -> usize
 pub fn char_data(classes: &Classes, text: &[u8], at: usize) -> Option<usize>
     ensures { moved text.now result ≡ char_data at (drop at text.now) }
 {
-    // Most runs end at a `<`, of which the table need not be asked.
-    let first = skip_lines(text, at);
+    // Most runs are an indent, or end at a `<`, of which the table need not be asked.
+    let inside = indent(text, at);
+    if text::byte_at(text, inside) == b'<' {
+        return Some(inside);
+    }
+    let first = skip_lines(text, inside);
     if text::byte_at(text, first) == b'<' {
         return Some(first);
     }

@@ -1,20 +1,26 @@
 -- What the code's enums say in the terms of the definitions.
 --     next_part      the part of a tag of a `Next`; next_piece: the piece of content of a `Content`
+--     last_part      the end of a tag that stands at an offset, as a `Next`
 --     is_key_next    one space stands here, and behind it a byte above all white space and the bytes that end a tag
 --     names_up_to     the names at the offsets of the first slots, the last one first
 --     PartIn        where a part of a tag lies in a text of a length, from an offset on; PieceIn: where a piece of content lies
+--     OpensValue    the quote before a value, with all that stands between a key and it
 --     EndsTag, IsTag, GoesOn, IsRoot, FoundIs    an answer with the marks before and behind it says what the definition gives, and where it lies
 --     fault_of      why a text that has no tape has none; taken, StoredIs: the call's answer, and what is stored for it
-use Rattle.std.specs.Prelude.{ℕ, Option, Some, None, Result, Ok, Err, zero, suc, ◌+◌, ◌-◌, ◌*◌, ◌≤◌, ◌<◌, ◌≡◌, List, [], ◌∷◌, length, get_or, take, drop, Bool, ◌&&◌, eqb, ltb, if◌then◌else◌, MatchResult, ⊤}
+use Rattle.std.specs.Prelude.{ℕ, Option, Some, None, Result, Ok, Err, zero, suc, ◌+◌, ◌-◌, ◌*◌, ◌≤◌, ◌<◌, ◌≡◌, List, [], ◌∷◌, length, get_or, take, drop, Bool, true, ◌&&◌, eqb, ltb, if◌then◌else◌, MatchResult, ⊤}
 use Rattle.sheet.specs.Rows.{filled}
 use Rattle.std.proofs.lemmas.List.Edits.{sets}
-use Rattle.text.specs.Text.{Text, is_text, first}
-use Rattle.xml.specs.Steps.{name_of}
+use Rattle.text.specs.Text.{Text, bytes, is_text, first}
+use Rattle.xml.specs.Steps.{bad, behind, ◌and_then◌, starts_with, leading_name}
+use Rattle.xml.specs.Values.{value, is_quote}
+use Rattle.xml.specs.Prolog.{eq}
 use Rattle.xsd_parser.specs.Tape.{Pair}
 use Rattle.xsd_parser.specs.Kinds.{kind_number}
+use Rattle.xsd_parser.specs.declared.kinds.Kind.{Kind}
 use Rattle.xml.specs.Tape.{AttributePairs, TapeEvent, attribute_marks, event_marks, tape_marks}
-use Rattle.xml.specs.Tags.{Part, wrong, last, more, attribute_from, Ended, unended, ended, Tagged, untagged, tagged}
+use Rattle.xml.specs.Tags.{Part, wrong, last, more, attribute_from, TagEnd, unended, ended, Tagged, untagged, tagged}
 use Rattle.xml.specs.Root.{Piece, passed, starting, Level, stop, on, Rooted, unrooted, rooted}
+use Rattle.xml_text.specs.declared.tags.OpeningQuote.{OpeningQuote}
 use Rattle.xml_text.specs.declared.tags.Next.{Next}
 use Rattle.xml_text.specs.declared.tags.EndOfTag.{EndOfTag}
 use Rattle.xml_text.specs.declared.tags.WholeTag.{WholeTag}
@@ -28,7 +34,12 @@ use Rattle.sheet.specs.declared.refusal.Refusal.{Refusal}
 abbrev pub next_part : Text → Option Next → Part
 next_part text None = wrong
 next_part text (Some (Next.Last kind a)) = last (kind_number kind) a (drop a text)
-next_part text (Some (Next.More v)) = more (attribute_from v.key v.key_end v.quote v.behind) (name_of (drop v.key text)) v.behind (drop v.behind text)
+next_part text (Some (Next.More v)) = more (attribute_from v.key v.key_end v.quote v.behind) (leading_name (drop v.key text)) v.behind (drop v.behind text)
+
+unfoldable pub last_part : ℕ → Text → Option Next
+last_part at s =
+    if starts_with (bytes "/>") s then Some (Next.Last Kind.Empty (at + 2)) else
+    if starts_with (bytes ">") s then Some (Next.Last Kind.Start (at + 1)) else None
 
 abbrev pub next_piece : Text → Option Content → Piece
 next_piece text None = Piece.wrong
@@ -40,19 +51,24 @@ is_key_next s = eqb (first s) 32 && ltb 62 (first (drop 1 s))
 
 unfoldable pub names_up_to : Text → List ℕ → ℕ → List Text
 names_up_to text slots zero = []
-names_up_to text slots (suc k) = name_of (drop (get_or slots k 0) text) ∷ names_up_to text slots k
+names_up_to text slots (suc k) = leading_name (drop (get_or slots k 0) text) ∷ names_up_to text slots k
 
 abbrev pub PartIn : ℕ → ℕ → Option Next → Type 0
 PartIn n at None = Unit {0}
 PartIn n at (Some (Next.Last kind a)) = (at < a) × (a ≤ n)
 PartIn n at (Some (Next.More v)) = (at ≤ v.key) × (v.key < v.key_end) × (v.key_end < v.quote) × (v.quote + 2 ≤ v.behind) × (v.behind ≤ n)
 
+-- the quote that `=`, and any white space around it, stands before, or that no value stands there
+abbrev pub OpensValue : Text → ℕ → Option OpeningQuote → Type 0
+OpensValue text at None = (eq at (drop at text) and_then value) ≡ bad
+OpensValue text at (Some q) = (eq at (drop at text) ≡ behind q.at (drop q.at text)) × (q.byte ≡ first (drop q.at text)) × (is_quote q.byte ≡ true)
+
 abbrev pub PieceIn : ℕ → ℕ → Option Content → Type 0
 PieceIn n at None = Unit {0}
 PieceIn n at (Some (Content.Passed a)) = (at < a) × (a ≤ n)
 PieceIn n at (Some (Content.Starting a)) = at ≤ a
 
-abbrev pub EndsTag : Text → ℕ → List ℕ → ℕ → List ℕ → Option EndOfTag → Ended → Type 0
+abbrev pub EndsTag : Text → ℕ → List ℕ → ℕ → List ℕ → Option EndOfTag → TagEnd → Type 0
 EndsTag text at marks from after None d = d ≡ unended
 EndsTag text at marks from after (Some e) d =
     (xs : List AttributePairs) × (d ≡ ended (kind_number e.kind) xs e.behind (drop e.behind text)) × (e.count ≡ length xs)
@@ -61,7 +77,7 @@ EndsTag text at marks from after (Some e) d =
 abbrev pub IsTag : Text → ℕ → List ℕ → ℕ → List ℕ → Option WholeTag → Tagged → Type 0
 IsTag text at marks used after None d = d ≡ untagged
 IsTag text at marks used after (Some t) d =
-    (pair : Pair) × (xs : List AttributePairs) × (d ≡ tagged (kind_number t.kind) pair xs (name_of (drop t.start text)) t.behind (drop t.behind text))
+    (pair : Pair) × (xs : List AttributePairs) × (d ≡ tagged (kind_number t.kind) pair xs (leading_name (drop t.start text)) t.behind (drop t.behind text))
     × (t.used ≡ used + length (event_marks (TapeEvent.tag (kind_number t.kind) pair xs)))
     × (after ≡ sets marks used (event_marks (TapeEvent.tag (kind_number t.kind) pair xs))) × (at < t.start) × (t.start < t.behind)
     × (t.behind ≤ length text) × (at + 3 ≤ t.behind) × (t.used ≤ used + 2 * (t.behind - at))

@@ -11,7 +11,8 @@ pub fn put(marks: &mut [u32], at: usize, number: u32)
     }
 }
 
-// Stores two numbers, with one look at the length where both fit.
+// Stores two numbers, with one look at the length where both fit. Not one function with `put_four` over the count: where not all numbers fit, four are stored by twos and
+// two one by one, in three lines; over an array of any length that is a loop with an invariant.
 pub fn put_two(marks: &mut [u32], at: usize, first: u32, second: u32)
     requires { at < 1000000 }
     ensures { marks.new ≡ set (set marks.old at first) (at + 1) second }

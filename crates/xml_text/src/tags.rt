@@ -1,17 +1,17 @@
 // Start and empty tags.
 ghost use Rattle.std.specs.Prelude.{◌≡◌, [], ◌∷◌, ◌+◌, ◌*◌, ◌≤◌, ◌<◌, length, drop};
 ghost use Rattle.std.proofs.lemmas.List.Edits.{sets};
-ghost use Rattle.xml.specs.Steps.{name_of};
+ghost use Rattle.xml.specs.Steps.{leading_name};
 ghost use Rattle.xml.specs.Tape.{attribute_marks};
 ghost use Rattle.xml.specs.Tags.{attribute, part_of, attribute_from, attributes, tag};
 ghost use Rattle.xml.specs.Grammar.{is_among};
-ghost use Rattle.xml_text.specs.Answers.{next_part, PartIn, is_key_next, names_up_to, EndsTag, IsTag};
+ghost use Rattle.xml_text.specs.Answers.{next_part, last_part, PartIn, OpensValue, is_key_next, names_up_to, EndsTag, IsTag};
 
 use crate::marks::put_four;
 use xml_parts::classes::Classes;
 use xml_parts::prolog::eq;
 use xml_parts::steps::{literal, name, same_name, spaces, starts};
-use xml_parts::values::{is_quote, value, value_end};
+use xml_parts::values::{is_quote, value_end};
 use xsd_parser::kinds::Kind;
 
 // Where the key of an attribute starts and ends, where the quote before its value stands, and the position behind the one that ends it.
@@ -30,31 +30,46 @@ pub enum Next {
     More(KeyValue),
 }
 
-// An attribute. Most keys have `=` and a quote right behind them, and then nothing else is asked of what stands there. Inlined: what a call of its own answers goes through
-// memory, which made the tape a tenth longer (the bar: the tape is no slower in compare/CALLS.md).
+// Where the quote before a value stands, and which of the two it is.
+#[derive(Clone, Copy)]
+pub struct OpeningQuote {
+    pub at: usize,
+    pub byte: u8,
+}
+
+// The quote behind a key. Most keys have `=` and a quote right behind them, and then nothing else is asked of what stands there. It hands on which quote it is: with a
+// value of its own behind `eq`, a text of ` = ` took up to a tenth more instructions than before that (docs/DECISIONS.md, 232; the bar: the tape is no slower in
+// compare/CALLS.md). Inlined, as `attribute`.
+#[inline(always)]
+fn opening(classes: &Classes, text: &[u8], at: usize) -> Option<OpeningQuote>
+    ensures { OpensValue text.now at result }
+{
+    if starts(text, at, b"=") {
+        let byte = text::byte_at(text, at + 1);
+        if is_quote(byte) {
+            return Some(OpeningQuote { at: at + 1, byte });
+        }
+    }
+    let quote = eq(classes, text, at)?;
+    let byte = text::byte_at(text, quote);
+    if !is_quote(byte) {
+        return None;
+    }
+    Some(OpeningQuote { at: quote, byte })
+}
+
+// An attribute. Inlined: what a call of its own answers goes through memory, which made the tape a tenth longer (the bar: the tape is no slower in compare/CALLS.md).
 #[inline(always)]
 pub fn attribute(classes: &Classes, text: &[u8], at: usize) -> Option<Next>
     ensures { (next_part text.now result ≡ attribute at (drop at text.now)) × PartIn (length text.now) at result }
 {
     let key_end = name(classes, text, at)?;
-    if starts(text, key_end, b"=") {
-        let around = text::byte_at(text, key_end + 1);
-        if is_quote(around) {
-            let value_behind = value_end(classes, text, key_end + 2, around)?;
-            return Some(Next::More(KeyValue {
-                key: at,
-                key_end,
-                quote: key_end + 1,
-                behind: value_behind,
-            }));
-        }
-    }
-    let quote = eq(classes, text, key_end)?;
-    let behind = value(classes, text, quote)?;
+    let before = opening(classes, text, key_end)?;
+    let behind = value_end(classes, text, before.at + 1, before.byte)?;
     Some(Next::More(KeyValue {
         key: at,
         key_end,
-        quote,
+        quote: before.at,
         behind,
     }))
 }
@@ -66,24 +81,36 @@ fn is_key_next(text: &[u8], at: usize) -> bool
     text::byte_at(text, at) == b' ' && b'>' < text::byte_at(text, at + 1)
 }
 
-// What stands next in a tag, with any white space before it. It asks for `/>` and `>` as `part_of` does: what they answer is made in the place where it is asked. A
-// function of its own that answers it gave it through memory: tried with cold functions for a part (docs/DECISIONS.md, 234), pain.001.001.09 took 747,109
-// instructions and not 700,315 (the bar: the tape is no slower in compare/CALLS.md).
+// The end of a tag, where it stands at a position. Inlined: as words of both callers it took the same instructions, 616,469 on pain.001.001.09 (the bar: the tape is
+// no slower in compare/CALLS.md).
+#[inline(always)]
+#[tactic(auto, unfolding(crate::specs::Answers::last_part, text::specs::Text::bytes))]
+fn last_part(text: &[u8], at: usize) -> Option<Next>
+    ensures { result ≡ last_part at (drop at text.now) }
+{
+    if starts(text, at, b"/>") {
+        return Some(Next::Last {
+            kind: Kind::Empty,
+            behind: at + 2,
+        });
+    }
+    if starts(text, at, b">") {
+        return Some(Next::Last {
+            kind: Kind::Start,
+            behind: at + 1,
+        });
+    }
+    None
+}
+
+// What stands next in a tag, with any white space before it.
 fn spaced_part(classes: &Classes, text: &[u8], at: usize) -> Option<Next>
     ensures { (next_part text.now result ≡ part_of at (drop at text.now)) × PartIn (length text.now) at result }
 {
     let start = spaces(classes, text, at);
-    if starts(text, start, b"/>") {
-        return Some(Next::Last {
-            kind: Kind::Empty,
-            behind: start + 2,
-        });
-    }
-    if starts(text, start, b">") {
-        return Some(Next::Last {
-            kind: Kind::Start,
-            behind: start + 1,
-        });
+    let last = last_part(text, start);
+    if last.is_some() {
+        return last;
     }
     if start == at {
         return None;
@@ -99,24 +126,16 @@ pub fn part_of(classes: &Classes, text: &[u8], at: usize) -> Option<Next>
     if is_key_next(text, at) {
         return attribute(classes, text, at + 1);
     }
-    if starts(text, at, b"/>") {
-        return Some(Next::Last {
-            kind: Kind::Empty,
-            behind: at + 2,
-        });
-    }
-    if starts(text, at, b">") {
-        return Some(Next::Last {
-            kind: Kind::Start,
-            behind: at + 1,
-        });
+    let last = last_part(text, at);
+    if last.is_some() {
+        return last;
     }
     spaced_part(classes, text, at)
 }
 
 // Whether the name at a position is the name at one of the keys.
 pub fn is_among(classes: &Classes, text: &[u8], key: usize, keys: &[u16]) -> bool
-    ensures { result ≡ is_among (name_of (drop key text.now)) (names_up_to text.now keys.now (length keys.now)) }
+    ensures { result ≡ is_among (leading_name (drop key text.now)) (names_up_to text.now keys.now (length keys.now)) }
 {
     keys.iter()
         .any(|other| same_name(classes, text, key, *other as usize))

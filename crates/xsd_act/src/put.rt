@@ -41,7 +41,7 @@ pub fn add_row(sheet: &mut SheetWriter, n: NewRow)
     };
     match n.first {
         Some(first) => sheet.append(numbers, first, n.second),
-        None => sheet.append_pairs(numbers, b"", b"", 0),
+        None => sheet.append_bare(numbers),
     }
 }
 

@@ -3,7 +3,7 @@
 --     finished_end   the place behind the last finished item's rows: the open type's head in contexts 2 and 3, else the end of the used rows
 --     HeadIs        a place is that of the open type's head, where row 0 says that a type is open
 --     FinishedAt    a place is where the finished items end by row 0; the numbers are u32, for which the laws of a good sheet ask and which the buffer's type gives
---     Held          the buffers are the packing of a proper state's rows behind its row 0
+--     HeldState     the buffers are the packing of a proper state's rows behind its row 0
 use Rattle.std.specs.Prelude.{ℕ, ◌≤◌, ◌≡◌, true, List, [], ◌∷◌, leb, if◌then◌else◌}
 use Rattle.sheet.specs.Rows.{ten, numbers}
 use Rattle.sheet.specs.Form.{words, rows_used_in}
@@ -24,6 +24,6 @@ pub record FinishedAt (rows : List ℕ) (end : ℕ) : Type 0 where
   pub place : end ≡ finished_end rows (row0_from (ten rows)).context (rows_used_in (ten rows))
   pub words : words rows ≡ true
 
-pub record Held (s : State) (rows names : List ℕ) : Type 0 where
+pub record HeldState (s : State) (rows names : List ℕ) : Type 0 where
   pub packs : Packs rows names (numbers (row0_ten (row0 s) ∷ [])) (rows_of s)
   pub proper : proper s ≡ true

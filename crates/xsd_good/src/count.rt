@@ -1,4 +1,6 @@
 // Order 7's count: a of row 1 is how many finished simple types lowering refuses by 13.
+// That the sheet is good but for its count (`bare_good`), and that its used rows lie inside the buffer, are clauses: the functions are lent two buffers, as the calls are, and
+// a type that says it of them would ask more of callers.
 ghost use Rattle.std.specs.Prelude.{◌≡◌, true, false, ◌*◌, ◌≤◌, ◌<◌, length, get_or, MatchOption};
 ghost use Rattle.sheet.specs.Rows.{ten};
 ghost use Rattle.sheet.specs.Calls.{sheet};
@@ -75,9 +77,5 @@ pub fn counted_place(rows: &[u32], names: &[u8]) -> Option<usize>
     ensures { MatchOption result (good (sheet rows.now names.now) ≡ false) (λ end. (good (sheet rows.now names.now) ≡ true) × FinishedAt rows.now end) }
 {
     let end = finished_place(rows);
-    if count_in(rows) == count_to(rows, names, end) {
-        Some(end)
-    } else {
-        None
-    }
+    (count_in(rows) == count_to(rows, names, end)).then_some(end)
 }

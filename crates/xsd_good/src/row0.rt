@@ -45,7 +45,7 @@ pub fn row0_at(rows: &[u32]) -> Row0
     }
 }
 
-// Row 0 as the ten numbers that a sheet holds.
+// Row 0 as the ten numbers that a sheet holds. A function of this name, which callers have, and no `From` beside it.
 #[tactic(auto, unfolding(xsd_types::specs::Row0::row0_ten, sheet::specs::Rows::numbers))]
 pub fn row0_numbers(z: Row0) -> [u32; 10]
     ensures { result ≡ numbers (row0_ten (as_row0 z) ∷ []) }

@@ -31,9 +31,9 @@ pub fn events_test(part: &SheetPart, events: u32) -> bool
     requires { 2 ≤ part.now.end }
     ensures { result ≡ events_test events (tens (part.now.end - 1) (drop 10 part.now.rows.now)) }
 {
-    // 0 and the numbers below it: one test a row.
+    // 0 and the numbers below it: one test a row. Not `all`, which asks at each row whether to stop: 6 instructions a row in the place of 3.
     let limit = events.max(1);
-    (1..part.end).all(|place| part.ten(place).c < limit)
+    (1..part.end).fold(true, |below, place| below & (part.ten(place).c < limit))
 }
 
 // The last row before row n that is a head, 0 if there is none: in contexts 2 and 3 of a good sheet, the head of the open type. Its callers keep the number,

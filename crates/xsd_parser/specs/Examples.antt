@@ -3,9 +3,9 @@
 -- SimpleContents say what an event does; Annotations has order 3, Children the direct children of a schema.
 use Rattle.std.specs.Prelude.{ℕ, ◌≡◌, refl, List, [], ◌∷◌}
 use Rattle.text.specs.Text.{bytes}
-use Rattle.xsd_types.specs.Examples.Sheets.{line, sheet, blank}
+use Rattle.xsd_types.specs.Examples.Sheets.{line, filled_sheet, blank}
 use Rattle.xsd_parser.specs.Read.{read}
-use Tapes.{Tag, text_of, marks_of, gives, taped}
+use Tapes.{Tag, text_of, tags_marks, read_gives, taped}
 pub mod Tapes
 mod Lengths
 mod Records
@@ -32,13 +32,13 @@ specimen-text : text_of specimen_tags ≡ bytes "schemaelementnameDtypeT"
 unfolding specimen_tags taped
 specimen-text = refl
 
-specimen-marks : marks_of 0 specimen_tags ≡ specimen_marks
+specimen-marks : tags_marks 0 specimen_tags ≡ specimen_marks
 unfolding specimen_tags specimen_marks taped
 specimen-marks = refl
 
 -- "read 0 3", and what the sheet holds: one element behind an empty namespace, context 0, three events done
 specimen-read :
     read (blank 40 6) (bytes "schemaelementnameDtypeT") specimen_marks
-    ≡ gives 0 3 (sheet 40 6 (line 0 3 2 0 0 1 3 0 0 0 ∷ line 1 0 0 0 0 0 0 0 0 0 ∷ line 2 0 1 1 1 0 0 0 0 1 ∷ []) "DT")
+    ≡ read_gives 0 3 (filled_sheet 40 6 (line 0 3 2 0 0 1 3 0 0 0 ∷ line 1 0 0 0 0 0 0 0 0 0 ∷ line 2 0 1 1 1 0 0 0 0 1 ∷ []) "DT")
 unfolding specimen_marks taped
 specimen-read = refl

@@ -1,5 +1,6 @@
 // The reader's state as a reading carries it from event to event: by value, without its rows, which stand in the sheet. `mode`: context and
 // nesting after an event; `open_tags`: the open-tag record; `head`: the open type's head.
+// That the rows have a row 0, and that the rows which it counts are there, are clauses: the rows are only read here, and are written between one reading of row 0 and the next.
 #![tactic(auto)]
 
 pub mod head;

@@ -1,12 +1,12 @@
 -- An event on a sheet that holds a state's rows.
---     head_after     the row of the open type's head after an event
+--     open_head_after  the row of the open type's head after an event
 --     stands_at      where a reading stands after an event whose mode and open tags are these, the open type's head at a row
 --     StandsAfter   it stands so for the mode and the open tags after an event that arrives
 --     Due           an event that arrives is due on a state: it brings the state's choice, the handlers accept it and do what was decided, and the state
 --                   after it is proper
 --     DueRoom       there is such an event and state, and the sheet has no more rows than the paper has it
 --     Refuses, Accepts    the outcome is a refusal, and the sheet is left; it is a state, and the sheet holds its rows
---     Ended         what an answer says of an outcome
+--     EventEnded    what an answer says of an outcome
 --     Stepped       the answer for every event that is due: 11, or the state after it
 use Rattle.std.specs.Prelude.{ℕ, ◌+◌, ◌≤◌, ◌≡◌, true, ltb, length, if◌then◌else◌, Result, Ok, Err}
 use Rattle.sheet.specs.declared.refusal.Refusal.{Refusal}
@@ -28,8 +28,8 @@ use Rattle.xsd_progress.specs.Change.{EventAfter}
 use Rattle.xsd_progress.specs.declared.Progress.{Progress}
 use Rattle.xsd_progress.specs.Progress.{At, lent_to}
 
-unfoldable pub head_after : Progress → ℕ → ℕ
-head_after p rows_used = if ltb p.mode.context simple_type_context then rows_used else p.head
+unfoldable pub open_head_after : Progress → ℕ → ℕ
+open_head_after p rows_used = if ltb p.mode.context simple_type_context then rows_used else p.head
 
 abbrev pub stands_at : Progress → Arrived → ℕ → Progress
 stands_at p after head =
@@ -66,10 +66,10 @@ pub record Accepts (o : Outcome State) (w' : SheetWriter) (p : Progress) : Type 
   pub accepted : o ≡ ok s'
   pub stands : At s' w' p
 
-unfoldable pub Ended : Outcome State → SheetWriter → SheetWriter → Result Progress Refusal → Type 0
-Ended o w w' (Err r) = Refuses o w w' r
-Ended o w w' (Ok p) = Accepts o w' p
+unfoldable pub EventEnded : Outcome State → SheetWriter → SheetWriter → Result Progress Refusal → Type 0
+EventEnded o w w' (Err r) = Refuses o w w' r
+EventEnded o w w' (Ok p) = Accepts o w' p
 
 pub record Stepped (w : SheetWriter) (p : Progress) (x : Arrival) (y : Result Progress Refusal) (w' : SheetWriter) : Type 0 where
   pub same : SameBuffers w w'
-  pub ended : (s : State) (e : Event) (r : Reader) → Due w p x s e r → Ended (room_for (lent_to w.rows.now w.names.now) (counted s x.open_tags r)) w w' y
+  pub ended : (s : State) (e : Event) (r : Reader) → Due w p x s e r → EventEnded (room_for (lent_to w.rows.now w.names.now) (counted s x.open_tags r)) w w' y

@@ -11,7 +11,7 @@ use Rattle.xsd_parser.specs.EventText.{event_ok}
 use Rattle.xsd_parser.specs.Step.{step}
 use Rattle.xsd_progress.specs.declared.Progress.{Progress}
 use Rattle.xsd_progress.specs.Progress.{At, lent_to, Standing}
-use Rattle.xsd_read.specs.Due.{Ended}
+use Rattle.xsd_read.specs.Due.{EventEnded}
 
 pub record EventRoom (w : SheetWriter) (p : Progress) (e : Event) : Type 0 where
   pub standing : Standing w p
@@ -19,4 +19,4 @@ pub record EventRoom (w : SheetWriter) (p : Progress) (e : Event) : Type 0 where
 
 pub record EventTaken (w : SheetWriter) (p : Progress) (e : Event) (x : Result Progress Refusal) (w' : SheetWriter) : Type 0 where
   pub same : SameBuffers w w'
-  pub ended : (s : State) → At s w p → event_ok e ≡ true → Ended (step (lent_to w.rows.now w.names.now) s e) w w' x
+  pub ended : (s : State) → At s w p → event_ok e ≡ true → EventEnded (step (lent_to w.rows.now w.names.now) s e) w w' x

@@ -1,7 +1,7 @@
 // An event that is counted and decided, done to a schema sheet where it has room.
 ghost use Rattle.std.specs.Prelude.{◌≡◌, ◌≤◌};
 ghost use Rattle.sheet.specs.Limits.{events_limit, open_tags_limit};
-ghost use Rattle.xsd_read.specs.Due.{head_after, StandsAfter, DueRoom, Stepped};
+ghost use Rattle.xsd_read.specs.Due.{open_head_after, StandsAfter, DueRoom, Stepped};
 
 use rows::numbers::has_room;
 use rows::writer::SheetWriter;
@@ -13,8 +13,8 @@ use xsd_progress::open_tags::{Arrival, event_after};
 use xsd_types::contexts;
 
 // The row of the open type's head after an event: a type that an event opens stands behind the rows used before it.
-fn head_after(p: Progress, rows_used: usize) -> usize
-    ensures { result ≡ head_after p rows_used }
+fn open_head_after(p: Progress, rows_used: usize) -> usize
+    ensures { result ≡ open_head_after p rows_used }
 {
     if p.mode.context < contexts::SIMPLE_TYPE {
         rows_used
@@ -44,7 +44,7 @@ pub fn carry_out(sheet: &mut SheetWriter, p: Progress, a: Arrival) -> Result<Pro
     requires { DueRoom sheet.old p a }
     ensures { Stepped sheet.old p a.entry result sheet.new }
 {
-    let head = head_after(p, sheet.used.rows);
+    let head = open_head_after(p, sheet.used.rows);
     let after = stands_after(p, a, head);
     if let Ok(Decision::Keep) = a.decision {
         return Ok(after);

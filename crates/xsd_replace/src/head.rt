@@ -35,7 +35,8 @@ fn cut(sheet: &mut SheetWriter, place: usize, end: usize)
     sheet.names[end..sheet.used.names].fill(0);
 }
 
-// Gives the open type's row other numbers and so many pairs, keeps its name, and frees the rows and names behind it.
+// Gives the open type's row other numbers and so many pairs, keeps its name, and frees the rows and names behind it. The text and the number of pairs, as `set_row` and
+// `put_texts` take them: with an Option here each of the two would be handed what a `match` of its own makes of it.
 fn set_head(sheet: &mut SheetWriter, place: usize, n: RowNumbers, second: &[u8], pairs: usize)
     requires head { HeadRoom sheet.old place (used_length (pairs - 1) (length second.now) (length second.now)) }
     requires pairs { (1 ≤ pairs) × (pairs ≤ 2) }

@@ -9,8 +9,8 @@ fn digit(n: u64) -> u8
     48 + n as u8
 }
 
-// The digits stand from `from` on, up to the end: an array of twenty and a start, since there is no heap. No `write!`: where the room ends it gives an
-// error, and `put` an offset past the end.
+// The digits stand from `from` on, up to the end: an array of twenty and a start, since there is no heap. No `write!`: it puts the digits at the array's start, and that they stand at its
+// end is what `spell` has promised since it was first called.
 #[derive(Clone, Copy)]
 pub struct Digits {
     pub digits: [u8; 20],

@@ -1,5 +1,5 @@
 // Whether XML can hold the values of the rows in attributes: 22.
-ghost use Rattle.std.specs.Prelude.{◌≡◌, true, take};
+ghost use Rattle.std.specs.Prelude.{◌≡◌, true, take, if◌then◌else◌};
 ghost use Rattle.text.specs.Text.{every};
 ghost use Rattle.sheet.specs.Rows.{text_at};
 ghost use Rattle.xml.specs.Values.{is_in_value};
@@ -9,7 +9,7 @@ ghost use Rattle.xsd_write.specs.Parts.{rows_of_part};
 ghost use Rattle.xsd_write.specs.Steps.{unheld_of};
 
 use crate::part::Row;
-use rows::numbers::wide;
+use rows::numbers::Pair;
 use rows::part::SheetPart;
 use rows::parts::part_of;
 use text::has_byte;
@@ -27,42 +27,29 @@ fn holds(classes: &Classes, value: &[u8]) -> bool
     is_value(classes, value, 34)
 }
 
-// The first `clear` bytes of the names need no look.
-fn pair_holds(classes: &Classes, names: &[u8], clear: usize, at: u32, len: u32) -> bool
+// Whether the text under a pair is held, if the pair is used. The first `clear` bytes of the names need no look.
+fn pair_holds(classes: &Classes, names: &[u8], clear: usize, used: bool, pair: Pair) -> bool
     requires { every is_in_value (take clear names.now) ≡ true }
-    ensures { result ≡ holds (text_at names.now at len) }
+    ensures { result ≡ (if used then holds (text_at names.now pair.at pair.len) else true) }
 {
-    let start = wide(at);
-    let size = wide(len);
-    if start + size <= clear {
+    if !used {
         return true;
     }
-    holds(classes, part_of(names, start, size))
+    if (pair.at <= clear) && (pair.len <= clear - pair.at) {
+        return true;
+    }
+    holds(classes, part_of(names, pair.at, pair.len))
 }
 
 fn row_holds(classes: &Classes, clear: usize, row: Row) -> bool
     requires { every is_in_value (take clear row.names.now) ≡ true }
     ensures { result ≡ every holds (as_row row.entry).texts }
 {
-    // No chain of `||` and `&&`: a test of use and a call for each pair, with the facts of each joined again, is no plainer.
     let t = row.numbers;
     let used = used_pairs(t.tag, t.a);
-    if used == 0 {
-        return true;
-    }
-    if !pair_holds(classes, row.names, clear, t.at0, t.len0) {
-        return false;
-    }
-    if used == 1 {
-        return true;
-    }
-    if !pair_holds(classes, row.names, clear, t.at1, t.len1) {
-        return false;
-    }
-    if used == 2 {
-        return true;
-    }
-    pair_holds(classes, row.names, clear, t.at2, t.len2)
+    pair_holds(classes, row.names, clear, 1 <= used, t.pair(0))
+        & pair_holds(classes, row.names, clear, 2 <= used, t.pair(1))
+        & pair_holds(classes, row.names, clear, 3 <= used, t.pair(2))
 }
 
 // The row of the first value that XML cannot hold, from row 1, the namespace, up to the end.

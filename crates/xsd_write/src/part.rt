@@ -1,10 +1,9 @@
 // The texts of a row.
-ghost use Rattle.std.specs.Prelude.{◌≡◌, ◌<◌};
+ghost use Rattle.std.specs.Prelude.{◌≡◌, [], ◌<◌, get_or};
 ghost use Rattle.xsd_types.specs.Back.{text0, text1};
 ghost use Rattle.xsd_types.specs.Places.{row_at};
 ghost use Rattle.xsd_write.specs.Texts.{as_row};
 
-use rows::numbers::wide;
 use rows::part::SheetPart;
 use rows::parts::part_of;
 use rows::ten::Ten;
@@ -30,25 +29,30 @@ impl<'a> Row<'a> {
         }
     }
 
-    // Empty where the row uses no pair. Two functions and not one with a number: a row's pairs are fields, and a `match` that picks them would be as long.
+    // The text under a pair, from 0 on; empty where the row does not use it.
+    fn text(self, k: usize) -> &'a [u8]
+        requires { k < 3 }
+        ensures { result.now ≡ get_or (as_row self.entry).texts k [] }
+    {
+        let t = self.numbers;
+        if used_pairs(t.tag, t.a) <= k {
+            return part_of(self.names, 0, 0);
+        }
+        let pair = t.pair(k);
+        part_of(self.names, pair.at, pair.len)
+    }
+
+    #[tactic(auto, unfolding(xsd_types::specs::Back::text0))]
     pub fn first_text(self) -> &'a [u8]
         ensures { result.now ≡ text0 (as_row self.entry) }
     {
-        let t = self.numbers;
-        if used_pairs(t.tag, t.a) < 1 {
-            return part_of(self.names, 0, 0);
-        }
-        part_of(self.names, wide(t.at0), wide(t.len0))
+        self.text(0)
     }
 
-    // Empty where the row uses no second pair.
+    #[tactic(auto, unfolding(xsd_types::specs::Back::text1))]
     pub fn second_text(self) -> &'a [u8]
         ensures { result.now ≡ text1 (as_row self.entry) }
     {
-        let t = self.numbers;
-        if used_pairs(t.tag, t.a) < 2 {
-            return part_of(self.names, 0, 0);
-        }
-        part_of(self.names, wide(t.at1), wide(t.len1))
+        self.text(1)
     }
 }

@@ -12,10 +12,11 @@ use lib.ListN.{length}
 use borrow.Author.Tests.{eqb-false}
 use Rattle.text.specs.Text.{Text, bytes, first, is, contains}
 use Rattle.text.proofs.Laws.Texts.{same-eq}
-use Rattle.text.proofs.Laws.Tests.{not-true-false, or-false-left, or-false-right}
+use Rattle.std.proofs.lemmas.Bool.{false_from_ne_true}
+use Rattle.text.proofs.Laws.Tests.{or-false-left, or-false-right}
 use Rattle.builtin.specs.Builtin.{RustType, string, bool, decimal, date, date_time, first_match}
 use Rattle.builtin.specs.declared.Builtin.{Builtin}
-use Rattle.builtin.specs.Answers.{type_of}
+use Rattle.builtin.specs.Answers.{builtin_type}
 
 unfoldable pub key_of : Text → ℕ
 key_of w = if ltb 18 (length w) then 0 else 256 * length w + first w
@@ -27,7 +28,7 @@ keys_of (e ∷ es) = key_of (bytes e.0) ∷ keys_of es
 -- a word with another key is another word
 other_key : (word : Text) (name : String) → (key_of (bytes name) ≡ key_of word → ⊥) → is word name ≡ false
 unfolding is
-other_key word name h = not-true-false _ (λ e. h (sym (ap key_of (same-eq word (bytes name) e))))
+other_key word name h = false_from_ne_true _ (λ e. h (sym (ap key_of (same-eq word (bytes name) e))))
 
 -- where no name has the word's key, none is the word
 pub no_key : (word : Text) (es : List (String × RustType)) → contains (key_of word) (keys_of es) ≡ false → first_match word es ≡ none
@@ -46,7 +47,7 @@ builtin_of decimal = Builtin.Decimal
 builtin_of date = Builtin.Date
 builtin_of date_time = Builtin.DateTime
 
-pub type_of-digit : (t : RustType) → type_of (builtin_of t) ≡ t
+pub type_of-digit : (t : RustType) → builtin_type (builtin_of t) ≡ t
 type_of-digit string = refl
 type_of-digit bool = refl
 type_of-digit decimal = refl
@@ -54,7 +55,7 @@ type_of-digit date = refl
 type_of-digit date_time = refl
 
 -- the fifth type is that of every other value
-pub type_of-rest : (b : Builtin) → (b ≡ Builtin.String → ⊥) → (b ≡ Builtin.Bool → ⊥) → (b ≡ Builtin.Decimal → ⊥) → (b ≡ Builtin.Date → ⊥) → type_of b ≡ date_time
+pub type_of-rest : (b : Builtin) → (b ≡ Builtin.String → ⊥) → (b ≡ Builtin.Bool → ⊥) → (b ≡ Builtin.Decimal → ⊥) → (b ≡ Builtin.Date → ⊥) → builtin_type b ≡ date_time
 type_of-rest Builtin.String s b d t = absurd (s refl)
 type_of-rest Builtin.Bool s b d t = absurd (b refl)
 type_of-rest Builtin.Decimal s b d t = absurd (d refl)

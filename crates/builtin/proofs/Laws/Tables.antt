@@ -18,11 +18,12 @@ use lib.ListN.{length, get_or, drop}
 use lib.Seq.{slice}
 use borrow.Author.Tests.{leb-true, eqb-true, ne_eqb}
 use Rattle.text.specs.Text.{Text, bytes, first, same}
-use Rattle.text.proofs.Laws.Tests.{two, four}
+use Rattle.std.proofs.lemmas.Bool.{and_parts}
+use Rattle.text.proofs.Laws.Tests.{four}
 use Rattle.text.proofs.Laws.Texts.{first-drop, same-eq}
 use Rattle.text.proofs.Laws.Table.{passes, at}
 use Rattle.builtin.specs.Builtin.{RustType, string, bool, decimal, date, date_time, builtins, rust_type_number}
-use Rattle.builtin.specs.Answers.{entry_at, slot_of, place_in, place_of}
+use Rattle.builtin.specs.Answers.{entry_at, slot_of, slot_place, builtin_place}
 use Rattle.builtin.proofs.Laws.Builtins.{is_place}
 
 unfoldable pub spelled : List (String × RustType) → Text
@@ -57,13 +58,13 @@ unfoldable pub numbered : ℕ → Bool
 numbered k = eqb (get_or (kinds builtins) k 0) (digit (entry_at k).1)
 
 unfoldable pub found : ℕ → Bool
-found k = is_place (place_of (bytes (entry_at k).0)) k
+found k = is_place (builtin_place (bytes (entry_at k).0)) k
 
 unfoldable pub tabled : ℕ → Bool
 tabled k = placed k && named k && numbered k && found k
 
 pub all-tabled : passes tabled 38 ≡ true
-unfolding tabled placed named numbered found starts names begins spelled kinds builtins bytes same first entry_at slot_of place_in place_of
+unfolding tabled placed named numbered found starts names begins spelled kinds builtins bytes same first entry_at slot_of slot_place builtin_place
 all-tabled = refl
 
 pub tabled-at : (k : ℕ) → k < 38 → (placed k ≡ true) × (named k ≡ true) × (numbered k ≡ true) × (found k ≡ true)
@@ -73,7 +74,7 @@ tabled-at k h = four (placed k) (named k) (numbered k) (found k) (at tabled 38 a
 pub starts-within : (k : ℕ) → k < 38 → (get_or starts k 0 ≤ get_or starts (k + 1) 0) × (get_or starts (k + 1) 0 ≤ length names)
 unfolding placed
 starts-within k h =
-    let e = two (leb (get_or starts k 0) (get_or starts (k + 1) 0)) (leb (get_or starts (k + 1) 0) (length names)) (tabled-at k h).0 in
+    let e = and_parts (leb (get_or starts k 0) (get_or starts (k + 1) 0)) (leb (get_or starts (k + 1) 0) (length names)) (tabled-at k h).0 in
     (leb-true _ _ e.0, leb-true _ _ e.1)
 
 pub name-part : (k : ℕ) → k < 38 → slice (get_or starts k 0) (get_or starts (k + 1) 0) names ≡ bytes (entry_at k).0

@@ -1,11 +1,12 @@
 -- Laws of specs/Call.antt: the calls by their lengths, and that each undoes the other within the limits. No contract cites them. Assumes nothing.
 --     Tall          a length of whole rows, one at least and 4,096 at most
 use Rattle.std.proofs.Common.{◌≡◌, ℕ, ◌*◌, ◌/◌, ◌%◌, ◌^◌, ◌<◌, ◌≤◌, true, false, eqb, ltb, leb, List, length, get_or, refl, arith, ltb-true, eqb-true, leb-true}
-use Rattle.text.proofs.Laws.Tests.{two, four}
+use Rattle.std.proofs.lemmas.Bool.{and_parts}
+use Rattle.text.proofs.Laws.Tests.{four}
 use Rattle.text.proofs.Laws.Every.{every-get_d}
 use Rattle.sheet.specs.Form.{words}
 use Rattle.sheet.specs.Lengths.{sheet_lengths}
-use Rattle.columns.specs.Columns.{modulus, columns_of, rows_of}
+use Rattle.columns.specs.Columns.{modulus, columns_of, rows_of_columns}
 use Rattle.columns.specs.Call.{same_lengths, Turned, turned}
 use Rattle.columns.specs.Filled.{Sized}
 use Rattle.columns.proofs.Laws.Inverse.{rows-restored, columns-restored}
@@ -28,7 +29,7 @@ lengths-tall n e =
 pub lengths-sized : (source target : List ℕ) → same_lengths (length source) (length target) ≡ true → Sized source target (length source / 10)
 unfolding same_lengths
 lengths-sized source target e =
-    let parts = two (sheet_lengths (length source) 0) (eqb (length source) (length target)) e in
+    let parts = and_parts (sheet_lengths (length source) 0) (eqb (length source) (length target)) e in
     let tall = lengths-tall (length source) parts.0 in
     let same = eqb-true (length source) (length target) parts.1 in
     record { source_long = tall.tens; target_long = omega (arith, tall.tens); few = tall.few }
@@ -46,10 +47,10 @@ turned-to f source target after e g = rw (e, g)
 small : (xs : List ℕ) → words xs ≡ true → (k : ℕ) → get_or xs k 0 < modulus
 small xs e k = ltb-true (get_or xs k 0) (2 ^ 32) (every-get_d (λ (n : ℕ). ltb n (2 ^ 32)) 0 refl xs k e)
 
-pub rows_back : (rows : List ℕ) → words rows ≡ true → sheet_lengths (length rows) 0 ≡ true → rows_of (columns_of rows) ≡ rows
+pub rows_back : (rows : List ℕ) → words rows ≡ true → sheet_lengths (length rows) 0 ≡ true → rows_of_columns (columns_of rows) ≡ rows
 rows_back rows w e = rows-restored rows (lengths-tall (length rows) e).tens (small rows w)
 
-pub columns-back : (columns : List ℕ) → words columns ≡ true → sheet_lengths (length columns) 0 ≡ true → columns_of (rows_of columns) ≡ columns
+pub columns-back : (columns : List ℕ) → words columns ≡ true → sheet_lengths (length columns) 0 ≡ true → columns_of (rows_of_columns columns) ≡ columns
 columns-back columns w e =
     let tall = lengths-tall (length columns) e in
     columns-restored columns tall.tens tall.some (small columns w)

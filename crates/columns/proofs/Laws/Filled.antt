@@ -1,7 +1,7 @@
 -- Laws of specs/Filled.antt: what is above a number, numbers written one a turn, and which number comes next. No contract cites them. Assumes nothing.
 use Rattle.std.proofs.Common.{◌≡◌, ℕ, zero, suc, ◌+◌, ◌-◌, ◌*◌, ◌/◌, ◌%◌, ◌<◌, ◌≤◌, List, length, get_or, set, take, sym, refl, ◌∙◌}
 use Rattle.std.proofs.Common.{add-one, arith, take_all, get_or-take, length-take-le, take-suc-set, ext_get_or, le-ltb, lt-ltb}
-use Rattle.columns.specs.Columns.{modulus, minus, plus, up_to, height, in_row, in_column, changed, restored, row_at}
+use Rattle.columns.specs.Columns.{modulus, minus, plus, up_to, height, in_row, in_column, changed, restored, row_number_at}
 use Rattle.columns.specs.Filled.{Filled, above_in, before}
 use Rattle.columns.proofs.Laws.Places.{length-up_to, get_d-up_to}
 
@@ -47,9 +47,9 @@ restored-before columns c zero s = plus-zero _ s
 restored-before columns c (suc r) s = refl
 
 -- ---- a row
-restored-is : (columns out : List ℕ) (c r k : ℕ) → c < 10 → k ≡ 10 * r + c → Filled (row_at columns) k out → in_column columns c r < modulus
+restored-is : (columns out : List ℕ) (c r k : ℕ) → c < 10 → k ≡ 10 * r + c → Filled (row_number_at columns) k out → in_column columns c r < modulus
     → plus (above_in out k) (in_column columns c r) ≡ restored columns c r
-unfolding restored above_in row_at
+unfolding restored above_in row_number_at
 restored-is columns out c zero k l e w s = rw (lt-ltb k 10 (omega arith)) (plus-zero _ s)
 restored-is columns out c (suc r) k l e w s =
     let b : 10 ≤ k = omega arith in
@@ -59,9 +59,9 @@ restored-is columns out c (suc r) k l e w s =
     rw (le-ltb k 10 b, filled_at w (k - 10) (omega arith), j, m, d)
 
 -- the number at place k of the rows
-pub row_number : (columns out : List ℕ) (h c r k : ℕ) → length columns ≡ 10 * h → c < 10 → k ≡ 10 * r + c → Filled (row_at columns) k out
-    → get_or columns (c * h + r) 0 < modulus → plus (above_in out k) (get_or columns (c * h + r) 0) ≡ row_at columns k
-unfolding row_at
+pub row_number : (columns out : List ℕ) (h c r k : ℕ) → length columns ≡ 10 * h → c < 10 → k ≡ 10 * r + c → Filled (row_number_at columns) k out
+    → get_or columns (c * h + r) 0 < modulus → plus (above_in out k) (get_or columns (c * h + r) 0) ≡ row_number_at columns k
+unfolding row_number_at
 row_number columns out h c r k n l e w s =
     let g : height columns ≡ h = omega arith in
     let m : k % 10 ≡ c = omega arith in

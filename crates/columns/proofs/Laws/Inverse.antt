@@ -3,7 +3,7 @@
 --     Small         the numbers of a buffer of u32
 --     Tens          a length of whole rows
 use Rattle.std.proofs.Common.{◌≡◌, ℕ, zero, suc, ◌+◌, ◌*◌, ◌/◌, ◌%◌, ◌<◌, List, length, get_or, ap, ◌∙◌, mod-lt, div-lt_iff_lt-mul, div-add-mod', arith, ext_get_or}
-use Rattle.columns.specs.Columns.{modulus, minus, plus, height, in_row, in_column, changed, column_at, columns_of, restored, row_at, rows_of}
+use Rattle.columns.specs.Columns.{modulus, minus, plus, height, in_row, in_column, changed, column_at, columns_of, restored, row_number_at, rows_of_columns}
 use Rattle.columns.proofs.Laws.Places.{length-up_to, get_d-up_to, at-column, at_row, column_fits}
 
 minus_plus : (x above : ℕ) → x < modulus → above < modulus → plus above (minus x above) ≡ x
@@ -41,21 +41,21 @@ restored-cell rows c (suc r) t s k l =
     rw (columns-length rows, restored-cell rows c r t s k (omega arith), column-at rows c (suc r) t k l)
     (minus_plus (in_row rows (suc r) c) (in_row rows r c) (s (10 * suc r + c)) (s (10 * r + c)))
 
-pub rows-restored : (rows : List ℕ) → Tens rows → Small rows → rows_of (columns_of rows) ≡ rows
-unfolding rows_of row_at
+pub rows-restored : (rows : List ℕ) → Tens rows → Small rows → rows_of_columns (columns_of rows) ≡ rows
+unfolding rows_of_columns row_number_at
 rows-restored rows t s =
     rw (columns-length rows)
     (ext_get_or 0 _ rows (length-up_to (length rows) _)
     (λ k l.
-    let b : k < length rows = rw (length-up_to (length rows) (row_at (columns_of rows))) at l in
+    let b : k < length rows = rw (length-up_to (length rows) (row_number_at (columns_of rows))) at l in
     get_d-up_to (length rows) _ k b ∙ restored-cell rows (k % 10) (k / 10) t s (omega arith) (omega arith) ∙ ap (λ (j : ℕ). get_or rows j 0) (omega arith)))
 
-rows-length : (columns : List ℕ) → length (rows_of columns) ≡ length columns
-unfolding rows_of
+rows-length : (columns : List ℕ) → length (rows_of_columns columns) ≡ length columns
+unfolding rows_of_columns
 rows-length columns = length-up_to (length columns) _
 
-row-at : (columns : List ℕ) (c r : ℕ) → Tens columns → c < 10 → r < height columns → in_row (rows_of columns) r c ≡ restored columns c r
-unfolding rows_of row_at
+row-at : (columns : List ℕ) (c r : ℕ) → Tens columns → c < 10 → r < height columns → in_row (rows_of_columns columns) r c ≡ restored columns c r
+unfolding rows_of_columns row_number_at
 row-at columns c r t k l =
     let m : (10 * r + c) % 10 ≡ c = omega arith in
     let d : (10 * r + c) / 10 ≡ r = omega arith in
@@ -66,20 +66,20 @@ unfolding restored
 restored-small columns c zero s = s (c * height columns + 0)
 restored-small columns c (suc r) s = plus-small (restored columns c r) (in_column columns c (suc r))
 
-changed-cell : (columns : List ℕ) (c r : ℕ) → Tens columns → Small columns → c < 10 → r < height columns → changed (rows_of columns) c r ≡ in_column columns c r
+changed-cell : (columns : List ℕ) (c r : ℕ) → Tens columns → Small columns → c < 10 → r < height columns → changed (rows_of_columns columns) c r ≡ in_column columns c r
 unfolding changed restored
 changed-cell columns c zero t s k l = row-at columns c 0 t k l
 changed-cell columns c (suc r) t s k l =
     rw (row-at columns c (suc r) t k l, row-at columns c r t k (omega arith))
     (plus-minus (in_column columns c (suc r)) (restored columns c r) (s (c * height columns + suc r)) (restored-small columns c r s))
 
-pub columns-restored : (columns : List ℕ) → Tens columns → 0 < height columns → Small columns → columns_of (rows_of columns) ≡ columns
+pub columns-restored : (columns : List ℕ) → Tens columns → 0 < height columns → Small columns → columns_of (rows_of_columns columns) ≡ columns
 unfolding columns_of column_at
 columns-restored columns t some s =
     rw (rows-length columns)
     (ext_get_or 0 _ columns (length-up_to (length columns) _)
     (λ k l.
-    let b : k < length columns = rw (length-up_to (length columns) (column_at (rows_of columns))) at l in
+    let b : k < length columns = rw (length-up_to (length columns) (column_at (rows_of_columns columns))) at l in
     let c : k / height columns < 10 = (div-lt_iff_lt-mul {x = k} {y = 10} some).1 (omega arith) in
     let cell = changed-cell columns (k / height columns) (k % height columns) t s c (mod-lt k some) in
-    get_d-up_to (length columns) (column_at (rows_of columns)) k b ∙ rw (rows-length columns) cell ∙ ap (λ (j : ℕ). get_or columns j 0) (div-add-mod' k (height columns))))
+    get_d-up_to (length columns) (column_at (rows_of_columns columns)) k b ∙ rw (rows-length columns) cell ∙ ap (λ (j : ℕ). get_or columns j 0) (div-add-mod' k (height columns))))

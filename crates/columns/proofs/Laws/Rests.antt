@@ -1,7 +1,7 @@
 -- Laws of what stands behind the squares, and of the whole once all is written. No contract cites them. Assumes nothing.
 use Rattle.std.proofs.Common.{◌≡◌, ℕ, ◌+◌, ◌*◌, ◌/◌, ◌%◌, ◌<◌, ◌≤◌, List, length, get_or, set, sym, ◌∙◌, ap, ⊎_elim, mod-lt, div-lt_iff_lt-mul, div-add-mod', arith, eq-or-lt_of_le, ext_get_or}
 use Rattle.std.proofs.lemmas.List.{get_or-set_same, get_or-set_other}
-use Rattle.columns.specs.Columns.{height, changed, column_at, columns_of, restored, row_at}
+use Rattle.columns.specs.Columns.{height, changed, column_at, columns_of, restored, row_number_at}
 use Rattle.columns.specs.Filled.{Filled, by_column, by_row, Corner}
 use Rattle.columns.proofs.Laws.Places.{length-up_to, get_d-up_to, at-column, at_row, column_fits}
 use Rattle.columns.proofs.Laws.Filled.{filled_from}
@@ -42,8 +42,8 @@ columns_from rows out h l m w =
     let c : k / h < 10 = (div-lt_iff_lt-mul {x = k} {y = 10} some).1 (omega arith) in
     ap (λ (j : ℕ). get_or out j 0) (sym (div-add-mod' k h)) ∙ w.is (k / h) (k % h) c (mod-lt k some) ∙ rw (← tall) (sym (get_d-up_to (length rows) _ k (omega arith))))
 
-pub rows_from : (columns out : List ℕ) (n : ℕ) → 10 * n ≤ length out → Corner by_row (restored columns) 10 n out → Filled (row_at columns) (10 * n) out
-unfolding row_at
+pub rows_from : (columns out : List ℕ) (n : ℕ) → 10 * n ≤ length out → Corner by_row (restored columns) 10 n out → Filled (row_number_at columns) (10 * n) out
+unfolding row_number_at
 rows_from columns out n l w =
     filled_from _ (10 * n) out l
     (λ (k : ℕ) (b : k < 10 * n).

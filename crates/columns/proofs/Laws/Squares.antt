@@ -206,6 +206,3 @@ strip_none place f c n out w = record { whole = w; part = record { is = λ j k s
 
 pub corner_none : (place f : ℕ → ℕ → ℕ) (n : ℕ) (out : List ℕ) → Corner place f 0 n out
 corner_none place f n out = record { is = λ j k s t. absurd (omega arith) }
-
-pub corner_less : (place f : ℕ → ℕ → ℕ) (b c n : ℕ) (out : List ℕ) → b ≤ c → Corner place f c n out → Corner place f b n out
-corner_less place f b c n out l w = record { is = λ j k s t. w.is j k (omega arith) t }

@@ -1,6 +1,6 @@
 -- `columns::put_rows` meets its contract: as many rows as the source has are all that the target has. Assumes nothing.
 use Rattle.std.proofs.Common.{◌≡◌, ◌*◌, ◌/◌, ◌∙◌, length, arith}
-use Rattle.columns.specs.Columns.{rows_of}
+use Rattle.columns.specs.Columns.{rows_of_columns}
 use Rattle.columns.proofs.Laws.Filled.{filled-all}
 use Rattle.columns.proofs.Laws.Rests.{rows_from}
 use Rattle.columns.proofs.put_rows.Goals as goal
@@ -12,7 +12,7 @@ loop-r-init c =
     (long, rows_from _ _ (c.args.height / 4 * 4) (omega (arith, long)) c.put_four_of_rows-3.ensures.0)
 
 pub returns : goal.returns
-unfolding rows_of
+unfolding rows_of_columns
 returns c =
     let inv = c.loop-r.invariant in
     let sized = c.requires in

@@ -9,7 +9,7 @@ use native.Mathlib.Omega.{arith}
 use lib.Dec.{eqb}
 use lib.ListN.{length, take, drop}
 use Rattle.text.specs.Text.{every, is_plain, is_graph_text}
-use Rattle.text.proofs.Laws.Tests.{not-true-false}
+use Rattle.std.proofs.lemmas.Bool.{false_from_ne_true}
 use Rattle.sheet.specs.Rows.{Ten, ten, tens, all_zero}
 use Rattle.sheet.specs.Form.{row0_of, tens_of, used_parts, zeros_behind, texts_pass}
 use Rattle.sheet.specs.Calls.{sheet}
@@ -54,7 +54,7 @@ module _ (rows names : List ℕ) where
 
   pub too-short : length rows < 20 → graph_form (sheet rows names) ≡ false
   too-short h =
-      outside (ten rows) refl (not-true-false _ (λ e. omega (arith, parts-inside (ten rows).at0 (ten rows).len0 (length rows) (length names) e)))
+      outside (ten rows) refl (false_from_ne_true _ (λ e. omega (arith, parts-inside (ten rows).at0 (ten rows).len0 (length rows) (length names) e)))
 
   -- the names are asked row by row
   each-text : texts_pass is_graph_text used_pairs (sheet rows names) ≡ every (row_texts graph_tests names) (tens_of (sheet rows names))

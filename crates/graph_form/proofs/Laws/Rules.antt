@@ -93,32 +93,26 @@ a-newtype : (a : ℕ) → leb a 5 && not (eqb a 0) ≡ leb 1 a && leb a 5
 a-newtype zero = refl
 a-newtype (suc a) = rw (ne_eqb (suc a) 0 (λ e. omega arith), le-leb 1 (suc a) (omega arith)) (and-true (leb (suc a) 5))
 
-a-other : (y o p : Bool) (a : ℕ) → a ≤ 4294967295 → leb a (if y then 5 else if o then 1 else if p then 4294967295 else 0) ≡ (if y then leb a 5 else if o then leb a 1 else (p || eqb a 0))
-a-other true o p a h = refl
-a-other false true p a h = refl
-a-other false false true a h = le-leb a 4294967295 h
-a-other false false false zero h = refl
-a-other false false false (suc a) h = rw (lt-leb (suc a) 0 (omega arith), ne_eqb (suc a) 0 (λ e. omega arith)) refl
+-- the greatest of a number: one that is given, 1, any, or 0
+most-by : (top : ℕ) (y o p : Bool) (x : ℕ) → x ≤ 4294967295 → leb x (if y then top else if o then 1 else if p then 4294967295 else 0) ≡ (if y then leb x top else if o then leb x 1 else (p || eqb x 0))
+most-by top true o p x h = refl
+most-by top false true p x h = refl
+most-by top false false true x h = le-leb x 4294967295 h
+most-by top false false false zero h = refl
+most-by top false false false (suc x) h = rw (lt-leb (suc x) 0 (omega arith), ne_eqb (suc x) 0 (λ e. omega arith)) refl
 
 a-by : (n y o p : Bool) (a : ℕ) → a ≤ 4294967295 → leb a (if n then 5 else if y then 5 else if o then 1 else if p then 4294967295 else 0) && not (n && eqb a 0)
     ≡ (if n then leb 1 a && leb a 5 else if y then leb a 5 else if o then leb a 1 else (p || eqb a 0))
 a-by true y o p a h = a-newtype a
-a-by false y o p a h = and-true _ ∙ a-other y o p a h
+a-by false y o p a h = and-true _ ∙ most-by 5 y o p a h
 
 a-told : (tag a : ℕ) → a ≤ 4294967295 → leb a (most_a tag) && not (eqb tag 5 && eqb a 0) ≡ form_a tag a
 unfolding most_a form_a is_flag between
 a-told tag a h = a-by (eqb tag 5) (eqb tag 7 || between 9 10 tag || eqb tag 19) (eqb tag 8) (between 12 13 tag || between 16 17 tag) a h
 
-b-by : (f t p : Bool) (b : ℕ) → b ≤ 4294967295 → leb b (if f then 3 else if t then 1 else if p then 4294967295 else 0) ≡ (if f then leb b 3 else if t then leb b 1 else (p || eqb b 0))
-b-by true t p b h = refl
-b-by false true p b h = refl
-b-by false false true b h = le-leb b 4294967295 h
-b-by false false false zero h = refl
-b-by false false false (suc b) h = rw (lt-leb (suc b) 0 (omega arith), ne_eqb (suc b) 0 (λ e. omega arith)) refl
-
 b-told : (tag a b : ℕ) → b ≤ 4294967295 → leb b (rule_of tag a).most_b ≡ form_b tag b
 unfolding rule_of most_b form_b is_flag
-b-told tag a b h = b-by (eqb tag 9) (eqb tag 19) (between 12 13 tag) b h
+b-told tag a b h = most-by 3 (eqb tag 9) (eqb tag 19) (between 12 13 tag) b h
 
 c-by : (h f t z x : Bool) → (f && t ≡ true → h ≡ false) → (if f && t then x else h || z) ≡ h || (if f && t then x else z)
 c-by h true true z x e = rw (e refl) refl

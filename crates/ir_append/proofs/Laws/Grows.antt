@@ -13,7 +13,8 @@ use lib.ListN.{length, length-append}
 use lib.Seq.{paste, length-paste}
 use borrow.Author.Tests.{leb-true, le-leb, lt-leb}
 use Rattle.text.specs.Text.{join}
-use Rattle.text.proofs.Laws.Tests.{not-true-false, two, and-true}
+use Rattle.std.proofs.lemmas.Bool.{false_from_ne_true, and_parts}
+use Rattle.text.proofs.Laws.Tests.{and-true}
 use Rattle.sheet.specs.Rows.{Row, names_of}
 use Rattle.sheet.specs.Lengths.{fits}
 use Rattle.sheet.proofs.Laws.Packs.{names_of-append}
@@ -21,7 +22,7 @@ use Rattle.rows.specs.Packing.{numbers_of}
 use Rattle.rows.proofs.Laws.Write.{names-one, length-numbers_of}
 use Rattle.rows.proofs.Laws.More.{holds_more}
 use Rattle.ir_append.specs.declared.writer.GraphWriter.{GraphWriter}
-use Rattle.ir_append.specs.Grows.{Added, Short, Grows}
+use Rattle.ir_append.specs.Grows.{RowsAdded, Short, Grows}
 
 -- no row added
 pub grows_none : {w : GraphWriter} {u : Unit {0}} → Grows w [] w (Some u)
@@ -35,7 +36,7 @@ grows_none =
     }
 
 module _ {w w₁ : GraphWriter} {xs : List Row} {u : Unit {0}} (g : Grows w xs w₁ (Some u)) (ys : List Row) (w₂ : GraphWriter) where
-  then-added : (r : Option (Unit {0})) → MatchOption r (Short w₁ ys) (λ _. Added w₁ ys w₂) → MatchOption r (Short w (xs ++ ys)) (λ _. Added w (xs ++ ys) w₂)
+  then-added : (r : Option (Unit {0})) → MatchOption r (Short w₁ ys) (λ _. RowsAdded w₁ ys w₂) → MatchOption r (Short w (xs ++ ys)) (λ _. RowsAdded w (xs ++ ys) w₂)
   then-added (Some v) k =
       record { holds = λ z rs h. rw (← append_assoc rs xs ys) (k.holds z (rs ++ xs) (g.added.holds z rs h)) }
   then-added None k = record { short = λ z rs h. rw (← append_assoc rs xs ys, ← g.rows_length, ← g.names_length) (k.short z (rs ++ xs) (g.added.holds z rs h)) }
@@ -55,8 +56,8 @@ grows_then {w₂ = w₂} {ys = ys} {r = r} g k =
 fits-less : (r n r' n' lr ln : ℕ) → r ≤ r' → n ≤ n' → fits r n lr ln ≡ false → fits r' n' lr ln ≡ false
 unfolding fits
 fits-less r n r' n' lr ln h k e =
-    not-true-false (fits r' n' lr ln) (λ t.
-    let both = two (leb (10 * r') lr) (leb n' ln) t in
+    false_from_ne_true (fits r' n' lr ln) (λ t.
+    let both = and_parts (leb (10 * r') lr) (leb n' ln) t in
     let rows_fit = leb-true (10 * r') lr both.0 in
     let names_fit = leb-true n' ln both.1 in
     let fit = and-true (le-leb (10 * r) lr (omega arith)) (le-leb n ln (omega arith)) in

@@ -13,10 +13,10 @@ use Rattle.rows.specs.Packing.{Holds}
 use Rattle.ir_append.specs.declared.writer.GraphWriter.{GraphWriter}
 use Rattle.ir_append.specs.declared.Spelling.{Spelling}
 use Rattle.ir_append.specs.Spelled.{is_nothing}
-use Rattle.ir_append.specs.Whole.{Cleared}
+use Rattle.ir_append.specs.Whole.{ClearedBuffers}
 
 -- zeros are the packing of no rows behind ten zeros
-pub first_holds : {rows names : List ℕ} → Cleared rows names → Holds rows names (record { rows = 1; names = 0 }) (replicate 10 0) []
+pub first_holds : {rows names : List ℕ} → ClearedBuffers rows names → Holds rows names (record { rows = 1; names = 0 }) (replicate 10 0) []
 unfolding filled numbers pack names_of
 first_holds {rows} {names} c =
     let n = length rows in

@@ -15,7 +15,7 @@ use Rattle.text.specs.Text.{Text}
 use Rattle.names.specs.Answers.{Put, written, placed}
 use Rattle.buffer.proofs.Laws.Copy.{paste-paste}
 use Rattle.ir_append.specs.declared.Recipe.{Recipe}
-use Rattle.ir_append.specs.Spelled.{spelled_text}
+use Rattle.ir_append.specs.Spelled.{text_by_spelling}
 use Rattle.ir_append.specs.Stored.{Stored, Stores, recipe_bytes, Spread}
 
 -- what an answer says of the test that it was made by
@@ -75,22 +75,22 @@ stored-behind {names} {names₁} {names₂} {at} {n} {m} {t} {u} s k =
 
 module _ (names : List ℕ) (at : ℕ) (p : Recipe) (t u : Text) where
   -- the first text has no room, or the second behind it, or the third behind both
-  pub short-first : length names < at + length (spelled_text p.first t u) → length names < at + length (recipe_bytes p t u)
+  pub short-first : length names < at + length (text_by_spelling p.first t u) → length names < at + length (recipe_bytes p t u)
   unfolding recipe_bytes
   short-first h = simp length-append (omega arith)
 
-  pub short-second : {names₁ : List ℕ} {n : ℕ} → Stored names at (spelled_text p.first t u) names₁ n → length names₁ < at + n + length (spelled_text p.second t u)
+  pub short-second : {names₁ : List ℕ} {n : ℕ} → Stored names at (text_by_spelling p.first t u) names₁ n → length names₁ < at + n + length (text_by_spelling p.second t u)
       → length names < at + length (recipe_bytes p t u)
   unfolding recipe_bytes
   short-second s h = simp length-append (omega (arith, s.count, stored-length s))
 
-  pub short-third : {names₁ names₂ : List ℕ} {n m : ℕ} → Stored names at (spelled_text p.first t u) names₁ n → Stored names₁ (at + n) (spelled_text p.second t u) names₂ m
-      → length names₂ < at + n + m + length (spelled_text p.third t u) → length names < at + length (recipe_bytes p t u)
+  pub short-third : {names₁ names₂ : List ℕ} {n m : ℕ} → Stored names at (text_by_spelling p.first t u) names₁ n → Stored names₁ (at + n) (text_by_spelling p.second t u) names₂ m
+      → length names₂ < at + n + m + length (text_by_spelling p.third t u) → length names < at + length (recipe_bytes p t u)
   unfolding recipe_bytes
   short-third s k h = simp length-append (omega (arith, s.count, stored-length s, k.count, stored-length k))
 
   -- all three, one behind the other
-  pub spread : {names₁ names₂ names₃ : List ℕ} {n m k : ℕ} → Stored names at (spelled_text p.first t u) names₁ n → Stored names₁ (at + n) (spelled_text p.second t u) names₂ m
-      → Stored names₂ (at + n + m) (spelled_text p.third t u) names₃ k → Spread names at p t u names₃ n m k
+  pub spread : {names₁ names₂ names₃ : List ℕ} {n m k : ℕ} → Stored names at (text_by_spelling p.first t u) names₁ n → Stored names₁ (at + n) (text_by_spelling p.second t u) names₂ m
+      → Stored names₂ (at + n + m) (text_by_spelling p.third t u) names₃ k → Spread names at p t u names₃ n m k
   unfolding recipe_bytes
   spread a b c = record { first_length = a.count; second_length = b.count; third_length = c.count; stored = stored-behind a (stored-behind b c) }

@@ -17,14 +17,14 @@ use Rattle.rows.proofs.Laws.Sheet.{packs-sheet}
 use Rattle.ir_types.specs.Row0.{graph_row0_of, graph_row0_ten}
 use Rattle.ir_append.specs.declared.writer.GraphWriter.{GraphWriter}
 use Rattle.ir_append.specs.Grows.{Packed, Grows}
-use Rattle.ir_append.specs.Row0.{row0_of}
-use Rattle.ir_append.specs.Whole.{Cleared, Begins, Closes, whole_sheet}
+use Rattle.ir_append.specs.Row0.{counted_row0}
+use Rattle.ir_append.specs.Whole.{ClearedBuffers, Begins, Closes, whole_sheet}
 
 -- row 0 before it is put
 abbrev ten_zeros : List ℕ
 ten_zeros = replicate 10 0
 
-module _ {rows names : List ℕ} (c : Cleared rows names) {w : GraphWriter} (b : Begins rows names w) where
+module _ {rows names : List ℕ} (c : ClearedBuffers rows names) {w : GraphWriter} (b : Begins rows names w) where
   begin-packed : Packed w ten_zeros []
   unfolding filled numbers pack names_of
   begin-packed =
@@ -62,7 +62,7 @@ module _ {rows names : List ℕ} (c : Cleared rows names) {w : GraphWriter} (b :
     whole-sheet {roots} {types} {place} {w₂} k =
         let p = packed in
         let row0 = graph_row0_ten (graph_row0_of (1 + length rs) (length (names_of rs)) roots types) in
-        let put : Packs w₂.rows.now w₁.names.now (row0_of w₁.used roots types) rs = k.row0.packs w₁.names.now ten_zeros rs p.packs in
+        let put : Packs w₂.rows.now w₁.names.now (counted_row0 w₁.used roots types) rs = k.row0.packs w₁.names.now ten_zeros rs p.packs in
         let packs : Packs w₂.rows.now w₂.names.now (numbers (row0 ∷ [])) rs = rw (k.names_kept, ← p.rows_used, ← p.names_used) put in
         packs-sheet row0 packs
         ∙ ap (λ (n : ℕ). sheet_of_rows row0 rs n (length w₂.names.now)) (k.row0.rows_length ∙ g.rows_length ∙ ap length b.rows_are)

@@ -5,7 +5,7 @@ use Prim.Native.Nat.{ℕ}
 use mathlib.Core.Path.{◌≡◌, ◌∙◌}
 use mathlib.Core.Bool.{Bool}
 use Rattle.ir_append.specs.declared.Spelling.{Spelling}
-use Rattle.ir_append.specs.Stored.{offset_of, row_numbers}
+use Rattle.ir_append.specs.Stored.{offset_of, recipe_numbers}
 use Rattle.ir_append.proofs.spelled_row.Goals as goal
 
 -- the offset of a text, or of none
@@ -14,7 +14,7 @@ at-some None at e u = e ∙ rw u
 at-some (Some how) at e u = e ∙ rw u
 
 pub returns : goal.returns
-unfolding row_numbers
+unfolding recipe_numbers
 returns c =
     let r = c.args.recipe in
     let first = at-some r.first _ c.offset.ensures c.is_some.ensures in

@@ -12,7 +12,8 @@ use lib.ListN.{length, get_or, set, take, drop, replicate, length-append, length
 use lib.Seq.{get_or-set_other, drop-set-add, drop_at, length-take-le}
 use borrow.Author.Tests.{le-leb, lt-leb, leb-true}
 use Rattle.text.specs.Text.{Text, between}
-use Rattle.text.proofs.Laws.Tests.{bool_cases, two, four}
+use Rattle.std.proofs.lemmas.Bool.{and_parts}
+use Rattle.text.proofs.Laws.Tests.{bool_cases, four}
 use Rattle.sheet.specs.Rows.{Row, row, ten, text_at, unpack_row}
 use Rattle.sheet.specs.Form.{words}
 use Rattle.sheet.specs.Lengths.{Answer, sheet_lengths, lengths_of, good_lengths}
@@ -25,16 +26,13 @@ use Rattle.sheet.specs.Limits.{row_numbers, least_rows, rows_limit, names_limit}
 use Rattle.rows.specs.declared.part.SheetPart.{SheetPart}
 use Rattle.xsd_types.specs.State.{State}
 use Rattle.xsd_types.specs.Count.{refused_rows, count_in, good, state_of}
-use Rattle.xsd_types.proofs.Laws.Count.{ten-count, good-bare, good-count}
+use Rattle.xsd_types.proofs.Laws.Count.{good-bare, good-count}
 use Rattle.xsd_types.proofs.Laws.Places.{text0-at}
 use Rattle.xsd_refused.proofs.Laws.Finished.{rows-one, finished-rows, rows_from-count}
-use Rattle.xsd_types.specs.Row0.{Row0, row0_from}
 use Rattle.xsd_types.specs.Rows.{items_rows, namespace_row}
 use Rattle.xsd_types.specs.Good.{used_pairs}
 use Rattle.xsd_types.specs.Back.{text0}
-use Rattle.xsd_good.specs.End.{finished_end, Held}
-use Rattle.xsd_good.proofs.Laws.Held.{root-held}
-use Rattle.xsd_good.proofs.Laws.Bare.{bare-held, bare-end, bare-room, bare-count}
+use Rattle.xsd_good.proofs.Laws.Bare.{bare-room, bare-count, good-held}
 use Rattle.ir_types.specs.Types.{TypeGraph}
 use Rattle.ir_types.specs.Sheet.{graph_fits}
 use Rattle.ir_lower.specs.Lower.{lower}
@@ -46,7 +44,7 @@ use Rattle.xsd_types.specs.Refused.{refused_row, refused_place}
 use Rattle.ir_rows.specs.Lowered.{lowered_row}
 use Rattle.ir_rows.specs.Parts.{part_rows, part_heads}
 use Rattle.ir_rows.proofs.Laws.Graph.{unknown-place, unknown-refused, unknown-lowered, repeated-heads, root-count, type-count, graph-rows, namespace-lowered, Stands}
-use Rattle.ir_append.specs.Whole.{Cleared}
+use Rattle.ir_append.specs.Whole.{ClearedBuffers}
 use Rattle.ir_call.specs.Steps.{SizedSheet, lowered_sheets, LowersState, GraphOf, GraphStands}
 
 -- a refusal whose place is 0
@@ -62,7 +60,7 @@ zeros-as xs ys e = ap (λ (n : ℕ). replicate n 0) e
 zeros-twice : (xs : List ℕ) → zeros xs ≡ zeros (zeros xs)
 zeros-twice xs = zeros-as xs (zeros xs) (sym (length-zeros xs))
 
-pub cleared-zeros : {rows names : List ℕ} → SizedSheet rows names → Cleared (zeros rows) (zeros names)
+pub cleared-zeros : {rows names : List ℕ} → SizedSheet rows names → ClearedBuffers (zeros rows) (zeros names)
 unfolding zeros
 cleared-zeros {rows} {names} s =
     record {
@@ -103,7 +101,7 @@ module _ (rows names scratch : List ℕ) (g : TypeGraph) where
 
   -- ---- 20: the graph is zeros already
 
-  pub known-repeated : {a : Answer} {row : ℕ} (o : Option ℕ) → o ≡ some row → Cleared rows names → a ≡ answered 20 row
+  pub known-repeated : {a : Answer} {row : ℕ} (o : Option ℕ) → o ≡ some row → ClearedBuffers rows names → a ≡ answered 20 row
       → lowered_sheets a rows names (zeros scratch) ≡ repeated_or_written o g (sheet rows names) scratch
   unfolding cleared zeros
   known-repeated o q c e =
@@ -115,7 +113,7 @@ module _ (rows names scratch : List ℕ) (g : TypeGraph) where
 
 -- ---- 12 and 13, where the graph is zeros already
 
-module _ {part : SheetPart} {root : Bool} {s : State} (l : LowersState part root s) {gr gn : List ℕ} (c : Cleared gr gn) (scratch : List ℕ) where
+module _ {part : SheetPart} {root : Bool} {s : State} (l : LowersState part root s) {gr gn : List ℕ} (c : ClearedBuffers gr gn) (scratch : List ℕ) where
   pub finished-rootless : {a : Answer} → root ≡ false → a ≡ answered 12 0 → lowered_sheets a gr gn (zeros scratch) ≡ lower_finished s (sheet gr gn) scratch
   unfolding lower_finished cleared zeros
   finished-rootless f e =
@@ -206,31 +204,23 @@ module _ (rows names : List ℕ) (text : Text) (e : row_at (set rows 17 0) names
       let there = row1-text rows names row1-tag ∙ same ∙ sym (row1-text (set rows 17 0) names bare_tag) ∙ ap text0 e in
       namespace-lowered (row_at rows names 1) row1-tag ∙ ap (λ (t : Text). row 1 (t ∷ []) 0 0 0 ∷ []) there
 
-module _ (rows names : List ℕ) (g : good (sheet rows names) ≡ true) (w : words rows ≡ true) where
-  held : Held (state_of (sheet rows names)) (set rows 17 0) names
-  held = bare-held rows names (good-bare (sheet rows names) g) w
+module _ (rows names : List ℕ) (g : good (sheet rows names) ≡ true) (w : words rows ≡ true) {end : ℕ}
+    (e : end ≡ 2 + length (items_rows (state_of (sheet rows names)).reader.schema.items)) where
+  pub good-stands : Stands (state_of (sheet rows names)) rows names end
+  good-stands =
+      let s = state_of (sheet rows names) in
+      let held = good-held rows names g w in
+      record {
+        finished = sym (rows_from-count rows names 0 2 end (omega arith)) ∙ finished-rows s held.packs held.proper e;
+        namespace = namespace-there rows names _ (rows-one s held.packs held.proper);
+      }
 
-  pub good-root : (z : Row0) → z ≡ row0_from (ten rows) → eqb z.root_seen 1 ≡ (state_of (sheet rows names)).reader.root_seen
-  good-root z e = root-held held z (e ∙ ap row0_from (sym (ten-count rows 0)))
+  pub good-room : (2 ≤ end) × (10 * end ≤ length rows)
+  good-room = bare-room rows names (good-bare (sheet rows names) g) w e
 
-  pub good-end : (z : Row0) → z ≡ row0_from (ten rows) → finished_end rows z.context z.rows_used ≡ 2 + length (items_rows (state_of (sheet rows names)).reader.schema.items)
-  good-end z e = ap (λ (y : Row0). finished_end rows y.context y.rows_used) e ∙ bare-end rows names (good-bare (sheet rows names) g) w
-
-  module _ {end : ℕ} (e : end ≡ 2 + length (items_rows (state_of (sheet rows names)).reader.schema.items)) where
-    pub good-stands : Stands (state_of (sheet rows names)) rows names end
-    good-stands =
-        let s = state_of (sheet rows names) in
-        record {
-          finished = sym (rows_from-count rows names 0 2 end (omega arith)) ∙ finished-rows s held.packs held.proper e;
-          namespace = namespace-there rows names _ (rows-one s held.packs held.proper);
-        }
-
-    pub good-room : (2 ≤ end) × (10 * end ≤ length rows)
-    good-room = bare-room rows names (good-bare (sheet rows names) g) w e
-
-    pub good-counted : get_or rows 17 0 ≡ refused_rows (rows_from rows names 2 end)
-    unfolding count_in
-    good-counted = good-count (sheet rows names) g ∙ sym (bare-count rows names (good-bare (sheet rows names) g) w e)
+  pub good-counted : get_or rows 17 0 ≡ refused_rows (rows_from rows names 2 end)
+  unfolding count_in
+  good-counted = good-count (sheet rows names) g ∙ sym (bare-count rows names (good-bare (sheet rows names) g) w e)
 
 -- ---- 14
 
@@ -281,5 +271,5 @@ module _ (rows names gr gn scratch : List ℕ) where
 
   pub sized-both : both_lengths rows names gr gn ≡ true → SizedSheet rows names × SizedSheet gr gn
   sized-both t =
-      let both = two (sheet_lengths (length rows) (length names)) (sheet_lengths (length gr) (length gn)) t in
+      let both = and_parts (sheet_lengths (length rows) (length names)) (sheet_lengths (length gr) (length gn)) t in
       (sized rows names both.0, sized gr gn both.1)

@@ -11,11 +11,11 @@ use Rattle.ir_types.specs.Rows.{rows_of, rows_used, names_used, row0}
 use Rattle.ir_types.specs.Sheet.{graph_fits, graph_sheet}
 use Rattle.ir_append.specs.declared.writer.GraphWriter.{GraphWriter}
 use Rattle.ir_append.specs.Grows.{Grows}
-use Rattle.ir_append.specs.Whole.{Cleared, Begins, Closes}
+use Rattle.ir_append.specs.Whole.{ClearedBuffers, Begins, Closes}
 use Rattle.ir_append.proofs.Laws.Whole.{whole-short, whole-fits, whole-place, whole-sheet}
 use Rattle.ir_call.specs.Steps.{GraphStands}
 
-module _ {rows names : List ℕ} (c : Cleared rows names) {w w₁ : GraphWriter} (b : Begins rows names w) {more : List Row} (g : TypeGraph) (e : more ≡ rows_of g) where
+module _ {rows names : List ℕ} (c : ClearedBuffers rows names) {w w₁ : GraphWriter} (b : Begins rows names w) {more : List Row} (g : TypeGraph) (e : more ≡ rows_of g) where
   pub graph-short : Grows w more w₁ None → graph_fits (length rows) (length names) g ≡ false
   unfolding graph_fits rows_used names_used
   graph-short k = whole-short c b (rw e at k)

@@ -16,9 +16,9 @@ use Rattle.xsd_types.proofs.Laws.Count.{good-bare}
 use Rattle.xsd_good.specs.declared.row0.Row0.{Row0 as Numbers}
 use Rattle.xsd_good.specs.End.{finished_end}
 use Rattle.xsd_good.specs.Row0.{as_row0}
-use Rattle.xsd_good.proofs.Laws.Bare.{bare-used}
+use Rattle.xsd_good.proofs.Laws.Bare.{bare-used, good-root, good-end}
 use Rattle.ir_rows.proofs.Laws.Graph.{Stands}
-use Rattle.ir_call.proofs.Laws.Calls.{refusal_at_0, good-root, good-end, good-stands, good-room, good-counted, lowers-held, state-short, state-enough}
+use Rattle.ir_call.proofs.Laws.Calls.{refusal_at_0, good-stands, good-room, good-counted, lowers-held, state-short, state-enough}
 use Rattle.ir_call.proofs.lower_good.Goals as goal
 
 module _ (rows names : List ℕ) (g : good (sheet rows names) ≡ true) (w : words rows ≡ true) (z : Numbers) {end : ℕ}

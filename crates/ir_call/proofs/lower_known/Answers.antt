@@ -4,12 +4,12 @@ use mathlib.Core.List.{List}
 use mathlib.Core.Path.{refl, ap, ◌∙◌}
 use Rattle.sheet.specs.Calls.{sheet}
 use Rattle.ir_lower.specs.Call.{zeros, graph_written}
-use Rattle.ir_index.specs.Blocks.{row_of}
+use Rattle.ir_index.specs.Blocks.{found_row}
 use Rattle.ir_call.proofs.Laws.Calls.{known-repeated, known-once}
 use Rattle.ir_call.proofs.lower_known.Goals as goal
 
 pub returns-in-Some : goal.returns-in-Some
-unfolding row_of zeros
+unfolding found_row zeros
 returns-in-Some c =
     let a = c.args in
     let same = c.in-Some.ensures.kept c.requires.1.rows_zero in
@@ -21,7 +21,7 @@ lower_distinct-requires c =
     (c.requires.0, rw (c.in_default.ensures.kept c.requires.1.rows_zero) c.requires.1)
 
 pub returns : goal.returns
-unfolding row_of zeros
+unfolding found_row zeros
 returns c =
     let a = c.args in
     let same = c.in_default.ensures.kept c.requires.1.rows_zero in

@@ -16,13 +16,15 @@ use Rattle.ir_lower.specs.Repeated.{Head, first_repeated}
 use Rattle.ir_lower.proofs.Laws.Repeated.{repeated-append}
 use Rattle.ir_rows.specs.Parts.{part_heads}
 use Rattle.name_index.specs.Index.{places_in}
+use Rattle.name_index.proofs.Laws.Places.{same-among}
 use Rattle.ir_index.specs.declared.Search.{Search}
 use Rattle.ir_index.specs.declared.Block.{Block}
 use Rattle.ir_index.specs.declared.Came.{Came}
-use Rattle.ir_index.specs.Heads.{places_from, head_text, head_of, turn_heads, heads_from}
-use Rattle.ir_index.specs.Blocks.{row_of, or_else, NoneCame, BlockTaken, FirstCame, left_of, SearchedBehind, SearchedOn}
+use Rattle.ir_index.specs.Heads.{places_from, head_text, head_in_part, turn_heads, heads_from}
+use Rattle.ir_index.specs.Blocks.{found_row, or_else, NoneCame, BlockTaken, FirstCame, left_of, SearchedBehind, SearchedOn}
 use Rattle.ir_index.proofs.Laws.Turns.{places-none, heads-parts, heads-next, heads-hit}
 use Rattle.ir_index.proofs.Laws.Names.{all-heads, heads-names}
+use Rattle.ir_index.proofs.Laws.Steps.{repeated-alike}
 
 or-without : (c d : Bool) → c ≡ false → (c || d) ≡ d
 or-without c d e = rw e
@@ -79,10 +81,10 @@ or-first (some s) p r = refl
 
 module _ (part : SheetPart) where
   pub search-start : left_of part (record { from = 0; limit = 2 * (part.end - 2); found = None }) ≡ first_repeated [] (part_heads part)
-  unfolding row_of
+  unfolding found_row
   search-start = rw (sub-zero (2 * (part.end - 2)), or_none) (ap (first_repeated []) (all-heads part))
 
-  pub search_end : (s : Search) → s.limit ≤ s.from → left_of part s ≡ row_of s.found
+  pub search_end : (s : Search) → s.limit ≤ s.from → left_of part s ≡ found_row s.found
   unfolding or_else places_from first_repeated
   search_end s h =
       let none : s.limit - s.from ≡ 0 = omega arith in
@@ -92,7 +94,7 @@ module _ {part : SheetPart} {s : Search} where
   -- a block has a repeated name
   pub search-repeated : {r : ℕ} → s.from < s.limit → first_repeated [] (heads_from part s.from (s.limit - s.from)) ≡ some r
       → SearchedOn part s (record { from = s.limit; limit = s.limit; found = Some r })
-  unfolding or_else row_of first_repeated
+  unfolding or_else found_row first_repeated
   search-repeated l e = record { onward = l; lower = omega arith; left = rw (places-none part s.limit, e) }
 
   module _ {numbers : List ℕ} {buckets : ℕ} {b : Block} (t : BlockTaken part numbers buckets s b) where
@@ -102,7 +104,7 @@ module _ {part : SheetPart} {s : Search} where
     behind-block =
         ap (first_repeated []) (heads-parts part s.from b.next s.limit (omega (arith, t.onward)) t.inside)
         ∙ repeated-append [] (heads_from part s.from (b.next - s.from)) _ t.once
-        ∙ rw (heads-names part (places_from part s.from (b.next - s.from)), t.places)
+        ∙ rw (heads-names part (places_from part s.from (b.next - s.from))) (sym (repeated-alike _ _ (heads_from part b.next (s.limit - b.next)) (same-among (head_text part) _ _ t.answers)))
 
     pub search-on : {s' : Search} → SearchedBehind part (map (head_text part) (places_in buckets b.entries numbers)) (record { from = b.next; limit = s.limit; found = s.found }) s'
         → SearchedOn part s s'
@@ -110,26 +112,26 @@ module _ {part : SheetPart} {s : Search} where
         record {
           onward = omega (arith, t.onward, w.same_from);
           lower = w.lower;
-          left = w.left ∙ ap (λ (o : Found ℕ). or_else o (row_of s.found)) (sym behind-block);
+          left = w.left ∙ ap (λ (o : Found ℕ). or_else o (found_row s.found)) (sym behind-block);
         }
 
   -- none behind the block came with it
   pub behind_none : {block : List Text} → NoneCame block (heads_from part s.from (s.limit - s.from)) → SearchedBehind part block s s
   behind_none {block} w =
       let none = without-block block [] (heads_from part s.from (s.limit - s.from)) w in
-      record { same_from = refl; lower = omega arith; left = ap (λ (o : Found ℕ). or_else o (row_of s.found)) (sym (rw append-nil at none)) }
+      record { same_from = refl; lower = omega arith; left = ap (λ (o : Found ℕ). or_else o (found_row s.found)) (sym (rw append-nil at none)) }
 
   pub behind-came : {block : List Text} {c : Came} → FirstCame part block s c → SearchedBehind part block s (record { from = s.from; limit = c.turn; found = Some c.place })
-  unfolding head_of row_of
+  unfolding head_in_part found_row
   behind-came {block} {c} f =
       let hs = heads_from part s.from (c.turn - s.from) in
       let behind = heads_from part (c.turn + 1) (s.limit - (c.turn + 1)) in
       let all = heads-parts part s.from c.turn s.limit f.low (omega (arith, f.high)) ∙ ap (λ (l : List Head). hs ++ l) (heads-hit part c.turn s.limit f.at.head f.high) in
-      let it = with-block block [] hs (head_of part c.place) behind f.before f.at.came in
+      let it = with-block block [] hs (head_in_part part c.place) behind f.before f.at.came in
       record {
         same_from = refl;
         lower = omega (arith, f.high);
         left =
-            sym (ap (λ (o : Found ℕ). or_else o (row_of s.found)) (ap (first_repeated block) all ∙ rw append-nil at it)
-            ∙ or-first (first_repeated [] hs) (row_of s.found) c.place);
+            sym (ap (λ (o : Found ℕ). or_else o (found_row s.found)) (ap (first_repeated block) all ∙ rw append-nil at it)
+            ∙ or-first (first_repeated [] hs) (found_row s.found) c.place);
       }

@@ -14,13 +14,14 @@ use Rattle.text.specs.Text.{Text}
 use Rattle.text.proofs.Laws.Tests.{bool_cases}
 use Rattle.rows.specs.declared.part.SheetPart.{SheetPart}
 use Rattle.ir_types.specs.Distinct.{among}
-use Rattle.ir_lower.specs.Repeated.{first_repeated}
+use Rattle.ir_types.proofs.Laws.Distinct.{among-append}
+use Rattle.ir_lower.specs.Repeated.{Head, first_repeated}
 use Rattle.ir_lower.proofs.Laws.Repeated.{repeated-append, repeated-stays}
 use Rattle.name_index.specs.declared.TableWriter.{TableWriter}
-use Rattle.name_index.specs.Index.{places_in, Entered}
-use Rattle.name_index.proofs.Laws.Places.{place-among}
+use Rattle.name_index.specs.Index.{places_in, SameAnswers, Entered}
+use Rattle.name_index.proofs.Laws.Places.{place-among, same-append, same-among}
 use Rattle.ir_index.specs.declared.Search.{Search}
-use Rattle.ir_index.specs.Heads.{head_place, with_place, places_from, head_text, head_of, turn_heads, heads_from}
+use Rattle.ir_index.specs.Heads.{head_place, with_place, places_from, head_text, head_in_part, turn_heads, heads_from}
 use Rattle.ir_index.specs.Blocks.{NoneCame, HeadsIn, places_held, names_held, TurnTaken, BlockTaken}
 use Rattle.ir_index.proofs.Laws.Turns.{places-next, places-none, heads-parts, heads-next}
 use Rattle.ir_index.proofs.Laws.Names.{heads-names}
@@ -41,32 +42,36 @@ module _ (part : SheetPart) (w : TableWriter) (turn : ℕ) where
   unfolding first_repeated
   turn-passed i e =
       let none = turn_none part turn e in
-      record { once = rw none; places = rw none (sym (append-nil (places_held w))); index = i }
+      record { once = rw none; answers = λ t. rw (none, append-nil (places_held w)) refl; index = i }
 
-  module _ (w' : TableWriter) {p : ℕ} {r : Option ℕ} (at : head_place part turn ≡ Some p) (e : Entered part.rows.now part.names.now true w.numbers.now w.buckets w.entries p w'.numbers.now r) where
+  module _ (w' : TableWriter) {p : ℕ} {r : Option ℕ} (at : head_place part turn ≡ Some p)
+      (e : Entered part.rows.now part.names.now true w.numbers.now w.buckets w.entries p w'.numbers.now w'.sorted r) where
     asked : is_some r ≡ among (head_text part p) (names_held part w)
     asked = ap is_some e.place ∙ place-among (head_text part) (head_text part p) (places_held w)
 
     pub turn-came : is_some r ≡ true → first_repeated (names_held part w) (turn_heads part turn) ≡ some p
-    unfolding first_repeated head_of
+    unfolding first_repeated head_in_part
     turn-came h =
         let came : among (head_text part p) (names_held part w) ≡ true = sym asked ∙ h in
         rw (turn-some part turn at, came)
 
     pub turn-added : is_some r ≡ false → r ≡ None → w'.buckets ≡ w.buckets → w'.entries ≡ w.entries + 1 → TurnTaken part w turn w'
-    unfolding first_repeated head_of
+    unfolding first_repeated head_in_part
     turn-added h z b c =
         let new : among (head_text part p) (names_held part w) ≡ false = sym asked ∙ h in
         let added = e.added z in
         record {
           once = rw (turn-some part turn at, new);
-          places = rw (b, c) (added.places ∙ ap (λ (ps : List ℕ). places_held w ++ ps) (sym (turn-some part turn at)));
+          answers = rw (b, c, turn-some part turn at) added.answers;
           index = rw (b, c) added.index;
         }
 
-pub is-none : (r : Option ℕ) → is_some r ≡ false → r ≡ None
-is-none None h = refl
-is-none (Some q) h = absurd (let z : ◌≡◌ {A = ℕ} 0 1 = cc in omega arith)
+-- the names that were seen decide by what is among them alone
+pub repeated-alike : (seen other : List Text) (hs : List Head) → ((t : Text) → among t seen ≡ among t other) → first_repeated seen hs ≡ first_repeated other hs
+unfolding first_repeated
+repeated-alike seen other [] h = refl
+repeated-alike seen other (k ∷ hs) h =
+    rw (h k.name, repeated-alike (seen ++ (k.name ∷ [])) (other ++ (k.name ∷ [])) hs (λ t. among-append t seen (k.name ∷ []) ∙ rw (h t) (sym (among-append t other (k.name ∷ []))))) refl
 
 -- ---- a block: the entries are the heads of the turns passed, and no name of them stands twice
 
@@ -75,21 +80,21 @@ pub record Entering (part : SheetPart) (s : Search) (w : TableWriter) (next : �
   pub high : next ≤ s.limit
   pub empty : next ≡ s.from → w.entries ≡ 0
   pub once : first_repeated [] (heads_from part s.from (next - s.from)) ≡ none
-  pub places : places_held w ≡ places_from part s.from (next - s.from)
+  pub answers : SameAnswers (head_text part) (places_held w) (places_from part s.from (next - s.from))
   pub index : HeadsIn part w
 
 pub block-start : {part : SheetPart} {s : Search} {w : TableWriter} → s.from ≤ s.limit → w.entries ≡ 0 → HeadsIn part w → Entering part s w s.from
 unfolding first_repeated places_in
 block-start {part} {s} {w} l z i =
     let none = places-none part s.from in
-    record { low = omega arith; high = l; empty = λ e. z; once = rw none; places = rw (z, none); index = i }
+    record { low = omega arith; high = l; empty = λ e. z; once = rw none; answers = λ t. rw (z, none) refl; index = i }
 
 module _ {part : SheetPart} {s : Search} {w : TableWriter} {next : ℕ} (b : Entering part s w next) where
   -- the names seen are those of the entries
   seen : first_repeated [] (heads_from part s.from (next - s.from) ++ turn_heads part next) ≡ first_repeated (names_held part w) (turn_heads part next)
   seen =
       repeated-append [] (heads_from part s.from (next - s.from)) (turn_heads part next) b.once
-      ∙ rw (heads-names part (places_from part s.from (next - s.from)), b.places)
+      ∙ rw (heads-names part (places_from part s.from (next - s.from))) (sym (repeated-alike _ _ (turn_heads part next) (same-among (head_text part) _ _ b.answers)))
 
   pub block-next : {w' : TableWriter} → next < s.limit → TurnTaken part w next w' → Entering part s w' (next + 1)
   block-next h t =
@@ -98,7 +103,9 @@ module _ {part : SheetPart} {s : Search} {w : TableWriter} {next : ℕ} (b : Ent
         high = omega arith;
         empty = λ e. absurd (omega (arith, b.low));
         once = rw (heads-next part s.from next b.low) (seen ∙ t.once);
-        places = t.places ∙ rw b.places (sym (places-next part s.from next b.low));
+        answers =
+            λ u. t.answers u ∙ same-append (head_text part) _ _ (with_place (head_place part next) []) b.answers u
+            ∙ rw (places-next part s.from next b.low) refl;
         index = t.index;
       }
 
@@ -117,9 +124,9 @@ module _ {part : SheetPart} {s : Search} {w : TableWriter} {next : ℕ} (b : Ent
 
   -- what a writer left in its numbers is theirs where it still holds them
   pub block-taken : {numbers : List ℕ} {buckets : ℕ} {held : Type 0} → held → (held → numbers ≡ w.numbers.now) → w.buckets ≡ buckets → s.from < s.limit → buckets < length w.numbers.now
-      → (next < s.limit → length w.numbers.now ≤ w.buckets + w.entries) → BlockTaken part numbers buckets s (record { next = next; entries = w.entries })
+      → (next < s.limit → length w.numbers.now ≤ w.buckets + w.entries) → BlockTaken part numbers buckets s (record { next = next; entries = w.entries; sorted = w.sorted })
   block-taken h left k l m f =
-      rw (left h, ← k) (record { onward = block-moved l (rw k m) f; inside = b.high; once = b.once; places = b.places; index = b.index })
+      rw (left h, ← k) (record { onward = block-moved l (rw k m) f; inside = b.high; once = b.once; answers = b.answers; index = b.index })
 
 -- ---- a head asked against a block
 
@@ -129,5 +136,5 @@ module _ (part : SheetPart) (block : List Text) (turn : ℕ) where
   asked-none e = rw (turn_none part turn e) tt
 
   pub asked-other : {p : ℕ} → head_place part turn ≡ Some p → among (head_text part p) block ≡ false → NoneCame block (turn_heads part turn)
-  unfolding NoneCame head_of
+  unfolding NoneCame head_in_part
   asked-other at e = rw (turn-some part turn at) (e, tt)

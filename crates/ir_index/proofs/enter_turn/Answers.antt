@@ -2,8 +2,9 @@
 use mathlib.Core.Path.{refl, sym, ◌∙◌}
 use native.Mathlib.Omega.{arith}
 use Rattle.ir_index.proofs.Laws.Turns.{head-inside}
-use Rattle.ir_index.proofs.Laws.Steps.{turn-passed, turn-came, turn-added, is-none}
+use Rattle.ir_index.proofs.Laws.Steps.{turn-passed, turn-came, turn-added}
 use Rattle.ir_index.proofs.enter_turn.Goals as goal
+use Rattle.text.proofs.Laws.Std.{none-is}
 
 pub returns-in_default : goal.returns-in_default
 returns-in_default c =
@@ -42,5 +43,5 @@ returns c =
       same_buckets = e.same_buckets;
       same_length = e.same_length;
       entered =
-          turn-added a.part.now a.table.now a.turn c.enter.new.self (sym c.in-Some.ensures) e.entered none (is-none _ none) e.same_buckets (rw none at e.count);
+          turn-added a.part.now a.table.now a.turn c.enter.new.self (sym c.in-Some.ensures) e.entered none (none-is _ none) e.same_buckets (rw none at e.count);
     }

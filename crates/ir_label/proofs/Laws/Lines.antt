@@ -1,6 +1,8 @@
 -- The first word of a text and what is behind it. Assumes nothing.
+use Rattle.std.specs.Prelude.{Some, None, unwrap_or, if◌then◌else◌}
+use Rattle.std.specs.List.{position_or_len}
 use Prim.Native.Nat.{ℕ, zero, suc, ◌+◌, ◌≤◌, ◌<◌}
-use mathlib.Core.Path.{◌≡◌, refl, ap, ◌∙◌}
+use mathlib.Core.Path.{◌≡◌, refl, sym, ap, ◌∙◌}
 use mathlib.Core.List.{List, [], ◌∷◌}
 use native.Mathlib.Omega.{arith}
 use lib.Dec.{eqb, ltb}
@@ -23,29 +25,19 @@ unfolding in_front
 front-first b [] = refl
 front-first b (w ∷ ws) = refl
 
--- the length of the first word from place i on: the byte there ends it, or the rest does
-pub line-hit : (s : Text) (i : ℕ) → i < length s → get_or s i 0 ≡ 10 → line_length (drop i s) ≡ 0
-unfolding line_length words_of newline split
-line-hit s i h e = rw (drop-cons s i 0 h, eq-eqb (get_or s i 0) 10 e)
-
+-- the length of the first word from place i on, where the byte there does not end it
 pub line_on : (s : Text) (i : ℕ) → i < length s → (get_or s i 0 ≡ 10 → ⊥) → line_length (drop i s) ≡ suc (line_length (drop (suc i) s))
 unfolding line_length words_of newline split
 line_on s i h e = rw (drop-cons s i 0 h, ne_eqb (get_or s i 0) 10 e) (front-first (get_or s i 0) (split 10 (drop (suc i) s)))
 
-pub line-end : (s : Text) (i : ℕ) → length s ≤ i → line_length (drop i s) ≡ 0
-unfolding line_length words_of newline split
-line-end s i h = rw (drop_of_length-le s h)
+one-more : (n : ℕ) → 1 + n ≡ suc n
+one-more n = omega arith
 
 -- the first word by the place of the first newline byte
-pub line-first : (s : Text) (i : ℕ) → i < length s → get_or s i 0 ≡ 10 → ((k : ℕ) → k < i → get_or s k 0 ≡ 10 → ⊥) → line_length s ≡ i
-line-first [] i h e p = absurd (omega (arith, h))
-line-first (b ∷ s) zero h e p = line-hit (b ∷ s) 0 h e
-line-first (b ∷ s) (suc i) h e p =
-    line_on (b ∷ s) 0 (omega arith) (p 0 (omega arith)) ∙ ap suc (line-first s i (omega arith) e (λ k l. p (suc k) (omega arith)))
-
-pub line-none : (s : Text) → ((k : ℕ) → k < length s → get_or s k 0 ≡ 10 → ⊥) → line_length s ≡ length s
-line-none [] p = line-end [] 0 (omega arith)
-line-none (b ∷ s) p = line_on (b ∷ s) 0 (omega arith) (p 0 (omega arith)) ∙ ap suc (line-none s (λ k l. p (suc k) (omega arith)))
+pub line-place : (s : Text) → position_or_len (λ (b : ℕ). eqb b 10) s ≡ line_length s
+unfolding line_length words_of newline split
+line-place [] = refl
+line-place (b ∷ s) = bool_cases (eqb b 10) (λ e. rw e refl) (λ e. rw e (one-more _ ∙ ap suc (line-place s) ∙ sym (front-first b (split 10 s))))
 
 -- behind the first word, one byte off, stand the others
 front_rest : (b : ℕ) (ws us : List Text) → ws ≡ get_or ws 0 [] ∷ us → in_front b ws ≡ get_or (in_front b ws) 0 [] ∷ us
@@ -76,6 +68,10 @@ words-on (b ∷ s) h =
 pub line-bound : (s : Text) → line_length s ≤ length s
 unfolding line_length word_at
 line-bound s = omega (arith, (word-part s 0 (words-some s)).inside)
+
+-- the first place of a test, or the length where there is none
+pub place-or-end : (i n : ℕ) → i ≤ n → unwrap_or (if ltb i n then Some i else None) n ≡ i
+place-or-end i n h = bool_cases (ltb i n) (λ e. rw e refl) (λ e. let l = ltb-false i n e in let same : n ≡ i = omega arith in rw e same)
 
 -- without a newline byte the whole is one word
 pub words-one : (s : Text) → line_length s ≡ length s → words_of s ≡ s ∷ []

@@ -9,7 +9,7 @@ use lib.ListN.{length, take, drop}
 use Rattle.text.specs.Text.{StartsAt}
 use Rattle.text.proofs.Laws.Tests.{if-cases}
 use Rattle.sheet.specs.Rows.{text_at}
-use Rattle.ir_types.specs.Label.{label}
+use Rattle.ir_types.specs.Label.{label, LabelIs}
 use Rattle.ir_types.proofs.Laws.Words.{PartOf, label-word-part, label-name-part}
 use Rattle.ir_label.specs.Spot.{in_words, LabelStands}
 use Rattle.ir_label.specs.declared.Spot.{Spot}
@@ -26,12 +26,16 @@ module _ (rows names words : List ℕ) (k : ℕ) where
     spot-inside =
         rw (← t, ← here.buffer, ← here.at, ← here.len) label_inside.inside
 
-    pub spot-bytes : take (s.at + s.len - s.at) (drop s.at (if b then words else names)) ≡ (label rows names words k).text
+    spot-bytes : take (s.at + s.len - s.at) (drop s.at (if b then words else names)) ≡ (label rows names words k).text
     unfolding text_at
     spot-bytes =
         let n : s.at + s.len - s.at ≡ s.len = omega arith in
         rw (n, ← t, ← here.buffer, ← here.at, ← here.len) label_inside.same
 
-    pub spot-starts : (names_place words_place place : ℕ × ℕ) → StartsAt (if b then words_place else names_place) s.at place
+    spot-starts : (names_place words_place place : ℕ × ℕ) → StartsAt (if b then words_place else names_place) s.at place
         → StartsAt (if (label rows names words k).in_words then words_place else names_place) (label rows names words k).at place
     spot-starts names_place words_place place h = rw (here.buffer, here.at, t) h
+
+    pub spot-is : (names_place words_place place : ℕ × ℕ) → StartsAt (if b then words_place else names_place) s.at place
+        → LabelIs rows names words k names_place words_place place (take (s.at + s.len - s.at) (drop s.at (if b then words else names)))
+    spot-is names_place words_place place h = record { bytes = spot-bytes; starts = spot-starts names_place words_place place h }

@@ -3,7 +3,7 @@ use Rattle.std.proofs.Common.{refl, sym, ap, true, false, arith}
 use Rattle.text.proofs.Laws.Tests.{bool_cases}
 use Rattle.ir_types.specs.Label.{Labelled, no_label}
 use Rattle.ir_label.specs.Spot.{in_words}
-use Rattle.ir_label.proofs.Laws.Parts.{spot-inside, spot-bytes, spot-starts}
+use Rattle.ir_label.proofs.Laws.Parts.{spot-inside, spot-is}
 use Rattle.ir_label.proofs.label.Goals as goal
 
 pub returns-in_default : goal.returns-in_default
@@ -33,21 +33,9 @@ slice_bounds-result-end-in-Names c =
 pub returns-in-Words : goal.returns-in-Words
 returns-in-Words c =
     let a = c.args in
-    let s = c.in-Ok.s in
-    let here = c.in-Ok.ensures in
-    let t = (ap in_words c.in-Words.is) in
-    record {
-      bytes = spot-bytes a.rows.now a.names.now a.words.now a.k s here true t;
-      starts = spot-starts a.rows.now a.names.now a.words.now a.k s here true t a.names.ref_ptr a.words.ref_ptr _ (refl, omega arith);
-    }
+    spot-is a.rows.now a.names.now a.words.now a.k c.in-Ok.s c.in-Ok.ensures true (ap in_words c.in-Words.is) a.names.ref_ptr a.words.ref_ptr _ (refl, omega arith)
 
 pub returns-in-Names : goal.returns-in-Names
 returns-in-Names c =
     let a = c.args in
-    let s = c.in-Ok.s in
-    let here = c.in-Ok.ensures in
-    let t = (ap in_words c.in-Names.is) in
-    record {
-      bytes = spot-bytes a.rows.now a.names.now a.words.now a.k s here false t;
-      starts = spot-starts a.rows.now a.names.now a.words.now a.k s here false t a.names.ref_ptr a.words.ref_ptr _ (refl, omega arith);
-    }
+    spot-is a.rows.now a.names.now a.words.now a.k c.in-Ok.s c.in-Ok.ensures false (ap in_words c.in-Names.is) a.names.ref_ptr a.words.ref_ptr _ (refl, omega arith)

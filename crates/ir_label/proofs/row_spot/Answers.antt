@@ -25,11 +25,11 @@ returns-then-t-eq-VALUE_WITH_ATTRIBUTES c =
     let a = c.args in
     let some = sym c.has_reference.ensures ∙ c.if-not-has_reference.false in
     let named = row-name a.names.now a.words.now (as_ten a.t) some c.if-t-ne0.false in
-    rw (named ∙ second-pair a.names.now (as_ten a.t) c.if-t-eq-VALUE_WITH_ATTRIBUTES.true) c.name_spot.ensures
+    rw (named ∙ second-pair a.names.now (as_ten a.t) c.if-t-eq-VALUE_WITH_ATTRIBUTES.true) (rw c.pair.ensures at c.name_spot.ensures)
 
 pub returns-else-t-eq-VALUE_WITH_ATTRIBUTES : goal.returns-else-t-eq-VALUE_WITH_ATTRIBUTES
 returns-else-t-eq-VALUE_WITH_ATTRIBUTES c =
     let a = c.args in
     let some = sym c.has_reference.ensures ∙ c.if-not-has_reference.false in
     let named = row-name a.names.now a.words.now (as_ten a.t) some c.if-t-ne0.false in
-    rw (named ∙ third-pair a.names.now (as_ten a.t) c.if-t-eq-VALUE_WITH_ATTRIBUTES.false) c.name_spot-else-t-eq-VALUE_WITH_ATTRIBUTES.ensures
+    rw (named ∙ third-pair a.names.now (as_ten a.t) c.if-t-eq-VALUE_WITH_ATTRIBUTES.false) (rw c.pair-else-t-eq-VALUE_WITH_ATTRIBUTES.ensures at c.name_spot-else-t-eq-VALUE_WITH_ATTRIBUTES.ensures)

@@ -11,7 +11,8 @@ use borrow.Author.Tests.{ltb-true, ltb-false, lt-ltb, le-ltb, eqb-true}
 use Rattle.xsd_types.specs.Types.{MaxOccurs}
 use Rattle.ir_types.specs.Types.{Cardinality}
 use Rattle.ir_lower.specs.Lower.{lower_cardinality}
-use Rattle.text.proofs.Laws.Tests.{and-true-left, and-true-right, not-true-false}
+use Rattle.std.proofs.lemmas.Bool.{false_from_ne_true}
+use Rattle.text.proofs.Laws.Tests.{and-true-left, and-true-right}
 
 -- what the two tests of a bounded max give
 abbrev chosen : ℕ → Bool → Bool → Cardinality
@@ -49,7 +50,7 @@ pub cardinality-else : (min n : ℕ) → n ≤ 1 → ((min ≡ 0) × (n ≡ 1) �
 unfolding lower_cardinality
 cardinality-else min n h k =
     let s : eqb min 0 && eqb n 1 ≡ false =
-    not-true-false (eqb min 0 && eqb n 1)
+    false_from_ne_true (eqb min 0 && eqb n 1)
     (λ e. k (eqb-true min 0 (and-true-left (eqb min 0) (eqb n 1) e), eqb-true n 1 (and-true-right (eqb min 0) (eqb n 1) e))) in
     rw (le-ltb 1 n h, s)
 

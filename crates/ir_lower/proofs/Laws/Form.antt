@@ -23,7 +23,8 @@ use Rattle.ir_lower.specs.Outcome.{LoweringOutcome}
 use Rattle.ir_lower.proofs.Laws.GraphOk.{small_event, lower-ok}
 use Rattle.ir_lower.proofs.Laws.Outcome.{unchanged-number, lowering-1, lowering-2, lowering-state, outcome, outcome-zero}
 use Rattle.text.specs.Text.{every}
-use Rattle.text.proofs.Laws.Tests.{and-true-left, or_cases, test-cases}
+use Rattle.std.proofs.lemmas.Bool.{or_cases, cases_Bool}
+use Rattle.text.proofs.Laws.Tests.{and-true-left}
 use Rattle.xsd_types.proofs.Laws.Sound.{proper-parts}
 use Rattle.xsd_types.proofs.Laws.Events.{passing-parts, heads-weaken}
 use Rattle.ir_types.specs.Ok.{is_small, graph_ok}
@@ -71,9 +72,9 @@ pub lowering-form : (x graph : Sheet) (scratch : List ℕ) → words x.rows ≡ 
     → graph_form (lowering x graph scratch).graph ≡ true
 lowering-form x graph scratch w z =
     ⊎_elim
-    (λ k. ⊎_elim (λ g. good-form x graph scratch k g (proper-state_of x w g) z) (λ g. absurd (not-zero 2 graph scratch _ (omega arith) (lowering-2 x graph scratch k g) z)) (test-cases (good x)))
+    (λ k. ⊎_elim (λ g. good-form x graph scratch k g (proper-state_of x w g) z) (λ g. absurd (not-zero 2 graph scratch _ (omega arith) (lowering-2 x graph scratch k g) z)) (cases_Bool (good x)))
     (λ k. absurd (not-zero 1 graph scratch _ (omega arith) (lowering-1 x graph scratch k) z))
-    (test-cases (good_lengths (lengths_of x) && good_lengths (lengths_of graph)))
+    (cases_Bool (good_lengths (lengths_of x) && good_lengths (lengths_of graph)))
 
 -- and its texts and numbers have the widths by which a graph sheet can be read back
 pub lowering-ok : (x graph : Sheet) (scratch : List ℕ) → words x.rows ≡ true → (lowering x graph scratch).answer.number ≡ 0 → (g : TypeGraph)
@@ -81,6 +82,6 @@ pub lowering-ok : (x graph : Sheet) (scratch : List ℕ) → words x.rows ≡ tr
 lowering-ok x graph scratch w z g c =
     ⊎_elim
     (λ k. ⊎_elim (λ e. let h = proper-state_of x w e in lower-ok (state_of x).reader.schema g (proper-schema (state_of x) h) (proper-small (state_of x) h) c)
-    (λ e. absurd (not-zero 2 graph scratch _ (omega arith) (lowering-2 x graph scratch k e) z)) (test-cases (good x)))
+    (λ e. absurd (not-zero 2 graph scratch _ (omega arith) (lowering-2 x graph scratch k e) z)) (cases_Bool (good x)))
     (λ k. absurd (not-zero 1 graph scratch _ (omega arith) (lowering-1 x graph scratch k) z))
-    (test-cases (good_lengths (lengths_of x) && good_lengths (lengths_of graph)))
+    (cases_Bool (good_lengths (lengths_of x) && good_lengths (lengths_of graph)))

@@ -10,7 +10,7 @@ use mathlib.Core.Logic.{⊎_elim}
 use lib.Dec.{eqb, ltb}
 use Rattle.text.specs.Text.{Text, every, is_text, is_graph_text}
 use Rattle.builtin.specs.Builtin.{RustType, map_builtin}
-use Rattle.names.specs.Names.{normalize_type_name, xml_to_snake_case, code_to_pascal_case}
+use Rattle.names.specs.Names.{normalize_type_name}
 use Rattle.xsd_types.specs.Types.{Element, Facet, SimpleType, MaxOccurs, SequenceElement, ChoiceVariant, Attribute, ComplexContent, ComplexType, Item, Schema, elements, simple_types, complex_types}
 use Rattle.xsd_types.specs.State.{element_ok, facet_ok, max_occurs_ok, sequence_element_ok, choice_variant_ok, attribute_ok, namespace_ok, content_ok, started, item_ok, schema_ok, item_passes}
 use Rattle.ir_types.specs.Types.{TypeDef, TypeGraph}
@@ -19,7 +19,8 @@ use Rattle.xsd_types.specs.Refused.{all_enums}
 use Rattle.ir_lower.specs.Lower.{resolved, resolve_type_ref, codes, constraints, lower_newtype, lower_simple_type, lower_cardinality, lower_field, lower_variant}
 use Rattle.ir_lower.specs.Lower.{lower_attribute, lower_content, lower_complex_type, with_definition, simple_definitions, finished_definitions, root_of_element, graph_of, lower}
 use Rattle.ir_lower.proofs.Laws.Types.{lower-some}
-use Rattle.text.proofs.Laws.Tests.{and-true-left, and-true-right, keep_left, test-cases, and-true}
+use Rattle.std.proofs.lemmas.Bool.{cases_Bool}
+use Rattle.text.proofs.Laws.Tests.{and-true-left, and-true-right, keep_left, and-true}
 use Rattle.text.proofs.Laws.Every.{every-append-true, every_map, every-both}
 use Rattle.text.proofs.Laws.Class.{text-in-graph}
 use Rattle.names.proofs.Laws.Names.{normalize-text, snake-text, pascal-text}
@@ -29,15 +30,6 @@ use Rattle.names.proofs.Laws.Names.{normalize-text, snake-text, pascal-text}
 graph-then : (v : Text) (b c : Bool) → is_text v && b ≡ true → (b ≡ true → c ≡ true) → is_graph_text v && c ≡ true
 graph-then v b c h f = and-true (text-in-graph v (and-true-left (is_text v) b h)) (f (and-true-right (is_text v) b h))
 
-normalize-graph : (s : Text) → is_text s ≡ true → is_graph_text (normalize_type_name s) ≡ true
-normalize-graph s h = normalize-text s h
-
-snake-graph : (s : Text) → is_text s ≡ true → is_graph_text (xml_to_snake_case s) ≡ true
-snake-graph s h = snake-text s h
-
-pascal-graph : (s : Text) → is_text s ≡ true → is_graph_text (code_to_pascal_case s) ≡ true
-pascal-graph s h = pascal-text s h
-
 -- ---- what needs no conversion
 
 cardinality-ok : (min : ℕ) (max : MaxOccurs) → max_occurs_ok max ≡ true → cardinality_ok (lower_cardinality min max) ≡ true
@@ -45,8 +37,8 @@ unfolding lower_cardinality cardinality_ok max_occurs_ok
 cardinality-ok min MaxOccurs.unbounded h = refl
 cardinality-ok min (MaxOccurs.bounded n) h =
     ⊎_elim (λ k. rw k (and-true k h))
-    (λ k. rw k (⊎_elim (λ e. rw e) (λ e. rw e) (test-cases (eqb min 0 && eqb n 1))))
-    (test-cases (ltb 1 n))
+    (λ k. rw k (⊎_elim (λ e. rw e) (λ e. rw e) (cases_Bool (eqb min 0 && eqb n 1))))
+    (cases_Bool (ltb 1 n))
 
 constraints-ok : (fs : List Facet) → every facet_ok fs ≡ true → every constraint_ok (constraints fs) ≡ true
 unfolding every constraints facet_ok constraint_ok
@@ -107,7 +99,7 @@ with-ok (some d) ds h k = and-true h k
 
 resolve-ok : (name : Text) → is_text name ≡ true → ref_ok (resolve_type_ref name) ≡ true
 unfolding resolve_type_ref resolved ref_ok
-resolve-ok name h = elim (map_builtin name) as (λ o. ref_ok (resolved name o) ≡ true) [ none ↦ normalize-graph name h | some t ↦ refl ]
+resolve-ok name h = elim (map_builtin name) as (λ o. ref_ok (resolved name o) ≡ true) [ none ↦ normalize-text name h | some t ↦ refl ]
 
 field-ok : (e : SequenceElement) → sequence_element_ok e ≡ true → field_ok (lower_field e) ≡ true
 unfolding sequence_element_ok field_ok lower_field
@@ -115,7 +107,7 @@ field-ok e h =
     let x = is_text e.name in let y = is_text e.type_name in let m = ltb e.min_occurs (2 ^ 32) in let n = max_occurs_ok e.max_occurs in
     let p : x && y ≡ true = and-true-left (x && y) m (and-true-left (x && y && m) n h) in
     let a : x ≡ true = and-true-left x y p in
-    rw (text-in-graph e.name a, snake-graph e.name a, resolve-ok e.type_name (and-true-right x y p)) (cardinality-ok e.min_occurs e.max_occurs (and-true-right (x && y && m) n h))
+    rw (text-in-graph e.name a, snake-text e.name a, resolve-ok e.type_name (and-true-right x y p)) (cardinality-ok e.min_occurs e.max_occurs (and-true-right (x && y && m) n h))
 
 variant_ok_lem : (v : ChoiceVariant) → choice_variant_ok v ≡ true → variant_ok (lower_variant v) ≡ true
 unfolding choice_variant_ok variant_ok lower_variant
@@ -127,14 +119,14 @@ attribute-ok : (x : Attribute) → attribute_ok x ≡ true → attr_ok (lower_at
 unfolding attribute_ok attr_ok lower_attribute
 attribute-ok x h =
     let a : is_text x.name ≡ true = and-true-left (is_text x.name) (is_text x.type_name) h in
-    rw (text-in-graph x.name a, snake-graph x.name a) (resolve-ok x.type_name (and-true-right (is_text x.name) (is_text x.type_name) h))
+    rw (text-in-graph x.name a, snake-text x.name a) (resolve-ok x.type_name (and-true-right (is_text x.name) (is_text x.type_name) h))
 
 codes-ok : (fs : List Facet) → every facet_ok fs ≡ true → every code_ok (codes fs) ≡ true
 unfolding every codes facet_ok code_ok
 codes-ok [] h = refl
 codes-ok (Facet.enumeration v ∷ fs) h =
     let a : is_text v ≡ true = and-true-left (is_text v) (every facet_ok fs) h in
-    rw (text-in-graph v a, pascal-graph v a) (codes-ok fs (and-true-right (is_text v) (every facet_ok fs) h))
+    rw (text-in-graph v a, pascal-text v a) (codes-ok fs (and-true-right (is_text v) (every facet_ok fs) h))
 codes-ok (Facet.pattern v ∷ fs) h = codes-ok fs (and-true-right (is_text v) (every facet_ok fs) h)
 codes-ok (Facet.min_length n ∷ fs) h = codes-ok fs (and-true-right (ltb n (2 ^ 64)) (every facet_ok fs) h)
 codes-ok (Facet.max_length n ∷ fs) h = codes-ok fs (and-true-right (ltb n (2 ^ 64)) (every facet_ok fs) h)
@@ -146,7 +138,7 @@ codes-ok (Facet.fraction_digits n ∷ fs) h = codes-ok fs (and-true-right (ltb n
 newtype-ok : (t : SimpleType) (o : Option RustType) → is_small t.event ≡ true → is_text t.name ≡ true → every facet_ok t.facets ≡ true → option_ok (lower_newtype t o) ≡ true
 unfolding option_ok lower_newtype type_ok
 newtype-ok t none s h k = refl
-newtype-ok t (some inner) s h k = and-true s (and-true (normalize-graph t.name h) (constraints-ok t.facets k))
+newtype-ok t (some inner) s h k = and-true s (and-true (normalize-text t.name h) (constraints-ok t.facets k))
 
 simple-ok : (t : SimpleType) → item_fine (Item.simple_type t) ≡ true → option_ok (lower_simple_type t) ≡ true
 unfolding item_fine item_passes small_event item_ok lower_simple_type option_ok type_ok
@@ -158,7 +150,7 @@ simple-ok t g =
     let k : f ≡ true = and-true-right (n && b) f h in
     elim (all_enums t.facets)
     as (λ c. option_ok (if c then some (TypeDef.code_enum t.event (normalize_type_name t.name) (codes t.facets)) else lower_newtype t (map_builtin t.base)) ≡ true)
-    [ true ↦ and-true s (and-true (normalize-graph t.name a) (codes-ok t.facets k)) | false ↦ newtype-ok t (map_builtin t.base) s a k ]
+    [ true ↦ and-true s (and-true (normalize-text t.name a) (codes-ok t.facets k)) | false ↦ newtype-ok t (map_builtin t.base) s a k ]
 
 simple-definitions-ok : (ts : List SimpleType) → every (λ (t : SimpleType). item_fine (Item.simple_type t)) ts ≡ true → every type_ok (simple_definitions ts) ≡ true
 unfolding every simple_definitions
@@ -182,7 +174,7 @@ unfolding item_fine item_passes small_event item_ok lower_complex_type
 complex-ok t g =
     let n = is_text t.name in let c = content_ok (started t.content) in
     let h = and-true-right (is_small t.event) (n && c) g in
-    content-ok t.event (normalize_type_name t.name) t.content (and-true-left (is_small t.event) (n && c) g) (normalize-graph t.name (and-true-left n c h)) (and-true-right n c h)
+    content-ok t.event (normalize_type_name t.name) t.content (and-true-left (is_small t.event) (n && c) g) (normalize-text t.name (and-true-left n c h)) (and-true-right n c h)
 
 finished-ok : (s : Schema) → every item_fine s.items ≡ true → every type_ok (finished_definitions s) ≡ true
 unfolding finished_definitions

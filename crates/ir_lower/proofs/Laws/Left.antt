@@ -20,7 +20,8 @@ use Rattle.ir_lower.specs.Call.{Lowered, zeros, unchanged, cleared, lowering}
 use Rattle.ir_lower.specs.Left.{changes_nothing, clears_graph, clears_scratch, no_graph}
 use Rattle.ir_lower.specs.Outcome.{LoweringOutcome}
 use Rattle.ir_lower.proofs.Laws.Outcome.{lowering-1, lowering-2, lowering-state, outcome}
-use Rattle.text.proofs.Laws.Tests.{test-cases, or-false-right}
+use Rattle.std.proofs.lemmas.Bool.{cases_Bool}
+use Rattle.text.proofs.Laws.Tests.{or-false-right}
 use Rattle.sheet.proofs.Laws.Numbers.{all_zero-replicate}
 
 pub length-zeros : (xs : List ℕ) → length (zeros xs) ≡ length xs
@@ -52,9 +53,9 @@ lowering-leaves : (x graph : Sheet) (scratch : List ℕ) → Leaves graph scratc
 unfolding changes_nothing clears_graph clears_scratch between
 lowering-leaves x graph scratch =
     ⊎_elim (λ h. ⊎_elim (λ k. rw (lowering-state x graph scratch h k) (outcome-leaves _ graph scratch _ (outcome (state_of x) graph scratch)))
-    (λ k. kept 2 refl refl (lowering-2 x graph scratch h k)) (test-cases (good x)))
+    (λ k. kept 2 refl refl (lowering-2 x graph scratch h k)) (cases_Bool (good x)))
     (λ h. kept 1 refl refl (lowering-1 x graph scratch h))
-    (test-cases (good_lengths (lengths_of x) && good_lengths (lengths_of graph)))
+    (cases_Bool (good_lengths (lengths_of x) && good_lengths (lengths_of graph)))
 
 -- ---- what each way leaves
 

@@ -7,7 +7,7 @@ use mathlib.Core.List.{List, []}
 use mathlib.Core.Option.{some, none}
 use native.Mathlib.Omega.{arith}
 use lib.ListN.{length}
-use Rattle.text.proofs.Laws.Tests.{test-cases, not-true-false}
+use Rattle.std.proofs.lemmas.Bool.{cases_Bool, false_from_ne_true}
 use Rattle.sheet.specs.Lengths.{lengths_of, good_lengths}
 use Rattle.sheet.specs.Rows.{Sheet}
 use Rattle.xsd_types.specs.Types.{Schema, simple_types}
@@ -31,9 +31,9 @@ use Rattle.ir_lower.proofs.Laws.Outcome.{unchanged-number, cleared-number, lower
 judged : (n : ℕ) (x graph : Sheet) (scratch : List ℕ) → (n ≡ 1 → ⊥) → (n ≡ 2 → ⊥) → (lowering x graph scratch).answer.number ≡ n
     → (good_lengths (lengths_of x) && good_lengths (lengths_of graph) ≡ true) × (good x ≡ true)
 judged n x graph scratch a b e =
-    ⊎_elim (λ h. ⊎_elim (λ k. (h, k)) (λ k. absurd (b (sym e ∙ unchanged-number 2 graph scratch _ (lowering-2 x graph scratch h k)))) (test-cases (good x)))
+    ⊎_elim (λ h. ⊎_elim (λ k. (h, k)) (λ k. absurd (b (sym e ∙ unchanged-number 2 graph scratch _ (lowering-2 x graph scratch h k)))) (cases_Bool (good x)))
     (λ h. absurd (a (sym e ∙ unchanged-number 1 graph scratch _ (lowering-1 x graph scratch h))))
-    (test-cases (good_lengths (lengths_of x) && good_lengths (lengths_of graph)))
+    (cases_Bool (good_lengths (lengths_of x) && good_lengths (lengths_of graph)))
 
 -- ---- 0
 
@@ -94,7 +94,7 @@ module _ (x graph : Sheet) (scratch : List ℕ) where
 
   not-distinct : (s : Schema) (row : ℕ) → repeated_row s ≡ some row → distinct_texts (finished_names s) ≡ false
   not-distinct s row r =
-      not-true-false (distinct_texts (finished_names s)) (λ d. let n = (repeated-none s).1 d in let z : ◌≡◌ {A = ℕ} 0 1 = cc in omega arith)
+      false_from_ne_true (distinct_texts (finished_names s)) (λ d. let n = (repeated-none s).1 d in let z : ◌≡◌ {A = ℕ} 0 1 = cc in omega arith)
 
   pub repeated-exactly : ((lowering x graph scratch).answer.number ≡ 20) ↔ NameTwice x graph scratch
   repeated-exactly = (there, back)

@@ -20,7 +20,7 @@ use Rattle.ir_lower.specs.Call.{Lowered, unchanged, cleared, graph_written, repe
 use Rattle.ir_lower.specs.Repeated.{repeated_row}
 use Rattle.ir_lower.specs.Outcome.{LoweringOutcome}
 use Rattle.ir_lower.proofs.Laws.Refusals.{refused-exactly}
-use Rattle.text.proofs.Laws.Tests.{test-cases}
+use Rattle.std.proofs.lemmas.Bool.{cases_Bool}
 
 -- the number of a refusal
 pub unchanged-number : (n : ℕ) (graph : Sheet) (scratch : List ℕ) (l : Lowered) → l ≡ unchanged n graph scratch → l.answer.number ≡ n
@@ -67,7 +67,7 @@ unfolding graph_written
 named-outcome s graph scratch h k g e (some row) r = LoweringOutcome.repeated h k g e row r refl
 named-outcome s graph scratch h k g e none r =
     ⊎_elim (λ f. rw f (LoweringOutcome.fitting h k g e r f refl)) (λ f. rw f (LoweringOutcome.tight h k g e r f refl))
-    (test-cases (graph_fits (length graph.rows) (length graph.names) g))
+    (cases_Bool (graph_fits (length graph.rows) (length graph.names) g))
 
 lowered-outcome : (s : State) (graph : Sheet) (scratch : List ℕ) → scratch_least ≤ length scratch → s.reader.root_seen ≡ true
     → (o : Option TypeGraph) → lower s.reader.schema ≡ o → LoweringOutcome s graph scratch (refused_or_written s.reader.schema o graph scratch)
@@ -78,9 +78,9 @@ pub outcome : (s : State) (graph : Sheet) (scratch : List ℕ) → LoweringOutco
 outcome s graph scratch =
     ⊎_elim (λ h. let le = leb-true scratch_least (length scratch) h in
     ⊎_elim (λ k. rw (state-lowered s graph scratch h k) (lowered-outcome s graph scratch le k (lower s.reader.schema) refl))
-    (λ k. LoweringOutcome.rootless le k (state-rootless s graph scratch h k)) (test-cases s.reader.root_seen))
+    (λ k. LoweringOutcome.rootless le k (state-rootless s graph scratch h k)) (cases_Bool s.reader.root_seen))
     (λ h. LoweringOutcome.short (leb-false scratch_least (length scratch) h) (state-short s graph scratch h))
-    (test-cases (leb scratch_least (length scratch)))
+    (cases_Bool (leb scratch_least (length scratch)))
 
 -- the one case whose number is 0: the graph, and that it fits
 pub record GraphWhole (s : State) (graph : Sheet) (l : Lowered) : Type 0 where

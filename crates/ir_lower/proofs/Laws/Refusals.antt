@@ -18,7 +18,8 @@ use Rattle.builtin.specs.Builtin.{map_builtin}
 use Rattle.names.specs.Names.{normalize_type_name}
 use Rattle.xsd_types.specs.Refused.{all_enums, is_none, refused_base, refused_item}
 use Rattle.ir_lower.specs.Lower.{codes, lower_newtype, lower_simple_type, any_unknown, graph_of, lower, unknown_row}
-use Rattle.text.proofs.Laws.Tests.{test-cases, or-false-left, or-false-right}
+use Rattle.std.proofs.lemmas.Bool.{cases_Bool}
+use Rattle.text.proofs.Laws.Tests.{or-false-left, or-false-right}
 
 -- a simple type has no definition exactly if its base is refused
 pub refused-base : (t : SimpleType) → is_none (lower_simple_type t) ≡ refused_base t
@@ -63,7 +64,7 @@ unknown_row-least row (Item.element e ∷ is) h = let r = unknown_row-least (row
 unknown_row-least row (Item.simple_type t ∷ is) h =
     ⊎_elim (λ k. rw k (omega arith))
     (λ k. let r = unknown_row-least (row + length (item_rows (Item.simple_type t))) is (rw k at h) in rw k (omega arith))
-    (test-cases (refused_base t))
+    (cases_Bool (refused_base t))
 unknown_row-least row (Item.complex_type t ∷ is) h = let r = unknown_row-least (row + length (item_rows (Item.complex_type t))) is h in omega arith
 
 -- the row is that of the first refused simple type's head: all rows of the items before it stand before it

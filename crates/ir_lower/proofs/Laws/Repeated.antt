@@ -11,7 +11,7 @@ use native.Mathlib.Omega.{arith}
 use lib.Seq.{append_snoc}
 use Rattle.xsd_types.specs.Rows.{item_rows}
 use Rattle.text.specs.Text.{Text}
-use Rattle.text.proofs.Laws.Tests.{test-cases}
+use Rattle.std.proofs.lemmas.Bool.{cases_Bool}
 use Rattle.xsd_types.specs.Types.{Item, Schema, simple_types, complex_types}
 use Rattle.ir_types.specs.Distinct.{among, distinct_texts}
 use Rattle.ir_types.proofs.Laws.Distinct.{distinct_snoc, distinct-before}
@@ -48,7 +48,7 @@ none-distinct seen [] d e = rw (append-nil seen) d
 none-distinct seen (h ∷ hs) d e =
     ⊎_elim (λ k. let z : ◌≡◌ {A = ℕ} 0 1 = let q = rw k at e in cc in absurd (omega arith))
     (λ k. rw (append_snoc seen h.name (map (λ (x : Head). x.name) hs)) at (none-distinct (seen ++ (h.name ∷ [])) hs (distinct_snoc h.name seen d k) (rw k at e)))
-    (test-cases (among h.name seen))
+    (cases_Bool (among h.name seen))
 
 distinct_none : (seen : List Text) (hs : List Head) → distinct_texts (seen ++ type_head_names hs) ≡ true → first_repeated seen hs ≡ none
 unfolding first_repeated type_head_names
@@ -70,13 +70,13 @@ repeated-append seen [] ks e = rw (append-nil seen)
 repeated-append seen (h ∷ hs) ks e =
     ⊎_elim (λ k. let z : ◌≡◌ {A = ℕ} 0 1 = let q = rw k at e in cc in absurd (omega arith))
     (λ k. rw k (repeated-append (seen ++ (h.name ∷ [])) hs ks (rw k at e) ∙ rw (append_snoc seen h.name (map (λ (x : Head). x.name) hs))))
-    (test-cases (among h.name seen))
+    (cases_Bool (among h.name seen))
 
 pub repeated-stays : (seen : List Text) (hs ks : List Head) (row : ℕ) → first_repeated seen hs ≡ some row → first_repeated seen (hs ++ ks) ≡ some row
 unfolding first_repeated
 repeated-stays seen [] ks row e = let z : ◌≡◌ {A = ℕ} 0 1 = cc in absurd (omega arith)
 repeated-stays seen (h ∷ hs) ks row e =
-    ⊎_elim (λ k. rw k (rw k at e)) (λ k. rw k (repeated-stays (seen ++ (h.name ∷ [])) hs ks row (rw k at e))) (test-cases (among h.name seen))
+    ⊎_elim (λ k. rw k (rw k at e)) (λ k. rw k (repeated-stays (seen ++ (h.name ∷ [])) hs ks row (rw k at e))) (cases_Bool (among h.name seen))
 
 -- ---- the place
 
@@ -101,7 +101,7 @@ some_first seen (h ∷ hs) row d e =
     ⊎_elim
     (λ k. record { before = []; head = h; behind = hs; made = refl; new = rw (append-nil seen) d; came = rw (append-nil seen) k; place = some-injective _ _ (rw k at e) })
     (λ k. further seen h hs row (some_first (seen ++ (h.name ∷ [])) hs row (distinct_snoc h.name seen d k) (rw k at e)))
-    (test-cases (among h.name seen))
+    (cases_Bool (among h.name seen))
 
 pub repeated-first : (s : Schema) (row : ℕ) → repeated_row s ≡ some row → FirstRepeat [] (heads 2 s.items) row
 unfolding repeated_row distinct_texts

@@ -8,7 +8,8 @@ use native.Mathlib.Omega.{arith}
 use lib.Dec.{eqb, leb}
 use lib.ListN.{length}
 use borrow.Author.Tests.{eqb-true}
-use Rattle.text.proofs.Laws.Tests.{test-cases, two, four}
+use Rattle.std.proofs.lemmas.Bool.{cases_Bool, and_parts}
+use Rattle.text.proofs.Laws.Tests.{four}
 use Rattle.sheet.specs.Rows.{Sheet}
 use Rattle.sheet.specs.Lengths.{sheet_lengths, lengths_of, good_lengths}
 use Rattle.xsd_types.specs.Types.{SimpleType, Item, simple_types}
@@ -27,9 +28,9 @@ use Rattle.ir_lower.proofs.Laws.Refusals.{unknown_row-first}
 pub lowering-table : (x graph : Sheet) (scratch : List ℕ) → LoweringTable x graph scratch (lowering x graph scratch)
 lowering-table x graph scratch =
     ⊎_elim (λ h. ⊎_elim (λ k. LoweringTable.judged h k (rw (lowering-state x graph scratch h k) (outcome (state_of x) graph scratch)))
-    (λ k. LoweringTable.not_good h k (lowering-2 x graph scratch h k)) (test-cases (good x)))
+    (λ k. LoweringTable.not_good h k (lowering-2 x graph scratch h k)) (cases_Bool (good x)))
     (λ h. LoweringTable.lengths h (lowering-1 x graph scratch h))
-    (test-cases (good_lengths (lengths_of x) && good_lengths (lengths_of graph)))
+    (cases_Bool (good_lengths (lengths_of x) && good_lengths (lengths_of graph)))
 
 -- a list of items with an unknown simple type, cut at the first one
 record Split (items : List Item) : Type 0 where
@@ -51,7 +52,7 @@ split (Item.element e ∷ is) h = passed (Item.element e) (λ b k. k) (split is 
 split (Item.simple_type t ∷ is) h =
     ⊎_elim (λ k. record { before = []; type = t; behind = is; made = refl; known = refl; unknown = k })
     (λ k. passed (Item.simple_type t) (λ b n. rw k n) (split is (rw k at h)))
-    (test-cases (refused_base t))
+    (cases_Bool (refused_base t))
 split (Item.complex_type t ∷ is) h = passed (Item.complex_type t) (λ b k. k) (split is h)
 
 pub first-unknown : (row : ℕ) (items : List Item) → any_unknown (simple_types items) ≡ true → FirstUnknown row items (unknown_row row items)
@@ -108,4 +109,4 @@ lowering-labels x graph scratch words h = go (lowering x graph scratch) (lowerin
     go : (l : Lowered) → LoweringTable x graph scratch l → l.answer.number ≡ 0 → LoweredLabels (state_of x).reader.schema l.graph words
     go l (LoweringTable.lengths g e) k = let q = unchanged-number 1 graph scratch l e in absurd (omega arith)
     go l (LoweringTable.not_good g b e) k = let q = unchanged-number 2 graph scratch l e in absurd (omega arith)
-    go l (LoweringTable.judged g b o) k = outcome-labels (state_of x) graph scratch words l (tenth graph (two (good_lengths (lengths_of x)) (good_lengths (lengths_of graph)) g).1) o k
+    go l (LoweringTable.judged g b o) k = outcome-labels (state_of x) graph scratch words l (tenth graph (and_parts (good_lengths (lengths_of x)) (good_lengths (lengths_of graph)) g).1) o k

@@ -3,7 +3,7 @@
 use Rattle.std.specs.Prelude.{if◌then◌else◌, Option, Some, None}
 use Rattle.std.specs.Option.{unwrap_or}
 use mathlib.Core.Path.{◌≡◌, refl, sym, ap, ◌∙◌}
-use mathlib.Core.Bool.{Bool, true, false, ◌&&◌, ◌||◌, false≢true}
+use mathlib.Core.Bool.{Bool, true, false, ◌&&◌, ◌||◌}
 use mathlib.Core.List.{List, [], ◌∷◌, ◌++◌, map}
 use Prim.Native.Nat.{ℕ, zero, suc, ◌+◌, ◌-◌, ◌*◌, ◌≤◌, ◌<◌}
 use native.Mathlib.Omega.{arith}
@@ -12,7 +12,8 @@ use lib.ListN.{get_or, take, drop}
 use lib.Seq.{get_or-drop}
 use borrow.Author.Tests.{eqb-true, eqb-false, leb-true, lt-leb}
 use Rattle.text.specs.Text.{Text, between}
-use Rattle.text.proofs.Laws.Tests.{and-true-right, two}
+use Rattle.std.proofs.lemmas.Bool.{and_parts}
+use Rattle.text.proofs.Laws.Tests.{and-true-right, or-true-left}
 use Rattle.names.specs.Names.{normalize_type_name}
 use Rattle.names.specs.Same.{spelled}
 use Rattle.sheet.specs.Rows.{Row, row, ten, text_at, unpack_row}
@@ -20,20 +21,16 @@ use Rattle.ir_types.specs.Tags.{root_tag}
 use Rattle.ir_types.specs.Form.{used_pairs, is_type_tag}
 use Rattle.ir_types.specs.Back.{text}
 use Rattle.ir_types.specs.Distinct.{distinct_texts}
-use Rattle.name_index.specs.Index.{head_name, name_of, place_of}
+use Rattle.name_index.specs.Index.{head_name, spelled_name_at, place_of}
 use Rattle.ir_reduce.specs.Groups.{type_name, parted, root_type, reference_in}
 use Rattle.ir_reduce.specs.Reach.{In}
-use Rattle.ir_reduce.specs.Places.{row_at, rows_from, asked}
+use Rattle.ir_reduce.specs.Places.{row_at, rows_by_place, asked}
 use Rattle.ir_reduce.specs.Marks.{head_at}
-use Rattle.ir_reduce.specs.Index.{place_if, heads_from, head_places, head_names, asked_pair, target_of, TargetsPut}
+use Rattle.ir_reduce.specs.Index.{place_if, head_places_from, head_places, head_names, asked_pair, target_of, TargetsPut}
 use Rattle.ir_reduce.proofs.Laws.Places.{in-none, is_head, type_at, head_first, plain-first}
 use Rattle.ir_reduce.proofs.Laws.Kept.{row-tag-at}
 use Rattle.ir_reduce.proofs.Laws.Index.{heads-in, in-heads, place_found, found_in, target-some, target_none}
 use Rattle.ir_reduce.proofs.Laws.Chains.{in_one, Targets}
-
-or_left : (a b : Bool) → b ≡ false → a || b ≡ true → a ≡ true
-or_left true b e h = refl
-or_left false b e h = absurd (false≢true (sym e ∙ h))
 
 -- a head uses its first pair
 some_pairs : (b c d e f : Bool) (a : ℕ) → 1 ≤ (if b then 1 + a else if c then (if f then 2 else 1) else if d then (if f then 3 else 2) else if e then 2 else 1)
@@ -81,8 +78,8 @@ module _ (b c : ℕ) (x y z : Text) where
   at-third tag a true c e g h = rw (eqb-true tag 19 e, eqb-true a 0 (and-true-right (between 9 10 tag || eqb tag 19) (eqb a 0) h)) at-attribute
   at-third tag a false true e g h = rw (eqb-true tag 9 g, eqb-true a 0 (and-true-right (between 9 10 tag || eqb tag 19) (eqb a 0) h)) at_field
   at-third tag a false false e g h =
-      let all = two (between 9 10 tag || eqb tag 19) (eqb a 0) h in
-      let ends = two (leb 9 tag) (leb tag 10) (or_left (leb 9 tag && leb tag 10) (eqb tag 19) e all.0) in
+      let all = and_parts (between 9 10 tag || eqb tag 19) (eqb a 0) h in
+      let ends = and_parts (leb 9 tag) (leb tag 10) (or-true-left (leb 9 tag && leb tag 10) (eqb tag 19) all.0 e) in
       let ten : tag ≡ 10 = omega (arith, leb-true 9 tag ends.0, leb-true tag 10 ends.1, eqb-false tag 9 g) in
       rw (ten, eqb-true a 0 all.1) at_variant
 
@@ -93,7 +90,7 @@ module _ (b c : ℕ) (x y z : Text) where
   asked-row : (tag a : ℕ) (b₁ b₂ b₃ : Bool) → eqb tag 2 ≡ b₁ → eqb tag 7 && eqb a 0 ≡ b₂ → (between 9 10 tag || eqb tag 19) && eqb a 0 ≡ b₃
       → asked (row_of tag a) ≡ (if b₁ then normalize_type_name y ∷ [] else if b₂ then y ∷ [] else if b₃ then z ∷ [] else [])
   asked-row tag a true b₂ b₃ e g h = rw (eqb-true tag 2 e) (at-root a)
-  asked-row tag a false true b₃ e g h = let both = two (eqb tag 7) (eqb a 0) g in rw (eqb-true tag 7 both.0, eqb-true a 0 both.1) at_value
+  asked-row tag a false true b₃ e g h = let both = and_parts (eqb tag 7) (eqb a 0) g in rw (eqb-true tag 7 both.0, eqb-true a 0 both.1) at_value
   asked-row tag a false false true e g h = at-third tag a (eqb tag 19) (eqb tag 9) refl refl h
   asked-row tag a false false false e g h = none tag a e g h
 
@@ -164,8 +161,8 @@ module _ (rows names : List ℕ) (p : ℕ) where
           → (if b₁ then normalize_type_name (text_of 3) ∷ [] else if b₂ then text_of 3 ∷ [] else if b₃ then text_of 5 ∷ [] else []) ≡ texts_at (asked_pair tag_at a_at) asked_text
       chosen b₁ b₂ b₃ e g h = by_tests names b₁ b₂ b₃ (text_of) tag_at a_at e g h
 
-  pub name-at : head_at rows p ≡ true → text 0 (row_at rows names p) ≡ name_of rows names false p
-  unfolding head_at name_of head_name spelled
+  pub name-at : head_at rows p ≡ true → text 0 (row_at rows names p) ≡ spelled_name_at rows names false p
+  unfolding head_at spelled_name_at head_name spelled
   name-at h =
       let next : 10 * p + 1 + 1 ≡ 10 * p + 2 = omega arith in
       ap (text 0) (row_is _ _ refl refl) ∙ first-text _ _ (text_of 1) (text_of 3) (text_of 5) tag_at a_at h ∙ rw next
@@ -189,9 +186,9 @@ module _ (rows names to : List ℕ) (end : ℕ) (put : TargetsPut rows names end
         found = λ row q a b c d k i. found-by row q a b c d k (pair_of row) refl i;
       }
     where
-      hit-at : (row k : ℕ) → pair_of row ≡ Some k → (r : ℕ) → place_of (name_of rows names false) (asked_text rows names row k) (head_places rows end) ≡ Some r → Hits row r
+      hit-at : (row k : ℕ) → pair_of row ≡ Some k → (r : ℕ) → place_of (spelled_name_at rows names false) (asked_text rows names row k) (head_places rows end) ≡ Some r → Hits row r
       hit-at row k e r s =
-          let w = found_in (name_of rows names false) (asked_text rows names row k) (head_places rows end) r s in
+          let w = found_in (spelled_name_at rows names false) (asked_text rows names row k) (head_places rows end) r s in
           let head = heads-in rows (end - 1) 1 w.among in
           let name : text 0 (row_at rows names r) ≡ asked_text rows names row k = name-at rows names r head.head ∙ w.named in
           (omega (arith, head.from, head.inside), head-is rows names r ∙ head.head, rw (asked-at rows names row, e, name) In.here)
@@ -201,7 +198,7 @@ module _ (rows names to : List ℕ) (end : ℕ) (put : TargetsPut rows names end
       stored row a l e = put.put row a l ∙ ap (λ (o : Option ℕ). unwrap_or o 0) e
 
       hit-found : (row : ℕ) → 0 < row → row < end → 0 < get_or to row 0 → (k : ℕ) → pair_of row ≡ Some k → (o : Option ℕ)
-          → place_of (name_of rows names false) (asked_text rows names row k) (head_places rows end) ≡ o → Hits row (get_or to row 0)
+          → place_of (spelled_name_at rows names false) (asked_text rows names row k) (head_places rows end) ≡ o → Hits row (get_or to row 0)
       hit-found row a l h k e None s =
           absurd (let no : ⊥ = omega (arith, stored row a l (target-some rows names (head_places rows end) row (sym e) ∙ s)) in no)
       hit-found row a l h k e (Some r) s =
@@ -217,22 +214,22 @@ module _ (rows names to : List ℕ) (end : ℕ) (put : TargetsPut rows names end
       found-by row q a l c d k None e i = in-none (rw (asked-at rows names row, e) at i)
       found-by row q a l c d k (Some j) e i =
           let head : head_at rows q ≡ true = sym (head-is rows names q) ∙ k in
-          let name : name_of rows names false q ≡ asked_text rows names row j = sym (name-at rows names q head) ∙ in_one (rw (asked-at rows names row, e) at i) in
+          let name : spelled_name_at rows names false q ≡ asked_text rows names row j = sym (name-at rows names q head) ∙ in_one (rw (asked-at rows names row, e) at i) in
           stored row a l (target-some rows names (head_places rows end) row (sym e)
-          ∙ place_found (name_of rows names false) (asked_text rows names row j) q (head_places rows end) (in-heads rows (end - 1) 1 q c (omega arith) head) name distinct)
+          ∙ place_found (spelled_name_at rows names false) (asked_text rows names row j) q (head_places rows end) (in-heads rows (end - 1) 1 q c (omega arith) head) name distinct)
 
 -- ---- the names of the types
-type-name : (rows names : List ℕ) (end p : ℕ) → head_at rows p ≡ true → type_name (type_at (row_at rows names) end p) ≡ name_of rows names false p
+type-name : (rows names : List ℕ) (end p : ℕ) → head_at rows p ≡ true → type_name (type_at (row_at rows names) end p) ≡ spelled_name_at rows names false p
 unfolding type_name type_at
 type-name rows names end p h = name-at rows names p h
 
-pub type-names : (rows names : List ℕ) (m p end : ℕ) → p + m ≡ end → map type_name (parted (rows_from (row_at rows names) p m)).types ≡ head_names rows names (heads_from rows p m)
-unfolding heads_from rows_from parted
+pub type-names : (rows names : List ℕ) (m p end : ℕ) → p + m ≡ end → map type_name (parted (rows_by_place (row_at rows names) p m)).types ≡ head_names rows names (head_places_from rows p m)
+unfolding head_places_from rows_by_place parted
 type-names rows names zero p end e = refl
 type-names rows names (suc m) p end e = by-head (head_at rows p) refl (type-names rows names m (suc p) end (omega arith))
   where
-    by-head : (b : Bool) → head_at rows p ≡ b → map type_name (parted (rows_from (row_at rows names) (suc p) m)).types ≡ head_names rows names (heads_from rows (suc p) m)
-        → map type_name (parted (rows_from (row_at rows names) p (suc m))).types ≡ head_names rows names (place_if b p ++ heads_from rows (suc p) m)
+    by-head : (b : Bool) → head_at rows p ≡ b → map type_name (parted (rows_by_place (row_at rows names) (suc p) m)).types ≡ head_names rows names (head_places_from rows (suc p) m)
+        → map type_name (parted (rows_by_place (row_at rows names) p (suc m))).types ≡ head_names rows names (place_if b p ++ head_places_from rows (suc p) m)
     by-head true h again = rw (head_first (row_at rows names) end p m e (head-is rows names p ∙ h), again)
-        (ap (λ (t : Text). t ∷ head_names rows names (heads_from rows (suc p) m)) (type-name rows names end p h))
+        (ap (λ (t : Text). t ∷ head_names rows names (head_places_from rows (suc p) m)) (type-name rows names end p h))
     by-head false h again = rw (plain-first (row_at rows names) end p m (head-is rows names p ∙ h)) again

@@ -11,30 +11,26 @@ use Rattle.text.proofs.Laws.Tests.{and-true-left, and-true-right}
 use Rattle.sheet.specs.Lengths.{sheet_lengths}
 use Rattle.ir_types.specs.Distinct.{distinct_texts}
 use Rattle.ir_reduce.specs.Index.{head_places, head_names, TargetsPut}
-use Rattle.ir_reduce.specs.Marks.{head_flags, Reached, ones, Marked, Marking, Room, AllDone}
+use Rattle.ir_reduce.specs.Marks.{head_flags, ReachedPlace, marked_count, Marked, Marking, Room, AllDone}
 use Rattle.ir_reduce.specs.Steps.{Graph, MarksDone}
 use Rattle.ir_reduce.proofs.Laws.Marks.{flags-length, marking-more}
 use Rattle.ir_reduce.proofs.Laws.Facts.{at_least, rows_inside_lem}
 use Rattle.ir_reduce.proofs.Laws.Asked.{targets-are}
+use Rattle.ir_types.proofs.Laws.References.{get_d-zeros}
 
-zeros-at : (n i : ℕ) → get_or (replicate {A = ℕ} n 0) i 0 ≡ 0
-zeros-at zero i = refl
-zeros-at (suc n) zero = refl
-zeros-at (suc n) (suc i) = zeros-at n i
-
-no_ones : (n : ℕ) → ones (replicate n 0) ≡ 0
-unfolding ones
+no_ones : (n : ℕ) → marked_count (replicate n 0) ≡ 0
+unfolding marked_count
 no_ones zero = refl
 no_ones (suc n) = no_ones n
 
 pub targets-start : (rows names : List ℕ) (end n : ℕ) → TargetsPut rows names end 1 (replicate n 0)
-targets-start rows names end n = record { first = zeros-at n 0; put = λ p a b. absurd (let no : ⊥ = omega arith in no); rest = λ p a. zeros-at n p }
+targets-start rows names end n = record { first = get_d-zeros n 0; put = λ p a b. absurd (let no : ⊥ = omega arith in no); rest = λ p a. get_d-zeros n p }
 
 marking-start : (tags to : List ℕ) (n k : ℕ) → length tags ≤ n → n ≤ k → Marking tags to (replicate n 0) (replicate k 0) 0
 marking-start tags to n k h l =
     record {
-      each = λ q m. absurd (let no : ⊥ = omega (arith, zeros-at n q) in no);
-      queued = λ q m. absurd (let no : ⊥ = omega (arith, zeros-at n q) in no);
+      each = λ q m. absurd (let no : ⊥ = omega (arith, get_d-zeros n q) in no);
+      queued = λ q m. absurd (let no : ⊥ = omega (arith, get_d-zeros n q) in no);
       held = λ i m. absurd (let no : ⊥ = omega arith in no);
       count = sym (no_ones n);
       long = rw (length-replicate {A = ℕ} n 0) h;
@@ -46,7 +42,7 @@ pub marking-first : {rows names : List ℕ} {end : ℕ} (g : Graph rows names en
     → Marking (head_flags rows end) to marks queue n
 marking-first {rows} {names} {end} g to m =
     let few : length (head_flags rows end) ≤ 4096 = rw (flags-length rows 0 end) (omega (arith, rows_inside_lem g, g.few)) in
-    marking-more m (marking-start (head_flags rows end) to 4096 4096 few (omega arith)) Reached.start (rw (flags-length rows 0 end) (omega (arith, at_least g)))
+    marking-more m (marking-start (head_flags rows end) to 4096 4096 few (omega arith)) ReachedPlace.start (rw (flags-length rows 0 end) (omega (arith, at_least g)))
 
 pub first-marked : {marks queue : List ℕ} {n : ℕ} → Marked (replicate 4096 0) (replicate 4096 0) 0 1 marks queue n → 0 < get_or marks 1 0
 first-marked m = rw m.flag (omega arith)

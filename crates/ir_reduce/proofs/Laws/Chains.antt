@@ -15,8 +15,8 @@ use Rattle.ir_types.specs.Tags.{root_tag}
 use Rattle.ir_types.specs.Back.{text}
 use Rattle.ir_reduce.specs.Groups.{GraphType, Parted, parted, type_name, root_type, reference_in, references_in, references}
 use Rattle.ir_reduce.specs.Reach.{In, Chain}
-use Rattle.ir_reduce.specs.Places.{rows_from, asked}
-use Rattle.ir_reduce.specs.Marks.{InGroup, Leads, Reached}
+use Rattle.ir_reduce.specs.Places.{rows_by_place, asked}
+use Rattle.ir_reduce.specs.Marks.{InGroup, Leads, ReachedPlace}
 use Rattle.ir_reduce.proofs.Laws.Reach.{chain-in}
 use Rattle.ir_reduce.proofs.Laws.Places.{in-none, in-cons, is_head, type_at, PlaceOf, RowOf, type-place, place-type, front-place, place-front}
 
@@ -101,7 +101,7 @@ asked-reference r h = rw (ne_eqb r.tag root_tag h)
 
 module _ (f : ℕ → Row) (m end : ℕ) (whole : 1 + m ≡ end) (tags to : List ℕ) (order : Ordered f end) (flagged : Flagged f end tags) (targets : Targets f end to) where
   abbrev graph : Parted
-  graph = parted (rows_from f 1 m)
+  graph = parted (rows_by_place f 1 m)
 
   plain_at : (i : ℕ) → i < end → get_or tags i 0 ≡ 0 → is_head f i ≡ false
   plain_at i l z = bit-plain (is_head f i) (sym (flagged.flag i l) ∙ z)
@@ -111,7 +111,7 @@ module _ (f : ℕ → Row) (m end : ℕ) (whole : 1 + m ≡ end) (tags to : List
   unfolding type_at
   group-row p row g = by_place (eqb row p) refl
     where
-      by_place : (b : Bool) → eqb row p ≡ b → In (f row) (f p ∷ (parted (rows_from f (suc p) (end - suc p))).front)
+      by_place : (b : Bool) → eqb row p ≡ b → In (f row) (f p ∷ (parted (rows_by_place f (suc p) (end - suc p))).front)
       by_place true e = rw (eqb-true row p e) In.here
       by_place false e =
           let inside : row < end = omega (arith, g.inside, flagged.long) in
@@ -165,9 +165,9 @@ module _ (f : ℕ → Row) (m end : ℕ) (whole : 1 + m ≡ end) (tags to : List
         chain = Chain.onward (type_at f end p) (type_at f end q) w.chain (place-type f end m 1 q whole l.some h.0 h.1) (row-reference (group-row p row g) (rw reference at h.2));
       }
 
-  pub reached-type : {q : ℕ} → Reached tags to q → (q ≡ 1) ⊎ ReachedType q
-  reached-type Reached.start = inl refl
-  reached-type (Reached.onward p q r l) = inr (step (reached-type r))
+  pub reached-type : {q : ℕ} → ReachedPlace tags to q → (q ≡ 1) ⊎ ReachedType q
+  reached-type ReachedPlace.start = inl refl
+  reached-type (ReachedPlace.onward p q r l) = inr (step (reached-type r))
     where
       step : (p ≡ 1) ⊎ ReachedType p → ReachedType q
       step (inl e) = root-step q (rw e at l)
@@ -196,7 +196,7 @@ module _ (f : ℕ → Row) (m end : ℕ) (whole : 1 + m ≡ end) (tags to : List
             is = w.is;
           }
 
-      step : (r ≡ f p) ⊎ In r (parted (rows_from f (suc p) (end - suc p))).front → GroupRow p r
+      step : (r ≡ f p) ⊎ In r (parted (rows_by_place f (suc p) (end - suc p))).front → GroupRow p r
       step (inl e) = record { at = p; in_group = record { from = omega arith; inside = rw flagged.long l; children = λ i a b. absurd (let no : ⊥ = omega arith in no) }; is = e }
       step (inr j) = behind (front-place f end (end - suc p) (suc p) (omega arith) j)
 
@@ -204,25 +204,25 @@ module _ (f : ℕ → Row) (m end : ℕ) (whole : 1 + m ≡ end) (tags to : List
   leads-to p row q g a b c h i =
       record { row = row; in_group = g; target = targets.found row q (omega (arith, g.from)) (omega (arith, g.inside, flagged.long)) b c h i; some = b }
 
-  root-reached : (root : Row) (q : ℕ) → In root graph.front → root.tag ≡ root_tag → 0 < q → q < end → is_head f q ≡ true → text 0 (f q) ≡ root_type root → Reached tags to q
+  root-reached : (root : Row) (q : ℕ) → In root graph.front → root.tag ≡ root_tag → 0 < q → q < end → is_head f q ≡ true → text 0 (f q) ≡ root_type root → ReachedPlace tags to q
   root-reached root q i e b c h n =
       let w = front-place f end m 1 whole i in
       let g : InGroup tags 1 w.at = record { from = w.from; inside = rw flagged.long w.inside; children = λ i a b. flag-plain i (omega (arith, w.inside)) (w.plain i (omega arith) b) } in
       let tag : (f w.at).tag ≡ root_tag = ap (λ (r : Row). r.tag) (sym w.is) ∙ e in
       let name : text 0 (f q) ≡ root_type (f w.at) = n ∙ ap root_type w.is in
       let named : In (text 0 (f q)) (asked (f w.at)) = rw (asked-root (f w.at) tag, name) In.here in
-      Reached.onward 1 q Reached.start (leads-to 1 w.at q g (omega arith) b c h named)
+      ReachedPlace.onward 1 q ReachedPlace.start (leads-to 1 w.at q g (omega arith) b c h named)
 
-  onward-reached : (t u : GraphType) (q : ℕ) (p : PlaceOf f end 1 t) → Reached tags to p.at → In (type_name u) (references t) → 0 < q → q < end → is_head f q ≡ true
-      → u ≡ type_at f end q → Reached tags to q
+  onward-reached : (t u : GraphType) (q : ℕ) (p : PlaceOf f end 1 t) → ReachedPlace tags to p.at → In (type_name u) (references t) → 0 < q → q < end → is_head f q ≡ true
+      → u ≡ type_at f end q → ReachedPlace tags to q
   unfolding type_name type_at references
   onward-reached t u q p reached n b c h s =
       let w = reference-row (text 0 (f q)) (f p.at ∷ (type_at f end p.at).children) (rw (s, p.is) at n) in
       let g = row-group p.at p.inside w.among in
       let reference = asked-reference (f g.at) (λ e. order.children p.at g.at (omega (arith, p.from)) g.in_group.from (omega (arith, g.in_group.inside, flagged.long)) p.head e) in
-      Reached.onward p.at q reached (leads-to p.at g.at q g.in_group (omega (arith, p.from)) b c h (rw (reference, ← g.is) w.refers))
+      ReachedPlace.onward p.at q reached (leads-to p.at g.at q g.in_group (omega (arith, p.from)) b c h (rw (reference, ← g.is) w.refers))
 
-  pub chain-reached : {t : GraphType} → Chain graph t → (q : ℕ) → 0 < q → q < end → is_head f q ≡ true → t ≡ type_at f end q → Reached tags to q
+  pub chain-reached : {t : GraphType} → Chain graph t → (q : ℕ) → 0 < q → q < end → is_head f q ≡ true → t ≡ type_at f end q → ReachedPlace tags to q
   unfolding type_name type_at references
   chain-reached (Chain.from_root root t r e i n) q b c h s = root-reached root q r e b c h (rw s at n)
   chain-reached (Chain.onward t u k i n) q b c h s =
@@ -230,7 +230,7 @@ module _ (f : ℕ → Row) (m end : ℕ) (whole : 1 + m ≡ end) (tags to : List
       let reached = chain-reached k p.at (omega (arith, p.from)) p.inside p.head p.is in
       onward-reached t u q p reached n b c h s
 
-  pub reached-chain : {q : ℕ} → Reached tags to q → is_head f q ≡ true → Chain graph (type_at f end q)
+  pub reached-chain : {q : ℕ} → ReachedPlace tags to q → is_head f q ≡ true → Chain graph (type_at f end q)
   reached-chain {q} r h = step (reached-type r)
     where
       step : (q ≡ 1) ⊎ ReachedType q → Chain graph (type_at f end q)

@@ -12,7 +12,7 @@ use lib.Seq.{take_at}
 use borrow.Author.Tests.{le-leb, leb-false}
 use Rattle.text.specs.Text.{Text, join}
 use Rattle.sheet.specs.Rows.{Ten, ten, pairs, pack_row, unpack_row, numbers}
-use Rattle.sheet.specs.Form.{pair_form, row_covers, end_of, counted}
+use Rattle.sheet.specs.Form.{pair_form, row_covers, end_of, texts_counted}
 use Rattle.sheet.proofs.Laws.Packs.{counted-used, counted-small, end_of-pack}
 use Rattle.sheet.proofs.Laws.Unpacks.{few, row-again, names-row, counted-unpack, row_covers-pairs, pairs_of, cover-parts, pair-used}
 use Rattle.rows.specs.Packing.{numbers_of}
@@ -59,7 +59,7 @@ module _ (rows names : List ℕ) (p : ℕ) (s : Stands rows names p) where
   unfolding row_at
   again = row-again used_pairs names s.from numbers_at few-at s.covers s.inside
 
-  counted-at : counted used_pairs (row_at rows names p) ≡ true
+  counted-at : texts_counted used_pairs (row_at rows names p) ≡ true
   unfolding row_at
   counted-at = counted-unpack used_pairs names numbers_at few-at
 

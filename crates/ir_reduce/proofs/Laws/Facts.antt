@@ -17,11 +17,11 @@ use Rattle.rows.proofs.Laws.Tens.{tens-two}
 use Rattle.ir_types.specs.Tags.{root_tag}
 use Rattle.ir_types.specs.Row0.{GraphRow0, graph_row0_in}
 use Rattle.ir_types.specs.Form.{is_type_tag, ten_form, in_order, tags_of, rows_form}
-use Rattle.ir_types.proofs.Laws.FormParts.{Parts, parts, behind, few-behind, rows-two, rows-room, names-room, pairs-cover, names-end}
+use Rattle.ir_types.proofs.Laws.FormParts.{Parts, parts, behind, few-behind, pairs-cover, names-end}
 use Rattle.ir_reduce.specs.Groups.{parted}
 use Rattle.ir_reduce.specs.Reach.{In}
 use Rattle.ir_reduce.specs.Call.{rows_in, graph_in}
-use Rattle.ir_reduce.specs.Places.{row_at, rows_from, asked}
+use Rattle.ir_reduce.specs.Places.{row_at, rows_by_place, asked}
 use Rattle.ir_reduce.specs.Copy.{Stands}
 use Rattle.ir_reduce.specs.Index.{asked_pair}
 use Rattle.ir_reduce.specs.Marks.{head_at}
@@ -31,6 +31,7 @@ use Rattle.ir_reduce.proofs.Laws.Kept.{row-tag-at}
 use Rattle.ir_reduce.proofs.Laws.Chains.{Ordered}
 use Rattle.ir_reduce.proofs.Laws.Form.{rows-by-place, tags-by-place, stands_from, tags_from, front-roots, under-types}
 use Rattle.ir_reduce.proofs.Laws.Asked.{asked-at, head-is}
+use Rattle.sheet.proofs.Laws.Formed.{used-two, used-rows, used-names}
 
 -- what the form of the rows says
 record RowsOk (n : Ten) (ts : List Ten) : Type 0 where
@@ -54,10 +55,10 @@ module _ {rows names : List ℕ} {end : ℕ} (g : Graph rows names end) where
   used-is = g.used
 
   pub at_least : 2 ≤ end
-  at_least = rw used-is (rows-two (sheet rows names) parts-of)
+  at_least = rw used-is (used-two (sheet rows names) parts-of.used)
 
   pub rows_inside_lem : 10 * end ≤ length rows
-  rows_inside_lem = rw used-is (rows-room (sheet rows names) parts-of)
+  rows_inside_lem = rw used-is (used-rows (sheet rows names) parts-of.used)
 
   tens-are : tens_of (sheet rows names) ≡ tens (end - 1) (drop (10 * 1) rows)
   unfolding tens_of
@@ -77,14 +78,14 @@ module _ {rows names : List ℕ} {end : ℕ} (g : Graph rows names end) where
   rows-stand p a b =
       let x = sheet rows names in
       let some = few-behind (tens_of x) (behind (graph_row0_in x) (tens_of x) parts-of.rows) in
-      let inside : covered 0 (tens_of x) ≤ length names = rw (names-end x parts-of) (names-room x parts-of) in
+      let inside : covered 0 (tens_of x) ≤ length names = rw (names-end x parts-of) (used-names x parts-of.used) in
       stands_from rows names (end - 1) 1 0 (rw tens-are at some) (rw tens-are at (pairs-cover x parts-of)) (rw tens-are at inside) p a (omega arith)
 
-  pub rows_are : rows_in (sheet rows names) ≡ rows_from (row_at rows names) 1 (end - 1)
+  pub rows_are : rows_in (sheet rows names) ≡ rows_by_place (row_at rows names) 1 (end - 1)
   unfolding rows_in
   rows_are = rw tens-are (rows-by-place rows names (end - 1) 1)
 
-  pub graph_is : graph_in (sheet rows names) ≡ parted (rows_from (row_at rows names) 1 (end - 1))
+  pub graph_is : graph_in (sheet rows names) ≡ parted (rows_by_place (row_at rows names) 1 (end - 1))
   unfolding graph_in
   graph_is = ap parted rows_are
 

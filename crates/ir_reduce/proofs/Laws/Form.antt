@@ -10,21 +10,22 @@ use lib.ListN.{length, get_or, drop}
 use lib.Seq.{drop-drop, get_or-drop}
 use borrow.Author.Tests.{eqb-true, eqb-false, leb-true, lt-leb}
 use Rattle.text.specs.Text.{every, between}
-use Rattle.text.proofs.Laws.Tests.{and-true-left, and-true-right, two}
+use Rattle.std.proofs.lemmas.Bool.{and_parts}
+use Rattle.text.proofs.Laws.Tests.{and-true-left, and-true-right}
 use Rattle.text.proofs.Laws.Every.{every-head, every-tail}
 use Rattle.sheet.specs.Rows.{ten, tens, unpack_row}
 use Rattle.sheet.specs.Form.{row_covers, end_of, covers, covered}
 use Rattle.sheet.proofs.Laws.Unpacks.{few, few-used, covered-from}
 use Rattle.ir_types.specs.Form.{used_pairs, is_type_tag, is_child, may_follow, head_after, in_order, tags_of}
-use Rattle.ir_reduce.specs.Places.{row_at, rows_from}
+use Rattle.ir_reduce.specs.Places.{row_at, rows_by_place}
 use Rattle.ir_reduce.specs.Copy.{Stands}
 
 -- ---- the rows by their places
 ten-next : (rows : List ℕ) (p : ℕ) → drop 10 (drop (10 * p) rows) ≡ drop (10 * suc p) rows
 ten-next rows p = let e : 10 * p + 10 ≡ 10 * suc p = omega arith in drop-drop 10 (10 * p) rows ∙ ap (λ (k : ℕ). drop k rows) e
 
-pub rows-by-place : (rows names : List ℕ) (m p : ℕ) → map (unpack_row used_pairs names) (tens m (drop (10 * p) rows)) ≡ rows_from (row_at rows names) p m
-unfolding tens rows_from row_at
+pub rows-by-place : (rows names : List ℕ) (m p : ℕ) → map (unpack_row used_pairs names) (tens m (drop (10 * p) rows)) ≡ rows_by_place (row_at rows names) p m
+unfolding tens rows_by_place row_at
 rows-by-place rows names zero p = refl
 rows-by-place rows names (suc m) p = rw (ten-next rows p, rows-by-place rows names m (suc p))
 
@@ -115,7 +116,7 @@ module _ (g : ℕ → ℕ) where
   unfolding in_order tags_from
   front-roots zero p head h e q a b k = absurd (let no : ⊥ = omega arith in no)
   front-roots (suc m) p head h e q a b k =
-      let both = two (may_follow head (g p)) (in_order (head_after head (g p)) (tags_from g (suc p) m)) e in
+      let both = and_parts (may_follow head (g p)) (in_order (head_after head (g p)) (tags_from g (suc p) m)) e in
       let root = root-follows head (g p) h (k p (omega arith) a) both.0 in
       let after : head_after head (g p) ≡ 2 = rw root (after-root head) in
       by_place root (eqb q p) refl (λ o. front-roots m (suc p) 2 refl (rw after at both.1) q (omega arith) (omega arith) (λ i c d. k i (omega arith) d))
@@ -128,7 +129,7 @@ module _ (g : ℕ → ℕ) where
   unfolding in_order tags_from
   behind-types zero p head h e q a b k = omega arith
   behind-types (suc m) p head h e q a b k =
-      let both = two (may_follow head (g p)) (in_order (head_after head (g p)) (tags_from g (suc p) m)) e in
+      let both = and_parts (may_follow head (g p)) (in_order (head_after head (g p)) (tags_from g (suc p) m)) e in
       by_place both.0 (eqb q p) refl (λ o. behind-types m (suc p) (head_after head (g p)) (after-type head (g p) h both.0) both.1 q (omega arith) (omega arith) k)
     where
       by_place : may_follow head (g p) ≡ true → (b : Bool) → eqb q p ≡ b → (p < q → ⊥) → ⊥

@@ -6,16 +6,17 @@ use mathlib.Core.List.{List, [], ◌∷◌, ◌++◌, map, map-append}
 use Prim.Native.Nat.{ℕ}
 use borrow.Author.Tests.{not-true}
 use Rattle.text.specs.Text.{Text, every, between, same}
-use Rattle.text.proofs.Laws.Tests.{two, and-true, and-true-left, and-true-right, or-false-left, or-false-right}
+use Rattle.std.proofs.lemmas.Bool.{and_parts}
+use Rattle.text.proofs.Laws.Tests.{and-true, and-true-left, and-true-right, or-false-left, or-false-right}
 use Rattle.text.proofs.Laws.Every.{every_append, every-head, every-tail, every-cons}
 use Rattle.sheet.specs.Rows.{Row}
-use Rattle.sheet.specs.Form.{counted}
+use Rattle.sheet.specs.Form.{texts_counted}
 use Rattle.ir_types.specs.Form.{used_pairs, is_type_tag, may_follow, head_after, in_order}
 use Rattle.ir_types.specs.Ok.{row_form}
 use Rattle.ir_types.specs.Distinct.{among, distinct_texts}
 use Rattle.ir_types.proofs.Laws.GraphOrder.{tag_of}
 use Rattle.ir_types.proofs.Laws.RowsForm.{text_row, Allowed}
-use Rattle.ir_reduce.specs.Groups.{GraphType, Parted, add_row, parted, rows_of_types, rows_of, type_name}
+use Rattle.ir_reduce.specs.Groups.{GraphType, Parted, add_graph_row, parted, rows_of_types, rows_of_parted, type_name}
 use Rattle.ir_reduce.specs.Reach.{Chain, Kept, Reduced}
 use Rattle.ir_reduce.proofs.Laws.Reach.{kept-every}
 use Rattle.ir_reduce.proofs.Laws.Parted.{is_child_row, type_shaped, shaped, shaped-parted, rows-parted}
@@ -35,7 +36,7 @@ every-rows test front ts = every_append test front (rows_of_types ts) ∙ rw (ev
 every-kept : {P : GraphType → Type 0} (test : Row → Bool) (front : List Row) {ts us : List GraphType} → Kept P ts us → every test (front ++ rows_of_types ts) ≡ true
     → every test (front ++ rows_of_types us) ≡ true
 every-kept test front {ts} {us} k h =
-    let both = two (every test front) (every (type_passes test) ts) (sym (every-rows test front ts) ∙ h) in
+    let both = and_parts (every test front) (every (type_passes test) ts) (sym (every-rows test front ts) ∙ h) in
     every-rows test front us ∙ and-true both.0 (kept-every (type_passes test) k both.1)
 
 -- ---- the order of the tags
@@ -81,12 +82,12 @@ order-rows head front ts h =
 order-kept : {P : GraphType → Type 0} (head : ℕ) (front : List Row) {ts us : List GraphType} → Kept P ts us → every type_shaped ts ≡ true
     → in_order head (map tag_of (front ++ rows_of_types ts)) ≡ true → in_order head (map tag_of (front ++ rows_of_types us)) ≡ true
 order-kept head front {ts} {us} k s h =
-    let both = two (in_order head (map tag_of front)) (every type_ordered ts) (sym (order-rows head front ts s) ∙ h) in
+    let both = and_parts (in_order head (map tag_of front)) (every type_ordered ts) (sym (order-rows head front ts s) ∙ h) in
     order-rows head front us (kept-every type_shaped k s) ∙ and-true both.0 (kept-every type_ordered k both.1)
 
 -- ---- the rows that are kept
 first-front : (n : Row) (rs : List Row) → n.tag ≡ 1 → parted (n ∷ rs) ≡ record { front = n ∷ (parted rs).front; types = (parted rs).types }
-unfolding parted add_row is_type_tag between
+unfolding parted add_graph_row is_type_tag between
 first-front n rs e = rw e
 
 shaped-types : (rs : List Row) → every type_shaped (parted rs).types ≡ true
@@ -97,24 +98,24 @@ module _ (n : Row) (rest : List Row) (e : n.tag ≡ 1) {q : Parted} (v : Reduced
   kept : Kept (Chain (parted (n ∷ rest))) (parted rest).types q.types
   kept = subst (λ (ts : List GraphType). Kept (Chain (parted (n ∷ rest))) ts q.types) (ap (λ (p : Parted). p.types) (first-front n rest e)) v.types
 
-  made : rows_of q ≡ n ∷ ((parted rest).front ++ rows_of_types q.types)
-  unfolding rows_of
+  made : rows_of_parted q ≡ n ∷ ((parted rest).front ++ rows_of_types q.types)
+  unfolding rows_of_parted
   made = rw (v.front, ap (λ (p : Parted). p.front) (first-front n rest e))
 
   rest-is : rest ≡ (parted rest).front ++ rows_of_types (parted rest).types
-  unfolding rows_of
+  unfolding rows_of_parted
   rest-is = sym (rows-parted rest)
 
   rest-kept : (test : Row → Bool) → every test rest ≡ true → every test ((parted rest).front ++ rows_of_types q.types) ≡ true
   rest-kept test h = every-kept test (parted rest).front kept (ap (every test) (sym rest-is) ∙ h)
 
-  all-kept : (test : Row → Bool) → every test (n ∷ rest) ≡ true → every test (rows_of q) ≡ true
+  all-kept : (test : Row → Bool) → every test (n ∷ rest) ≡ true → every test (rows_of_parted q) ≡ true
   all-kept test h = rw made (every-cons test n _ (every-head test n rest h) (rest-kept test (every-tail test n rest h)))
 
   rest-ordered : in_order 1 (map tag_of rest) ≡ true → in_order 1 (map tag_of ((parted rest).front ++ rows_of_types q.types)) ≡ true
   rest-ordered h = order-kept 1 (parted rest).front kept (shaped-types rest) (ap (λ (l : List Row). in_order 1 (map tag_of l)) (sym rest-is) ∙ h)
 
-pub allowed-kept : {rs : List Row} {q : Parted} → Allowed rs → Reduced (parted rs) q → Allowed (rows_of q)
+pub allowed-kept : {rs : List Row} {q : Parted} → Allowed rs → Reduced (parted rs) q → Allowed (rows_of_parted q)
 allowed-kept {rs} {q} w v =
     let u = rw w.made at v in
     record {
@@ -127,7 +128,7 @@ allowed-kept {rs} {q} w v =
       c_is = w.c_is;
       formed = rest-kept w.first w.rest w.tag_is u row_form w.formed;
       ordered = rest-ordered w.first w.rest w.tag_is u w.ordered;
-      uses = all-kept w.first w.rest w.tag_is u (counted used_pairs) (rw w.made at w.uses);
+      uses = all-kept w.first w.rest w.tag_is u (texts_counted used_pairs) (rw w.made at w.uses);
       texts = all-kept w.first w.rest w.tag_is u text_row (rw w.made at w.texts);
     }
 
@@ -143,6 +144,6 @@ pub distinct-kept : {P : GraphType → Type 0} {ts us : List GraphType} → Kept
 unfolding distinct_texts
 distinct-kept Kept.end h = refl
 distinct-kept (Kept.keep {t} {ts} {us} c k) h =
-    let both = two (not (among (type_name t) (map type_name ts))) (distinct_texts (map type_name ts)) h in
+    let both = and_parts (not (among (type_name t) (map type_name ts))) (distinct_texts (map type_name ts)) h in
     rw (among-kept (type_name t) k (not-true (among (type_name t) (map type_name ts)) both.0)) (distinct-kept k both.1)
 distinct-kept (Kept.leave {t} {ts} {us} c k) h = distinct-kept k (and-true-right (not (among (type_name t) (map type_name ts))) (distinct_texts (map type_name ts)) h)

@@ -11,15 +11,15 @@ use lib.Dec.{eqb, ltb}
 use borrow.Author.Tests.{eqb-true, eqb-false, ltb-true, lt-ltb}
 use lib.ListN.{length, get_or, set, length-set}
 use lib.Seq.{get_or-set_same, get_or-set_other}
-use Rattle.text.proofs.Laws.Tests.{two}
+use Rattle.std.proofs.lemmas.Bool.{and_parts}
 use Rattle.sheet.specs.Rows.{bit}
-use Rattle.ir_reduce.specs.Marks.{head_at, flags_from, head_flags, Leads, Reached, pick, ones, Marked, Targeted, Room, Grown, Led, GroupDone, AllDone, Queued, Marking, Done}
+use Rattle.ir_reduce.specs.Marks.{head_at, flags_from, head_flags, Leads, ReachedPlace, pick, marked_count, Marked, Targeted, Room, Grown, Led, GroupDone, AllDone, Queued, Marking, QueueMarked}
 
-pub ones-set : (m : List ℕ) (i : ℕ) → i < length m → get_or m i 0 ≡ 0 → ones (set m i 1) ≡ suc (ones m)
-unfolding ones
+pub ones-set : (m : List ℕ) (i : ℕ) → i < length m → get_or m i 0 ≡ 0 → marked_count (set m i 1) ≡ suc (marked_count m)
+unfolding marked_count
 ones-set [] i h e = absurd (omega arith)
 ones-set (x ∷ m) zero h e = rw e
-ones-set (x ∷ m) (suc i) h e = rw (ones-set m i (omega arith) e) (pick-suc (eqb x 0) (ones m))
+ones-set (x ∷ m) (suc i) h e = rw (ones-set m i (omega arith) e) (pick-suc (eqb x 0) (marked_count m))
   where
     pick-suc : (b : Bool) (k : ℕ) → pick b (suc k) (suc (suc k)) ≡ suc (pick b k (suc k))
     pick-suc true k = refl
@@ -29,12 +29,12 @@ pick-bound : (b : Bool) (k n : ℕ) → k ≤ n → pick b k (suc k) ≤ suc n
 pick-bound true k n h = omega arith
 pick-bound false k n h = omega arith
 
-pub ones-bound : (m : List ℕ) → ones m ≤ length m
-unfolding ones
+pub ones-bound : (m : List ℕ) → marked_count m ≤ length m
+unfolding marked_count
 ones-bound [] = omega arith
-ones-bound (x ∷ m) = pick-bound (eqb x 0) (ones m) (length m) (ones-bound m)
+ones-bound (x ∷ m) = pick-bound (eqb x 0) (marked_count m) (length m) (ones-bound m)
 
-pub ones-less : (m : List ℕ) (i : ℕ) → i < length m → get_or m i 0 ≡ 0 → ones m < length m
+pub ones-less : (m : List ℕ) (i : ℕ) → i < length m → get_or m i 0 ≡ 0 → marked_count m < length m
 ones-less m i h e = let l : length (set m i 1) ≡ length m = length-set m i 1 in omega (arith, ones-set m i h e, ones-bound (set m i 1))
 
 -- the mark at a place after one was set
@@ -47,7 +47,7 @@ module _ (m : List ℕ) (i : ℕ) (h : i < length m) where
       by_cases false e = rw (get_or-set_other m i q 1 0 (eqb-false q i e)) k
 
 -- ---- a place that is reached is marked
-marking_step : {tags to marks queue : List ℕ} {n place : ℕ} (b : Bool) → eqb (get_or marks place 0) 0 ≡ b → Marking tags to marks queue n → Reached tags to place → place < length tags
+marking_step : {tags to marks queue : List ℕ} {n place : ℕ} (b : Bool) → eqb (get_or marks place 0) 0 ≡ b → Marking tags to marks queue n → ReachedPlace tags to place → place < length tags
     → Marking tags to (pick b (set marks place 1) marks) (pick b (set queue n place) queue) (pick b (n + 1) n)
 marking_step false e w r h = w
 marking_step {tags} {to} {marks} {queue} {n} {place} true e w r h =
@@ -78,13 +78,13 @@ marking_step {tags} {to} {marks} {queue} {n} {place} true e w r h =
     later q u = record { at = u.at; before = omega (arith, u.before); holds = get_or-set_other queue n u.at place 0 (λ x. omega (arith, u.before)) ∙ u.holds }
 
 pub marking-more : {tags to marks queue marks' queue' : List ℕ} {n n' place : ℕ} → Marked marks queue n place marks' queue' n' → Marking tags to marks queue n
-    → Reached tags to place → place < length tags → Marking tags to marks' queue' n'
+    → ReachedPlace tags to place → place < length tags → Marking tags to marks' queue' n'
 marking-more {tags} {to} {marks} {queue} {marks'} {queue'} {n} {n'} {place} m w r h = rw (m.flag, m.entry, m.count) (marking_step (eqb (get_or marks place 0) 0) refl w r h)
 
 -- ---- at the end: what is reached is marked
-pub all-marked : {tags to marks queue : List ℕ} {n q : ℕ} → Marking tags to marks queue n → Done tags to marks queue n → 0 < get_or marks 1 0 → Reached tags to q → 0 < get_or marks q 0
-all-marked w d f Reached.start = f
-all-marked {tags} {to} w d f (Reached.onward p q r l) =
+pub all-marked : {tags to marks queue : List ℕ} {n q : ℕ} → Marking tags to marks queue n → QueueMarked tags to marks queue n → 0 < get_or marks 1 0 → ReachedPlace tags to q → 0 < get_or marks q 0
+all-marked w d f ReachedPlace.start = f
+all-marked {tags} {to} w d f (ReachedPlace.onward p q r l) =
     let u = w.queued p (all-marked w d f r) in
     d.led u.at q u.before (rw u.holds l)
 
@@ -109,7 +109,7 @@ pub record Target (tags to marks queue : List ℕ) (n q : ℕ) (marks' queue' : 
   pub there : 0 < q → 0 < get_or marks' q 0
 
 pub target_more : {tags to marks queue marks' queue' : List ℕ} {n n' q : ℕ} (b : Bool) → eqb q 0 ≡ b → Targeted b marks queue n q marks' queue' n'
-    → Marking tags to marks queue n → (0 < q → Reached tags to q) → q < length tags → Target tags to marks queue n q marks' queue' n'
+    → Marking tags to marks queue n → (0 < q → ReachedPlace tags to q) → q < length tags → Target tags to marks queue n q marks' queue' n'
 target_more {tags} {to} {marks} {queue} {marks'} {queue'} {n} {n'} {q} true e m w r h =
     let z = eqb-true q 0 e in
     rw (m.0, m.1, m.2) (record { marking = w; grown = record { kept = λ j k. k; prefix = λ i l. refl; more = omega arith }; there = λ l. absurd (omega arith) })
@@ -157,11 +157,11 @@ pub grouping-start : {tags to m q : List ℕ} {p n : ℕ} → Marking tags to m 
 grouping-start {tags} {to} {m} {q} {p} {n} w =
     record { marking = w; grown = grown-same m q n; led = record { led = λ i a b k. absurd (omega arith); plain = λ i a b. absurd (omega arith) } }
 
-pub grouping-more : {tags to m₀ q₀ m q m' q' : List ℕ} {p row n₀ n n' : ℕ} → Grouping tags to p row m₀ q₀ n₀ m q n → Reached tags to p → p ≤ row → row < length tags
+pub grouping-more : {tags to m₀ q₀ m q m' q' : List ℕ} {p row n₀ n n' : ℕ} → Grouping tags to p row m₀ q₀ n₀ m q n → ReachedPlace tags to p → p ≤ row → row < length tags
     → get_or to row 0 < length tags → (p < row → get_or tags row 0 ≡ 0)
     → Targeted (eqb (get_or to row 0) 0) m q n (get_or to row 0) m' q' n' → Grouping tags to p (row + 1) m₀ q₀ n₀ m' q' n'
 grouping-more {tags} {to} {m₀} {q₀} {m} {q} {m'} {q'} {p} {row} {n₀} {n} {n'} g r a b h plain t =
-    let leads : 0 < get_or to row 0 → Reached tags to (get_or to row 0) = λ k. Reached.onward p (get_or to row 0) r
+    let leads : 0 < get_or to row 0 → ReachedPlace tags to (get_or to row 0) = λ k. ReachedPlace.onward p (get_or to row 0) r
     (record { row = row; in_group = record { from = a; inside = b; children = λ i l k'. child i l k' (eqb i row) refl }; target = refl; some = k }) in
     let w = target_more (eqb (get_or to row 0) 0) refl t g.marking leads h in
     record { marking = w.marking; grown = grown-on g.grown w.grown; led = led-more g.led w plain }
@@ -223,7 +223,7 @@ bit-false false e = refl
 module _ (rows : List ℕ) (n p row : ℕ) (inside : row < n) where
   pub behind-true : ltb p row && head_at rows row ≡ true → (p < row) × (get_or (head_flags rows n) row 0 ≡ 0 → ⊥)
   behind-true e =
-      let both = two (ltb p row) (head_at rows row) e in
+      let both = and_parts (ltb p row) (head_at rows row) e in
       (ltb-true p row both.0, λ z. bit-true (head_at rows row) both.1 (sym (flag_at rows n row inside) ∙ z))
 
   pub behind-false : ltb p row && head_at rows row ≡ false → p < row → get_or (head_flags rows n) row 0 ≡ 0
@@ -245,7 +245,7 @@ all_more {tags} {to} {m₀} {q₀} {m} {q} {m'} {q'} {n₀} {n} {n'} {k} a l g =
         g.grown.kept j (a.done.led i j o (rw (g.grown.prefix i (omega arith)) at w))
 
 -- the next of the queue is reached
-pub next-reached : {tags to m₀ q₀ m q : List ℕ} {n₀ n k : ℕ} → AllDone tags to m₀ q₀ n₀ m q n k → k < n → Reached tags to (get_or q k 0)
+pub next-reached : {tags to m₀ q₀ m q : List ℕ} {n₀ n k : ℕ} → AllDone tags to m₀ q₀ n₀ m q n k → k < n → ReachedPlace tags to (get_or q k 0)
 next-reached {tags} {to} {m₀} {q₀} {m} {q} {n₀} {n} {k} a l = a.marking.each (get_or q k 0) (a.marking.held k l).1
 
 pub count-bound : {tags to m q : List ℕ} {n : ℕ} → Room tags to m q n → n ≤ length m

@@ -10,6 +10,7 @@ use Rattle.sheet.specs.Rows.{Row}
 use Rattle.ir_append.specs.declared.writer.GraphWriter.{GraphWriter}
 use Rattle.ir_append.specs.Grows.{Grows}
 use Rattle.ir_append.proofs.Laws.Onward.{Onward, onward-start, onward-step, onward-end}
+use Rattle.ir_reduce.specs.declared.index.Indexed.{Indexed}
 use Rattle.ir_reduce.specs.Marks.{pick}
 use Rattle.ir_reduce.specs.Index.{AllIndexed, IndexedIs, NewHead, OldHead}
 use Rattle.ir_reduce.specs.Steps.{Written, WrittenIs}
@@ -18,12 +19,13 @@ set_long : (b : Bool) (q : List ℕ) (n k : ℕ) → length (pick b (set q n k) 
 set_long true q n k = length-set q n k
 set_long false q n k = refl
 
-pub all_of : (rows names : List ℕ) (end : ℕ) (table : List ℕ) (r : Option ℕ) {n : ℕ} → IndexedIs rows names end table r → r ≡ Some n → AllIndexed rows names end table n
-all_of rows names end table r w e = subst (λ (r : Option ℕ). IndexedIs rows names end table r) e w
+pub all_of : (rows names : List ℕ) (end : ℕ) (table : List ℕ) (r : Option Indexed) {i : Indexed} → IndexedIs rows names end table r → r ≡ Some i
+    → AllIndexed rows names end table i.entries i.sorted
+all_of rows names end table r w e = subst (λ (r : Option Indexed). IndexedIs rows names end table r) e w
 
-pub old_of : (rows names before : List ℕ) (n p : ℕ) (after : List ℕ) (r : Option ℕ) → MatchOption r (OldHead rows names before n p) (λ n'. NewHead rows names before n p after n') → r ≡ None
-    → OldHead rows names before n p
-old_of rows names before n p after r g e = subst (λ (r : Option ℕ). MatchOption r (OldHead rows names before n p) (λ n'. NewHead rows names before n p after n')) e g
+pub old_of : (rows names before : List ℕ) (n p : ℕ) (after : List ℕ) (sorted : Bool) (r : Option ℕ)
+    → MatchOption r (OldHead rows names before n p) (λ n'. NewHead rows names before n p after n' sorted) → r ≡ None → OldHead rows names before n p
+old_of rows names before n p after sorted r g e = subst (λ (r : Option ℕ). MatchOption r (OldHead rows names before n p) (λ n'. NewHead rows names before n p after n' sorted)) e g
 
 pub written_of : (rs : List Row) (rows names rows' names' : List ℕ) (r : Option ℕ) {place : ℕ} → WrittenIs rs rows names rows' names' r → r ≡ Some place → Written rs rows names rows' names' place
 written_of rs rows names rows' names' r w e = subst (λ (r : Option ℕ). WrittenIs rs rows names rows' names' r) e w

@@ -16,7 +16,7 @@ use Rattle.ir_types.specs.Rows.{rows_of}
 use Rattle.ir_types.specs.Sheet.{graph_sheet}
 use Rattle.ir_types.specs.Back.{text, type_of, Behind, with_row, types_back}
 use Rattle.ir_types.proofs.Laws.Back.{sheet-rows, rows-types}
-use Rattle.ir_reduce.specs.Groups.{Parted, add_row, parted, type_name}
+use Rattle.ir_reduce.specs.Groups.{Parted, add_graph_row, parted, type_name}
 use Rattle.ir_reduce.specs.Call.{rows_in, graph_in}
 
 pick-name : (b : Bool) (d e : TypeDef) (t : Text) → name_of d ≡ t → name_of e ≡ t → name_of (if b then d else e) ≡ t
@@ -33,8 +33,8 @@ name-of r cs =
     (pick-name (eqb r.tag value_with_attributes_tag) _ _ (text 0 r) refl refl))))
 
 names-added : (r : Row) (p : Parted) (b : Behind) (c : Bool) → is_type_tag r.tag ≡ c → map type_name p.types ≡ map name_of b.types
-    → map type_name (add_row r p).types ≡ map name_of (with_row r b).types
-unfolding add_row with_row is_type_tag type_name
+    → map type_name (add_graph_row r p).types ≡ map name_of (with_row r b).types
+unfolding add_graph_row with_row is_type_tag type_name
 names-added r p b true e h = rw e (λ i. sym (name-of r b.children) i ∷ h i)
 names-added r p b false e h = rw e h
 

@@ -8,7 +8,8 @@ use native.Mathlib.Omega.{arith}
 use lib.Dec.{leb}
 use lib.ListN.{length}
 use borrow.Author.Tests.{leb-true, le-leb}
-use Rattle.text.proofs.Laws.Tests.{two, and-true, and-true-right}
+use Rattle.std.proofs.lemmas.Bool.{and_parts}
+use Rattle.text.proofs.Laws.Tests.{and-true, and-true-right}
 use Rattle.sheet.specs.Rows.{Row, Sheet, numbers, pack, names_of}
 use Rattle.sheet.specs.Form.{row0_of, rows_used_of, names_used_of}
 use Rattle.sheet.specs.Lengths.{sheet_lengths, fits, Answer}
@@ -18,9 +19,9 @@ use Rattle.ir_types.specs.Form.{graph_form}
 use Rattle.ir_types.specs.Distinct.{distinct_texts}
 use Rattle.ir_types.specs.Row0.{graph_row0_ten}
 use Rattle.ir_types.proofs.Laws.RowsForm.{Allowed, row0_for, rows_sheet, rows-row0, rows-back, rows-used, names-used, rows-length, names-length, rows-form, rows-allowed}
-use Rattle.ir_reduce.specs.Groups.{Parted, parted, rows_of, type_name}
+use Rattle.ir_reduce.specs.Groups.{Parted, parted, rows_of_parted, type_name}
 use Rattle.ir_reduce.specs.Reach.{Reduced}
-use Rattle.ir_reduce.specs.Call.{rows_in, graph_in, in_form, row0_of as graph_row0, graph_of, lengths_fit, graph_fits, Reduction}
+use Rattle.ir_reduce.specs.Call.{rows_in, graph_in, in_form, row0_of_rows as graph_row0, graph_sheet_of, lengths_fit, graph_rows_fit, Reduction}
 use Rattle.ir_reduce.specs.Twice.{used_rows, used_names, SameUsed}
 use Rattle.ir_reduce.proofs.Laws.Reach.{reduced-again}
 use Rattle.ir_reduce.proofs.Laws.Once.{reduction-once}
@@ -34,9 +35,9 @@ record Fitting (x target : Sheet) (a : Answer) (y : Sheet) : Type 0 where
   form : in_form x ≡ true
   graph : Parted
   reduced : Reduced (graph_in x) graph
-  room : graph_fits (rows_of graph) target ≡ true
-  answer : a ≡ answered accepted (1 + length (rows_of graph))
-  sheet : y ≡ graph_of (rows_of graph) target
+  room : graph_rows_fit (rows_of_parted graph) target ≡ true
+  answer : a ≡ answered accepted (1 + length (rows_of_parted graph))
+  sheet : y ≡ graph_sheet_of (rows_of_parted graph) target
 
 fitting-only : {x target y : Sheet} {a : Answer} → Reduction x target a y → a.number ≡ 0 → Fitting x target a y
 fitting-only (Reduction.bad_lengths l) z = absurd (omega arith)
@@ -45,59 +46,59 @@ fitting-only (Reduction.tight l f q w t) z = absurd (omega arith)
 fitting-only (Reduction.fitting l f q w t) z = record { lengths = l; form = f; graph = q; reduced = w; room = t; answer = refl; sheet = refl }
 
 -- ---- the sheet of rows
-graph-sheet : (rs : List Row) (target : Sheet) → graph_of rs target ≡ rows_sheet rs (length target.rows) (length target.names)
-unfolding graph_of graph_row0
+graph-sheet : (rs : List Row) (target : Sheet) → graph_sheet_of rs target ≡ rows_sheet rs (length target.rows) (length target.names)
+unfolding graph_sheet_of graph_row0
 graph-sheet rs target = refl
 
 module _ (rs : List Row) (target : Sheet) where
-  graph-rows : Allowed rs → rows_in (graph_of rs target) ≡ rs
+  graph-rows : Allowed rs → rows_in (graph_sheet_of rs target) ≡ rs
   unfolding rows_in
   graph-rows w = rw (graph-sheet rs target) (rows-back rs (length target.rows) (length target.names) w.uses)
 
-  graph-row0 : row0_of (graph_of rs target) ≡ graph_row0_ten (row0_for rs)
+  graph-row0 : row0_of (graph_sheet_of rs target) ≡ graph_row0_ten (row0_for rs)
   graph-row0 = rw (graph-sheet rs target) (rows-row0 rs (length target.rows) (length target.names))
 
-  graph-used-rows : used_rows (graph_of rs target) ≡ numbers (graph_row0_ten (row0_for rs) ∷ pack 0 rs)
+  graph-used-rows : used_rows (graph_sheet_of rs target) ≡ numbers (graph_row0_ten (row0_for rs) ∷ pack 0 rs)
   unfolding used_rows
   graph-used-rows = rw (graph-row0, graph-sheet rs target) (rows-used rs (length target.rows) (length target.names))
 
-  graph-used-names : used_names (graph_of rs target) ≡ names_of rs
+  graph-used-names : used_names (graph_sheet_of rs target) ≡ names_of rs
   unfolding used_names
   graph-used-names = rw (graph-row0, graph-sheet rs target) (names-used rs (length target.rows) (length target.names))
 
-  module _ (room : graph_fits rs target ≡ true) where
-    graph-rows-length : length (graph_of rs target).rows ≡ length target.rows
-    unfolding graph_fits
+  module _ (room : graph_rows_fit rs target ≡ true) where
+    graph-rows-length : length (graph_sheet_of rs target).rows ≡ length target.rows
+    unfolding graph_rows_fit
     graph-rows-length = rw (graph-sheet rs target) (rows-length rs (length target.rows) (length target.names) room)
 
-    graph-names-length : length (graph_of rs target).names ≡ length target.names
-    unfolding graph_fits
+    graph-names-length : length (graph_sheet_of rs target).names ≡ length target.names
+    unfolding graph_rows_fit
     graph-names-length = rw (graph-sheet rs target) (names-length rs (length target.rows) (length target.names) room)
 
-    graph-formed : Allowed rs → graph_form (graph_of rs target) ≡ true
-    unfolding graph_fits
+    graph-formed : Allowed rs → graph_form (graph_sheet_of rs target) ≡ true
+    unfolding graph_rows_fit
     graph-formed w = rw (graph-sheet rs target) (rows-form rs (length target.rows) (length target.names) room w)
 
 -- ---- what is kept of a sheet in the form
 module _ (x target : Sheet) (q : Parted) (form : in_form x ≡ true) (w : Reduced (graph_in x) q) where
   sheet-formed : (graph_form x ≡ true) × (distinct_texts (map type_name (graph_in x).types) ≡ true)
   unfolding in_form
-  sheet-formed = two (graph_form x) (distinct_texts (map type_name (graph_in x).types)) form
+  sheet-formed = and_parts (graph_form x) (distinct_texts (map type_name (graph_in x).types)) form
 
-  kept-allowed : Allowed (rows_of q)
+  kept-allowed : Allowed (rows_of_parted q)
   unfolding graph_in rows_in
   kept-allowed = allowed-kept (rows-allowed x sheet-formed.0) w
 
-  rows-again : rows_in (graph_of (rows_of q) target) ≡ rows_of q
-  rows-again = graph-rows (rows_of q) target kept-allowed
+  rows-again : rows_in (graph_sheet_of (rows_of_parted q) target) ≡ rows_of_parted q
+  rows-again = graph-rows (rows_of_parted q) target kept-allowed
 
-  graph-again : graph_in (graph_of (rows_of q) target) ≡ q
+  graph-again : graph_in (graph_sheet_of (rows_of_parted q) target) ≡ q
   unfolding graph_in
   graph-again = ap parted rows-again ∙ reduced-parted (rows_in x) w
 
-  form-again : graph_fits (rows_of q) target ≡ true → in_form (graph_of (rows_of q) target) ≡ true
+  form-again : graph_rows_fit (rows_of_parted q) target ≡ true → in_form (graph_sheet_of (rows_of_parted q) target) ≡ true
   unfolding in_form
-  form-again room = and-true (graph-formed (rows_of q) target room kept-allowed) (rw graph-again (distinct-kept w.types sheet-formed.1))
+  form-again room = and-true (graph-formed (rows_of_parted q) target room kept-allowed) (rw graph-again (distinct-kept w.types sheet-formed.1))
 
 -- a reduced sheet is in the form
 pub reduced-form : {x target y : Sheet} {a : Answer} → Reduction x target a y → a.number ≡ 0 → in_form y ≡ true
@@ -115,35 +116,35 @@ no-twenty_one (Reduction.fitting l g q w t) f z = omega arith
 fits-more : (r n : ℕ) {l k l' k' : ℕ} → fits r n l k ≡ true → l ≤ l' → k ≤ k' → fits r n l' k' ≡ true
 unfolding fits
 fits-more r n {l} {k} {l'} {k'} h a b =
-    let w = two (leb (10 * r) l) (leb n k) h in
+    let w = and_parts (leb (10 * r) l) (leb n k) h in
     and-true (le-leb (10 * r) l' (omega (arith, leb-true (10 * r) l w.0))) (le-leb n k' (omega (arith, leb-true n k w.1)))
 
 pub room-again : {x target y : Sheet} {a : Answer} (r n : ℕ) → Reduction x target a y → a.number ≡ 0 → length target.rows ≤ r → length target.names ≤ n
     → fits (rows_used_of y) (names_used_of y) r n ≡ true
-unfolding graph_fits
+unfolding graph_rows_fit
 room-again {x} {target} r n w z l k =
     let t = fitting-only w z in
-    let rs = rows_of t.graph in
+    let rs = rows_of_parted t.graph in
     rw (t.sheet, graph-row0 rs target) (fits-more (1 + length rs) (length (names_of rs)) t.room l k)
 
 -- the second call, where it has room
-module _ (x target again : Sheet) (q : Parted) (form : in_form x ≡ true) (w : Reduced (graph_in x) q) (lengths : lengths_fit x target ≡ true) (room : graph_fits (rows_of q) target ≡ true)
-    (long : sheet_lengths (length again.rows) (length again.names) ≡ true) (more : graph_fits (rows_of q) again ≡ true) where
+module _ (x target again : Sheet) (q : Parted) (form : in_form x ≡ true) (w : Reduced (graph_in x) q) (lengths : lengths_fit x target ≡ true) (room : graph_rows_fit (rows_of_parted q) target ≡ true)
+    (long : sheet_lengths (length again.rows) (length again.names) ≡ true) (more : graph_rows_fit (rows_of_parted q) again ≡ true) where
   abbrev left : Sheet → Sheet
-  left y = graph_of (rows_of q) y
+  left y = graph_sheet_of (rows_of_parted q) y
 
   lengths-again : lengths_fit (left target) again ≡ true
   unfolding lengths_fit
   lengths-again =
       let first = and-true-right (sheet_lengths (length x.rows) (length x.names)) (sheet_lengths (length target.rows) (length target.names)) lengths in
-      rw (graph-rows-length (rows_of q) target room, graph-names-length (rows_of q) target room) (and-true first long)
+      rw (graph-rows-length (rows_of_parted q) target room, graph-names-length (rows_of_parted q) target room) (and-true first long)
 
-  second : Reduction (left target) again (answered accepted (1 + length (rows_of q))) (left again)
+  second : Reduction (left target) again (answered accepted (1 + length (rows_of_parted q))) (left again)
   second = Reduction.fitting lengths-again (form-again x target q form w room) q (rw (graph-again x target q form w) (reduced-again w)) more
 
   same-used : SameUsed (left target) (left again)
   same-used =
-      let rs = rows_of q in
+      let rs = rows_of_parted q in
       record {
         rows = graph-used-rows rs again ∙ sym (graph-used-rows rs target);
         names = graph-used-names rs again ∙ sym (graph-used-names rs target);
@@ -154,9 +155,9 @@ module _ (x target again : Sheet) (q : Parted) (form : in_form x ≡ true) (w : 
 -- "reducing twice equals reducing once", on sheets
 pub sheet-twice : {x target y again z : Sheet} {a b : Answer} → Reduction x target a y → a.number ≡ 0 → sheet_lengths (length again.rows) (length again.names) ≡ true
     → fits (rows_used_of y) (names_used_of y) (length again.rows) (length again.names) ≡ true → Reduction y again b z → (b ≡ a) × SameUsed y z
-unfolding graph_fits
+unfolding graph_rows_fit
 sheet-twice {x} {target} {y} {again} {z} {a} {b} v e long room u =
     let t = fitting-only v e in
-    let more : graph_fits (rows_of t.graph) again ≡ true = rw (t.sheet, graph-row0 (rows_of t.graph) target) at room in
+    let more : graph_rows_fit (rows_of_parted t.graph) again ≡ true = rw (t.sheet, graph-row0 (rows_of_parted t.graph) target) at room in
     let once = reduction-once (rw t.sheet at u) (second x target again t.graph t.form t.reduced t.lengths t.room long more) in
     (once.0 ∙ sym t.answer, rw (t.sheet, once.1) (same-used x target again t.graph t.form t.reduced t.lengths t.room long more))

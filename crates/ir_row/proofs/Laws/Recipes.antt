@@ -1,12 +1,13 @@
 -- What each recipe gives is what lowering makes of the row of its tag. By the definitions; a reference's text by its number. Assumes nothing.
 use Rattle.std.specs.Prelude.{Option, Some, None, if◌then◌else◌}
+use Rattle.std.specs.Bool.{then_some}
 use Prim.Native.Nat.{ℕ}
 use mathlib.Core.Path.{◌≡◌, refl, sym, ap, ap₂, ◌∙◌}
 use mathlib.Core.List.{List, [], ◌∷◌, append-nil}
 use mathlib.Core.Bool.{Bool, true, false, not}
 use lib.Dec.{eqb}
 use Rattle.text.specs.Text.{Text, between}
-use Rattle.text.proofs.Laws.Tests.{or_right}
+use Rattle.std.proofs.lemmas.Bool.{or_right}
 use Rattle.names.specs.Names.{normalize_type_name, xml_to_snake_case}
 use Rattle.builtin.specs.Builtin.{map_builtin, reference}
 use Rattle.sheet.specs.Rows.{Row, row}
@@ -19,6 +20,11 @@ use Rattle.ir_append.specs.declared.Recipe.{Recipe}
 use Rattle.ir_append.specs.Spelled.{is_nothing, spelled_texts, recipe_row, orderly}
 use Rattle.ir_row.proofs.Laws.Tags.{RecipeTag, recipe-tag}
 use Rattle.ir_row.specs.Recipes.{has_recipe, refers, reference_spelling, namespace_spelling, texts_recipe, child_recipe, Lowers}
+
+-- what a test and a value make
+pub then-if : {A : Type 0} (b : Bool) (x : A) → then_some b x ≡ (if b then Some x else None)
+then-if true x = refl
+then-if false x = refl
 
 -- the recipe of a tag that is known, and of one that is known where the row has a recipe
 pub lowers-as : {e : Bool} {tag k a b c n : ℕ} {r s : Recipe} → tag ≡ k → r ≡ s → Lowers e k a b c n s → Lowers e tag a b c n r
@@ -50,7 +56,7 @@ reference-texts n t u e = rw e (spelled-if (eqb (reference (map_builtin u)) 0) (
 -- a row whose first text is there and whose third is not
 order-two : (s : Option Spelling) (tag a c : ℕ) → orderly (texts_recipe tag a c Spelling.FirstNormalized s) ≡ true
 unfolding orderly
-order-two s tag a c = or_right (not (is_nothing s)) refl
+order-two s tag a c = or_right (not (is_nothing s)) _ refl
 
 -- the list of one row
 abbrev one : Row → List Row

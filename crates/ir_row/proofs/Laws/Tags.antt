@@ -7,7 +7,8 @@ use native.Mathlib.Omega.{arith}
 use lib.Dec.{eqb, leb}
 use borrow.Author.Tests.{leb-true, eqb-false, not-true}
 use Rattle.text.specs.Text.{between}
-use Rattle.text.proofs.Laws.Tests.{two, four}
+use Rattle.std.proofs.lemmas.Bool.{and_parts}
+use Rattle.text.proofs.Laws.Tests.{four}
 use Rattle.ir_row.specs.Recipes.{has_recipe}
 
 pub record RecipeTag (code_enum : Bool) (tag : ℕ) : Type 0 where
@@ -29,9 +30,9 @@ enum-of code_enum tag h e = rw e at h
 pub recipe-tag : (code_enum : Bool) (tag : ℕ) → has_recipe code_enum tag ≡ true → RecipeTag code_enum tag
 unfolding has_recipe between
 recipe-tag code_enum tag h =
-    let all = two (between 1 20 tag && not (between 6 7 tag) && not (between 10 11 tag) && not (eqb tag 16)) (not (eqb tag 4) || code_enum) h in
+    let all = and_parts (between 1 20 tag && not (between 6 7 tag) && not (between 10 11 tag) && not (eqb tag 16)) (not (eqb tag 4) || code_enum) h in
     let q = four (between 1 20 tag) (not (between 6 7 tag)) (not (between 10 11 tag)) (not (eqb tag 16)) all.0 in
-    let inside = two (leb 1 tag) (leb tag 20) q.0 in
+    let inside = and_parts (leb 1 tag) (leb tag 20) q.0 in
     record {
       low = leb-true 1 tag inside.0;
       high = leb-true tag 20 inside.1;

@@ -1,12 +1,10 @@
--- `ir_row::namespace_text` meets its contract: each branch is the one that the definition takes. Assumes nothing.
-use borrow.Author.Tests.{eq-eqb, ne_eqb}
+-- `ir_row::namespace_text` meets its contract: the test is that of the definition. Assumes nothing.
+use mathlib.Core.Path.{◌∙◌}
+use lib.Dec.{eqb}
 use Rattle.ir_row.specs.Recipes.{namespace_spelling}
+use Rattle.ir_row.proofs.Laws.Recipes.{then-if}
 use Rattle.ir_row.proofs.namespace_text.Goals as goal
 
-pub returns-then-a-eq1 : goal.returns-then-a-eq1
+pub returns : goal.returns
 unfolding namespace_spelling
-returns-then-a-eq1 c = rw (eq-eqb c.args.a 1 c.if-a-eq1.true)
-
-pub returns-else-a-eq1 : goal.returns-else-a-eq1
-unfolding namespace_spelling
-returns-else-a-eq1 c = rw (ne_eqb c.args.a 1 c.if-a-eq1.false)
+returns c = c.then_some.ensures ∙ then-if (eqb c.args.a 1) _

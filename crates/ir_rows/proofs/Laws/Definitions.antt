@@ -19,7 +19,7 @@ use Rattle.xsd_types.specs.Rows.{facet_row, occurs_row, element_row, simple_type
 use Rattle.xsd_types.specs.Good.{is_head}
 use Rattle.xsd_types.specs.Back.{text0, text1}
 use Rattle.xsd_types.proofs.Laws.Groups.{as_group}
-use Rattle.xsd_types.proofs.Laws.Items.{name_back}
+use Rattle.xsd_types.proofs.Laws.Items.{name_back, element-no_head, variant-no_head, attribute-no_head}
 use Rattle.ir_types.specs.Types.{TypeDef}
 use Rattle.ir_types.specs.Rows.{ref_a, ref_text, variant_row, constraint_row, code_row, attr_row, type_rows, field_row as graph_field}
 use Rattle.xsd_types.specs.Refused.{is_enumeration, all_enums, is_code_enum}
@@ -70,23 +70,6 @@ module _ {A B : Type 0} (code_enum : Bool) (f : A → Row) (lowered : A → B) (
   child_rows-map (x ∷ xs) more h = rw (child x, each x, child_rows-map xs more h)
 
 -- a field, a variant, an attribute
-occurs-child : (t u : Text) (min : ℕ) (max : MaxOccurs) → is_head (occurs_row t u min max).tag ≡ false
-unfolding occurs_row row is_head between
-occurs-child t u min (MaxOccurs.bounded n) = refl
-occurs-child t u min MaxOccurs.unbounded = refl
-
-element-child : (e : SequenceElement) → is_head (element_row e).tag ≡ false
-unfolding element_row
-element-child e = occurs-child e.name e.type_name e.min_occurs e.max_occurs
-
-variant-child : (v : ChoiceVariant) → is_head (choice_row v).tag ≡ false
-unfolding choice_row row is_head between
-variant-child v = refl
-
-attribute-child : (x : Attribute) → is_head (attribute_row x).tag ≡ false
-unfolding attribute_row row is_head between
-attribute-child x = refl
-
 module _ (code_enum : Bool) where
   occurs-row : (t u : Text) (min : ℕ) (max : MaxOccurs) → lowered_row code_enum (occurs_row t u min max) ≡ lowered_field_row (lower_cardinality min max) t u ∷ []
   unfolding lowered_row lowered_as occurs_row row text0 text1
@@ -111,10 +94,11 @@ content-rows : (event : ℕ) (name : Text) (c : ComplexContent) (more : List Row
     → type_rows_of (complex_type_rows event name (started c) ++ more) ≡ type_rows (lower_content event (normalize_type_name name) c)
 unfolding type_rows_of complex_type_rows started type_rows lower_content lowered_row lowered_as row text0 text1 value_row opaque_row
 content-rows event name (ComplexContent.sequence es) more h = rw
-    (child_rows-map (is_code_enum (map element_row es ++ more)) element_row lower_field graph_field element-child (field_row_lem _) es more h)
-content-rows event name (ComplexContent.choice vs) more h = rw (child_rows-map (is_code_enum (map choice_row vs ++ more)) choice_row lower_variant variant_row variant-child (variant-row _) vs more h)
+    (child_rows-map (is_code_enum (map element_row es ++ more)) element_row lower_field graph_field element-no_head (field_row_lem _) es more h)
+content-rows event name (ComplexContent.choice vs) more h = rw
+    (child_rows-map (is_code_enum (map choice_row vs ++ more)) choice_row lower_variant variant_row variant-no_head (variant-row _) vs more h)
 content-rows event name (ComplexContent.simple_content base xs) more h =
-    rw (child_rows-map (is_code_enum (map attribute_row xs ++ more)) attribute_row lower_attribute attr_row attribute-child (attribute-row _) xs more h, reference-a base, reference-text base)
+    rw (child_rows-map (is_code_enum (map attribute_row xs ++ more)) attribute_row lower_attribute attr_row attribute-no_head (attribute-row _) xs more h, reference-a base, reference-text base)
 content-rows event name (ComplexContent.any none) more h = rw (child_rows-more (is_code_enum more) more h)
 content-rows event name (ComplexContent.any (some n)) more h = rw (child_rows-more (is_code_enum more) more h)
 

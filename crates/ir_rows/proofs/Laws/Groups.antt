@@ -9,7 +9,8 @@ use native.Mathlib.Omega.{arith}
 use lib.Dec.{eqb}
 use lib.ListN.{length}
 use Rattle.text.specs.Text.{every, between}
-use Rattle.text.proofs.Laws.Tests.{and-true-right, not-true-false, or_right}
+use Rattle.std.proofs.lemmas.Bool.{false_from_ne_true, or_right}
+use Rattle.text.proofs.Laws.Tests.{and-true-right}
 use borrow.Author.Tests.{eqb-true}
 use Rattle.text.proofs.Laws.Every.{EachFrom, between-each, every-head, every-tail}
 use Rattle.sheet.specs.Rows.{Row}
@@ -22,7 +23,7 @@ use Rattle.xsd_types.specs.Refused.{refused_row, refused_place}
 
 -- a tag that is no head is none of the heads' tags
 other_tag : (k n : ℕ) → is_head k ≡ true → is_head n ≡ false → eqb n k ≡ false
-other_tag k n h e = not-true-false (eqb n k) (λ q. false≢true (sym e ∙ rw (eqb-true n k q) h))
+other_tag k n h e = false_from_ne_true (eqb n k) (λ q. false≢true (sym e ∙ rw (eqb-true n k q) h))
 
 module _ (h n : ℕ) (c : is_child h n ≡ true) where
   pub child-other : (k : ℕ) → is_head k ≡ true → eqb n k ≡ false
@@ -39,7 +40,7 @@ simple-head n e = rw (eqb-true n 3 e)
 
 pub complex-head : (n : ℕ) → is_complex n ≡ true → is_head n ≡ true
 unfolding is_complex is_head
-complex-head n e = or_right (between 2 3 n) (between-each (λ (m : ℕ). between 12 16 m ≡ true) 12 3 15 n refl four-heads e)
+complex-head n e = or_right (between 2 3 n) _ (between-each (λ (m : ℕ). between 12 16 m ≡ true) 12 3 15 n refl four-heads e)
 
 -- a test that passes heads alone
 abbrev pub HeadsOnly : (ℕ → Bool) → Type 0
@@ -50,7 +51,7 @@ unfolding is_simple is_head between
 simple-heads h n c = child-other h n c 3 refl
 
 pub complex-heads : HeadsOnly is_complex
-complex-heads h n c = not-true-false (is_complex n) (λ e. false≢true (sym (child-no-head (child_of h n c)) ∙ complex-head n e))
+complex-heads h n c = false_from_ne_true (is_complex n) (λ e. false≢true (sym (child-no-head (child_of h n c)) ∙ complex-head n e))
 
 module _ (test : ℕ → Bool) (only : HeadsOnly test) where
   places_of-children : (h k : ℕ) (cs more : List Row) → every (is_child h) (tags cs) ≡ true → places_of test k (cs ++ more) ≡ places_of test (k + length cs) more

@@ -3,7 +3,7 @@ use Prim.Native.Nat.{ℕ}
 use mathlib.Core.Path.{◌≡◌}
 use mathlib.Core.Logic.{⊎_elim}
 use mathlib.Core.Bool.{true}
-use Rattle.text.proofs.Laws.Tests.{or_cases}
+use Rattle.std.proofs.lemmas.Bool.{or_cases}
 use Rattle.xsd_types.specs.Good.{is_head}
 use Rattle.ir_rows.specs.Types.{is_simple, is_complex, is_type}
 use Rattle.ir_rows.proofs.Laws.Groups.{simple-head, complex-head}

@@ -16,7 +16,7 @@ use Rattle.xsd_types.specs.Types.{ComplexContent, Item, Schema, elements, simple
 use Rattle.xsd_types.specs.State.{started}
 use Rattle.xsd_types.specs.Rows.{facet_row, simple_type_rows, complex_type_rows, item_rows, items_rows}
 use Rattle.xsd_types.specs.Back.{text0, text1}
-use Rattle.xsd_types.specs.Refused.{is_none, refused_base, refused_item, refused_row, refused_place}
+use Rattle.xsd_types.specs.Refused.{is_none, refused_base, refused_item, refused_place}
 use Rattle.xsd_types.proofs.Laws.Groups.{is_group, head_tag}
 use Rattle.xsd_types.proofs.Laws.Items.{group-item}
 use Rattle.xsd_types.proofs.Laws.Refused.{head_first-items, simple-refused}
@@ -27,6 +27,7 @@ use Rattle.ir_lower.proofs.Laws.Refusals.{refusal, refused-exactly, unknown_row-
 use Rattle.ir_rows.specs.Lowered.{lowered_as, lowered_row, root_rows}
 use Rattle.ir_rows.specs.Types.{is_simple, is_complex, places_of}
 use Rattle.ir_rows.proofs.Laws.Groups.{simple-heads, complex-heads, places_of-group, root_rows-group, refused_place-group}
+use Rattle.xsd_types.proofs.Laws.Counted.{other_row}
 
 -- ---- the places of the types
 
@@ -82,14 +83,10 @@ module _ (k : ℕ) (i : Item) (more : List Row) where
 
 -- ---- the first refused simple type
 
-unknown-tag : (r : Row) (rs : List Row) → eqb r.tag 3 ≡ false → refused_row r rs ≡ false
-unfolding refused_row
-unknown-tag r rs e = rw e
-
 unknown-other : (k : ℕ) (rs more : List Row) → is_group rs ≡ true → eqb (head_tag rs) 3 ≡ false → refused_place k (rs ++ more) ≡ refused_place (k + length rs) more
 unfolding head_tag is_group
 unknown-other k [] more g e = absurd (false≢true g)
-unknown-other k (r ∷ cs) more g e = refused_place-group k r cs more g ∙ rw (unknown-tag r (cs ++ more) e)
+unknown-other k (r ∷ cs) more g e = refused_place-group k r cs more g ∙ rw (other_row r (cs ++ more) e)
 
 pub refused_place-items : (k : ℕ) (is : List Item) → refused_place k (items_rows is) ≡ unknown_row k is
 unfolding refused_place items_rows unknown_row refused_item item_rows simple_type_rows head_tag row

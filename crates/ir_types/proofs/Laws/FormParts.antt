@@ -3,17 +3,16 @@ use Rattle.std.specs.Prelude.{if◌then◌else◌}
 use mathlib.Core.Path.{◌≡◌, refl}
 use mathlib.Core.Bool.{Bool, true, false, ◌&&◌, ◌||◌, false≢true}
 use mathlib.Core.List.{List, [], ◌∷◌}
-use Prim.Native.Nat.{ℕ, ◌+◌, ◌*◌, ◌≤◌}
+use Prim.Native.Nat.{ℕ, ◌+◌, ◌≤◌}
 use native.Mathlib.Omega.{arith}
 use lib.Dec.{eqb, leb}
-use lib.ListN.{length}
 use borrow.Author.Tests.{eqb-true, leb-true, le-leb}
 use Rattle.text.specs.Text.{every, is_graph_text, between}
 use Rattle.text.proofs.Laws.Tests.{three, six, and-true-left, and-true-right}
 use Rattle.sheet.specs.Rows.{Ten, Sheet}
-use Rattle.sheet.specs.Form.{is_flag, covers, covered, rows_used_of, names_used_of, tens_of, used_parts, zeros_behind, texts_pass}
+use Rattle.sheet.specs.Form.{is_flag, covers, covered, names_used_of, tens_of, used_parts, zeros_behind, texts_pass}
 use Rattle.sheet.proofs.Laws.Unpacks.{few}
-use Rattle.sheet.proofs.Laws.Formed.{Headed, headed, few-headed, used-two, used-rows, used-names, covers-true, covered-is}
+use Rattle.sheet.proofs.Laws.Formed.{Headed, headed, few-headed, covers-true, covered-is}
 use Rattle.ir_types.specs.Tags.{root_tag}
 use Rattle.ir_types.specs.Row0.{GraphRow0, graph_row0_in}
 use Rattle.ir_types.specs.Form.{used_pairs, is_type_tag, form_a, form_b, form_c, ten_form, in_order, tags_of, count, row0_form, rows_form, names_form, graph_form}
@@ -78,17 +77,8 @@ pub few-behind : (ts : List Ten) → Behind ts → every (few used_pairs) ts ≡
 unfolding used_pairs between
 few-behind ts b = few-headed ten_form (λ bs. in_order 1 (tags_of bs)) used_pairs refl few-form ts b
 
--- ---- the parts as numbers
+-- ---- the names as numbers
 module _ (x : Sheet) (p : Parts x) where
-  pub rows-two : 2 ≤ rows_used_of x
-  rows-two = used-two x p.used
-
-  pub rows-room : 10 * rows_used_of x ≤ length x.rows
-  rows-room = used-rows x p.used
-
-  pub names-room : names_used_of x ≤ length x.names
-  names-room = used-names x p.used
-
   pub pairs-cover : covers used_pairs 0 (tens_of x) ≡ true
   unfolding names_form
   pairs-cover = covers-true used_pairs (tens_of x) (names_used_of x) p.names

@@ -7,7 +7,7 @@ use mathlib.Core.List.{List, [], ◌∷◌, ◌++◌, map}
 use lib.ListN.{length}
 use Rattle.text.specs.Text.{every, is_graph_text, between}
 use Rattle.sheet.specs.Rows.{Row, row, pack, names_of, sheet_of_rows}
-use Rattle.sheet.specs.Form.{tens_of, counted}
+use Rattle.sheet.specs.Form.{tens_of, texts_counted}
 use Rattle.sheet.specs.Lengths.{fits}
 use Rattle.ir_types.specs.Types.{TypeGraph}
 use Rattle.ir_types.specs.Rows.{types_rows, root_row, rows_of, rows_used, names_used, row0}
@@ -73,31 +73,31 @@ namespace-text g h =
     and-true-left a b (and-true-left (a && b) c h)
 
 -- what an allowed row keeps
-ok-uses : (q : Row) → row_ok q ≡ true → counted used_pairs q ≡ true
+ok-uses : (q : Row) → row_ok q ≡ true → texts_counted used_pairs q ≡ true
 unfolding row_ok
 ok-uses q h =
-    let u = counted used_pairs q in let f = row_form q in let s = row_small q in let t = every is_graph_text q.texts in
+    let u = texts_counted used_pairs q in let f = row_form q in let s = row_small q in let t = every is_graph_text q.texts in
     and-true-left u f (and-true-left (u && f) s (and-true-left (u && f && s) t h))
 
 ok-form : (q : Row) → row_ok q ≡ true → row_form q ≡ true
 unfolding row_ok
 ok-form q h =
-    let u = counted used_pairs q in let f = row_form q in let s = row_small q in let t = every is_graph_text q.texts in
+    let u = texts_counted used_pairs q in let f = row_form q in let s = row_small q in let t = every is_graph_text q.texts in
     and-true-right u f (and-true-left (u && f) s (and-true-left (u && f && s) t h))
 
 pub ok-small : (q : Row) → row_ok q ≡ true → row_small q ≡ true
 unfolding row_ok
 ok-small q h =
-    let u = counted used_pairs q in let f = row_form q in let s = row_small q in let t = every is_graph_text q.texts in
+    let u = texts_counted used_pairs q in let f = row_form q in let s = row_small q in let t = every is_graph_text q.texts in
     and-true-right (u && f) s (and-true-left (u && f && s) t h)
 
 ok-texts : (q : Row) → row_ok q ≡ true → text_row q ≡ true
 unfolding row_ok text_row
-ok-texts q h = and-true-right (counted used_pairs q && row_form q && row_small q) (every is_graph_text q.texts) h
+ok-texts q h = and-true-right (texts_counted used_pairs q && row_form q && row_small q) (every is_graph_text q.texts) h
 
-pub rows-use : (g : TypeGraph) → graph_ok g ≡ true → every (counted used_pairs) (rows_of g) ≡ true
-unfolding rows_of every counted used_pairs between row
-rows-use g h = every-weaken row_ok (counted used_pairs) ok-uses (behind g) (behind-ok g h)
+pub rows-use : (g : TypeGraph) → graph_ok g ≡ true → every (texts_counted used_pairs) (rows_of g) ≡ true
+unfolding rows_of every texts_counted used_pairs between row
+rows-use g h = every-weaken row_ok (texts_counted used_pairs) ok-uses (behind g) (behind-ok g h)
 
 rows-texts : (g : TypeGraph) → graph_ok g ≡ true → every text_row (rows_of g) ≡ true
 unfolding rows_of every row text_row

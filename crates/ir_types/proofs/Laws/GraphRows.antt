@@ -11,15 +11,16 @@ use borrow.Author.Tests.{ltb-true, lt-ltb, leb-true, le-leb}
 use Rattle.text.specs.Text.{Text, every, is_graph_text, between}
 use Rattle.builtin.specs.Builtin.{RustType, rust_type_number}
 use Rattle.sheet.specs.Rows.{Row, row, bit}
-use Rattle.sheet.specs.Form.{is_flag, counted}
+use Rattle.sheet.specs.Form.{is_flag, texts_counted}
 use Rattle.ir_types.specs.Types.{TypeRef, Cardinality, FieldDef, VariantDef, Constraint, CodeValue, AttrDef, TypeDef, RootElement}
 use Rattle.ir_types.specs.Rows.{ref_a, ref_text, cardinality_b, cardinality_c, field_row, variant_row, constraint_row, code_row, attr_row, type_rows, types_rows, root_row}
 use Rattle.ir_types.specs.Form.{used_pairs, form_a, form_b, form_c}
 use Rattle.ir_types.specs.Ok.{ref_ok, cardinality_ok, field_ok, variant_ok, constraint_ok, code_ok, attr_ok, type_ok, root_ok, row_form, is_small, row_small, row_ok}
-use Rattle.text.proofs.Laws.Tests.{two, three, and-true-left, and-true-right, and-true}
+use Rattle.std.proofs.lemmas.Bool.{and_parts}
+use Rattle.text.proofs.Laws.Tests.{three, and-true-left, and-true-right, and-true}
 use Rattle.text.proofs.Laws.Every.{every-append-true, every_map}
 
-row-ok : (r : Row) → counted used_pairs r ≡ true → row_form r ≡ true → row_small r ≡ true → every is_graph_text r.texts ≡ true → row_ok r ≡ true
+row-ok : (r : Row) → texts_counted used_pairs r ≡ true → row_form r ≡ true → row_small r ≡ true → every is_graph_text r.texts ≡ true → row_ok r ≡ true
 unfolding row_ok
 row-ok r u f s t = rw (u, f, s, t)
 
@@ -60,8 +61,8 @@ reference-width t = small (ref_a t) (let h = leb-true (ref_a t) 5 (reference-sma
 
 -- a row of two texts and a reference, where the tag uses two pairs or, with a named reference, three
 reference-uses : (tag b c : ℕ) (x y : Text) (t : TypeRef) → used_pairs tag (ref_a t) ≡ (if eqb (ref_a t) 0 then 3 else 2)
-    → counted used_pairs (row tag (x ∷ y ∷ ref_text t) (ref_a t) b c) ≡ true
-unfolding counted row ref_a ref_text
+    → texts_counted used_pairs (row tag (x ∷ y ∷ ref_text t) (ref_a t) b c) ≡ true
+unfolding texts_counted row ref_a ref_text
 reference-uses tag b c x y (TypeRef.named n) e = rw e
 reference-uses tag b c x y (TypeRef.builtin RustType.string) e = rw e
 reference-uses tag b c x y (TypeRef.builtin RustType.bool) e = rw e
@@ -147,7 +148,7 @@ length-small n h =
     and-true (small (n % 2 ^ 32) (omega arith)) (small (n / 2 ^ 32) (omega arith))
 
 constraint-ok : (c : Constraint) → constraint_ok c ≡ true → row_ok (constraint_row c) ≡ true
-unfolding constraint_ok constraint_row row row_ok counted used_pairs between row_form form_a form_b form_c every row_small is_small
+unfolding constraint_ok constraint_row row row_ok texts_counted used_pairs between row_form form_a form_b form_c every row_small is_small
 constraint-ok (Constraint.pattern v) h = rw h
 constraint-ok (Constraint.min_length n) h = and-true (and-true (length-small n h) refl) refl
 constraint-ok (Constraint.max_length n) h = and-true (and-true (length-small n h) refl) refl
@@ -157,20 +158,20 @@ constraint-ok (Constraint.total_digits n) h = rw (digits-small n h)
 constraint-ok (Constraint.fraction_digits n) h = rw (digits-small n h)
 
 code_ok_lem : (v : CodeValue) → code_ok v ≡ true → row_ok (code_row v) ≡ true
-unfolding code_ok code_row row row_ok counted used_pairs between row_form form_a form_b form_c row_small is_small
+unfolding code_ok code_row row row_ok texts_counted used_pairs between row_form form_a form_b form_c row_small is_small
 code_ok_lem v h = two-texts v.xml_value v.rust_name (and-true-left (is_graph_text v.xml_value) (is_graph_text v.rust_name) h) (and-true-right (is_graph_text v.xml_value) (is_graph_text v.rust_name) h)
 
 pub root_ok_lem : (e : RootElement) → root_ok e ≡ true → row_ok (root_row e) ≡ true
-unfolding root_ok root_row row row_ok counted used_pairs between row_form form_a form_b form_c row_small is_small
+unfolding root_ok root_row row row_ok texts_counted used_pairs between row_form form_a form_b form_c row_small is_small
 root_ok_lem e h =
-    let w = two (is_small e.event) (is_graph_text e.xml_name && is_graph_text e.type_name) h in
-    let t = two (is_graph_text e.xml_name) (is_graph_text e.type_name) w.1 in
+    let w = and_parts (is_small e.event) (is_graph_text e.xml_name && is_graph_text e.type_name) h in
+    let t = and_parts (is_graph_text e.xml_name) (is_graph_text e.type_name) w.1 in
     and-true w.0 (two-texts e.xml_name e.type_name t.0 t.1)
 
 -- ---- rows of types
 
 newtype-head : (event : ℕ) (n : Text) (i : RustType) → is_small event ≡ true → is_graph_text n ≡ true → row_ok (row 5 (n ∷ []) (rust_type_number i) 0 event) ≡ true
-unfolding row_ok row counted used_pairs between row_form form_a form_b form_c row_small is_small
+unfolding row_ok row texts_counted used_pairs between row_form form_a form_b form_c row_small is_small
 newtype-head event n RustType.string s h = and-true s (one-text n h)
 newtype-head event n RustType.bool s h = and-true s (one-text n h)
 newtype-head event n RustType.decimal s h = and-true s (one-text n h)
@@ -178,7 +179,7 @@ newtype-head event n RustType.date s h = and-true s (one-text n h)
 newtype-head event n RustType.date_time s h = and-true s (one-text n h)
 
 value-head : (event : ℕ) (n : Text) (v : TypeRef) → is_small event ≡ true → is_graph_text n ≡ true → ref_ok v ≡ true → row_ok (row 7 (n ∷ ref_text v) (ref_a v) 0 event) ≡ true
-unfolding row_ok row counted used_pairs between row_form form_a form_b form_c ref_a ref_text ref_ok row_small is_small
+unfolding row_ok row texts_counted used_pairs between row_form form_a form_b form_c ref_a ref_text ref_ok row_small is_small
 value-head event n (TypeRef.named t) s h k = and-true s (two-texts n t h k)
 value-head event n (TypeRef.builtin RustType.string) s h k = and-true s (one-text n h)
 value-head event n (TypeRef.builtin RustType.bool) s h k = and-true s (one-text n h)
@@ -187,7 +188,7 @@ value-head event n (TypeRef.builtin RustType.date) s h k = and-true s (one-text 
 value-head event n (TypeRef.builtin RustType.date_time) s h k = and-true s (one-text n h)
 
 -- a head of one text whose a is unused
-plain-head : (tag event : ℕ) (n : Text) → (let r = row tag (n ∷ []) 0 0 event in counted used_pairs r && row_form r ≡ true) → is_small tag ≡ true → is_small event ≡ true
+plain-head : (tag event : ℕ) (n : Text) → (let r = row tag (n ∷ []) 0 0 event in texts_counted used_pairs r && row_form r ≡ true) → is_small tag ≡ true → is_small event ≡ true
     → is_graph_text n ≡ true → row_ok (row tag (n ∷ []) 0 0 event) ≡ true
 unfolding row_ok row_small row
 plain-head tag event n h t s k = and-true (and-true h (rw (t, small 0 (omega arith), s))) (one-text n k)
@@ -199,40 +200,40 @@ unfolding every
 children-ok head p f g xs h k = and-true h (every_map p row_ok f g xs k)
 
 plain-children : {A : Type 0} (tag event : ℕ) (n : Text) (p : A → Bool) (f : A → Row) → ((x : A) → p x ≡ true → row_ok (f x) ≡ true) → (xs : List A)
-    → (let r = row tag (n ∷ []) 0 0 event in counted used_pairs r && row_form r ≡ true) → is_small tag ≡ true → is_small event && (is_graph_text n && every p xs) ≡ true
+    → (let r = row tag (n ∷ []) 0 0 event in texts_counted used_pairs r && row_form r ≡ true) → is_small tag ≡ true → is_small event && (is_graph_text n && every p xs) ≡ true
     → every row_ok (row tag (n ∷ []) 0 0 event ∷ map f xs) ≡ true
 plain-children tag event n p f g xs k t h =
-    let w = two (is_small event) (is_graph_text n && every p xs) h in
-    let v = two (is_graph_text n) (every p xs) w.1 in
+    let w = and_parts (is_small event) (is_graph_text n && every p xs) h in
+    let v = and_parts (is_graph_text n) (every p xs) w.1 in
     children-ok _ p f g xs (plain-head tag event n k t w.0 v.0) v.1
 
 newtype-rows : (event : ℕ) (n : Text) (i : RustType) (cs : List Constraint) → is_small event && (is_graph_text n && every constraint_ok cs) ≡ true
     → every row_ok (row 5 (n ∷ []) (rust_type_number i) 0 event ∷ map constraint_row cs) ≡ true
 newtype-rows event n i cs h =
-    let w = two (is_small event) (is_graph_text n && every constraint_ok cs) h in
-    let v = two (is_graph_text n) (every constraint_ok cs) w.1 in
+    let w = and_parts (is_small event) (is_graph_text n && every constraint_ok cs) h in
+    let v = and_parts (is_graph_text n) (every constraint_ok cs) w.1 in
     children-ok _ constraint_ok constraint_row constraint-ok cs (newtype-head event n i w.0 v.0) v.1
 
 value-rows : (event : ℕ) (n : Text) (v : TypeRef) (xs : List AttrDef) → is_small event && (is_graph_text n && ref_ok v && every attr_ok xs) ≡ true
     → every row_ok (row 7 (n ∷ ref_text v) (ref_a v) 0 event ∷ map attr_row xs) ≡ true
 value-rows event n v xs h =
-    let w = two (is_small event) (is_graph_text n && ref_ok v && every attr_ok xs) h in
+    let w = and_parts (is_small event) (is_graph_text n && ref_ok v && every attr_ok xs) h in
     let t = three (is_graph_text n) (ref_ok v) (every attr_ok xs) w.1 in
     children-ok _ attr_ok attr_row attr-ok xs (value-head event n v w.0 t.0 t.1) t.2
 
 pub type-ok : (d : TypeDef) → type_ok d ≡ true → every row_ok (type_rows d) ≡ true
-unfolding type_ok type_rows every counted row used_pairs between row_form form_a form_b form_c row_ok is_flag row_small is_small
+unfolding type_ok type_rows every texts_counted row used_pairs between row_form form_a form_b form_c row_ok is_flag row_small is_small
 type-ok (TypeDef.struct event n fs) h = plain-children 3 event n field_ok field_row field-ok fs refl refl h
 type-ok (TypeDef.enum event n vs) h = plain-children 4 event n variant_ok variant_row variant_ok_lem vs refl refl h
 type-ok (TypeDef.newtype event n i cs) h = newtype-rows event n i cs h
 type-ok (TypeDef.code_enum event n cs) h = plain-children 6 event n code_ok code_row code_ok_lem cs refl refl h
 type-ok (TypeDef.value_with_attr event n v xs) h = value-rows event n v xs h
 type-ok (TypeDef.opaque event n none) h =
-    let w = two (is_small event) (is_graph_text n) h in
+    let w = and_parts (is_small event) (is_graph_text n) h in
     and-true (and-true w.0 (one-text n w.1)) refl
 type-ok (TypeDef.opaque event n (some ns)) h =
-    let w = two (is_small event) (is_graph_text n && is_graph_text ns) h in
-    let t = two (is_graph_text n) (is_graph_text ns) w.1 in
+    let w = and_parts (is_small event) (is_graph_text n && is_graph_text ns) h in
+    let t = and_parts (is_graph_text n) (is_graph_text ns) w.1 in
     and-true (and-true w.0 (two-texts n ns t.0 t.1)) refl
 
 pub types-ok : (ds : List TypeDef) → every type_ok ds ≡ true → every row_ok (types_rows ds) ≡ true

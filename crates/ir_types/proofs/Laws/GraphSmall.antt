@@ -17,7 +17,7 @@ use Rattle.ir_types.specs.Ok.{graph_ok, is_small, row_small, row_ok}
 use Rattle.ir_types.proofs.Laws.GraphRows.{small}
 use Rattle.ir_types.proofs.Laws.GraphForm.{behind, behind-ok, rows-use, ok-small, rows_fit, names-fit}
 use Rattle.text.proofs.Laws.Tests.{and-true-left, and-true-right, and-true}
-use Rattle.sheet.specs.Form.{counted}
+use Rattle.sheet.specs.Form.{texts_counted}
 use Rattle.text.proofs.Laws.Every.{every-append-true, every-weaken}
 use Rattle.sheet.proofs.Laws.Packs.{counted-small}
 
@@ -66,15 +66,15 @@ row_small_lem k r ts s h b e =
     ten-tests (is_small r.tag) (is_small p.at0) (is_small p.len0) (is_small p.at1) (is_small p.len1) (is_small p.at2) (is_small p.len2)
     (is_small r.a) (is_small r.b) (is_small r.c) (every is_small (numbers ts)) s (pairs_small_lem k r.texts h b) e
 
-pack-small : (k : ℕ) (rs : List Row) → every row_small rs ≡ true → every (counted used_pairs) rs ≡ true → k + length (names_of rs) < 2 ^ 32 → every is_small (numbers (pack k rs)) ≡ true
+pack-small : (k : ℕ) (rs : List Row) → every row_small rs ≡ true → every (texts_counted used_pairs) rs ≡ true → k + length (names_of rs) < 2 ^ 32 → every is_small (numbers (pack k rs)) ≡ true
 unfolding every pack names_of numbers
 pack-small k [] s u b = refl
 pack-small k (r ∷ rs) s u b =
     let l = length-append (join r.texts) (names_of rs) in
     row_small_lem k r (pack (k + length (join r.texts)) rs) (and-true-left (row_small r) (every row_small rs) s)
-    (counted-small used_pairs r (and-true-left (counted used_pairs r) (every (counted used_pairs) rs) u)) (omega arith)
+    (counted-small used_pairs r (and-true-left (texts_counted used_pairs r) (every (texts_counted used_pairs) rs) u)) (omega arith)
     (pack-small (k + length (join r.texts)) rs (and-true-right (row_small r) (every row_small rs) s)
-    (and-true-right (counted used_pairs r) (every (counted used_pairs) rs) u) (omega arith))
+    (and-true-right (texts_counted used_pairs r) (every (texts_counted used_pairs) rs) u) (omega arith))
 
 zeros-small : (n : ℕ) → every is_small (replicate n 0) ≡ true
 unfolding every

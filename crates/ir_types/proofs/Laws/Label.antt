@@ -12,7 +12,8 @@ use lib.ListN.{length, get_or}
 use borrow.Author.Tests.{leb-true, eqb-false}
 use Rattle.sheet.specs.Rows.{Ten, text_at}
 use Rattle.ir_types.specs.Label.{Labelled, no_label, words_of, good_words, word_at, row_ten, has_reference, reference_at, reference_length, named_label, word_label, row_label, label}
-use Rattle.text.proofs.Laws.Tests.{and-true-left, and-true-right, test-cases}
+use Rattle.std.proofs.lemmas.Bool.{cases_Bool}
+use Rattle.text.proofs.Laws.Tests.{and-true-left, and-true-right}
 
 record Told (names words : List ℕ) (l : Labelled) : Type 0 where
   numbered : (l.number ≡ 0) ⊎ (l.number ≡ 16)
@@ -30,14 +31,14 @@ unfolding named_label
 named-label names words at len =
     ⊎_elim (λ h. rw h (record { numbered = inl refl; refused = λ e. absurd (omega arith); part = λ e f. (len, leb-true (at + len) (length names) h, refl); word = λ e. absurd (false≢true e) }))
     (λ h. rw h (no-label names words))
-    (test-cases (leb (at + len) (length names)))
+    (cases_Bool (leb (at + len) (length names)))
 
 word-label : (names words : List ℕ) (a : ℕ) → a ≤ 5 → (a ≡ 0 → ⊥) → Told names words (word_label words a)
 unfolding word_label
 word-label names words a h k =
     ⊎_elim (λ g. rw g (record { numbered = inl refl; refused = λ e. absurd (omega arith); part = λ e f. absurd (true≢false f); word = λ e. (a - 1, omega arith, g, refl, refl) }))
     (λ g. rw g (no-label names words))
-    (test-cases (good_words words))
+    (cases_Bool (good_words words))
 
 pub reference-bound : (t : Ten) → has_reference t ≡ true → t.a ≤ 5
 unfolding has_reference
@@ -51,15 +52,15 @@ unfolding row_label
 row-label names words t =
     ⊎_elim (λ h. rw h (⊎_elim (λ e. rw e (named-label names words (reference_at t) (reference_length t)))
     (λ e. rw e (word-label names words t.a (reference-bound t h) (eqb-false t.a 0 e)))
-    (test-cases (eqb t.a 0))))
+    (cases_Bool (eqb t.a 0))))
     (λ h. rw h (no-label names words))
-    (test-cases (has_reference t))
+    (cases_Bool (has_reference t))
 
 told : (rows names words : List ℕ) (k : ℕ) → Told names words (label rows names words k)
 unfolding label
 told rows names words k =
     ⊎_elim (λ h. rw h (row-label names words (row_ten rows k))) (λ h. rw h (no-label names words))
-    (test-cases (eqb (length rows % 10) 0 && ltb (10 * k) (length rows)))
+    (cases_Bool (eqb (length rows % 10) 0 && ltb (10 * k) (length rows)))
 
 pub label-number : (rows names words : List ℕ) (k : ℕ) → ((label rows names words k).number ≡ 0) ⊎ ((label rows names words k).number ≡ 16)
 label-number rows names words k = (told rows names words k).numbered

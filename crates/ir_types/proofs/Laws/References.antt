@@ -16,7 +16,7 @@ use Rattle.builtin.specs.Builtin.{RustType, rust_type_number}
 use Rattle.sheet.specs.Rows.{Ten, ten, numbers, Row, row, pairs, pack_row, pack, names_of, filled, Sheet, sheet_of_rows}
 use Rattle.sheet.proofs.Laws.Numbers.{ten-numbers, drop-numbers, length-numbers}
 use Rattle.sheet.proofs.Laws.Packs.{text-here, text-next, length-pack}
-use Rattle.text.proofs.Laws.Tests.{test-cases}
+use Rattle.std.proofs.lemmas.Bool.{cases_Bool}
 use Rattle.ir_types.specs.Types.{TypeRef, Constraint, TypeDef, TypeGraph}
 use Rattle.ir_types.specs.Sheet.{graph_fits, graph_sheet}
 use Rattle.ir_types.specs.Rows.{ref_a, ref_text, field_row, variant_row, constraint_row, code_row, attr_row, type_rows, types_rows, root_row, rows_of, rows_used, names_used, row0}
@@ -154,7 +154,7 @@ ten-at (t ∷ ts) z (suc k) d h =
     let n : 10 * suc k ≡ 10 + 10 * k = omega arith in
     rw n (ap ten (sym (drop-drop (10 * k) 10 (numbers (t ∷ ts) ++ z)) ∙ ap (drop (10 * k)) (drop-numbers t ts z)) ∙ ten-at ts z k d (omega arith))
 
-get_d-zeros : (m i : ℕ) → ◌≡◌ {A = ℕ} (get_or (replicate m 0) i 0) 0
+pub get_d-zeros : (m i : ℕ) → ◌≡◌ {A = ℕ} (get_or (replicate m 0) i 0) 0
 get_d-zeros zero i = refl
 get_d-zeros (suc m) zero = refl
 get_d-zeros (suc m) (suc i) = get_d-zeros m i
@@ -199,7 +199,7 @@ module _ (g : TypeGraph) (r n : ℕ) (words : List ℕ) (f : graph_fits r n g �
   unfolding label
   label-tag k h =
       ⊎_elim (λ c. rw c (zero-tag (row_ten x.rows k) h)) (λ c. rw c)
-      (test-cases (eqb (length x.rows % 10) 0 && ltb (10 * k) (length x.rows)))
+      (cases_Bool (eqb (length x.rows % 10) 0 && ltb (10 * k) (length x.rows)))
 
   first-tag : (row_ten x.rows 0).tag ≡ 0
   unfolding row_ten graph_sheet sheet_of_rows filled numbers ten row0

@@ -13,13 +13,13 @@ use Rattle.text.specs.Text.{between}
 use Rattle.sheet.specs.Rows.{Ten, text_at}
 use Rattle.ir_types.specs.Label.{Labelled, no_label, words_of, good_words, word_at, row_ten, has_reference, reference_at, reference_length, named_label, word_label, row_label, label}
 use Rattle.ir_types.specs.Refuses.{has_tag, row_refuses, refuses}
-use Rattle.text.proofs.Laws.Tests.{test-cases}
+use Rattle.std.proofs.lemmas.Bool.{cases_Bool}
 
 above_zero : (a : ℕ) → leb 1 a ≡ not (eqb a 0)
 above_zero a =
     ⊎_elim (λ e. rw e (lt-leb 1 a (let q = eqb-true a 0 e in omega arith)))
     (λ e. rw e (le-leb 1 a (let q = eqb-false a 0 e in omega arith)))
-    (test-cases (eqb a 0))
+    (cases_Bool (eqb a 0))
 
 -- the call's tests: the tag, a at most 5, tag 5, a 0, the pair inside, the words good
 abbrev chosen : Labelled → Labelled → Bool → Bool → Bool → Bool → Bool → Bool → Labelled

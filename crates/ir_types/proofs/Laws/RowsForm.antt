@@ -9,10 +9,11 @@ use lib.Dec.{leb}
 use lib.ListN.{length, take}
 use borrow.Author.Tests.{leb-true, le-leb, eq-eqb}
 use Rattle.text.specs.Text.{every, is_graph_text, between, join}
-use Rattle.text.proofs.Laws.Tests.{two, and-true}
+use Rattle.std.proofs.lemmas.Bool.{and_parts}
+use Rattle.text.proofs.Laws.Tests.{and-true}
 use Rattle.text.proofs.Laws.Every.{every-head, every-tail, every_map}
 use Rattle.sheet.specs.Rows.{Ten, Row, Sheet, numbers, pack_row, pack, names_of, unpack_row, sheet_of_rows}
-use Rattle.sheet.specs.Form.{row0_of, tens_of, used_parts, zeros_behind, texts_pass, counted}
+use Rattle.sheet.specs.Form.{row0_of, tens_of, used_parts, zeros_behind, texts_pass, texts_counted}
 use Rattle.sheet.specs.Lengths.{fits}
 use Rattle.sheet.proofs.Laws.Numbers.{take-filled}
 use Rattle.sheet.proofs.Laws.Packs.{covers-pack, covered-pack}
@@ -38,7 +39,7 @@ pub record Allowed (rs : List Row) : Type 0 where
   pub c_is : first.c ≡ 0
   pub formed : every row_form rest ≡ true
   pub ordered : in_order 1 (map tag_of rest) ≡ true
-  pub uses : every (counted used_pairs) rs ≡ true
+  pub uses : every (texts_counted used_pairs) rs ≡ true
   pub texts : every text_row rs ≡ true
 
 -- row 0 of rows, and their sheet
@@ -72,7 +73,7 @@ module _ (rs : List Row) (r n : ℕ) where
       let e : (1 + length rs) - 1 ≡ length rs = omega arith in
       rw (rows-row0, e) (tens-behind (graph_row0_ten (row0_for rs)) rs r n)
 
-  pub rows-back : every (counted used_pairs) rs ≡ true → map (unpack_row used_pairs (rows_sheet rs r n).names) (tens_of (rows_sheet rs r n)) ≡ rs
+  pub rows-back : every (texts_counted used_pairs) rs ≡ true → map (unpack_row used_pairs (rows_sheet rs r n).names) (tens_of (rows_sheet rs r n)) ≡ rs
   rows-back h = rw rows-tens (rows-read (graph_row0_ten (row0_for rs)) rs r n used_pairs h)
 
   pub rows-used : take (10 * (1 + length rs)) (rows_sheet rs r n).rows ≡ numbers (graph_row0_ten (row0_for rs) ∷ pack 0 rs)
@@ -86,7 +87,7 @@ module _ (rs : List Row) (r n : ℕ) where
     pub sizes : (10 * (1 + length rs) ≤ r) × (length (names_of rs) ≤ n)
     unfolding fits
     sizes =
-        let w = two (leb (10 * (1 + length rs)) r) (leb (length (names_of rs)) n) room in
+        let w = and_parts (leb (10 * (1 + length rs)) r) (leb (length (names_of rs)) n) room in
         (leb-true (10 * (1 + length rs)) r w.0, leb-true (length (names_of rs)) n w.1)
 
     pub rows-length : length (rows_sheet rs r n).rows ≡ r
@@ -151,7 +152,7 @@ module _ (x : Sheet) (p : Parts x) (b : Behind (tens_of x)) where
         c_is = b.c_is;
         formed = every_map ten_form row_form (unpack_row used_pairs x.names) (row-formed x.names) b.body b.formed;
         ordered = rw (tags-read x.names b.body) b.ordered;
-        uses = every_map (few used_pairs) (counted used_pairs) (unpack_row used_pairs x.names) (counted-unpack used_pairs x.names) (tens_of x) few-pairs;
+        uses = every_map (few used_pairs) (texts_counted used_pairs) (unpack_row used_pairs x.names) (counted-unpack used_pairs x.names) (tens_of x) few-pairs;
         texts = p.text;
       }
 

@@ -14,7 +14,8 @@ use Rattle.ir_types.specs.Refuses.{refuses}
 use Rattle.ir_types.specs.Table.{LabelTable}
 use Rattle.ir_types.proofs.Laws.Label.{reference-bound}
 use Rattle.ir_types.proofs.Laws.Refuses.{label-number-exactly}
-use Rattle.text.proofs.Laws.Tests.{test-cases, if-cases}
+use Rattle.std.proofs.lemmas.Bool.{cases_Bool}
+use Rattle.text.proofs.Laws.Tests.{if-cases}
 
 -- a test by the number that it gives
 refuses-by : (b : Bool) → ◌≡◌ {A = ℕ} (if b then 16 else 0) 16 → b ≡ true
@@ -67,4 +68,4 @@ module _ (rows names words : List ℕ) (k : ℕ) where
   pub label-table : LabelTable rows names words k (label rows names words k)
   label-table =
       ⊎_elim (λ h. rw (label-row h) (row-so (label-row h))) (λ h. rw (label-none h) (refused-so _ (label-none h) refl))
-      (test-cases (eqb (length rows % 10) 0 && ltb (10 * k) (length rows)))
+      (cases_Bool (eqb (length rows % 10) 0 && ltb (10 * k) (length rows)))

@@ -10,7 +10,7 @@ use lib.Dec.{ltb}
 use lib.ListN.{length, get_or, drop}
 use lib.Seq.{drop-cons}
 use Rattle.text.specs.Text.{every}
-use Rattle.text.proofs.Laws.Tests.{two}
+use Rattle.std.proofs.lemmas.Bool.{and_parts}
 use Rattle.xsd_types.specs.Places.{rows_from}
 use Rattle.ir_rows.specs.Lowered.{type_rows_of}
 use Rattle.ir_rows.specs.Types.{types_graph_rows}
@@ -27,7 +27,7 @@ left k entries h = rw (drop-cons entries k 0, add-one k)
 pub inside : (end k : ℕ) (entries : List ℕ) → k < length entries → every (λ (p : ℕ). ltb p end) (entry_places (drop k entries)) ≡ true
     → (ltb (get_or entries k 0 % 65536) end ≡ true) × (every (λ (p : ℕ). ltb p end) (entry_places (drop (k + 1) entries)) ≡ true)
 unfolding every
-inside end k entries h e = two _ _ (rw (left k entries h) at e)
+inside end k entries h e = and_parts _ _ (rw (left k entries h) at e)
 
 -- the types that are left are the one at that place and those behind it
 pub rest : (rows names : List ℕ) (end k : ℕ) (entries : List ℕ) {place : ℕ} → k < length entries → place ≡ get_or entries k 0 % 65536

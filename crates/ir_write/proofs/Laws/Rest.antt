@@ -14,7 +14,7 @@ use Rattle.ir_rows.specs.Lowered.{lowered_row, child_rows, type_rows_of, root_ro
 use Rattle.ir_rows.specs.Types.{types_graph_rows, graph_row_list}
 use Rattle.ir_rows.specs.Parts.{part_row, part_rows, part_places, part_types, part_graph}
 use Rattle.text.proofs.Laws.Tests.{if-cases, bool_cases}
-use Rattle.ir_checks.specs.declared.Kind.{Kind}
+use Rattle.ir_checks.specs.declared.TypeKind.{TypeKind}
 use Rattle.ir_checks.specs.Kinds.{is_kind, kind_places}
 use Rattle.ir_checks.proofs.Laws.Kinds.{kind-hit, kind-on, kind-end, kinds-types}
 use Rattle.ir_write.specs.Kinds.{one_rows, kind_rows}
@@ -73,7 +73,7 @@ module _ (part : SheetPart) (p : ℕ) where
     type-on h t = rw (next h, t)
 
 -- the types of one kind
-module _ (part : SheetPart) (kind : Kind) (p : ℕ) where
+module _ (part : SheetPart) (kind : TypeKind) (p : ℕ) where
   pub one-hit : is_kind kind (get_or part.rows.now (10 * p) 0) ≡ true → one_rows part kind p ≡ type_rows_of (part_rows part p)
   unfolding one_rows
   one-hit e = rw e
@@ -98,9 +98,9 @@ module _ (part : SheetPart) where
   types-append (p ∷ ps) qs = rw (types-append ps qs) (sym (append_assoc (type_rows_of (part_rows part p)) (part_types part ps) (part_types part qs)))
 
   -- the simple ones, then the complex ones
-  pub types-kinds : part_types part (part_places part) ≡ kind_rows part Kind.Simple 2 ++ kind_rows part Kind.Complex 2
+  pub types-kinds : part_types part (part_places part) ≡ kind_rows part TypeKind.Simple 2 ++ kind_rows part TypeKind.Complex 2
   unfolding kind_rows
-  types-kinds = rw (kinds-types part) (types-append (kind_places part Kind.Simple 2) (kind_places part Kind.Complex 2))
+  types-kinds = rw (kinds-types part) (types-append (kind_places part TypeKind.Simple 2) (kind_places part TypeKind.Complex 2))
 
   -- the namespace, the elements and the types
   pub graph-on : (ps : List ℕ) → part_graph part ps ≡ lowered_row false (part_row part 1) ++ (root_rows (part_rows part 2) ++ part_types part ps)

@@ -1,16 +1,16 @@
 -- A hash is below 2^32, and a bucket below their number; a name's bytes go in one by one. Assumes nothing.
-use Prim.Native.Nat.{ℕ, ◌+◌, ◌-◌, ◌*◌, ◌/◌, ◌%◌, ◌≤◌, ◌<◌}
+use Prim.Native.Nat.{ℕ, zero, suc, ◌+◌, ◌*◌, ◌/◌, ◌%◌, ◌≤◌, ◌<◌}
 use Prim.Native.Char.{code}
 use mathlib.Core.Path.{◌≡◌, refl, sym, ap, ◌∙◌}
 use mathlib.Core.Bool.{Bool, true, false}
-use mathlib.Core.List.{[], ◌∷◌}
+use mathlib.Core.List.{List, [], ◌∷◌}
 use native.Mathlib.Numerals.{add-one}
-use lib.ListN.{length, get_or, take, drop, drop_of_length-le}
-use lib.Seq.{drop-cons}
+use lib.ListN.{length, get_or, take, drop, drop_of_length-le, length-drop}
+use Rattle.std.specs.Simd.{first_chunks}
+use lib.Seq.{drop-cons, drop-drop, get_or-take}
 use native.Mathlib.Omega.{arith}
 use Rattle.std.proofs.Math.Nat.{add-mul-mod_self_left}
-use Rattle.std.proofs.lemmas.List.{take_all}
-use native.Mathlib.Nat.{le_refl, mul-le-mul, mul-lt-mul_of_pos_right}
+use native.Mathlib.Nat.{mul-le-mul, mul-lt-mul_of_pos_right}
 use Rattle.text.specs.Text.{Text, contains}
 use Rattle.names.specs.Same.{spelled}
 use Rattle.names.proofs.Laws.Names.{normalize-plain}
@@ -40,16 +40,33 @@ mixed-four h a b c d =
     ∙ sym (mixed-mod three d) ∙ ap (λ (x : ℕ). mixed x d) (sym (mixed-mod two c) ∙ ap (λ (x : ℕ). mixed x c) (sym (mixed-mod one b)))
 
 -- the first four bytes of a text go in
-pub hash-fours : (h : ℕ) (s : Text) → 4 ≤ length s
-    → hash_from (mixed (mixed (mixed (mixed h (get_or s 0 0)) (get_or s 1 0)) (get_or s 2 0)) (get_or s 3 0)) (take (length s - 4) (drop 4 s)) ≡ hash_from h s
+abbrev four_in : ℕ → Text → ℕ
+four_in h s = mixed (mixed (mixed (mixed h (get_or s 0 0)) (get_or s 1 0)) (get_or s 2 0)) (get_or s 3 0)
+
+hash-fours : (h : ℕ) (s : Text) → 4 ≤ length s → hash_from (four_in h s) (drop 4 s) ≡ hash_from h s
 unfolding hash_from
 hash-fours h [] l = absurd (let no : ⊥ = omega arith in no)
 hash-fours h (a ∷ []) l = absurd (let no : ⊥ = omega arith in no)
 hash-fours h (a ∷ b ∷ []) l = absurd (let no : ⊥ = omega arith in no)
 hash-fours h (a ∷ b ∷ c ∷ []) l = absurd (let no : ⊥ = omega arith in no)
-hash-fours h (a ∷ b ∷ c ∷ d ∷ s) l =
-    let left : length (a ∷ b ∷ c ∷ d ∷ s) - 4 ≡ length s = omega arith in
-    rw (left, take_all (length s) s (le_refl (length s))) refl
+hash-fours h (a ∷ b ∷ c ∷ d ∷ s) l = refl
+
+-- a text in chunks of four: chunk i is of the bytes from 4 * i on
+chunk-at : (k : ℕ) (s : Text) (i : ℕ) (z : Text) → i < k → get_or (first_chunks 4 k s) i z ≡ take 4 (drop (4 * i) s)
+chunk-at zero s i z l = absurd (let no : ⊥ = omega arith in no)
+chunk-at (suc k) s zero z l = refl
+chunk-at (suc k) s (suc i) z l =
+    let next : 4 * suc i ≡ 4 + 4 * i = omega arith in
+    chunk-at k (drop 4 s) i z (omega arith) ∙ rw next (ap (take 4) (drop-drop (4 * i) 4 s))
+
+pub hash-chunk : (h : ℕ) (s : Text) (fours : List Text) (i : ℕ) (z : Text) → fours ≡ first_chunks 4 (length s / 4) s → i < length s / 4
+    → hash_from (four_in h (get_or fours i z)) (drop (4 * (i + 1)) s) ≡ hash_from h (drop (4 * i) s)
+hash-chunk h s fours i z e l =
+    let t = drop (4 * i) s in
+    let next : 4 * (i + 1) ≡ 4 * i + 4 = omega arith in
+    let byte : (j : ℕ) → j < 4 → get_or (take 4 t) j 0 ≡ get_or t j 0 = λ j b. get_or-take 4 t j 0 b in
+    rw (e, chunk-at (length s / 4) s i z l, next, ← drop-drop 4 (4 * i) s, byte 0 (omega arith), byte 1 (omega arith), byte 2 (omega arith), byte 3 (omega arith))
+    (hash-fours h t (rw length-drop (omega arith)))
 
 -- the byte at a place goes in, and behind the last nothing is left
 pub hash-on : (h : ℕ) (s : Text) (i : ℕ) → i < length s → hash_from h (drop i s) ≡ hash_from (mixed h (get_or s i 0)) (drop (i + 1) s)

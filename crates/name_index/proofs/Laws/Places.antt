@@ -1,7 +1,7 @@
 -- The places entered, entry by entry, and the last of them that has a name. Assumes nothing.
 use Rattle.std.specs.Prelude.{if◌then◌else◌, Option, Some, None, is_some}
 use Rattle.std.proofs.lemmas.Option.{none-some, same_Some}
-use Prim.Native.Nat.{ℕ, suc, ◌+◌, ◌%◌, ◌≤◌, ◌<◌}
+use Prim.Native.Nat.{ℕ, zero, suc, ◌+◌, ◌%◌, ◌≤◌, ◌<◌}
 use mathlib.Core.Path.{◌≡◌, refl, sym, ap, ◌∙◌}
 use mathlib.Core.Bool.{Bool, true, false, ◌||◌, or-false}
 use mathlib.Core.List.{List, [], ◌∷◌, ◌++◌, map, map-append}
@@ -11,27 +11,41 @@ use native.Mathlib.Numerals.{add-one}
 use lib.ListN.{length, get_or, take, drop, set, length-map, length-drop, get_or-map}
 use lib.Seq.{length-take-le, get_or-take, get_or-drop, take-suc, take-suc-set, drop-set-lt, drop-set-add}
 use Rattle.text.specs.Text.{Text, same}
-use Rattle.text.proofs.Laws.Tests.{or_right}
+use Rattle.std.proofs.lemmas.Bool.{or_right}
 use Rattle.text.proofs.Laws.Texts.{same-eq}
 use Rattle.ir_types.specs.Distinct.{among}
-use Rattle.name_index.specs.Index.{place_from, place_of, places_in, place_in}
+use Rattle.name_index.specs.Index.{place_from, place_of, places_in, place_in, SameAnswers}
 
 -- ---- the last of the places that has a name
 
 module _ (name : ℕ → Text) (t : Text) where
-  -- one place more, behind the others
+  -- others behind them
+  from_append : (found : Option ℕ) (ps qs : List ℕ) → place_from found name t (ps ++ qs) ≡ place_from (place_from found name t ps) name t qs
+  unfolding place_from
+  from_append found [] qs = refl
+  from_append found (p ∷ ps) qs = from_append (if same (name p) t then Some p else found) ps qs
+
   from_more : (found : Option ℕ) (ps : List ℕ) (p : ℕ) → place_from found name t (ps ++ (p ∷ [])) ≡ (if same (name p) t then Some p else place_from found name t ps)
   unfolding place_from
-  from_more found [] p = refl
-  from_more found (q ∷ ps) p = from_more (if same (name q) t then Some q else found) ps p
+  from_more found ps p = from_append found ps (p ∷ [])
 
+  place-append : (ps qs : List ℕ) → place_of name t (ps ++ qs) ≡ place_from (place_of name t ps) name t qs
+  unfolding place_of
+  place-append ps qs = from_append None ps qs
+
+  -- one more
   pub place-more : (ps : List ℕ) (p : ℕ) → place_of name t (ps ++ (p ∷ [])) ≡ (if same (name p) t then Some p else place_of name t ps)
   unfolding place_of
   place-more ps p = from_more None ps p
 
+-- places that answer alike do so with others behind them
+pub same-append : (name : ℕ → Text) (ps qs rs : List ℕ) → SameAnswers name ps qs → SameAnswers name (ps ++ rs) (qs ++ rs)
+same-append name ps qs rs h t = place-append name t ps rs ∙ rw (h t) (sym (place-append name t qs rs))
+
+module _ (name : ℕ → Text) (t : Text) where
   -- there is one exactly if the name is among theirs
   from_step : (b : Bool) (p : ℕ) (found : Option ℕ) (rest : Bool) → is_some (if b then Some p else found) || rest ≡ is_some found || (b || rest)
-  from_step true p found rest = sym (or_right (is_some found) refl)
+  from_step true p found rest = sym (or_right (is_some found) _ refl)
   from_step false p found rest = refl
 
   from-among : (found : Option ℕ) (ps : List ℕ) → is_some (place_from found name t ps) ≡ is_some found || among t (map name ps)
@@ -43,6 +57,10 @@ module _ (name : ℕ → Text) (t : Text) where
   pub place-among : (ps : List ℕ) → is_some (place_of name t ps) ≡ among t (map name ps)
   unfolding place_of
   place-among ps = from-among None ps
+
+-- and hold the same names
+pub same-among : (name : ℕ → Text) (ps qs : List ℕ) → SameAnswers name ps qs → (t : Text) → among t (map name ps) ≡ among t (map name qs)
+same-among name ps qs h t = sym (place-among name t ps) ∙ ap is_some (h t) ∙ place-among name t qs
 
 -- r is one of the places, and has the name
 pub record Hit (name : ℕ → Text) (t : Text) (ps : List ℕ) (r : ℕ) : Type 0 where
@@ -99,3 +117,11 @@ module _ (k n : ℕ) (table : List ℕ) where
       rw (drop-set-lt k (set table (k + n) e) b v i, drop-set-add k table n e, add-one n)
       (ap (map (λ x. x % 65536)) (take-suc-set (drop k table) n e (rw length-drop (omega arith)))
       ∙ map-append (λ x. x % 65536) (take n (drop k table)) (e ∷ []))
+
+-- the same entries have the same places
+pub places-same : (k n : ℕ) (table other : List ℕ) → length table ≡ length other → k + n ≤ length table
+    → ((j : ℕ) → j < n → get_or other (k + j) 0 ≡ get_or table (k + j) 0) → places_in k n other ≡ places_in k n table
+unfolding places_in
+places-same k zero table other z l h = refl
+places-same k (suc n) table other z l h =
+    places-more k n other (omega (arith, z)) ∙ rw (h n (omega arith), places-same k n table other z (omega arith) (λ j i. h j (omega arith))) (sym (places-more k n table (omega arith)))

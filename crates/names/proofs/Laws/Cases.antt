@@ -11,7 +11,7 @@ use native.Mathlib.Omega.{arith}
 use lib.Dec.{leb}
 use lib.ListN.{length, get_or}
 use borrow.Author.Tests.{leb-true, not-true}
-use Rattle.text.specs.Text.{Text, every, between, is_plain_byte, is_tail, is_pair, is_graph_pair, text_by, is_text, is_graph_text, upper, lower, contains}
+use Rattle.text.specs.Text.{Text, every, between, is_plain_byte, is_tail, is_pair, is_graph_pair, text_by, is_text, is_graph_text, upper_byte, lower_byte, contains}
 use Rattle.text.specs.Characters.{is_lead, characters}
 use Rattle.text.proofs.Laws.Tests.{if-cases}
 use Rattle.text.proofs.Laws.Every.{every-get_d}
@@ -70,13 +70,13 @@ graph-firsts = refl
 pub upper_of-text : (c : Text) → is_text c ≡ true → is_graph_text (upper_of c) ≡ true
 unfolding upper_of
 upper_of-text [] e = text-in-graph [] e
-upper_of-text (b ∷ []) e = text-in-graph (upper b ∷ []) (upper-text b e)
+upper_of-text (b ∷ []) e = text-in-graph (upper_byte b ∷ []) (upper-text b e)
 upper_of-text (b ∷ t ∷ s) e = raised-passes is_graph_text (case_of b t) (b ∷ t ∷ s) (case-passes (forms is_graph_text) graph-forms refl b t) (text-in-graph (b ∷ t ∷ s) e)
 
 pub lower_of-text : (c : Text) → is_text c ≡ true → is_graph_text (lower_of c) ≡ true
 unfolding lower_of
 lower_of-text [] e = text-in-graph [] e
-lower_of-text (b ∷ []) e = text-in-graph (lower b ∷ []) (lower-text b e)
+lower_of-text (b ∷ []) e = text-in-graph (lower_byte b ∷ []) (lower-text b e)
 lower_of-text (b ∷ t ∷ s) e = lowered-passes is_graph_text (case_of b t) (b ∷ t ∷ s) (case-passes (lower_forms is_graph_text) graph-lower refl b t) (text-in-graph (b ∷ t ∷ s) e)
 
 first-text : (c : Text) → is_text c ≡ true → is_graph_text (first_of c) ≡ true
@@ -85,7 +85,7 @@ first-text c e = text-in-graph (first_of c) (every-get_d is_text [] empty-text (
 pub first_lower-text : (c : Text) → is_text c ≡ true → is_graph_text (first_lower c) ≡ true
 unfolding first_lower lower_of first_graph
 first_lower-text [] e = first-text [] e
-first_lower-text (b ∷ []) e = first-text (lower b ∷ []) (lower-text b e)
+first_lower-text (b ∷ []) e = first-text (lower_byte b ∷ []) (lower-text b e)
 first_lower-text (b ∷ t ∷ s) e =
     lowered-passes first_graph (case_of b t) (b ∷ t ∷ s) (case-passes (lower_forms first_graph) graph-firsts refl b t) (first-text (b ∷ t ∷ s) e)
 

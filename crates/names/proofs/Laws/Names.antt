@@ -10,7 +10,7 @@ use native.Mathlib.Omega.{arith}
 use lib.Dec.{eqb}
 use lib.ListN.{get_or}
 use borrow.Author.Tests.{eqb-false, ne_eqb}
-use Rattle.text.specs.Text.{Text, is_plain_byte, is_plain, is_tail, between, is_lower, upper, contains, in_front, split, join, first, every, is_text, is_graph_text}
+use Rattle.text.specs.Text.{Text, is_plain_byte, is_plain, is_tail, between, is_lower, upper_byte, contains, in_front, split, join, first, every, is_text, is_graph_text}
 use Rattle.text.specs.Characters.{is_lead, characters, is_byte}
 use Rattle.text.proofs.Laws.Tests.{if-cases, if-in, if-either, bool_cases, or-false-left, or-false-right}
 use Rattle.text.proofs.Laws.Texts.{between-low, between-high}
@@ -184,15 +184,15 @@ unfolding contains
 contains-behind c [] r e = refl
 contains-behind c (b ∷ s) r e = rw (or-false-left (eqb b c) (contains c s) e) (contains-behind c s r (or-false-right (eqb b c) (contains c s) e))
 
-upper-other : (b : ℕ) → (b ≡ code "_" → ⊥) → upper b ≡ code "_" → ⊥
-unfolding upper
+upper-other : (b : ℕ) → (b ≡ code "_" → ⊥) → upper_byte b ≡ code "_" → ⊥
+unfolding upper_byte
 upper-other b h =
     if-cases (λ r. r ≡ code "_" → ⊥) (is_lower b) (λ l e. omega (arith, between-low 97 122 b l, between-high 97 122 b l)) (λ l. h)
 
 -- a character that is not the underscore has none in it, nor has its upper form
 one-other : (up : Bool) (b : ℕ) → (b ≡ code "_" → ⊥) → contains (code "_") (cased up false (b ∷ [])) ≡ false
 unfolding cased upper_of contains
-one-other true b h = rw (ne_eqb (upper b) (code "_") (upper-other b h))
+one-other true b h = rw (ne_eqb (upper_byte b) (code "_") (upper-other b h))
 one-other false b h = rw (ne_eqb b (code "_") h)
 
 two-other : (b t : ℕ) → 128 ≤ b → 128 ≤ t → contains (code "_") (b ∷ t ∷ []) ≡ false

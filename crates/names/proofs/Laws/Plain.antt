@@ -8,7 +8,7 @@ use Prim.Native.Char.{code}
 use lib.Dec.{eqb}
 use lib.ListN.{get_or}
 use borrow.Author.Tests.{ltb-true}
-use Rattle.text.specs.Text.{Text, every, is_plain_byte, is_plain, between, is_upper, is_lower, lower, contains, in_front, split, join, first}
+use Rattle.text.specs.Text.{Text, every, is_plain_byte, is_plain, between, is_upper, is_lower, lower_byte, contains, in_front, split, join, first}
 use Rattle.text.specs.Characters.{characters}
 use Rattle.text.proofs.Laws.Tests.{and-true-left, and-true-right, and-true, if-cases}
 use Rattle.text.proofs.Laws.Every.{every-head, every-tail}
@@ -61,7 +61,7 @@ normalize-ascii s e =
 
 pub pascal-ascii : (s : Text) → is_plain s ≡ true → code_to_pascal_case s ≡ byte_pascal s
 unfolding code_to_pascal_case byte_pascal lower_of
-pascal-ascii s e = ap join (each-capital lower_of lower (λ b. refl) (split (code "-") s) (split-plain (code "-") s e))
+pascal-ascii s e = ap join (each-capital lower_of lower_byte (λ b. refl) (split (code "-") s) (split-plain (code "-") s e))
 
 -- ---- the snake form
 

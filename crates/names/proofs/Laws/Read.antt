@@ -16,8 +16,8 @@ use Rattle.names.specs.Names.{starts_word, snake_from}
 use Rattle.names.specs.Scans.{cased, segments}
 use Rattle.names.specs.declared.characters.Short.{Short}
 use Rattle.names.specs.declared.reading.Reading.{Reading}
-use Rattle.names.specs.Short.{bytes_of}
-use Rattle.names.specs.Begun.{behind}
+use Rattle.names.specs.Short.{form_bytes}
+use Rattle.names.specs.Begun.{reading_behind}
 use Rattle.names.specs.Same.{form_left, rest_left}
 use Rattle.names.proofs.Laws.Characters.{one-byte, high-other}
 
@@ -28,7 +28,7 @@ fewer left e = record { on = λ _. (tt, tt, omega (arith, ap length e)); keeps =
 -- ---- by segments
 
 left-behind : (form : Option Short) (separator : ℕ) (lowers up : Bool) (s : Text)
-    → form_left (behind form) ++ rest_left (behind form) separator lowers up s ≡ bytes_of form ++ segments separator lowers up (characters s)
+    → form_left (reading_behind form) ++ rest_left (reading_behind form) separator lowers up s ≡ form_bytes form ++ segments separator lowers up (characters s)
 left-behind None separator lowers up s = refl
 left-behind (Some form) separator lowers up s = refl
 
@@ -47,8 +47,8 @@ module _ (reading : Reading) (separator : ℕ) (lowers up : Bool) (s : Text) (pa
     unfolding segments is_byte
     byte-kept x h n e = rw (parted, split, one-byte b u h, ne_eqb b separator n, e)
 
-    pub character-kept : (c v : Text) (x : ℕ) (form : Option Short) → 128 ≤ b → characters (b ∷ u) ≡ c ∷ characters v → cased up lowers c ≡ x ∷ bytes_of form
-        → form_left reading ++ rest_left reading separator lowers up s ≡ x ∷ (form_left (behind form) ++ rest_left (behind form) separator lowers false v)
+    pub character-kept : (c v : Text) (x : ℕ) (form : Option Short) → 128 ≤ b → characters (b ∷ u) ≡ c ∷ characters v → cased up lowers c ≡ x ∷ form_bytes form
+        → form_left reading ++ rest_left reading separator lowers up s ≡ x ∷ (form_left (reading_behind form) ++ rest_left (reading_behind form) separator lowers false v)
     unfolding segments
     character-kept c v x form h d e =
         rw (left-behind form separator lowers false v, parted, split, d, high-other b separator u c (characters v) h low d, e)
@@ -56,17 +56,17 @@ module _ (reading : Reading) (separator : ℕ) (lowers up : Bool) (s : Text) (pa
 -- ---- a snake form
 
 module _ (form : Option Short) (prev s : Text) (none : form ≡ None) where
-  pub nothing-snake : s ≡ [] → bytes_of form ++ snake_from prev (characters s) ≡ []
+  pub nothing-snake : s ≡ [] → form_bytes form ++ snake_from prev (characters s) ≡ []
   unfolding snake_from characters
   nothing-snake e = rw (none, e)
 
   module _ (c r : Text) (split : characters s ≡ c ∷ characters r) where
     pub underscore-first : starts_word prev c (get_or (characters r) 0 []) ≡ true
-        → bytes_of form ++ snake_from prev (characters s) ≡ code "_" ∷ (first_lower c ++ snake_from c (characters r))
+        → form_bytes form ++ snake_from prev (characters s) ≡ code "_" ∷ (first_lower c ++ snake_from c (characters r))
     unfolding snake_from
     underscore-first e = rw (none, split, e)
 
     pub character-first : (b : ℕ) (x : Text) → starts_word prev c (get_or (characters r) 0 []) ≡ false → first_lower c ≡ b ∷ x
-        → bytes_of form ++ snake_from prev (characters s) ≡ b ∷ (x ++ snake_from c (characters r))
+        → form_bytes form ++ snake_from prev (characters s) ≡ b ∷ (x ++ snake_from c (characters r))
     unfolding snake_from
     character-first b x e k = rw (none, split, e, k)

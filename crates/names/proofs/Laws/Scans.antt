@@ -9,9 +9,9 @@ use lib.Bits.{bit_or}
 use lib.Dec.{ltb}
 use lib.ListN.{length, drop, get_or, drop_of_length-le}
 use borrow.Author.Tests.{eq-eqb, ne_eqb, lt-ltb, ltb-true}
-use Rattle.text.specs.Text.{Text, between, lower, first}
+use Rattle.text.specs.Text.{Text, between, lower_byte, first}
 use Rattle.text.specs.Characters.{characters, is_byte}
-use Rattle.text.proofs.Laws.Tests.{two}
+use Rattle.std.proofs.lemmas.Bool.{and_parts}
 use Rattle.text.proofs.Laws.Bits.{or-small}
 use Rattle.names.specs.Cases.{upper_of, lower_of, first_lower, is_upper_char, is_lower_char}
 use Rattle.names.specs.Names.{starts_word, snake_from}
@@ -23,7 +23,7 @@ use Rattle.names.proofs.Laws.Characters.{one-byte, byte-at}
 -- the bits of both together are tested
 pub both-low : (a b : ℕ) → bit_or a b < 128 → (a < 128) × (b < 128)
 both-low a b h =
-    let e = two (ltb a 128) (ltb b 128) (sym (or-small a b) ∙ lt-ltb (bit_or a b) 128 h) in
+    let e = and_parts (ltb a 128) (ltb b 128) (sym (or-small a b) ∙ lt-ltb (bit_or a b) 128 h) in
     (ltb-true a 128 e.0, ltb-true b 128 e.1)
 
 -- cased, a byte is one
@@ -68,8 +68,8 @@ module _ (prev : ℕ) (s : Text) (i : ℕ) (h : i < length s) (k : get_or s i 0 
   -- an underscore stands before the byte where a word starts there
   pub snake-step : (starts : Bool) → starts_word (prev ∷ []) (get_or s i 0 ∷ []) (first (drop (suc i) s) ∷ []) ≡ starts
       → snake_from (prev ∷ []) (characters (drop i s))
-      ≡ (if starts then code "_" ∷ lower (get_or s i 0) ∷ snake_from (get_or s i 0 ∷ []) (characters (drop (suc i) s))
-      else lower (get_or s i 0) ∷ snake_from (get_or s i 0 ∷ []) (characters (drop (suc i) s)))
+      ≡ (if starts then code "_" ∷ lower_byte (get_or s i 0) ∷ snake_from (get_or s i 0 ∷ []) (characters (drop (suc i) s))
+      else lower_byte (get_or s i 0) ∷ snake_from (get_or s i 0 ∷ []) (characters (drop (suc i) s)))
   unfolding snake_from first_lower lower_of characters
   snake-step starts e = rw (byte-at s i h k, starts-next (prev ∷ []) (get_or s i 0 ∷ []) (drop (suc i) s) l, e)
 

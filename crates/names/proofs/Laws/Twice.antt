@@ -9,7 +9,7 @@ use Prim.Native.Char.{code}
 use native.Mathlib.Omega.{arith}
 use lib.ListN.{get_or}
 use borrow.Author.Tests.{lt-leb, ne_eqb, not-true}
-use Rattle.text.specs.Text.{Text, every, between, is_tail, is_upper, lower, first}
+use Rattle.text.specs.Text.{Text, every, between, is_tail, is_upper, lower_byte, first}
 use Rattle.text.specs.Characters.{is_lead, characters}
 use Rattle.text.proofs.Laws.Tests.{and-true-left, and-true-right, and-true, if-cases, bool_cases}
 use Rattle.text.proofs.Laws.Texts.{between-low, between-high, between-above, between-below, lower-of-other}
@@ -67,8 +67,8 @@ first-two p table b t e h =
 
 -- ---- a byte's lower form
 
-lower-lead : (b : ℕ) → is_lead (lower b) ≡ is_lead b
-unfolding lower is_lead
+lower-lead : (b : ℕ) → is_lead (lower_byte b) ≡ is_lead b
+unfolding lower_byte is_lead
 lower-lead b =
     if-cases (λ n. is_lead n ≡ is_lead b) (is_upper b)
     (λ u. low (b + 32) (omega (arith, between-high 65 90 b u)) ∙ sym (low b (omega (arith, between-high 65 90 b u))))
@@ -77,13 +77,13 @@ lower-lead b =
     low : (n : ℕ) → n ≤ 193 → is_lead n ≡ false
     low n h = rw (between-below 194 197 n (omega arith), ne_eqb n 202 (λ w. omega arith), ne_eqb n 204 (λ w. omega arith), ne_eqb n 206 (λ w. omega arith))
 
-lower-tail : (b : ℕ) → is_tail b ≡ false → is_tail (lower b) ≡ false
-unfolding lower is_tail
+lower-tail : (b : ℕ) → is_tail b ≡ false → is_tail (lower_byte b) ≡ false
+unfolding lower_byte is_tail
 lower-tail b h =
     if-cases (λ n. between 128 191 n ≡ false) (is_upper b) (λ u. between-below 128 191 (b + 32) (omega (arith, between-high 65 90 b u))) (λ u. h)
 
-lower-no-upper : (b : ℕ) → is_upper (lower b) ≡ false
-unfolding lower
+lower-no-upper : (b : ℕ) → is_upper (lower_byte b) ≡ false
+unfolding lower_byte
 lower-no-upper b =
     if-cases
     (λ r. is_upper r ≡ false)
@@ -106,9 +106,9 @@ whole-character (b ∷ t ∷ u ∷ s) r e = absurd (false≢true e)
 
 -- a byte of its own, whose lower form goes in front of r where it stood in front of u
 own-byte : (b : ℕ) (u r : Text) → is_lead b && is_tail (first u) ≡ false → (is_tail (first u) ≡ false → is_tail (first r) ≡ false)
-    → characters (lower b ∷ r) ≡ (lower b ∷ []) ∷ characters r
+    → characters (lower_byte b ∷ r) ≡ (lower_byte b ∷ []) ∷ characters r
 own-byte b u r e h =
-    characters-one (lower b) r (rw (lower-lead b) (bool_cases (is_lead b) (λ w. rw (w, h (rw w at e))) (λ w. rw w)))
+    characters-one (lower_byte b) r (rw (lower-lead b) (bool_cases (is_lead b) (λ w. rw (w, h (rw w at e))) (λ w. rw w)))
 
 first-append : (c r : Text) → is_character c ≡ true → first (c ++ r) ≡ first c
 unfolding first is_character
@@ -147,8 +147,8 @@ snake_from-no-upper s =
     by_characters (λ u. (prev : Text) → no_upper (snake_from prev (characters u)) ≡ true) (λ prev. refl)
     (λ b u e h prev.
     let r = snake_from (b ∷ []) (characters u) in
-    let rest : no_upper (lower b ∷ r) ≡ true = rw (own-byte b u r e (snake-head u (b ∷ []))) (and-true (ap not (lower-no-upper b)) (h (b ∷ []))) in
-    rw (characters-one b u e) (if-cases (λ r. no_upper r ≡ true) (starts_word prev (b ∷ []) (get_or (characters u) 0 [])) (λ w. underscore-no-upper (lower b ∷ r) rest) (λ w. rest)))
+    let rest : no_upper (lower_byte b ∷ r) ≡ true = rw (own-byte b u r e (snake-head u (b ∷ []))) (and-true (ap not (lower-no-upper b)) (h (b ∷ []))) in
+    rw (characters-one b u e) (if-cases (λ r. no_upper r ≡ true) (starts_word prev (b ∷ []) (get_or (characters u) 0 [])) (λ w. underscore-no-upper (lower_byte b ∷ r) rest) (λ w. rest)))
     (λ b t u e h prev.
     let c = first_lower (b ∷ t ∷ []) in
     let r = snake_from (b ∷ t ∷ []) (characters u) in

@@ -10,7 +10,7 @@ use Rattle.std.proofs.lemmas.Slice.{drop-append-drop}
 use lib.Seq.{take_all, length-take-le, take-suc, drop-cons, set_at}
 use borrow.Author.Tests.{le-leb, lt-leb}
 use Rattle.text.specs.Text.{Text}
-use Rattle.names.specs.Answers.{Put, written, placed}
+use Rattle.names.specs.Answers.{PutByte, Put, written, placed}
 
 -- n bytes of t stand in the part, which was `before` and is `out` now; `rest` is still to be written
 pub record Writing (t before : Text) (n : ℕ) (out rest : Text) : Type 0 where
@@ -63,6 +63,14 @@ writing-full {t} {before} {n} w h =
       counted = rw (lt-leb (length t) (length before) k);
       holds = w.holds ∙ rw (drop_of_length-le before h, drop_of_length-le before {i = length t} (omega arith), e);
     }
+
+-- the next byte of the text was put
+pub writing_put : {t before : Text} {n b m : ℕ} {out rest after : Text} → Writing t before n out (b ∷ rest) → PutByte out n b (Some m) after → Writing t before m after rest
+writing_put w p = rw (p.1, p.2) (writing_more w (omega (arith, writing-length w, p.0)))
+
+-- it had no room
+pub writing-refused : {t before : Text} {n b : ℕ} {out rest after : Text} → Writing t before n out (b ∷ rest) → PutByte out n b None after → Put t before None after
+writing-refused w p = rw p.1 (writing-full w (omega (arith, writing-length w, p.0)))
 
 -- the same text put from the start again
 pub put_again : {t before : Text} {n : ℕ} {out rest : Text} {answer : Option ℕ} {after : Text} → Writing t before n out rest → Put t out answer after → Put t before answer after

@@ -10,7 +10,7 @@ use lib.Dec.{ltb}
 use borrow.Author.Tests.{ltb-false}
 use Rattle.text.specs.Text.{Text}
 use Rattle.text.specs.Trim.{trimmed}
-use Rattle.number.specs.Number.{Parsed, parsed, refused, after_plus, is_numeral, value, below, numeral, plain_below, plain_number, is_minus_zeros, number_below, number}
+use Rattle.number.specs.Number.{Parsed, parsed, refused, after_plus, is_numeral, decimal_value, below, numeral, plain_below, plain_number, is_minus_zeros, number_below, number}
 use Rattle.number.specs.Answers.{of_number}
 use Rattle.number.proofs.Laws.Numbers.{below-past, below-within}
 use Rattle.number.proofs.Laws.Spellings.{number-kept}
@@ -31,8 +31,8 @@ cut-numeral : (limit top : ℕ) (d : Text) → limit ≤ top → numeral limit d
 unfolding numeral cut
 cut-numeral limit top d h = go (is_numeral d)
   where
-    go : (t : Bool) → (if t then below limit (value 0 d) else refused 10) ≡ cut limit (if t then below top (value 0 d) else refused 10)
-    go true = cut-below limit top (value 0 d) h
+    go : (t : Bool) → (if t then below limit (decimal_value 0 d) else refused 10) ≡ cut limit (if t then below top (decimal_value 0 d) else refused 10)
+    go true = cut-below limit top (decimal_value 0 d) h
     go false = refl
 
 -- what is given below a limit is what is given below a larger one, where that is below the limit

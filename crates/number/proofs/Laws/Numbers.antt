@@ -17,7 +17,7 @@ use borrow.Author.Tests.{ltb-true, lt-ltb, le-ltb, eq-eqb, ne_eqb}
 use Rattle.text.specs.Text.{Text, every, is_digit}
 use Rattle.text.specs.Trim.{trimmed}
 use Rattle.text.proofs.Laws.Texts.{between-low, between-high}
-use Rattle.number.specs.Number.{Parsed, parsed, refused, after_plus, is_numeral, value, below, numeral, plain_below, is_minus_zeros, number_below, number}
+use Rattle.number.specs.Number.{Parsed, parsed, refused, after_plus, is_numeral, decimal_value, below, numeral, plain_below, is_minus_zeros, number_below, number}
 
 pub digit-within : (b : ℕ) → is_digit b ≡ true → (48 ≤ b) × (b ≤ 57)
 digit-within b e = (between-low 48 57 b e, between-high 48 57 b e)
@@ -33,7 +33,7 @@ after_plus-other [] h = refl
 after_plus-other (b ∷ s) h = rw (ne_eqb b (code "+") h)
 
 unfoldable pub from : ℕ → ℕ → Text → Parsed
-from limit v d = if every is_digit d then below limit (value v d) else refused 10
+from limit v d = if every is_digit d then below limit (decimal_value v d) else refused 10
 
 -- a test whose two answers are one
 pub either_way : (t : Bool) (x : Parsed) → (if t then x else x) ≡ x
@@ -46,8 +46,8 @@ kept true x v e = (refl, e)
 kept false x v e = let z : ◌≡◌ {A = ℕ} 0 1 = cc in absurd (omega arith)
 
 -- a value only grows
-pub value_grows : (v : ℕ) (d : Text) → v ≤ value v d
-unfolding value
+pub value_grows : (v : ℕ) (d : Text) → v ≤ decimal_value v d
+unfolding decimal_value
 value_grows v [] = omega arith
 value_grows v (b ∷ d) = le_trans (omega arith) (value_grows (v * 10 + (b - 48)) d)
 
@@ -70,10 +70,10 @@ below-bound limit n v e =
 -- a value that reaches the limit is refused, whatever follows
 pub from_past : (limit v : ℕ) (d : Text) → limit ≤ v → from limit v d ≡ refused 10
 unfolding from
-from_past limit v d h = rw (below-past limit (value v d) (le_trans h (value_grows v d))) (either_way (every is_digit d) (refused 10))
+from_past limit v d h = rw (below-past limit (decimal_value v d) (le_trans h (value_grows v d))) (either_way (every is_digit d) (refused 10))
 
 pub from-over : (limit v : ℕ) (d : Text) (i : ℕ) → i < length d → is_digit (get_or d i 0) ≡ true → limit ≤ v * 10 + (get_or d i 0 - 48) → from limit v (drop i d) ≡ refused 10
-unfolding from every value
+unfolding from every decimal_value
 from-over limit v d i h e p = rw (drop-cons d i 0 h, e) (from_past limit (v * 10 + (get_or d i 0 - 48)) (drop (suc i) d) p)
 
 -- ---- the digits of d before place i are read: their value is below the limit, and with the digits behind them gives what d gives
@@ -88,7 +88,7 @@ read-start limit (b ∷ d) h k = record { small = k; gives = refl }
 
 module _ {limit : ℕ} {d : Text} {v i : ℕ} (w : ReadTo limit d v i) where
   pub read-end : length d ≤ i → parsed v ≡ numeral limit d
-  unfolding from every value
+  unfolding from every decimal_value
   read-end h = rw (drop_of_length-le d h, below-within limit v w.small) at w.gives
 
   module _ (h : i < length d) where
@@ -98,7 +98,7 @@ module _ {limit : ℕ} {d : Text} {v i : ℕ} (w : ReadTo limit d v i) where
     read-other e = rw (drop-cons d i 0 h, e) at w.gives
 
     on : is_digit (get_or d i 0) ≡ true → from limit (v * 10 + (get_or d i 0 - 48)) (drop (suc i) d) ≡ numeral limit d
-    unfolding from every value
+    unfolding from every decimal_value
     on e = rw (drop-cons d i 0 h, e) at w.gives
 
     -- a digit that reaches the limit refuses
@@ -115,7 +115,7 @@ numeral-none limit (b ∷ d) e = absurd (omega arith)
 
 pub numeral-bound : (limit : ℕ) (d : Text) (v : ℕ) → numeral limit d ≡ parsed v → v < limit
 unfolding numeral
-numeral-bound limit d v e = below-bound limit (value 0 d) v (kept (is_numeral d) (below limit (value 0 d)) v e).1
+numeral-bound limit d v e = below-bound limit (decimal_value 0 d) v (kept (is_numeral d) (below limit (decimal_value 0 d)) v e).1
 
 pub plain_below-bound : (limit : ℕ) (s : Text) (v : ℕ) → plain_below limit s ≡ parsed v → v < limit
 unfolding plain_below

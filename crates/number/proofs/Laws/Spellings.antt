@@ -18,7 +18,7 @@ use Rattle.text.specs.Trim.{is_white_space, is_solid, trimmed, Around}
 use Rattle.text.proofs.Laws.Tests.{and-true-left, and-true-right, bool_cases}
 use Rattle.text.proofs.Laws.Every.{every-cons, every-weaken}
 use Rattle.text.proofs.Laws.Trim.{trimmed-around, around-trimmed}
-use Rattle.number.specs.Number.{parsed, refused, after_plus, is_numeral, value, below, numeral, plain_below, plain_number, is_zero, is_minus_zeros, number_below, number, SpellsBelow, Spells}
+use Rattle.number.specs.Number.{parsed, refused, after_plus, is_numeral, decimal_value, below, numeral, plain_below, plain_number, is_zero, is_minus_zeros, number_below, number, SpellsBelow, Spells}
 use Rattle.number.proofs.Laws.Numbers.{digit-within, kept}
 
 pub minus-short : (s : Text) → length s < 2 → is_minus_zeros s ≡ false
@@ -83,7 +83,7 @@ plus-solid (b ∷ s) e =
 
 pub plain-solid : (limit : ℕ) (s : Text) (v : ℕ) → plain_below limit s ≡ parsed v → every is_solid s ≡ true
 unfolding plain_below numeral
-plain-solid limit s v e = plus-solid s (kept (is_numeral (after_plus s)) (below limit (value 0 (after_plus s))) v e).0
+plain-solid limit s v e = plus-solid s (kept (is_numeral (after_plus s)) (below limit (decimal_value 0 (after_plus s))) v e).0
 
 zero-solid : (b : ℕ) → is_zero b ≡ true → is_solid b ≡ true
 zero-solid b e = other-solid b (omega (arith, eqb-true b (code "0") e))

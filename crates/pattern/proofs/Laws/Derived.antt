@@ -7,7 +7,8 @@ use mathlib.Core.List.{[], ◌∷◌, ◌++◌, append_assoc}
 use lib.Dec.{eqb}
 use borrow.Author.Tests.{ne_eqb}
 use Rattle.text.specs.Text.{Text, bytes, contains, between, is_digit, first}
-use Rattle.text.proofs.Laws.Tests.{or_left, or_right, and-true, and-true-left}
+use Rattle.std.proofs.lemmas.Bool.{or_left, or_right}
+use Rattle.text.proofs.Laws.Tests.{and-true, and-true-left}
 use Rattle.text.proofs.Laws.Every.{EachFrom, between-each}
 use Rattle.xml.specs.Classes.{is_char}
 use Rattle.pattern.specs.Grammar.{char_but, is_normal, is_xml_char, is_in_class, is_mark, is_single, is_multi, QuantExact, digit, digits, Quantity, range, least, exact}
@@ -15,7 +16,7 @@ use Rattle.pattern.specs.Grammar.{Quantifier, mark, counted, SingleCharEsc, sing
 use Rattle.pattern.specs.Grammar.{single_esc, multi_esc, CharOrEsc, xml_char, char_esc, CharRange, se_range, char_inc_dash, GroupItem, range_item, esc_item}
 use Rattle.pattern.specs.Grammar.{PosCharGroup, item, items, CharGroup, positive, negative, CharClass, class_esc, class_expr, wildcard}
 use Rattle.pattern.specs.Grammar.{Symbol, reg_exp, branch, piece, Derives, one, or, none, more, once, times, char, class, group}
-use Rattle.pattern.specs.Scan.{Mode, start, atom, go, is_escaped, leave, is_plain, fresh, inside, step, final, scan}
+use Rattle.pattern.specs.Scan.{Mode, start, atom, go, is_escaped, leave, is_single_char, fresh, class_step, pattern_step, final, scan}
 
 -- a byte that passes a test is not one that fails it
 pub differs : (p : ℕ → Bool) (c : ℕ) {b : ℕ} → p b ≡ true → p c ≡ false → eqb b c ≡ false
@@ -24,49 +25,49 @@ differs p c {b} h k = ne_eqb b c (λ e. false≢true (sym k ∙ ap p (sym e) ∙
 pub differs' : (p : ℕ → Bool) (c : ℕ) {b : ℕ} → p b ≡ true → p c ≡ false → eqb c b ≡ false
 differs' p c {b} h k = ne_eqb c b (λ e. false≢true (sym k ∙ ap p e ∙ h))
 
-pub plain-fresh : (d b : ℕ) → is_plain b ≡ true → fresh d b ≡ go d atom
-unfolding fresh is_plain is_normal char_but is_char contains bytes between
-plain-fresh d b h = rw (differs is_plain 40 h refl, differs is_plain 41 h refl, differs is_plain 124 h refl, differs is_plain 91 h refl, differs is_plain 92 h refl, h)
+pub plain-fresh : (d b : ℕ) → is_single_char b ≡ true → fresh d b ≡ go d atom
+unfolding fresh is_single_char is_normal char_but is_char contains bytes between
+plain-fresh d b h = rw (differs is_single_char 40 h refl, differs is_single_char 41 h refl, differs is_single_char 124 h refl, differs is_single_char 91 h refl, differs is_single_char 92 h refl, h)
 
-pub plain-unmarked : (b : ℕ) → is_plain b ≡ true → is_mark b ≡ false
-unfolding is_mark is_plain is_normal char_but is_char contains bytes between
-plain-unmarked b h = rw (differs' is_plain 63 h refl, differs' is_plain 42 h refl, differs' is_plain 43 h refl)
+pub plain-unmarked : (b : ℕ) → is_single_char b ≡ true → is_mark b ≡ false
+unfolding is_mark is_single_char is_normal char_but is_char contains bytes between
+plain-unmarked b h = rw (differs' is_single_char 63 h refl, differs' is_single_char 42 h refl, differs' is_single_char 43 h refl)
 
-normal-plain : (b : ℕ) → is_normal b ≡ true → is_plain b ≡ true
-unfolding is_plain
-normal-plain b h = or_right (eqb b 46) h
+normal-plain : (b : ℕ) → is_normal b ≡ true → is_single_char b ≡ true
+unfolding is_single_char
+normal-plain b h = or_right (eqb b 46) _ h
 
 -- behind an atom a character is scanned as where an atom may come
 pub unmarked-scan : (d : ℕ) (r : Text) → is_mark (first r) ≡ false → scan (go d atom) r ≡ scan (go d start) r
-unfolding scan final step first
+unfolding scan final pattern_step first
 unmarked-scan d [] h = refl
 unmarked-scan d (b ∷ r) h = rw h
 
 -- a character behind an atom
-char-scan : (d b : ℕ) (r : Text) → is_plain b ≡ true → scan (go d atom) (b ∷ r) ≡ scan (go d atom) r
-unfolding scan step
+char-scan : (d b : ℕ) (r : Text) → is_single_char b ≡ true → scan (go d atom) (b ∷ r) ≡ scan (go d atom) r
+unfolding scan pattern_step
 char-scan d b r h = rw (plain-unmarked b h, plain-fresh d b h)
 
-digit-plain : (b : ℕ) → is_digit b ≡ true → is_plain b ≡ true
-unfolding is_plain is_normal char_but is_char contains bytes between EachFrom
-digit-plain b h = between-each (λ (k : ℕ). is_plain k ≡ true) 48 9 57 b refl (refl, (refl, (refl, (refl, (refl, (refl, (refl, (refl, (refl, refl))))))))) h
+digit-plain : (b : ℕ) → is_digit b ≡ true → is_single_char b ≡ true
+unfolding is_single_char is_normal char_but is_char contains bytes between EachFrom
+digit-plain b h = between-each (λ (k : ℕ). is_single_char k ≡ true) 48 9 57 b refl (refl, (refl, (refl, (refl, (refl, (refl, (refl, (refl, (refl, refl))))))))) h
 
 exact-scan : {s : Text} → QuantExact s → (d : ℕ) (r : Text) → scan (go d atom) (s ++ r) ≡ scan (go d atom) r
 exact-scan (digit {b} h) d r = char-scan d b r (digit-plain b h)
 exact-scan (digits {b} {s} h q) d r = char-scan d b (s ++ r) (digit-plain b h) ∙ exact-scan q d r
 
 quantity-scan : {s : Text} → Quantity s → (d : ℕ) (r : Text) → scan (go d atom) (s ++ r) ≡ scan (go d atom) r
-unfolding is_plain is_normal char_but is_char contains bytes between
+unfolding is_single_char is_normal char_but is_char contains bytes between
 quantity-scan (range {s} {t} p q) d r = rw append_assoc (exact-scan p d (code "," ∷ t ++ r) ∙ char-scan d 44 (t ++ r) refl ∙ exact-scan q d r)
 quantity-scan (least {s} p) d r = rw append_assoc (exact-scan p d (code "," ∷ r) ∙ char-scan d 44 r refl)
 quantity-scan (exact p) d r = exact-scan p d r
 
 mark-scan : (d b : ℕ) (r : Text) → is_mark b ≡ true → scan (go d atom) (b ∷ r) ≡ scan (go d start) r
-unfolding scan step
+unfolding scan pattern_step
 mark-scan d b r h = rw h
 
 quantifier-scan : {q : Text} → Quantifier q → (d : ℕ) (r : Text) → is_mark (first r) ≡ false → scan (go d atom) (q ++ r) ≡ scan (go d start) r
-unfolding is_plain is_normal char_but is_char contains bytes between
+unfolding is_single_char is_normal char_but is_char contains bytes between
 quantifier-scan (mark {b} h) d r u = mark-scan d b r h
 quantifier-scan (counted {s} q) d r u =
     rw append_assoc (char-scan d 123 (s ++ code "}" ∷ r) refl ∙ quantity-scan q d (code "}" ∷ r) ∙ char-scan d 125 r refl ∙ unmarked-scan d r u)
@@ -77,7 +78,7 @@ in_class true = Mode.opened
 in_class false = Mode.class
 
 in-scan : (f : Bool) (d b : ℕ) (r : Text) → is_in_class b ≡ true → scan (go d (in_class f)) (b ∷ r) ≡ scan (go d Mode.class) r
-unfolding scan step inside is_in_class char_but is_char contains bytes between
+unfolding scan pattern_step class_step is_in_class char_but is_char contains bytes between
 in-scan true d b r h = rw (differs is_in_class 92 h refl, h)
 in-scan false d b r h = rw (differs is_in_class 93 h refl, differs is_in_class 92 h refl, h)
 
@@ -88,19 +89,19 @@ xml-char-in b h =
 
 single-escaped : (b : ℕ) → is_single b ≡ true → is_escaped b ≡ true
 unfolding is_escaped
-single-escaped b h = or_left (is_multi b) h
+single-escaped b h = or_left _ (is_multi b) h
 
 multi-escaped : (b : ℕ) → is_multi b ≡ true → is_escaped b ≡ true
 unfolding is_escaped
-multi-escaped b h = or_right (is_single b) h
+multi-escaped b h = or_right (is_single b) _ h
 
 in-esc : (f : Bool) (d b : ℕ) (r : Text) → is_escaped b ≡ true → scan (go d (in_class f)) (code "\\" ∷ b ∷ r) ≡ scan (go d Mode.class) r
-unfolding scan step inside
+unfolding scan pattern_step class_step
 in-esc true d b r h = rw h
 in-esc false d b r h = rw h
 
 esc-scan : (d b : ℕ) (r : Text) → is_escaped b ≡ true → scan (go d start) (code "\\" ∷ b ∷ r) ≡ scan (go d atom) r
-unfolding scan step fresh
+unfolding scan pattern_step fresh
 esc-scan d b r h = rw h
 
 in-single : {s : Text} → SingleCharEsc s → (f : Bool) (d : ℕ) (r : Text) → scan (go d (in_class f)) (s ++ r) ≡ scan (go d Mode.class) r
@@ -130,19 +131,19 @@ group-scan (positive p) d r = items-scan p true d r
 group-scan (negative {s} p) d r = in-scan true d 94 (s ++ r) refl ∙ items-scan p false d r
 
 open-scan : (d : ℕ) (r : Text) → scan (go d start) (code "[" ∷ r) ≡ scan (go d Mode.opened) r
-unfolding scan step fresh
+unfolding scan pattern_step fresh
 open-scan d r = refl
 
 close-scan : (d : ℕ) (r : Text) → scan (go d Mode.class) (code "]" ∷ r) ≡ scan (go d atom) r
-unfolding scan step
+unfolding scan pattern_step
 close-scan d r = refl
 
-plain-scan : (d b : ℕ) (r : Text) → is_plain b ≡ true → scan (go d start) (b ∷ r) ≡ scan (go d atom) r
-unfolding scan step
+plain-scan : (d b : ℕ) (r : Text) → is_single_char b ≡ true → scan (go d start) (b ∷ r) ≡ scan (go d atom) r
+unfolding scan pattern_step
 plain-scan d b r h = rw (plain-fresh d b h)
 
 class-scan : {s : Text} → CharClass s → (d : ℕ) (r : Text) → scan (go d start) (s ++ r) ≡ scan (go d atom) r
-unfolding is_plain
+unfolding is_single_char
 class-scan (class_esc (single_esc (single {b} h))) d r = esc-scan d b r (single-escaped b h)
 class-scan (class_esc (multi_esc {b} h)) d r = esc-scan d b r (multi-escaped b h)
 class-scan (class_expr {s} g) d r = rw append_assoc (open-scan d (s ++ code "]" ∷ r) ∙ group-scan g d (code "]" ∷ r) ∙ close-scan d r)
@@ -171,15 +172,15 @@ branch-first none r u = u
 branch-first (more {s} {t} p b) r u = rw append_assoc (piece-first p (t ++ r))
 
 enter-scan : (d : ℕ) (r : Text) → scan (go d start) (code "(" ∷ r) ≡ scan (go (suc d) start) r
-unfolding scan step fresh
+unfolding scan pattern_step fresh
 enter-scan d r = refl
 
 leave-scan : (d : ℕ) (r : Text) → scan (go (suc d) start) (code ")" ∷ r) ≡ scan (go d atom) r
-unfolding scan step fresh leave
+unfolding scan pattern_step fresh leave
 leave-scan d r = refl
 
 or-scan : (d : ℕ) (r : Text) → scan (go d start) (code "|" ∷ r) ≡ scan (go d start) r
-unfolding scan step fresh
+unfolding scan pattern_step fresh
 or-scan d r = refl
 
 -- what a derivation says of the scan

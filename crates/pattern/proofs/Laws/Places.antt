@@ -18,29 +18,29 @@ use Rattle.text.proofs.Laws.Tests.{bool_cases, or-false-left, or-false-right}
 use Rattle.text.proofs.Laws.Texts.{first-drop}
 use Rattle.xml.specs.Classes.{is_char}
 use Rattle.pattern.specs.Grammar.{char_but, is_normal, is_mark, is_in_class, is_single, is_multi}
-use Rattle.pattern.specs.Answers.{Goes, Ends, is_close, is_tail, is_bracket, any_byte}
+use Rattle.pattern.specs.Answers.{Goes, Ends, is_close, is_branch_end, is_bracket, any_byte}
 use Rattle.std.specs.Prelude.{Option, Some, None}
-use Rattle.pattern.specs.Scan.{Mode, start, atom, State, stop, go, is_escaped, is_plain, fresh, inside, step, final, scan}
-use Rattle.pattern.proofs.Laws.Derived.{plain-fresh, plain-unmarked, unmarked-scan}
+use Rattle.pattern.specs.Scan.{Mode, start, atom, ScanState, stop, go, is_escaped, is_single_char, fresh, class_step, pattern_step, final, scan}
+use Rattle.pattern.proofs.Laws.Derived.{differs, plain-fresh, plain-unmarked, unmarked-scan}
 
-pub step-at : (q : State) (s : Text) (i : ℕ) → i < length s → scan q (drop i s) ≡ scan (step q (get_or s i 0)) (drop (i + 1) s)
+pub step-at : (q : ScanState) (s : Text) (i : ℕ) → i < length s → scan q (drop i s) ≡ scan (pattern_step q (get_or s i 0)) (drop (i + 1) s)
 unfolding scan
 step-at q s i h = rw (add-one i, drop-cons s i 0 h)
 
-pub end-at : (q : State) (s : Text) (i : ℕ) → length s ≤ i → scan q (drop i s) ≡ final q
+pub end-at : (q : ScanState) (s : Text) (i : ℕ) → length s ≤ i → scan q (drop i s) ≡ final q
 unfolding scan
 end-at q s i h = rw (drop_of_length-le s h)
 
 pub stop-at : (t : Text) → scan stop t ≡ false
-unfolding scan final step
+unfolding scan final pattern_step
 stop-at [] = refl
 stop-at (b ∷ t) = stop-at t
 
 -- a byte that leads from one state to another
-pub to_at : (q : State) {q' : State} (s : Text) (i : ℕ) → i < length s → step q (get_or s i 0) ≡ q' → scan q (drop i s) ≡ scan q' (drop (i + 1) s)
-to_at q s i h e = step-at q s i h ∙ ap (λ (x : State). scan x (drop (i + 1) s)) e
+pub to_at : (q : ScanState) {q' : ScanState} (s : Text) (i : ℕ) → i < length s → pattern_step q (get_or s i 0) ≡ q' → scan q (drop i s) ≡ scan q' (drop (i + 1) s)
+to_at q s i h e = step-at q s i h ∙ ap (λ (x : ScanState). scan x (drop (i + 1) s)) e
 
-pub off_at : (q : State) (s : Text) (i : ℕ) → i < length s → step q (get_or s i 0) ≡ stop → scan q (drop i s) ≡ false
+pub off_at : (q : ScanState) (s : Text) (i : ℕ) → i < length s → pattern_step q (get_or s i 0) ≡ stop → scan q (drop i s) ≡ false
 off_at q s i h e = to_at q s i h e ∙ stop-at (drop (i + 1) s)
 
 pub escaped-inside : (s : Text) (i : ℕ) → is_escaped (first (drop i s)) ≡ true → i < length s
@@ -50,7 +50,7 @@ escaped-inside s i e =
     (λ h. absurd (false≢true (rw (drop_of_length-le s (ltb-false i (length s) h)) at e)))
 
 -- behind a backslash, in a class or not
-module _ (m n : Mode) (steps : (d b : ℕ) → step (go d m) b ≡ (if is_escaped b then go d n else stop)) (ends : (d : ℕ) → final (go d m) ≡ false) (s : Text) (i : ℕ) where
+module _ (m n : Mode) (steps : (d b : ℕ) → pattern_step (go d m) b ≡ (if is_escaped b then go d n else stop)) (ends : (d : ℕ) → final (go d m) ≡ false) (s : Text) (i : ℕ) where
   pub escaped-on : is_escaped (first (drop i s)) ≡ true → (d : ℕ) → scan (go d m) (drop i s) ≡ scan (go d n) (drop (i + 1) s)
   escaped-on e d =
       let f : is_escaped (get_or s i 0) ≡ true = rw first-drop at e in
@@ -63,7 +63,7 @@ module _ (m n : Mode) (steps : (d b : ℕ) → step (go d m) b ≡ (if is_escape
       (λ h. end-at (go d m) s i (ltb-false i (length s) h) ∙ ends d)
 
 -- behind a backslash at `at`, in a class or not
-pub escaped-part : (m n : Mode) → ((d b : ℕ) → step (go d m) b ≡ (if is_escaped b then go d n else stop)) → ((d : ℕ) → final (go d m) ≡ false) → (s : Text) (l : Mode) (at : ℕ)
+pub escaped-part : (m n : Mode) → ((d b : ℕ) → pattern_step (go d m) b ≡ (if is_escaped b then go d n else stop)) → ((d : ℕ) → final (go d m) ≡ false) → (s : Text) (l : Mode) (at : ℕ)
     → ((d : ℕ) → scan (go d l) (drop at s) ≡ scan (go d m) (drop (at + 1) s)) → is_escaped (first (drop (at + 1) s)) ≡ true → Goes s l at n (at + 1) (at + 2) any_byte
 escaped-part m n steps ends s l at slash x =
     let two : at + 1 + 1 ≡ at + 2 = omega arith in
@@ -74,8 +74,8 @@ escaped-part m n steps ends s l at slash x =
       reads = λ d. slash d ∙ escaped-on m n steps ends s (at + 1) x d ∙ ap (λ (k : ℕ). scan (go d n) (drop k s)) two;
     }
 
-pub byte-to : (q : State) {q' : State} (s : Text) (i c : ℕ) → i < length s → get_or s i 0 ≡ c → step q c ≡ q' → scan q (drop i s) ≡ scan q' (drop (i + 1) s)
-byte-to q s i c h e k = to_at q s i h (ap (step q) e ∙ k)
+pub byte-to : (q : ScanState) {q' : ScanState} (s : Text) (i c : ℕ) → i < length s → get_or s i 0 ≡ c → pattern_step q c ≡ q' → scan q (drop i s) ≡ scan q' (drop (i + 1) s)
+byte-to q s i c h e k = to_at q s i h (ap (pattern_step q) e ∙ k)
 
 -- a step before a part
 pub before : (s : Text) (m n : Mode) (at next : ℕ) (l : Mode) (least : ℕ) (P : ℕ → Bool) → ((d : ℕ) → scan (go d m) (drop at s) ≡ scan (go d n) (drop next s))
@@ -92,13 +92,13 @@ pub open-final : (d : ℕ) → final (go (suc d) start) ≡ false
 unfolding final
 open-final d = ne_eqb (suc d) 0 (λ e. omega (arith, e))
 
-pub close-byte : (b : ℕ) → is_tail b ≡ true → (b ≡ 124 → ⊥) → is_close b ≡ true
-unfolding is_tail is_close
+pub close-byte : (b : ℕ) → is_branch_end b ≡ true → (b ≡ 124 → ⊥) → is_close b ≡ true
+unfolding is_branch_end is_close
 close-byte b e h = rw (ne_eqb b 124 h) at e
 
 -- at a byte that begins no atom and ends no branch
-pub fresh-off : (d b : ℕ) → (b ≡ 40 → ⊥) → is_tail b ≡ false → (b ≡ 91 → ⊥) → (b ≡ 92 → ⊥) → is_plain b ≡ false → fresh d b ≡ stop
-unfolding fresh is_tail
+pub fresh-off : (d b : ℕ) → (b ≡ 40 → ⊥) → is_branch_end b ≡ false → (b ≡ 91 → ⊥) → (b ≡ 92 → ⊥) → is_single_char b ≡ false → fresh d b ≡ stop
+unfolding fresh is_branch_end
 fresh-off d b h t k l p = rw (ne_eqb b 40 h, or-false-right (eqb b 124) (eqb b 41) t, or-false-left (eqb b 124) (eqb b 41) t, ne_eqb b 91 k, ne_eqb b 92 l, p)
 
 -- behind an atom with no quantifier
@@ -110,12 +110,24 @@ unfolding final
 unmarked-end d s i h = end-at (go d atom) s i h ∙ sym (end-at (go d start) s i h)
 
 pub mark-at : (d : ℕ) (s : Text) (i : ℕ) → i < length s → is_mark (get_or s i 0) ≡ true → scan (go d atom) (drop i s) ≡ scan (go d start) (drop (i + 1) s)
-unfolding step
+unfolding pattern_step
 mark-at d s i h e = to_at (go d atom) s i h (rw e)
+
+-- no atom begins with a quantifier
+mark-fresh : (d b : ℕ) → is_mark b ≡ true → fresh d b ≡ stop
+unfolding fresh is_mark contains bytes
+mark-fresh d b h =
+    let p : is_single_char b ≡ false = bool_cases (is_single_char b) (λ e. absurd (false≢true (sym (plain-unmarked b e) ∙ h))) (λ e. e) in
+    rw (differs is_mark 40 h refl, differs is_mark 41 h refl, differs is_mark 124 h refl, differs is_mark 91 h refl, differs is_mark 92 h refl, p)
+
+pub marked-off : (d : ℕ) (r : Text) → is_mark (first r) ≡ true → scan (go d start) r ≡ false
+unfolding scan pattern_step first is_mark contains bytes
+marked-off d [] h = absurd (false≢true h)
+marked-off d (b ∷ r) h = ap (λ (q : ScanState). scan q r) (mark-fresh d b h) ∙ stop-at r
 
 -- a class: right behind its opening bracket only the closing one is read otherwise
 opened-same : (d : ℕ) (r : Text) → is_bracket (first r) ≡ false → scan (go d Mode.opened) r ≡ scan (go d Mode.class) r
-unfolding scan final step first is_bracket
+unfolding scan final pattern_step first is_bracket
 opened-same d [] h = refl
 opened-same d (b ∷ r) h = rw h
 
@@ -124,54 +136,50 @@ unfolding is_bracket
 opened-at s i h d = opened-same d (drop i s) (ne_eqb _ 93 h)
 
 pub bracket-first : (s : Text) (i : ℕ) → first (drop i s) ≡ 93 → (d : ℕ) → scan (go d Mode.opened) (drop i s) ≡ false
-unfolding step final inside is_in_class char_but is_char contains bytes between
+unfolding pattern_step final class_step is_in_class char_but is_char contains bytes between
 bracket-first s i e d =
     let f : get_or s i 0 ≡ 93 = rw first-drop at e in
-    bool_cases (ltb i (length s)) (λ h. off_at (go d Mode.opened) s i (ltb-true i (length s) h) (ap (step (go d Mode.opened)) f))
+    bool_cases (ltb i (length s)) (λ h. off_at (go d Mode.opened) s i (ltb-true i (length s) h) (ap (pattern_step (go d Mode.opened)) f))
     (λ h. end-at (go d Mode.opened) s i (ltb-false i (length s) h) ∙ refl)
 
 module _ (s : Text) (at : ℕ) (h : at < length s) (n : is_bracket (get_or s at 0) ≡ false) where
-  in_step : (d : ℕ) → step (go d Mode.class) (get_or s at 0) ≡ inside d (get_or s at 0)
-  unfolding step is_bracket
+  in_step : (d : ℕ) → pattern_step (go d Mode.class) (get_or s at 0) ≡ class_step d (get_or s at 0)
+  unfolding pattern_step is_bracket
   in_step d = rw n
 
   -- a backslash in a class
   item-slash : get_or s at 0 ≡ 92 → (d : ℕ) → scan (go d Mode.class) (drop at s) ≡ scan (go d Mode.class_escape) (drop (at + 1) s)
-  unfolding inside
-  item-slash e d = to_at (go d Mode.class) s at h (in_step d ∙ ap (inside d) e)
+  unfolding class_step
+  item-slash e d = to_at (go d Mode.class) s at h (in_step d ∙ ap (class_step d) e)
 
   pub item-escaped : get_or s at 0 ≡ 92 → is_escaped (first (drop (at + 1) s)) ≡ true → Goes s Mode.class at Mode.class (at + 1) (at + 2) any_byte
-  unfolding step final
+  unfolding pattern_step final
   item-escaped e x = escaped-part Mode.class_escape Mode.class (λ d b. refl) (λ d. refl) s Mode.class at (item-slash e) x
 
   pub item-bad : get_or s at 0 ≡ 92 → is_escaped (first (drop (at + 1) s)) ≡ false → (d : ℕ) → scan (go d Mode.class) (drop at s) ≡ false
-  unfolding step final
+  unfolding pattern_step final
   item-bad e x d = item-slash e d ∙ escaped-off Mode.class_escape Mode.class (λ d b. refl) (λ d. refl) s (at + 1) x d
 
   module _ (m : get_or s at 0 ≡ 92 → ⊥) where
     pub item-off : is_in_class (get_or s at 0) ≡ false → (d : ℕ) → scan (go d Mode.class) (drop at s) ≡ false
-    unfolding inside
+    unfolding class_step
     item-off x d = off_at (go d Mode.class) s at h (in_step d ∙ rw (ne_eqb _ 92 m, x))
 
 -- a character behind an atom
-pub plain_at : (d : ℕ) (s : Text) (i : ℕ) → i < length s → is_plain (get_or s i 0) ≡ true → scan (go d atom) (drop i s) ≡ scan (go d atom) (drop (i + 1) s)
-unfolding step
+pub plain_at : (d : ℕ) (s : Text) (i : ℕ) → i < length s → is_single_char (get_or s i 0) ≡ true → scan (go d atom) (drop i s) ≡ scan (go d atom) (drop (i + 1) s)
+unfolding pattern_step
 plain_at d s i h e = to_at (go d atom) s i h (rw (plain-unmarked _ e, plain-fresh d _ e))
 
--- a byte of a class is another than one that is not of it
-told-apart : (P : ℕ → Bool) (b c : ℕ) → P b ≡ true → P c ≡ false → eqb b c ≡ false
-told-apart P b c e f = ne_eqb b c (λ q. false≢true (sym f ∙ ap P (sym q) ∙ e))
-
-pub plain-no_tail : (b : ℕ) → is_plain b ≡ true → is_tail b ≡ false
-unfolding is_tail is_plain is_normal char_but is_char contains bytes between
-plain-no_tail b e = rw (told-apart is_plain b 124 e refl, told-apart is_plain b 41 e refl)
+pub plain-no_tail : (b : ℕ) → is_single_char b ≡ true → is_branch_end b ≡ false
+unfolding is_branch_end is_single_char is_normal char_but is_char contains bytes between
+plain-no_tail b e = rw (differs is_single_char 124 e refl, differs is_single_char 41 e refl)
 
 -- a character in a class
 pub in_class_at : (d : ℕ) (s : Text) (i : ℕ) → i < length s → is_in_class (get_or s i 0) ≡ true → scan (go d Mode.class) (drop i s) ≡ scan (go d Mode.class) (drop (i + 1) s)
-unfolding step inside is_in_class char_but is_char contains bytes between
+unfolding pattern_step class_step is_in_class char_but is_char contains bytes between
 in_class_at d s i h e =
     let b = get_or s i 0 in
-    to_at (go d Mode.class) s i h (rw (told-apart is_in_class b 93 e refl, told-apart is_in_class b 92 e refl, e))
+    to_at (go d Mode.class) s i h (rw (differs is_in_class 93 e refl, differs is_in_class 92 e refl, e))
 
 -- a run of bytes of one class, n bytes before the end: the scan goes on at the first that is no such one, or at the end
 module _ (P : ℕ → Bool) (m : Mode) (s : Text) (on : (d i : ℕ) → i < length s → P (get_or s i 0) ≡ true → scan (go d m) (drop i s) ≡ scan (go d m) (drop (i + 1) s)) where

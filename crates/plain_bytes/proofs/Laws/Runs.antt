@@ -14,7 +14,7 @@ use lib.Count.{count_trailing_zeros, trailing_le, trailing_of_zero}
 use Rattle.text.proofs.Laws.Tests.{bool_cases}
 use Rattle.plain_bytes.specs.Scan.{Skips}
 use Rattle.plain_bytes.specs.Words.{bytes_at, WordAt, ones}
-use Rattle.plain_bytes.specs.Laws.Words.{Below, op-word, spread, word-le}
+use Rattle.plain_bytes.specs.Laws.Words.{FirstBelow, op-word, spread, word-le}
 use Rattle.plain_bytes.proofs.Laws.Zeros.{clear, clear_zero}
 use Rattle.plain_bytes.specs.Laws.Finds.{zero-then, Finds}
 
@@ -24,7 +24,7 @@ no_top : (b : ℕ) → b < 256 → bit_and b 128 ≡ 0 → b < 128
 no_top b l e = ltb-true b 128 (zero-then (λ x. bit_and x 128) (λ x. ltb x 128) 256 refl b l e)
 
 module _ {s : List ℕ} {i w : ℕ} (h : WordAt s i w) where
-  low-bytes : bit_and w (128 * ones) ≡ 0 → Below 128 8 (bytes_at s i)
+  low-bytes : bit_and w (128 * ones) ≡ 0 → FirstBelow 128 8 (bytes_at s i)
   low-bytes e k l =
       no_top _ (h.bytes k)
       (clear_zero 8 (λ j. bit_and (bytes_at s i j) 128) (λ j m. and_lt 8 _ 128 (h.bytes j) (omega arith))

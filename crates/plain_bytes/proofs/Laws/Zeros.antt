@@ -8,8 +8,8 @@ use lib.Pow.{shr_lt}
 use lib.Bits.{block_half, block_odd}
 use lib.Count.{under, count_trailing_zeros, trailing_of_zero}
 use native.Mathlib.Numerals.{add-one}
-use Rattle.plain_bytes.specs.Words.{word_of}
-use Rattle.plain_bytes.specs.Laws.Words.{Below}
+use Rattle.plain_bytes.specs.Words.{word_of_bytes}
+use Rattle.plain_bytes.specs.Laws.Words.{FirstBelow}
 
 -- zeros below a digit: the digit is 0, and the others are zeros of the rest
 under-zero : (d z t : ℕ) → suc t ≤ under d z → (d ≡ 0) × (t ≤ z)
@@ -36,13 +36,13 @@ block (suc j) t m a r l h =
     let e : m - suc j ≡ m - 1 - j = omega arith in
     (omega (arith, div-add-mod' r 2, block_odd a j r), rw e v.1)
 
-pub clear : (n : ℕ) (f : ℕ → ℕ) → Below 256 n f → (m k : ℕ) → k < n → 8 * k + 8 ≤ count_trailing_zeros m (word_of n f) → f k ≡ 0
-unfolding word_of
+pub clear : (n : ℕ) (f : ℕ → ℕ) → FirstBelow 256 n f → (m k : ℕ) → k < n → 8 * k + 8 ≤ count_trailing_zeros m (word_of_bytes n f) → f k ≡ 0
+unfolding word_of_bytes
 clear zero f hf m k l h = absurd (not-suc-le-zero l)
 clear (suc n) f hf m zero l h = (block 8 0 m _ (f 0) (hf 0 (zero-lt-suc n)) h).0
 clear (suc n) f hf m (suc k) l h =
     clear n (λ j. f (suc j)) (λ j i. hf (suc j) (suc-le-suc i)) (m - 8) k (le_of_suc-le-suc l)
     (block 8 (8 * k + 8) m _ (f 0) (hf 0 (zero-lt-suc n)) (omega arith)).1
 
-pub clear_zero : (n : ℕ) (f : ℕ → ℕ) → Below 256 n f → word_of n f ≡ 0 → (k : ℕ) → k < n → f k ≡ 0
+pub clear_zero : (n : ℕ) (f : ℕ → ℕ) → FirstBelow 256 n f → word_of_bytes n f ≡ 0 → (k : ℕ) → k < n → f k ≡ 0
 clear_zero n f hf e k l = clear n f hf (8 * k + 8) k l (rw e (le_of_eq (sym (trailing_of_zero (8 * k + 8)))))

@@ -7,7 +7,7 @@ use native.Mathlib.Nat.{add-zero}
 use lib.ListN.{length, get_or, take, drop}
 use Rattle.std.proofs.lemmas.List.{get_or-take, get_or-drop}
 use Rattle.std.specs.Array.{IsFirstChunk}
-use Rattle.plain_bytes.specs.Words.{word_of}
+use Rattle.plain_bytes.specs.Words.{word_of_bytes}
 use Rattle.plain_bytes.proofs.word_at.Goals as goal
 
 byte : (s b : List ℕ) (at k : ℕ) → IsFirstChunk (take (length s - at) (drop at s)) b 8 → at + 8 ≤ length s → k < 8 → get_or b k 0 ≡ get_or s (at + k) 0
@@ -15,7 +15,7 @@ byte s b at k h fits small =
     rw h.same (get_or-take 8 (take (length s - at) (drop at s)) k 0 small ∙ get_or-take (length s - at) (drop at s) k 0 (omega arith) ∙ get_or-drop at s k 0)
 
 pub returns : goal.returns
-unfolding word_of
+unfolding word_of_bytes
 returns c =
     let s = c.args.text.now in
     let at = c.args.at in

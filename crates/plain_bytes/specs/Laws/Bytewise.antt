@@ -6,11 +6,11 @@ use mathlib.Core.Path.{◌≡◌, refl, ap₂, ◌∙◌}
 use native.Mathlib.Omega.{arith}
 use lib.Dec.{lit<}
 use lib.Bits.{bit_and, bit_or, bit_xor, and_block, or_block, xor_block, and_lt, or_lt, xor_lt}
-use Rattle.plain_bytes.specs.Words.{word_of, ones, others, plains, stops, text_stops, value_stops, comment_stops, section_stops}
-use Rattle.plain_bytes.specs.Laws.Words.{Below, op-word, add-word, spread}
+use Rattle.plain_bytes.specs.Words.{word_of_bytes, ones, others, plains, stops, text_stops, value_stops, comment_stops, section_stops, one_stops}
+use Rattle.plain_bytes.specs.Laws.Words.{FirstBelow, op-word, add-word, spread}
 
 pub record Bytewise (F : ℕ → ℕ → ℕ) : Type 0 where
-  pub word : (f : ℕ → ℕ) → Below 128 8 f → F ones (word_of 8 f) ≡ word_of 8 (λ k. F 1 (f k))
+  pub word : (f : ℕ → ℕ) → FirstBelow 128 8 f → F ones (word_of_bytes 8 f) ≡ word_of_bytes 8 (λ k. F 1 (f k))
   pub small : (b : ℕ) → b < 128 → F 1 b < 256
 
 itself : Bytewise (λ u x. x)
@@ -72,3 +72,7 @@ comment-by = stops-by (both (others_by 45 (lit< tt)) plains-by)
 pub section-by : Bytewise section_stops
 unfolding section_stops
 section-by = stops-by (both (others_by 93 (lit< tt)) plains-by)
+
+pub one-by : (c : ℕ) → c < 256 → Bytewise (one_stops c)
+unfolding one_stops
+one-by c l = differing itself (constant c l)

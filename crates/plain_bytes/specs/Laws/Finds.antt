@@ -4,12 +4,12 @@ use Prim.Native.Nat.{ℕ, ◌<◌}
 use mathlib.Core.Path.{◌≡◌, refl}
 use mathlib.Core.Bool.{Bool, true, not, ◌||◌}
 use borrow.Author.Tests.{eq-eqb}
-use lib.Dec.{eqb}
+use lib.Dec.{eqb, lit<}
 use Rattle.text.specs.Text.{between}
 use Rattle.text.proofs.Laws.Table.{passes, at}
-use Rattle.plain_bytes.specs.Scan.{is_text_run, is_value_run, is_comment_run, is_section_run}
-use Rattle.plain_bytes.specs.Words.{others, plains, stops, text_stops, value_stops, comment_stops, section_stops}
-use Rattle.plain_bytes.specs.Laws.Bytewise.{Bytewise, text-by, value-by, comment-by, section-by}
+use Rattle.plain_bytes.specs.Scan.{is_text_run, is_value_run, is_comment_run, is_section_run, is_one}
+use Rattle.plain_bytes.specs.Words.{others, plains, stops, text_stops, value_stops, comment_stops, section_stops, one_stops}
+use Rattle.plain_bytes.specs.Laws.Bytewise.{Bytewise, text-by, value-by, comment-by, section-by, one-by}
 
 -- where f is 0 the test p passes
 abbrev pub zero_then : (ℕ → ℕ) → (ℕ → Bool) → ℕ → Bool
@@ -38,3 +38,11 @@ comment-finds = record { bytewise = comment-by; sound = refl }
 pub section-finds : Finds section_stops is_section_run
 unfolding section_stops others plains stops is_section_run between
 section-finds = record { bytewise = section-by; sound = refl }
+
+pub space-finds : Finds (one_stops 32) (is_one 32)
+unfolding one_stops is_one
+space-finds = record { bytewise = one-by 32 (lit< tt); sound = refl }
+
+pub tab-finds : Finds (one_stops 9) (is_one 9)
+unfolding one_stops is_one
+tab-finds = record { bytewise = one-by 9 (lit< tt); sound = refl }

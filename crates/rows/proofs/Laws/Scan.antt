@@ -13,7 +13,7 @@ use Rattle.text.proofs.Laws.Tests.{and-true-right, if-in}
 use Rattle.sheet.specs.Rows.{Ten, tens}
 use Rattle.sheet.specs.Form.{row_covers, end_of, covers, covered}
 use Rattle.rows.specs.declared.scan.Scan.{Scan}
-use Rattle.rows.specs.Scan.{Tests, first_passes, first_scan, first_row, next_passes, with_row, next_row, scanned, scanned_sheet}
+use Rattle.rows.specs.Scan.{Tests, first_passes, first_scan, first_row, next_passes, scan_after, next_row, scanned, scanned_sheet}
 use Rattle.rows.proofs.Laws.Tens.{tens-none}
 use Rattle.rows.proofs.Laws.Ends.{end-within, tests-apart}
 
@@ -107,16 +107,16 @@ module _ (x : Tests) (limit : ℕ) where
     pub next-end : (next : Scan) → Some next ≡ next_row x limit s t → next.end ≤ limit
     unfolding next_row next_passes
     next-end next e =
-        let p = if-some (next_passes x limit s t) (with_row x s t) next e in
+        let p = if-some (next_passes x limit s t) (scan_after x s t) next e in
         rw p.1 (leb-true (end_of s.end t) limit (and-true-right (x.form t && x.follows s.head t.tag && row_covers x.pairs s.end t) _ p.0))
 
     pub next-on : (next : Scan) (ts : List Ten) → Some next ≡ next_row x limit s t → scanned x limit next ts ≡ scanned x limit s (t ∷ ts)
     unfolding next_row scanned
-    next-on next ts e = let p = if-some (next_passes x limit s t) (with_row x s t) next e in rw (p.0, p.1)
+    next-on next ts e = let p = if-some (next_passes x limit s t) (scan_after x s t) next e in rw (p.0, p.1)
 
     pub next-fails : (ts : List Ten) → None ≡ next_row x limit s t → None ≡ scanned x limit s (t ∷ ts)
     unfolding next_row scanned
-    next-fails ts e = rw (if-none (next_passes x limit s t) (with_row x s t) e)
+    next-fails ts e = rw (if-none (next_passes x limit s t) (scan_after x s t) e)
 
   pub scan-stops : (s : Scan) (left : ℕ) (rows : List ℕ) → left ≤ 0 → Some s ≡ scanned x limit s (tens left rows)
   unfolding scanned

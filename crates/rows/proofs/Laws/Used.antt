@@ -14,7 +14,7 @@ use Rattle.sheet.specs.Rows.{Ten, text_at, unpack_row}
 use Rattle.rows.specs.Scan.{Tests, row_texts}
 
 -- the first texts of three, asked one by one
-used-three : (ok : Text → Bool) (a b c : Text) (used : ℕ)
+pub used-three : (ok : Text → Bool) (a b c : Text) (used : ℕ)
     → (if leb 1 used then ok a else true) && (if leb 2 used then ok b else true) && (if leb 3 used then ok c else true) ≡ every ok (take used (a ∷ b ∷ c ∷ []))
 unfolding every
 used-three ok a b c zero = refl

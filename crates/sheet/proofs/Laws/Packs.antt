@@ -12,17 +12,18 @@ use lib.Seq.{drop_at, take_at, drop-drop}
 use borrow.Author.Tests.{eqb-true, leb-true, eq-eqb}
 use Rattle.text.specs.Text.{Text, every, is_plain, join}
 use Rattle.sheet.specs.Rows.{Row, Pairs, pairs, pack_row, pack, names_of, text_at, unpack_row}
-use Rattle.sheet.specs.Form.{counted, pair_form, row_covers, end_of, covers, covered}
-use Rattle.text.proofs.Laws.Tests.{and-true-left, and-true-right, and-true, two}
+use Rattle.sheet.specs.Form.{texts_counted, pair_form, row_covers, end_of, covers, covered}
+use Rattle.std.proofs.lemmas.Bool.{and_parts}
+use Rattle.text.proofs.Laws.Tests.{and-true-left, and-true-right, and-true}
 use Rattle.text.proofs.Laws.Every.{every-head, every-tail}
 use Rattle.text.proofs.Laws.Class.{plain-append, each-plain}
 
-pub counted-used : (used : ℕ → ℕ → ℕ) (r : Row) → counted used r ≡ true → used r.tag r.a ≡ length r.texts
-unfolding counted
+pub counted-used : (used : ℕ → ℕ → ℕ) (r : Row) → texts_counted used r ≡ true → used r.tag r.a ≡ length r.texts
+unfolding texts_counted
 counted-used used r e = sym (eqb-true (length r.texts) (used r.tag r.a) (and-true-left _ _ e))
 
-pub counted-small : (used : ℕ → ℕ → ℕ) (r : Row) → counted used r ≡ true → length r.texts ≤ 3
-unfolding counted
+pub counted-small : (used : ℕ → ℕ → ℕ) (r : Row) → texts_counted used r ≡ true → length r.texts ≤ 3
+unfolding texts_counted
 counted-small used r e = leb-true (length r.texts) 3 (and-true-right (eqb (length r.texts) (used r.tag r.a)) (leb (length r.texts) 3) e)
 
 module _ (names : List ℕ) (k : ℕ) (t rest : Text) (e : drop k names ≡ t ++ rest) where
@@ -55,19 +56,19 @@ texts-back names k (t ∷ u ∷ v ∷ []) post h e = three_back names k t u v po
 texts-back names k (t ∷ u ∷ v ∷ w ∷ ts) post h e = absurd (omega arith)
 
 module _ (used : ℕ → ℕ → ℕ) where
-  pub row_back : (names : List ℕ) (k : ℕ) (r : Row) (post : Text) → counted used r ≡ true → drop k names ≡ join r.texts ++ post → unpack_row used names (pack_row k r) ≡ r
+  pub row_back : (names : List ℕ) (k : ℕ) (r : Row) (post : Text) → texts_counted used r ≡ true → drop k names ≡ join r.texts ++ post → unpack_row used names (pack_row k r) ≡ r
   unfolding unpack_row pack_row texts_at
   row_back names k r post h e =
       let p : take (used r.tag r.a) (texts_at names (pairs k r.texts)) ≡ r.texts = rw (counted-used used r h) (texts-back names k r.texts post (counted-small used r h) e) in
       λ i. record { tag = r.tag; texts = p i; a = r.a; b = r.b; c = r.c }
 
-  pub rows_back : (names : List ℕ) (k : ℕ) (rs : List Row) (post : Text) → every (counted used) rs ≡ true → drop k names ≡ names_of rs ++ post → map (unpack_row used names) (pack k rs) ≡ rs
+  pub rows_back : (names : List ℕ) (k : ℕ) (rs : List Row) (post : Text) → every (texts_counted used) rs ≡ true → drop k names ≡ names_of rs ++ post → map (unpack_row used names) (pack k rs) ≡ rs
   unfolding pack names_of
   rows_back names k [] post h e = refl
   rows_back names k (r ∷ rs) post h e =
       let e₀ : drop k names ≡ join r.texts ++ (names_of rs ++ post) = e ∙ append_assoc (join r.texts) (names_of rs) post in
-      let first = row_back names k r _ (every-head (counted used) r rs h) e₀ in
-      let rest = rows_back names (k + length (join r.texts)) rs post (every-tail (counted used) r rs h) (text-next names k (join r.texts) _ e₀) in
+      let first = row_back names k r _ (every-head (texts_counted used) r rs h) e₀ in
+      let rest = rows_back names (k + length (join r.texts)) rs post (every-tail (texts_counted used) r rs h) (text-next names k (join r.texts) _ e₀) in
       rw (first, rest)
 
 pub pairs-cover : (k : ℕ) (ts : List Text) → length ts ≤ 3
@@ -94,24 +95,24 @@ unfolding end_of pack_row
 end_of-pack k r h = pairs_end k r.texts h
 
 module _ (used : ℕ → ℕ → ℕ) where
-  pub row_covers-pack : (k : ℕ) (r : Row) → counted used r ≡ true → row_covers used k (pack_row k r) ≡ true
+  pub row_covers-pack : (k : ℕ) (r : Row) → texts_counted used r ≡ true → row_covers used k (pack_row k r) ≡ true
   unfolding row_covers pack_row
   row_covers-pack k r h = rw (counted-used used r h) (pairs-cover k r.texts (counted-small used r h))
 
-  pub covers-pack : (k : ℕ) (rs : List Row) → every (counted used) rs ≡ true → covers used k (pack k rs) ≡ true
+  pub covers-pack : (k : ℕ) (rs : List Row) → every (texts_counted used) rs ≡ true → covers used k (pack k rs) ≡ true
   unfolding covers pack
   covers-pack k [] h = refl
   covers-pack k (r ∷ rs) h =
-      let c = every-head (counted used) r rs h in
-      rw (end_of-pack k r (counted-small used r c)) (and-true (row_covers-pack k r c) (covers-pack (k + length (join r.texts)) rs (every-tail (counted used) r rs h)))
+      let c = every-head (texts_counted used) r rs h in
+      rw (end_of-pack k r (counted-small used r c)) (and-true (row_covers-pack k r c) (covers-pack (k + length (join r.texts)) rs (every-tail (texts_counted used) r rs h)))
 
-  pub covered-pack : (k : ℕ) (rs : List Row) → every (counted used) rs ≡ true → covered k (pack k rs) ≡ k + length (names_of rs)
+  pub covered-pack : (k : ℕ) (rs : List Row) → every (texts_counted used) rs ≡ true → covered k (pack k rs) ≡ k + length (names_of rs)
   unfolding covered pack names_of
   covered-pack k [] h = omega arith
   covered-pack k (r ∷ rs) h =
-      let n = counted-small used r (every-head (counted used) r rs h) in
+      let n = counted-small used r (every-head (texts_counted used) r rs h) in
       let m = k + length (join r.texts) in
-      ap (λ (e : ℕ). covered e (pack m rs)) (end_of-pack k r n) ∙ covered-pack m rs (every-tail (counted used) r rs h) ∙ rw (length-append (join r.texts) (names_of rs)) (omega arith)
+      ap (λ (e : ℕ). covered e (pack m rs)) (end_of-pack k r n) ∙ covered-pack m rs (every-tail (texts_counted used) r rs h) ∙ rw (length-append (join r.texts) (names_of rs)) (omega arith)
 
 pub length-pack : (k : ℕ) (rs : List Row) → length (pack k rs) ≡ length rs
 unfolding pack
@@ -123,7 +124,7 @@ pub plain-rows : (ok : Text → Bool) → ((s : Text) → is_plain s ≡ true �
 unfolding names_of every
 plain-rows ok plain [] e = refl
 plain-rows ok plain (r ∷ rs) e =
-    let (x, y) = two (is_plain (join r.texts)) (is_plain (names_of rs)) (sym (plain-append (join r.texts) (names_of rs)) ∙ e) in
+    let (x, y) = and_parts (is_plain (join r.texts)) (is_plain (names_of rs)) (sym (plain-append (join r.texts) (names_of rs)) ∙ e) in
     and-true (each-plain ok plain r.texts x) (plain-rows ok plain rs y)
 
 -- names of two lists of rows, one behind the other

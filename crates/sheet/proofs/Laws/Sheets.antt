@@ -9,7 +9,7 @@ use lib.ListN.{length, take, drop, replicate, length-append, length-drop}
 use Rattle.text.specs.Text.{Text, every, is_plain}
 use Rattle.text.proofs.Laws.Tests.{bool_cases}
 use Rattle.sheet.specs.Rows.{Ten, Row, Sheet, ten, tens, numbers, pack, names_of, unpack_row, filled, all_zero, sheet_of_rows}
-use Rattle.sheet.specs.Form.{covers, covered, counted, rows_used_of, names_used_of, tens_of, texts_pass}
+use Rattle.sheet.specs.Form.{covers, covered, texts_counted, rows_used_of, names_used_of, tens_of, texts_pass}
 use Rattle.sheet.proofs.Laws.Numbers.{tens-numbers, length-numbers, numbers-tens, length-filled, take-filled, zeros-filled, filled-back}
 use Rattle.sheet.proofs.Laws.Packs.{rows_back, length-pack, plain-rows}
 use Rattle.sheet.proofs.Laws.Unpacks.{few, rows-again, names-again}
@@ -46,7 +46,7 @@ module _ (z : Ten) (rs : List Row) (r n : ℕ) where
   unfolding sheet_of_rows
   used-names = take-filled n (names_of rs)
 
-  pub rows-read : (used : ℕ → ℕ → ℕ) → every (counted used) rs ≡ true → map (unpack_row used (sheet_of_rows z rs r n).names) (pack 0 rs) ≡ rs
+  pub rows-read : (used : ℕ → ℕ → ℕ) → every (texts_counted used) rs ≡ true → map (unpack_row used (sheet_of_rows z rs r n).names) (pack 0 rs) ≡ rs
   unfolding sheet_of_rows filled
   rows-read used h = rows_back used (sheet_of_rows z rs r n).names 0 rs (replicate (n - length (names_of rs)) 0) h refl
 

@@ -12,7 +12,7 @@ use borrow.Author.Tests.{eqb-true, leb-true, eq-eqb}
 use Rattle.text.specs.Text.{every, join}
 use Rattle.text.proofs.Laws.Tests.{three, and-true-left, and-true-right, and-true}
 use Rattle.sheet.specs.Rows.{Ten, Pairs, pairs, pack_row, pack, names_of, text_at, unpack_row}
-use Rattle.sheet.specs.Form.{pair_form, row_covers, end_of, covers, covered, counted}
+use Rattle.sheet.specs.Form.{pair_form, row_covers, end_of, covers, covered, texts_counted}
 use Rattle.sheet.proofs.Laws.Packs.{counted-small, texts_at, end_of-pack}
 use Rattle.text.proofs.Laws.Every.{every-head, every-tail}
 
@@ -177,8 +177,8 @@ module _ (used : ℕ → ℕ → ℕ) where
       first ∙ ap (λ (l : List ℕ). join (unpack_row used names t).texts ++ l) rest
       ∙ sym (append_assoc (join (unpack_row used names t).texts) (names_of (map (unpack_row used names) ts)) (drop (covered (end_of k t) ts) names))
 
-  pub counted-unpack : (names : List ℕ) (t : Ten) → few used t ≡ true → counted used (unpack_row used names t) ≡ true
-  unfolding counted unpack_row few
+  pub counted-unpack : (names : List ℕ) (t : Ten) → few used t ≡ true → texts_counted used (unpack_row used names t) ≡ true
+  unfolding texts_counted unpack_row few
   counted-unpack names t f =
       let some = few-used t f in
       let l : length (take (used t.tag t.a) (text_at names t.at0 t.len0 ∷ text_at names t.at1 t.len1 ∷ text_at names t.at2 t.len2 ∷ []))

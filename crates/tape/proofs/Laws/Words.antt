@@ -4,9 +4,9 @@
 --     differ        no two of the words are the same
 use Rattle.std.specs.Prelude.{if◌then◌else◌, ◌++◌, Option, Some, None, unwrap_or, is_some}
 use Rattle.std.specs.Option.{option_or}
-use Rattle.std.proofs.Common.{rules}
+use Rattle.std.proofs.lemmas.Option.{none-some}
 use mathlib.Core.Path.{◌≡◌, refl, sym, ap, ◌∙◌}
-use mathlib.Core.Bool.{Bool, true, false, not, ◌&&◌}
+use mathlib.Core.Bool.{Bool, true, false, not, ◌&&◌, false≢true}
 use mathlib.Core.List.{List, [], ◌∷◌, map}
 use Prim.Native.Nat.{ℕ, zero, suc, ◌+◌, ◌-◌, ◌≤◌, ◌<◌}
 use native.Mathlib.Nat.{not-suc-le-zero}
@@ -18,7 +18,8 @@ use denote.Enum.Declared.{tag_of}
 use borrow.Author.Tests.{eq-eqb, ne_eqb, eqb-false, not-true}
 use Rattle.text.specs.Text.{Text, bytes, every, same}
 use Rattle.text.proofs.Laws.Texts.{same-eq, same-differ}
-use Rattle.text.proofs.Laws.Tests.{two, bool_cases}
+use Rattle.std.proofs.lemmas.Bool.{and_parts}
+use Rattle.text.proofs.Laws.Tests.{bool_cases}
 use Rattle.text.specs.Text.{contains, colon, local_name}
 use Rattle.text.proofs.Laws.Local.{after_last-none}
 use Rattle.xsd_parser.specs.declared.words.Word.{Word}
@@ -56,8 +57,8 @@ numbers-above o i (w ∷ ws) s h =
 other_word : (w : Text) (ws : List Text) (k : ℕ) → k < length ws → every (λ v. not (same w v)) ws ≡ true → same w (get_or ws k []) ≡ false
 unfolding every
 other_word w [] k h e = absurd (not-suc-le-zero h)
-other_word w (v ∷ ws) zero h e = not-true (same w v) (two (not (same w v)) _ e).0
-other_word w (v ∷ ws) (suc k) h e = other_word w ws k (omega arith) (two (not (same w v)) _ e).1
+other_word w (v ∷ ws) zero h e = not-true (same w v) (and_parts (not (same w v)) _ e).0
+other_word w (v ∷ ws) (suc k) h e = other_word w ws k (omega arith) (and_parts (not (same w v)) _ e).1
 
 -- the number that is found is a word's own exactly for that word
 pub found_number : (o i : ℕ) (ws : List Text) (s : Text) (k : ℕ) → i + length ws ≤ o → k < length ws → differ ws ≡ true → same s (get_or ws k []) ≡ eqb (found o (numbered i ws) s) (i + k)
@@ -69,8 +70,8 @@ found_number o i (w ∷ ws) s zero h l d =
     (λ e. rw e (let a = numbers-above o (suc i) ws s (omega arith) in sym (ne_eqb _ (i + 0) (λ q. omega (arith, a, q)))))
 found_number o i (w ∷ ws) s (suc k) h l d =
     bool_cases (same s w)
-    (λ e. rw (e, same-eq s w e) (other_word w ws k (omega arith) (two (every (λ v. not (same w v)) ws) (differ ws) d).0 ∙ sym (ne_eqb i (i + suc k) (λ q. omega (arith, q)))))
-    (λ e. rw e (let j : i + suc k ≡ suc i + k = omega arith in rw j (found_number o (suc i) ws s k (omega arith) (omega arith) (two (every (λ v. not (same w v)) ws) (differ ws) d).1)))
+    (λ e. rw (e, same-eq s w e) (other_word w ws k (omega arith) (and_parts (every (λ v. not (same w v)) ws) (differ ws) d).0 ∙ sym (ne_eqb i (i + suc k) (λ q. omega (arith, q)))))
+    (λ e. rw e (let j : i + suc k ≡ suc i + k = omega arith in rw j (found_number o (suc i) ws s k (omega arith) (omega arith) (and_parts (every (λ v. not (same w v)) ws) (differ ws) d).1)))
 
 -- Named in docs/PORT.md: what is found beside a text stands at the text's number
 pub found_at : {A : Type 0} (o : A) (n i : ℕ) (xs : List (Text × A)) (s : Text) → i + length xs ≤ n
@@ -96,6 +97,21 @@ unfolding found
 found-known o [] s = refl
 found-known o (x ∷ xs) s = bool_cases (same s x.0) (λ e. rw e) (λ e. rw e (found-known o xs s))
 
+-- a name beside which something is found has no colon where none of the texts has
+found-clean : {A : Type 0} (xs : List (Text × Option A)) (s : Text) (v : A) → every (λ (x : Text × Option A). not (contains colon x.0)) xs ≡ true
+    → found None xs s ≡ Some v → contains colon s ≡ false
+unfolding found every
+found-clean [] s v e h = absurd (none-some v h)
+found-clean {A} (x ∷ xs) s v e h =
+    let p = and_parts (not (contains colon x.0)) (every (λ (y : Text × Option A). not (contains colon y.0)) xs) e in
+    bool_cases (same s x.0)
+    (λ q. rw (same-eq s x.0 q) (not-true (contains colon x.0) p.0))
+    (λ q. found-clean xs s v p.1 (rw q at h))
+
+pub known-clean : (s : Text) (w : Word) → known_word s ≡ Some w → contains colon s ≡ false
+unfolding known_word known_words bytes every contains
+known-clean s w h = found-clean (map (λ (x : Text × Word). (x.0, Some x.1)) known_words) s w refl h
+
 pub word-known : (s : Text) → unwrap_or (known_word s) Word.Other ≡ word_of s
 unfolding known_word word_of
 word-known s = found-known Word.Other known_words s
@@ -105,12 +121,12 @@ clean-word : (o i : ℕ) (ws : List Text) (s : Text) → every (λ w. not (conta
 unfolding found numbered every
 clean-word o i [] s e h = absurd (omega arith)
 clean-word o i (w ∷ ws) s e h =
-    let p = two (not (contains colon w)) (every (λ v. not (contains colon v)) ws) e in
+    let p = and_parts (not (contains colon w)) (every (λ v. not (contains colon v)) ws) e in
     bool_cases (same s w)
     (λ q. rw (same-eq s w q) (not-true (contains colon w) p.0))
     (λ q. clean-word o (suc i) ws s p.1 (rw q at h))
 
-local-clean : (s : Text) → contains colon s ≡ false → local_name s ≡ s
+pub local-clean : (s : Text) → contains colon s ≡ false → local_name s ≡ s
 unfolding local_name
 local-clean s h = after_last-none colon s s h
 
@@ -132,15 +148,12 @@ pub word-sized : (s : Text) {n : ℕ} → length s ≡ n → found None (sized n
 unfolding known_word
 word-sized s e = found_of None (map (λ (x : Text × Word). (x.0, Some x.1)) known_words) s e
 
-false-true : ◌≡◌ {A = Bool} false true → ⊥
-false-true h = search rules
-
 pub key-sized : (s : Text) {n : ℕ} → length s ≡ n → found 9 (sized n (numbered 0 key_words)) s ≡ key_of s
 unfolding key_of
 key-sized s e = found_of 9 (numbered 0 key_words) s e
 
 or-some : {A : Type 0} (o p : Option A) → is_some o ≡ true → option_or o p ≡ o
-or-some None p h = absurd (false-true h)
+or-some None p h = absurd (false≢true h)
 or-some (Some v) p h = refl
 
 -- what is found in one list, or else in another
@@ -149,7 +162,7 @@ pub found-or : {A : Type 0} (xs ys : List (Text × Option A)) (s : Text) → eve
 unfolding found every
 found-or [] ys s e = refl
 found-or {A} (x ∷ xs) ys s e =
-    let p = two (is_some x.1) (every (λ (y : Text × Option A). is_some y.1) xs) e in
+    let p = and_parts (is_some x.1) (every (λ (y : Text × Option A). is_some y.1) xs) e in
     bool_cases (same s x.0)
     (λ q. rw q (or-some x.1 (found None ys s) p.0))
     (λ q. rw q (found-or xs ys s p.1))
@@ -194,6 +207,6 @@ pub found_none : {A : Type 0} (o : A) (xs : List (Text × A)) (s : Text) → eve
 unfolding found every
 found_none o [] s e = refl
 found_none {A} o (x ∷ xs) s e =
-    let p = two (not (eqb (length x.0) (length s))) (every (λ (y : Text × A). not (eqb (length y.0) (length s))) xs) e in
+    let p = and_parts (not (eqb (length x.0) (length s))) (every (λ (y : Text × A). not (eqb (length y.0) (length s))) xs) e in
     let other = eqb-false (length x.0) (length s) (not-true (eqb (length x.0) (length s)) p.0) in
     rw (same-differ s x.0 (λ q. other (sym (ap (λ (t : Text). length t) q)))) (found_none o xs s p.1)

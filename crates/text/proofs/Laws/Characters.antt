@@ -5,10 +5,11 @@ use mathlib.Core.List.{[], ◌∷◌}
 use Prim.Native.Nat.{ℕ, ◌≤◌}
 use native.Mathlib.Omega.{arith}
 use lib.Dec.{eqb, ltb}
-use borrow.Author.Tests.{lt-leb, le-ltb, eqb-true}
-use Rattle.text.specs.Text.{Text, every, is_tail, is_pair, is_text, is_upper, is_lower, upper, lower, between, first, join}
+use borrow.Author.Tests.{le-ltb, eqb-true}
+use Rattle.text.specs.Text.{Text, every, is_tail, is_pair, is_text, between, first}
 use Rattle.text.specs.Characters.{is_lead, characters}
-use Rattle.text.proofs.Laws.Tests.{and-true-left, and-true-right, and-true, two, or_four, bool_cases}
+use Rattle.std.proofs.lemmas.Bool.{and_parts}
+use Rattle.text.proofs.Laws.Tests.{and-true-left, and-true-right, and-true, or_four, bool_cases}
 use Rattle.text.proofs.Laws.Texts.{between-low}
 use Rattle.text.proofs.Laws.Class.{empty-text, text-behind, text-pair, text-high}
 
@@ -36,14 +37,6 @@ by_characters P none one more (b ∷ t ∷ s) =
     (λ e. more b t s e (by_characters P none one more s))
     (λ e. one b (t ∷ s) e (by_characters P none one more (t ∷ s)))
 
-pub characters-join : (s : Text) → join (characters s) ≡ s
-unfolding characters join
-characters-join s =
-    by_characters (λ u. join (characters u) ≡ u) refl
-    (λ b u e h. rw (characters-one b u e, h))
-    (λ b t u e h. rw (characters-two b t u e, h))
-    s
-
 -- ---- the bytes of a character of two: from 128 on, without case
 
 pub lead-low : (b : ℕ) → is_lead b ≡ true → 194 ≤ b
@@ -62,28 +55,12 @@ pub tail-high : (b t : ℕ) → is_lead b && is_tail t ≡ true → 128 ≤ t
 unfolding is_tail
 tail-high b t e = between-low 128 191 t (and-true-right (is_lead b) (is_tail t) e)
 
-pub high-no-upper : (b : ℕ) → 128 ≤ b → is_upper b ≡ false
-unfolding between
-high-no-upper b h = rw (lt-leb b 90 (omega arith)) (and-false _)
-
-pub high-no-lower : (b : ℕ) → 128 ≤ b → is_lower b ≡ false
-unfolding between
-high-no-lower b h = rw (lt-leb b 122 (omega arith)) (and-false _)
-
-pub high-upper : (b : ℕ) → 128 ≤ b → upper b ≡ b
-unfolding upper
-high-upper b h = rw (high-no-lower b h)
-
-pub high-lower : (b : ℕ) → 128 ≤ b → lower b ≡ b
-unfolding lower
-high-lower b h = rw (high-no-upper b h)
-
 -- ---- characters of a text
 
 -- a sheet's character is one of `characters`
 pub pair-character : (b t : ℕ) → is_pair b t ≡ true → is_lead b && is_tail t ≡ true
 unfolding is_pair is_lead
-pair-character b t e = let (x, y) = two (between 194 197 b) (is_tail t) e in and-true (rw x) y
+pair-character b t e = let (x, y) = and_parts (between 194 197 b) (is_tail t) e in and-true (rw x) y
 
 -- a text that begins with a byte of its own: the byte is below 128
 one-text : (b : ℕ) (s : Text) → is_lead b && is_tail (first s) ≡ false → is_text (b ∷ s) ≡ true → (is_text (b ∷ []) ≡ true) × (is_text s ≡ true)
@@ -101,6 +78,6 @@ characters-text s =
     (λ b u e h k. let (x, y) = one-text b u e k in rw (characters-one b u e) (and-true x (h y)))
     (λ b t u e h k.
     let wide = le-ltb b 128 (lead-high b t e) in
-    let (x, y) = two (is_pair b t) (is_text u) (sym (text-pair b t u wide) ∙ k) in
+    let (x, y) = and_parts (is_pair b t) (is_text u) (sym (text-pair b t u wide) ∙ k) in
     rw (characters-two b t u e) (and-true (text-pair b t [] wide ∙ and-true x empty-text) (h y)))
     s

@@ -8,12 +8,12 @@ use native.Mathlib.Omega.{arith}
 use lib.Dec.{eqb, ltb}
 use lib.ListN.{take, drop}
 use borrow.Author.Tests.{eqb-true, ne_eqb, ltb-true, lt-leb}
-use Rattle.std.specs.List.{fold}
-use Rattle.text.specs.Text.{Text, every, is_plain_byte, is_plain, between, is_tail, is_pair, is_graph_pair, pair_of, text_by, is_text, is_graph_text, lead_after, upper, lower, join}
-use Rattle.text.proofs.Laws.Tests.{and-true-right, and-true, two, or_four, not-true-false, bool_cases}
+use Rattle.text.specs.Text.{Text, every, is_plain_byte, is_plain, between, is_tail, is_pair, is_graph_pair, text_by, is_text, is_graph_text, upper_byte, lower_byte, join}
+use Rattle.std.proofs.lemmas.Bool.{and_parts, false_from_ne_true}
+use Rattle.text.proofs.Laws.Tests.{and-true-right, and-true, or_four, bool_cases}
 use Rattle.text.proofs.Laws.Every.{every_append, every_take, every_drop}
 use Rattle.text.proofs.Laws.Texts.{between-low, between-high, between-below, upper-plain, lower-plain}
-use Rattle.text.proofs.Laws.Pairs.{by-plain, by-append, by-join, by-cut, by-fold, by-wider}
+use Rattle.text.proofs.Laws.Pairs.{by-plain, by-append, by-join, by-cut, by-wider}
 
 -- ---- plain texts
 
@@ -25,7 +25,7 @@ plain-append x y = every_append is_plain_byte x y
 pub each-plain : (ok : Text → Bool) → ((s : Text) → is_plain s ≡ true → ok s ≡ true) → (ts : List Text) → is_plain (join ts) ≡ true → every ok ts ≡ true
 unfolding every join
 each-plain ok plain [] e = refl
-each-plain ok plain (t ∷ ts) e = let (x, y) = two (is_plain t) (is_plain (join ts)) (sym (plain-append t (join ts)) ∙ e) in and-true (plain t x) (each-plain ok plain ts y)
+each-plain ok plain (t ∷ ts) e = let (x, y) = and_parts (is_plain t) (is_plain (join ts)) (sym (plain-append t (join ts)) ∙ e) in and-true (plain t x) (each-plain ok plain ts y)
 
 -- a part of a plain text is plain
 pub plain-part : (at size : ℕ) (s : Text) → is_plain s ≡ true → is_plain (take size (drop at s)) ≡ true
@@ -64,15 +64,7 @@ graph-apart l b u e = let (x, y) = graph-tail l b e in (x, low-none b u y)
 
 pair-apart : (l b u : ℕ) → is_pair l b ≡ true → (128 ≤ b) × (is_pair b u ≡ false)
 pair-apart l b u e =
-    let (x, y) = graph-apart l b u (pair-in-graph l b e) in (x, not-true-false (is_pair b u) (λ h. false≢true (sym y ∙ pair-in-graph b u h)))
-
-none-behind-graph : (b : ℕ) → is_graph_pair 255 b ≡ false
-unfolding is_graph_pair is_pair between
-none-behind-graph b = refl
-
-none-behind : (b : ℕ) → is_pair 255 b ≡ false
-unfolding is_pair between
-none-behind b = refl
+    let (x, y) = graph-apart l b u (pair-in-graph l b e) in (x, false_from_ne_true (is_pair b u) (λ h. false≢true (sym y ∙ pair-in-graph b u h)))
 
 -- ---- texts
 
@@ -121,13 +113,13 @@ plain-byte : (b : ℕ) → is_text (b ∷ []) ≡ true → is_plain_byte b ≡ t
 unfolding is_plain_byte
 plain-byte b e = bool_cases (ltb b 128) (λ h. h) (λ h. absurd (false≢true (sym (text-high b h) ∙ e)))
 
-pub upper-text : (b : ℕ) → is_text (b ∷ []) ≡ true → is_text (upper b ∷ []) ≡ true
+pub upper-text : (b : ℕ) → is_text (b ∷ []) ≡ true → is_text (upper_byte b ∷ []) ≡ true
 unfolding is_plain_byte
-upper-text b e = text-behind (upper b) [] (upper-plain b (plain-byte b e)) ∙ empty-text
+upper-text b e = text-behind (upper_byte b) [] (upper-plain b (plain-byte b e)) ∙ empty-text
 
-pub lower-text : (b : ℕ) → is_text (b ∷ []) ≡ true → is_text (lower b ∷ []) ≡ true
+pub lower-text : (b : ℕ) → is_text (b ∷ []) ≡ true → is_text (lower_byte b ∷ []) ≡ true
 unfolding is_plain_byte
-lower-text b e = text-behind (lower b) [] (lower-plain b (plain-byte b e)) ∙ empty-text
+lower-text b e = text-behind (lower_byte b) [] (lower-plain b (plain-byte b e)) ∙ empty-text
 
 -- texts put together are a text
 pub text-join : (ts : List Text) → every is_text ts ≡ true → is_text (join ts) ≡ true
@@ -164,13 +156,3 @@ plain-graph-text s e = text-in-graph s (plain-text s e)
 pub graph-text-append : (x y : Text) → is_graph_text x ≡ true → is_graph_text (x ++ y) ≡ is_graph_text y
 unfolding is_graph_text
 graph-text-append x y e = by-append is_graph_pair x y 0 e
-
-pub graph-text-cut : (x y : Text) → is_graph_text (x ++ y) ≡ true → is_graph_text y ≡ true → is_graph_text x ≡ true
-unfolding is_graph_text
-graph-text-cut x y e h = by-cut is_graph_pair graph-apart x y 0 e h
-
--- ---- the bytes one by one: the byte that waits at the end
-
-pub fold-text : (graph : Bool) (s : Text) → eqb (fold (lead_after (pair_of graph)) 0 s) 0 ≡ text_by (pair_of graph) 0 s
-fold-text true s = by-fold is_graph_pair none-behind-graph s 0
-fold-text false s = by-fold is_pair none-behind s 0

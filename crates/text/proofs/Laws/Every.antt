@@ -9,7 +9,8 @@ use lib.Dec.{eqb, leb}
 use lib.ListN.{length, get_or, take, drop, take-append-drop}
 use borrow.Author.Tests.{le-leb, eqb-true, eqb-false}
 use Rattle.text.specs.Text.{every, between}
-use Rattle.text.proofs.Laws.Tests.{and-true-left, and-true-right, and-true, test-cases}
+use Rattle.std.proofs.lemmas.Bool.{cases_Bool}
+use Rattle.text.proofs.Laws.Tests.{and-true-left, and-true-right, and-true}
 use Rattle.text.proofs.Laws.Texts.{between-low, between-high}
 
 module _ {A : Type 0} (p : A → Bool) where
@@ -76,7 +77,7 @@ every-both p q r step (x ∷ xs) e f =
 -- a number of a range is its first or one of the rest
 between_split : (low high b : ℕ) → between low high b ≡ true → (b ≡ low) ⊎ (between (suc low) high b ≡ true)
 unfolding between
-between_split low high b e = go (test-cases (eqb b low))
+between_split low high b e = go (cases_Bool (eqb b low))
   where
     go : (eqb b low ≡ true) ⊎ (eqb b low ≡ false) → (b ≡ low) ⊎ (leb (suc low) b && leb b high ≡ true)
     go (inl h) = inl (eqb-true b low h)

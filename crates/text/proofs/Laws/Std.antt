@@ -1,23 +1,24 @@
 -- What the library's words say of texts in the words of specs/Text.antt: `==` of slices is `same`, `contains` of a slice is `contains`, `all` is `every`,
--- `to_ascii_lowercase` is `lower`, and the bits of all bytes together decide `is_plain`. Assumes nothing.
-use Rattle.std.proofs.Common.{◌≡◌, ◌≢◌, ℕ, zero, suc, ◌+◌, ◌<◌, ◌≤◌, Bool, true, false, ◌&&◌, ◌||◌, List, [], ◌∷◌, length, get_or, take, drop}
+-- `to_ascii_lowercase` is `lower_byte`, and the bits of all bytes together decide `is_plain`. Assumes nothing.
+use Rattle.std.proofs.Common.{◌≡◌, ◌≢◌, ℕ, zero, suc, ◌+◌, ◌<◌, ◌≤◌, Bool, true, false, ◌&&◌, ◌||◌, [], ◌∷◌, length, get_or, take, drop}
 use Rattle.std.proofs.Common.{nat_eq, nat_lt, bit_or, refl, sym, ap, ◌∙◌, arith, add-one, length-drop, take-append-drop}
 use Rattle.std.specs.Char.{to_ascii_lowercase}
-use Rattle.std.specs.List.{list_all, list_any, fold}
+use Rattle.std.specs.List.{list_any, fold}
 use Rattle.std.specs.Cmp.Lexicographic.{pointwise}
 use Rattle.std.proofs.lemmas.Bool.{ne_eqb}
 use Rattle.std.proofs.lemmas.List.{get_or-drop}
 use Rattle.std.proofs.lemmas.List.Recursion.{and_from_places, or_from_places}
 use lib.Seq.{take-suc}
-use mathlib.Core.Bool.{and_assoc, and-true}
+use mathlib.Core.Bool.{and_assoc, and-true, false≢true}
 use borrow.Author.Tests.{ltb-true, ltb-false, lt-leb, le-leb}
-use Rattle.text.specs.Text.{Text, between, lower, every, is_plain, is_plain_byte, contains, same, colon, local_name}
+use Rattle.text.specs.Text.{Text, between, lower_byte, every, is_plain, is_plain_byte, contains, same, colon, local_name}
 use Rattle.text.specs.Trim.{is_white_space, trim_start, trim_end}
 use Rattle.text.proofs.Laws.Bits.{or-small}
 use Rattle.text.proofs.Laws.Every.{every-head, every-tail}
 use Rattle.text.proofs.Laws.Local.{after_last-at, after_last-none}
 use Rattle.text.proofs.Laws.Tests.{bool_cases}
 use Rattle.text.proofs.Laws.Trim.{trim_end-append, trim_end-last}
+use Rattle.std.specs.Prelude.{Option, Some, None, is_some}
 
 -- what `==` of two texts answers
 pub same_is : (s t : Text) → pointwise nat_eq s t ≡ same s t
@@ -33,15 +34,9 @@ unfolding contains
 contains_is c [] = refl
 contains_is c (b ∷ s) = ap (λ (r : Bool). nat_eq b c || r) (contains_is c s)
 
--- what `all` of a list answers
-pub every_is : {A : Type 0} (p : A → Bool) (xs : List A) → list_all p xs ≡ every p xs
-unfolding every
-every_is p [] = refl
-every_is p (x ∷ xs) = ap (λ (r : Bool). p x && r) (every_is p xs)
-
 -- what `to_ascii_lowercase` of a byte answers
-pub lower_is : (b : ℕ) → to_ascii_lowercase b ≡ lower b
-unfolding between lower
+pub lower_is : (b : ℕ) → to_ascii_lowercase b ≡ lower_byte b
+unfolding between lower_byte
 lower_is b =
     bool_cases (nat_lt b 65)
     (λ t. rw (t, lt-leb 65 b (ltb-true b 65 t)))
@@ -95,3 +90,8 @@ pub trim_end-at : (s : Text) (i : ℕ) → i < length s → is_white_space (get_
 trim_end-at s i inside here behind =
     ap trim_end (sym (take-append-drop (i + 1) s)) ∙ trim_end-append (take (i + 1) s) (drop (i + 1) s) (white-from s (i + 1) behind)
     ∙ rw (add-one, take-suc s i 0 inside) (trim_end-last (take i s) (get_or s i 0) here)
+
+-- an answer that `is_some` is false of
+pub none-is : {A : Type 0} (r : Option A) → is_some r ≡ false → r ≡ None
+none-is None h = refl
+none-is (Some q) h = absurd (false≢true (sym h))

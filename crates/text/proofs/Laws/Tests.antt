@@ -1,22 +1,24 @@
 -- Laws of tests: `◌&&◌`, `◌||◌` and `if◌then◌else◌`. Assumes nothing.
 use Rattle.std.specs.Prelude.{if◌then◌else◌}
 use mathlib.Core.Path.{◌≡◌, refl, sym, ◌∙◌}
-use mathlib.Core.Logic.{◌⊎◌, inl, inr}
 use mathlib.Core.Bool.{Bool, true, false, ◌&&◌, ◌||◌, false≢true}
+use Rattle.std.proofs.lemmas.Bool.{and_parts, or_parts, and_from}
 
--- a conjunction that holds
+-- std's `and_parts`, `or_parts` and `and_from`, a half at a time and with the tests left out: of some 1,200 citations each would be longer by `( ).0` or `_ _`
 pub and-true-left : (a b : Bool) → a && b ≡ true → a ≡ true
-and-true-left true b e = refl
-and-true-left false b e = absurd (false≢true e)
+and-true-left a b e = (and_parts a b e).0
 
 pub and-true-right : (a b : Bool) → a && b ≡ true → b ≡ true
-and-true-right true b e = e
-and-true-right false b e = absurd (false≢true e)
+and-true-right a b e = (and_parts a b e).1
 
--- a test that does not hold fails
-pub not-true-false : (b : Bool) → (b ≡ true → ⊥) → b ≡ false
-not-true-false true h = absurd (h refl)
-not-true-false false h = refl
+pub or-false-left : (a b : Bool) → a || b ≡ false → a ≡ false
+or-false-left a b e = (or_parts a b e).0
+
+pub or-false-right : (a b : Bool) → a || b ≡ false → b ≡ false
+or-false-right a b e = (or_parts a b e).1
+
+pub and-true : {a b : Bool} → a ≡ true → b ≡ true → a && b ≡ true
+and-true {a} {b} e f = and_from a b e f
 
 -- what holds of both arms of a test holds of the test
 pub if-cases : {A : Type 0} (P : A → Type 0) (t : Bool) {x y : A} → (t ≡ true → P x) → (t ≡ false → P y) → P (if t then x else y)
@@ -27,22 +29,6 @@ if-cases P false h k = k refl
 pub if-in : {A B : Type 0} (f : A → B) (t : Bool) {x y : A} {p q : B} → f x ≡ p → f y ≡ q → f (if t then x else y) ≡ (if t then p else q)
 if-in f true e g = e
 if-in f false e g = g
-
-pub and-true : {a b : Bool} → a ≡ true → b ≡ true → a && b ≡ true
-and-true e f = rw (e, f)
-
--- a disjunction that fails
-pub or-false-left : (a b : Bool) → a || b ≡ false → a ≡ false
-or-false-left true b e = e
-or-false-left false b e = refl
-
-pub or-false-right : (a b : Bool) → a || b ≡ false → b ≡ false
-or-false-right true b e = absurd (false≢true (sym e))
-or-false-right false b e = e
-
--- both of two tests hold
-pub two : (a b : Bool) → a && b ≡ true → (a ≡ true) × (b ≡ true)
-two a b e = (and-true-left a b e, and-true-right a b e)
 
 -- all of three, four, six or eleven tests hold
 pub three : (a b c : Bool) → a && b && c ≡ true → (a ≡ true) × (b ≡ true) × (c ≡ true)
@@ -79,22 +65,6 @@ sixth-under true true false d e h = refl
 sixth-under true true true false e h = refl
 sixth-under true true true true false h = refl
 sixth-under true true true true true h = h refl refl refl
-
-pub or_left : {a : Bool} (b : Bool) → a ≡ true → a || b ≡ true
-or_left b p = rw p
-
-pub or_right : (a : Bool) {b : Bool} → b ≡ true → a || b ≡ true
-or_right true q = refl
-or_right false q = q
-
-pub or_cases : (a b : Bool) → a || b ≡ true → (a ≡ true) ⊎ (b ≡ true)
-or_cases true b e = inl refl
-or_cases false b e = inr e
-
--- the cases of a test with its equation
-pub test-cases : (b : Bool) → (b ≡ true) ⊎ (b ≡ false)
-test-cases true = inl refl
-test-cases false = inr refl
 
 -- one of four tests holds
 pub or_four : {C : Type 0} (a b c d : Bool) → a || b || c || d ≡ true → (a ≡ true → C) → (b ≡ true → C) → (c ≡ true → C) → (d ≡ true → C) → C

@@ -6,11 +6,12 @@ use mathlib.Core.List.{[], ◌∷◌}
 use Prim.Native.Nat.{ℕ, zero, suc, ◌+◌, ◌-◌, ◌≤◌, ◌<◌}
 use native.Mathlib.Omega.{arith}
 use lib.Dec.{eqb, leb}
-use lib.ListN.{length, get_or, take, drop, drop_of_length-le}
-use lib.Seq.{drop-cons, drop-nil, take-nil}
+use lib.ListN.{length, get_or, drop, drop_of_length-le}
+use lib.Seq.{drop-cons, drop-nil}
 use borrow.Author.Tests.{leb-true, lt-leb, le-leb, eqb-true, eq-eqb, ne_eqb, ltb-true, lt-ltb}
-use Rattle.text.proofs.Laws.Tests.{and-true-left, and-true-right, not-true-false, if-cases}
-use Rattle.text.specs.Text.{Text, between, is_upper, is_lower, upper, lower, is_plain_byte, first, same, after_last}
+use Rattle.std.proofs.lemmas.Bool.{false_from_ne_true}
+use Rattle.text.proofs.Laws.Tests.{and-true-left, and-true-right, if-cases}
+use Rattle.text.specs.Text.{Text, between, is_upper, is_lower, upper_byte, lower_byte, is_plain_byte, first, same, after_last}
 
 pub between-low : (low high b : ℕ) → between low high b ≡ true → low ≤ b
 unfolding between
@@ -28,8 +29,8 @@ pub between-above : (low high b : ℕ) → low ≤ b → between low high b ≡ 
 unfolding between
 between-above low high b h = rw (le-leb low b h)
 
-pub lower-of-other : (b : ℕ) → is_upper b ≡ false → lower b ≡ b
-unfolding lower
+pub lower-of-other : (b : ℕ) → is_upper b ≡ false → lower_byte b ≡ b
+unfolding lower_byte
 lower-of-other b e = rw e
 
 pub first-drop : (s : Text) (i : ℕ) → first (drop i s) ≡ get_or s i 0
@@ -54,7 +55,7 @@ same-eq (b ∷ s) (c ∷ t) e =
     cc
 
 pub same-differ : (s t : Text) → (s ≡ t → ⊥) → same s t ≡ false
-same-differ s t h = not-true-false (same s t) (λ e. h (same-eq s t e))
+same-differ s t h = false_from_ne_true (same s t) (λ e. h (same-eq s t e))
 
 -- two texts from place i on: the bytes there decide, or the rest does
 pub same-hit : (s t : Text) (i : ℕ) → i < length s → i < length t → (get_or s i 0 ≡ get_or t i 0 → ⊥) → same (drop i s) (drop i t) ≡ false
@@ -91,16 +92,12 @@ pub same-cons-differ : (b c : ℕ) (s t : Text) → (b ≡ c → ⊥) → same (
 unfolding same
 same-cons-differ b c s t h = rw (ne_eqb b c h)
 
-pub upper-plain : (b : ℕ) → is_plain_byte b ≡ true → is_plain_byte (upper b) ≡ true
-unfolding upper is_plain_byte
+pub upper-plain : (b : ℕ) → is_plain_byte b ≡ true → is_plain_byte (upper_byte b) ≡ true
+unfolding upper_byte is_plain_byte
 upper-plain b e =
     let h : b < 128 = ltb-true b 128 e in
     if-cases (λ r. is_plain_byte r ≡ true) (is_lower b) (λ l. lt-ltb (b - 32) 128 (omega arith)) (λ l. e)
 
-pub lower-plain : (b : ℕ) → is_plain_byte b ≡ true → is_plain_byte (lower b) ≡ true
-unfolding lower is_plain_byte
+pub lower-plain : (b : ℕ) → is_plain_byte b ≡ true → is_plain_byte (lower_byte b) ≡ true
+unfolding lower_byte is_plain_byte
 lower-plain b e = if-cases (λ r. is_plain_byte r ≡ true) (is_upper b) (λ u. lt-ltb (b + 32) 128 (omega (arith, between-high 65 90 b u))) (λ u. e)
-
--- a part past the end
-pub part-past : (s : Text) (offset size : ℕ) → length s ≤ offset → take size (drop offset s) ≡ []
-part-past s offset size h = rw (drop_of_length-le s h) (take-nil {A = ℕ} size)

@@ -10,7 +10,8 @@ use lib.Dec.{eqb, ltb}
 use borrow.Author.Tests.{eqb-true, ne_eqb, ltb-true, ltb-false, le-ltb, lt-ltb}
 use Rattle.text.specs.Text.{Text, every, join, same, between, is_plain_byte, is_tail, is_pair, is_graph_pair, text_by, is_text, is_graph_text}
 use Rattle.text.specs.Utf8.{utf8, is_point, is_graph_point, SpelledBy}
-use Rattle.text.proofs.Laws.Tests.{and-true-left, and-true-right, and-true as both, two, or_four, bool_cases}
+use Rattle.std.proofs.lemmas.Bool.{and_parts}
+use Rattle.text.proofs.Laws.Tests.{and-true-left, and-true-right, and-true as both, or_four, bool_cases}
 use Rattle.text.proofs.Laws.Texts.{between-low, between-high, same-eq}
 use Rattle.text.proofs.Laws.Every.{every_map}
 use Rattle.text.proofs.Laws.Table.{passes, at}
@@ -43,7 +44,7 @@ module _ (pair : ℕ → ℕ → Bool) (point : ℕ → Bool) (low : (b : ℕ) �
     to-points (b ∷ t ∷ s) e =
         bool_cases (ltb b 128) (λ h. plain-first b (t ∷ s) h (to-points (t ∷ s) (rw h at e)))
         (λ h. let zero : eqb b 0 ≡ false = ne_eqb b 0 (λ w. omega (arith, w, ltb-false b 128 h)) in
-        let (x, y) = two (pair b t) (text_by pair 0 s) (rw (h, zero) at e) in pair-first b t s x (to-points s y))
+        let (x, y) = and_parts (pair b t) (text_by pair 0 s) (rw (h, zero) at e) in pair-first b t s x (to-points s y))
 
   -- the bytes of a code point, where those of two bytes are a pair
   one-point : ((c : ℕ) → point c ≡ true → ltb c 128 ≡ false → pair (192 + c / 64) (128 + c % 64) ≡ true) → (c : ℕ) → point c ≡ true → text_by pair 0 (utf8 c) ≡ true
@@ -82,7 +83,7 @@ pair-point l t e =
     let tried = at (pair-test i) 64 (at (λ n. passes (pair-test n) 64) 4 pairs-tried i (omega (arith, between-low 194 197 l h, between-high 194 197 l h))) j
     (omega (arith, between-low 128 191 t k, between-high 128 191 t k)) in
     let c = (2 + i) * 64 + j in
-    let (x, y) = two (same (utf8 c) ((194 + i) ∷ (128 + j) ∷ [])) (is_point c) tried in
+    let (x, y) = and_parts (same (utf8 c) ((194 + i) ∷ (128 + j) ∷ [])) (is_point c) tried in
     let lead : 194 + i ≡ l = omega (arith, between-low 194 197 l h) in
     let tail : 128 + j ≡ t = omega (arith, between-low 128 191 t k) in
     (c, y, same-eq (utf8 c) ((194 + i) ∷ (128 + j) ∷ []) x ∙ rw (lead, tail))
@@ -110,9 +111,9 @@ unfolding is_graph_pair is_graph_point utf8 is_point
 graph-pair-point l t e =
     or_four (is_pair l t) (eqb l 202 && eqb t 188) (eqb l 204 && eqb t 135) (eqb l 206 && eqb t 156) e
     (λ w. let (c, x, y) = pair-point l t w in (c, rw x, y))
-    (λ w. let (x, y) = two (eqb l 202) (eqb t 188) w in (700, refl, rw (eqb-true l 202 x, eqb-true t 188 y)))
-    (λ w. let (x, y) = two (eqb l 204) (eqb t 135) w in (775, refl, rw (eqb-true l 204 x, eqb-true t 135 y)))
-    (λ w. let (x, y) = two (eqb l 206) (eqb t 156) w in (924, refl, rw (eqb-true l 206 x, eqb-true t 156 y)))
+    (λ w. let (x, y) = and_parts (eqb l 202) (eqb t 188) w in (700, refl, rw (eqb-true l 202 x, eqb-true t 188 y)))
+    (λ w. let (x, y) = and_parts (eqb l 204) (eqb t 135) w in (775, refl, rw (eqb-true l 204 x, eqb-true t 135 y)))
+    (λ w. let (x, y) = and_parts (eqb l 206) (eqb t 156) w in (924, refl, rw (eqb-true l 206 x, eqb-true t 156 y)))
 
 point-graph-pair : (c : ℕ) → is_graph_point c ≡ true → ltb c 128 ≡ false → is_graph_pair (192 + c / 64) (128 + c % 64) ≡ true
 unfolding is_graph_point is_graph_pair is_pair between

@@ -7,7 +7,7 @@ use lib.Dec.{eqb}
 use lib.ListN.{length, drop}
 use Rattle.text.specs.Text.{Text, bytes, same}
 use Rattle.text.proofs.Laws.Tests.{if-either, if-in}
-use Rattle.xml.specs.Steps.{Step, bad, behind, ◌and_then◌, starts_with, literal, spaces, name, name_of, comment, section, instruction}
+use Rattle.xml.specs.Steps.{Step, bad, behind, ◌and_then◌, starts_with, literal, spaces, name, leading_name, comment, section, instruction}
 use Rattle.xml.specs.Values.{char_data}
 use Rattle.xml.specs.Prolog.{misc, prolog}
 use Rattle.xml.specs.Tape.{TapeEvent}
@@ -37,7 +37,7 @@ ending-by text n (behind a r) h = h
 pub close-behind : (text : Text) (d : Step) → Here text d → PieceAt text (close_behind d)
 close-behind text bad h = tt
 close-behind text (behind n t) h =
-    ending-by text (name_of t) (name n t and_then spaces and_then literal (bytes ">"))
+    ending-by text (leading_name t) (name n t and_then spaces and_then literal (bytes ">"))
     (three-keeps text name spaces (literal (bytes ">")) (name-keeps text) (spaces-keeps text) (literal-keeps (bytes ">") text) n t h)
 
 pub markup-at : (text : Text) (at : ℕ) (s : Text) → s ≡ drop at text → PieceAt text (markup at s)

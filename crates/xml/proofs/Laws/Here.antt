@@ -12,9 +12,9 @@ use Rattle.text.specs.Text.{Text, bytes, first, is_digit}
 use Rattle.text.proofs.Laws.Tests.{if-either}
 use Rattle.text.specs.Trim.{is_white_space}
 use Rattle.xml.specs.Classes.{is_char, is_name_start, is_letter, is_encoding, begins}
-use Rattle.xml.specs.Steps.{Step, bad, behind, ◌and_then◌, starts_with, literal, many, one_then, spaces, space, name, name_of, until, comment, target, instruction_end, instruction, section}
+use Rattle.xml.specs.Steps.{Step, bad, behind, ◌and_then◌, starts_with, literal, many, one_then, spaces, space, name, leading_name, until, comment, target, instruction_end, instruction, section}
 use Rattle.xml.specs.Grammar.{is_xml}
-use Rattle.xml.specs.Values.{is_plain, is_quote, value_end, value, char_data}
+use Rattle.xml.specs.Values.{starts_character, is_quote, value_end, value, char_data}
 use Rattle.xml.specs.Prolog.{eq, quoted, version_number, encoding_name, yes_or_no, declared, ends_at, optional, declaration, is_misc, misc_part, misc_from, misc_behind, misc, is_declaration, prolog}
 
 abbrev pub Here : Text → Step → Type 0
@@ -64,7 +64,7 @@ space-keeps text = one-keeps is_white_space is_white_space text
 pub name-keeps : (text : Text) → Keeps text name
 unfolding name
 name-keeps text at s h =
-    if-either (Here text) (begins is_name_start s) (ap (drop (length (name_of s))) h ∙ drop-drop (length (name_of s)) at text) tt
+    if-either (Here text) (begins is_name_start s) (ap (drop (length (leading_name s))) h ∙ drop-drop (length (leading_name s)) at text) tt
 
 pub until-keeps : (word text : Text) → Keeps text (until word)
 unfolding until
@@ -86,7 +86,7 @@ section-keeps text =
 
 pub target_keeps : (text : Text) → Keeps text target
 unfolding target
-target_keeps text at s h = if-either (Here text) (is_xml (name_of s)) tt (name-keeps text at s h)
+target_keeps text at s h = if-either (Here text) (is_xml (leading_name s)) tt (name-keeps text at s h)
 
 pub instruction-end-keeps : (text : Text) → Keeps text instruction_end
 unfolding instruction_end
@@ -105,7 +105,7 @@ value-end-keeps quote text at [] h = tt
 value-end-keeps quote text at (b ∷ s) h =
     let k = here-next text at b s h in
     if-either (Here text) (eqb b quote) k
-    (if-either (Here text) (eqb b (code "<")) tt (if-either (Here text) (is_plain (b ∷ s)) (value-end-keeps quote text (suc at) s k) tt))
+    (if-either (Here text) (eqb b (code "<")) tt (if-either (Here text) (starts_character (b ∷ s)) (value-end-keeps quote text (suc at) s k) tt))
 
 pub value_keeps : (text : Text) → Keeps text value
 unfolding value
@@ -117,7 +117,7 @@ unfolding char_data
 char-data-keeps text at [] h = h
 char-data-keeps text at (b ∷ s) h =
     if-either (Here text) (eqb b (code "<")) h
-    (if-either (Here text) (not (starts_with (bytes "]]>") (b ∷ s)) && is_plain (b ∷ s)) (char-data-keeps text (suc at) s (here-next text at b s h)) tt)
+    (if-either (Here text) (not (starts_with (bytes "]]>") (b ∷ s)) && starts_character (b ∷ s)) (char-data-keeps text (suc at) s (here-next text at b s h)) tt)
 
 -- the prolog
 pub eq-keeps : (text : Text) → Keeps text eq

@@ -11,12 +11,13 @@ use lib.Dec.{eqb}
 use lib.ListN.{length, drop, length-drop, length-append}
 use borrow.Author.Tests.{eqb-true}
 use Rattle.text.specs.Text.{Text, bytes, first, contains}
-use Rattle.text.proofs.Laws.Tests.{bool_cases, or_cases}
+use Rattle.std.proofs.lemmas.Bool.{or_cases}
+use Rattle.text.proofs.Laws.Tests.{bool_cases}
 use Rattle.text.specs.Trim.{is_white_space}
 use Rattle.xml.specs.Classes.{is_char}
-use Rattle.xml.specs.Steps.{Step, bad, behind, ◌and_then◌, starts_with, literal, many, one_then, spaces, name, name_of, until, comment, target, instruction_end, instruction, section}
+use Rattle.xml.specs.Steps.{Step, bad, behind, ◌and_then◌, starts_with, literal, many, one_then, spaces, name, leading_name, until, comment, target, instruction_end, instruction, section}
 use Rattle.xml.specs.Grammar.{is_xml}
-use Rattle.xml.specs.Values.{is_plain, is_quote, value_end, value, char_data}
+use Rattle.xml.specs.Values.{starts_character, is_quote, value_end, value, char_data}
 use Rattle.xml.specs.Prolog.{eq, is_misc, misc_part, misc_from}
 use Rattle.xml.proofs.Laws.Steps.{starts-length}
 use Rattle.xml.proofs.Laws.Names.{behind-at, behind-rest, bad-not, name-read, name_of-begun, name_of-length, begins-name}
@@ -72,7 +73,7 @@ spaces-moves at s e r q = many-moves is_white_space at s e r q
 pub name-passes : Passes name
 name-passes at s e r q =
     let n = name-read at s e r q in
-    omega (arith, n.1, ap length n.2, name_of-begun s (begins-name s n.0), name_of-length s, length-drop (length (name_of s)) s)
+    omega (arith, n.1, ap length n.2, name_of-begun s (begins-name s n.0), name_of-length s, length-drop (length (leading_name s)) s)
 
 pub until-moves : (word : Text) → 0 < length word → Moves (until word)
 unfolding until
@@ -109,7 +110,7 @@ section-passes = then-passes (literal-passes (bytes "<![CDATA[") (omega arith)) 
 pub target-passes : Passes target
 unfolding target
 target-passes at s e r q =
-    bool_cases (is_xml (name_of s)) (λ y. absurd (bad-not (rw y at q))) (λ y. name-passes at s e r (rw y at q))
+    bool_cases (is_xml (leading_name s)) (λ y. absurd (bad-not (rw y at q))) (λ y. name-passes at s e r (rw y at q))
 
 pub instruction-end-moves : Moves instruction_end
 unfolding instruction_end bytes
@@ -197,7 +198,7 @@ value-end-stands quote at (b ∷ s) e r q =
     (λ z. absurd (bad-not (rw z at p)))
     (λ z.
     let o = rw z at p in
-    bool_cases (is_plain (b ∷ s))
+    bool_cases (starts_character (b ∷ s))
     (λ x. let i = value-end-stands quote (suc at) s e r (rw x at o) in (b ∷ i.0, ap (λ (t : Text). b ∷ t) i.1, rw y i.2, omega (arith, i.3)))
     (λ x. absurd (bad-not (rw x at o)))))
 
@@ -227,6 +228,6 @@ char-data-moves at (b ∷ s) e r q =
     (λ y. stays at (b ∷ s) e r (rw y at q))
     (λ y.
     let p = rw y at q in
-    bool_cases (not (starts_with (bytes "]]>") (b ∷ s)) && is_plain (b ∷ s))
+    bool_cases (not (starts_with (bytes "]]>") (b ∷ s)) && starts_character (b ∷ s))
     (λ z. let h = char-data-moves (suc at) s e r (rw z at p) in (omega arith, omega arith))
     (λ z. absurd (bad-not (rw z at p))))

@@ -1,4 +1,4 @@
--- Laws of names (specs/Steps.antt). A name that is read is the characters of names that the bytes left begin with: `name` moves over as many bytes as `name_of`
+-- Laws of names (specs/Steps.antt). A name that is read is the characters of names that the bytes left begin with: `name` moves over as many bytes as `leading_name`
 -- has, and these are a text. Assumes nothing.
 use Prim.Native.Nat.{ℕ, suc, ◌+◌, ◌-◌, ◌≤◌, ◌<◌}
 use mathlib.Core.Path.{◌≡◌, refl, sym, ap, ◌∙◌}
@@ -7,15 +7,16 @@ use mathlib.Core.Bool.{Bool, true, false, ◌&&◌, ◌||◌, not, false≢true,
 use native.Mathlib.Numerals.{add-one}
 use native.Mathlib.Omega.{arith}
 use lib.Dec.{eqb, leb, ltb}
-use lib.ListN.{length, get_or, take, drop, drop_of_length-le}
+use lib.ListN.{length, take, drop, drop_of_length-le}
 use lib.Seq.{drop-cons, drop-drop}
 use borrow.Author.Tests.{eqb-true, eqb-false, ltb-true, ltb-false, lt-leb, le-ltb, le-leb}
-use Rattle.text.specs.Text.{Text, first, is_tail, is_pair, is_text, same, lower, between}
-use Rattle.text.proofs.Laws.Tests.{bool_cases, and-true-left, and-true-right, or-false-left, or-false-right, or-true-left, and-true, or_left, or_right}
+use Rattle.text.specs.Text.{Text, first, is_tail, is_pair, is_text, same, between}
+use Rattle.std.proofs.lemmas.Bool.{or_left, or_right}
+use Rattle.text.proofs.Laws.Tests.{bool_cases, and-true-left, and-true-right, or-false-left, or-false-right, or-true-left, and-true}
 use Rattle.text.proofs.Laws.Class.{empty-text, text-behind, text-pair}
 use Rattle.text.proofs.Laws.Texts.{between-low, same-cons-on, same-cons-differ, first-drop}
 use Rattle.xml.specs.Classes.{is_letter, is_name_start, is_name, is_byte_of, is_pair_of, begins}
-use Rattle.xml.specs.Steps.{bad, behind, many, name, name_of, target}
+use Rattle.xml.specs.Steps.{bad, behind, many, name, leading_name, target}
 use Rattle.xml.specs.Grammar.{is_xml}
 
 -- ---- characters of a class
@@ -101,10 +102,10 @@ may_start b = leb 128 b || is_name_start b
 
 pub byte-may-start : (b : ℕ) → is_byte_of is_name_start b ≡ true → may_start b ≡ true
 unfolding is_byte_of
-byte-may-start b e = or_right (leb 128 b) (and-true-right (ltb b 128) (is_name_start b) e)
+byte-may-start b e = or_right (leb 128 b) _ (and-true-right (ltb b 128) (is_name_start b) e)
 
 pub pair-may-start : (b t : ℕ) → is_pair_of is_name_start b t ≡ true → may_start b ≡ true
-pair-may-start b t e = or_left (is_name_start b) (le-leb 128 b (omega (arith, pair-high is_name_start b t e)))
+pair-may-start b t e = or_left _ (is_name_start b) (le-leb 128 b (omega (arith, pair-high is_name_start b t e)))
 
 pub begins-may-start : (s : Text) → begins is_name_start s ≡ true → may_start (first s) ≡ true
 unfolding first
@@ -123,19 +124,19 @@ begins-at p (b ∷ s) e = refl
 
 -- ---- the characters of names that a text begins with
 
-pub name_of-none : (s : Text) → begins is_name s ≡ false → name_of s ≡ []
-unfolding name_of begins first
+pub name_of-none : (s : Text) → begins is_name s ≡ false → leading_name s ≡ []
+unfolding leading_name begins first
 name_of-none [] e = refl
 name_of-none (b ∷ []) e = rw (or-false-left (is_byte_of is_name b) _ e)
 name_of-none (b ∷ t ∷ s) e = rw (or-false-left (is_byte_of is_name b) _ e, or-false-right (is_byte_of is_name b) _ e)
 
-pub name_of-some : (b : ℕ) (s : Text) → is_byte_of is_name b ≡ true → name_of (b ∷ s) ≡ b ∷ name_of s
-unfolding name_of
+pub name_of-some : (b : ℕ) (s : Text) → is_byte_of is_name b ≡ true → leading_name (b ∷ s) ≡ b ∷ leading_name s
+unfolding leading_name
 name_of-some b [] e = rw e
 name_of-some b (t ∷ s) e = rw e
 
-pub name_of-pair : (b t : ℕ) (s : Text) → is_pair_of is_name b t ≡ true → name_of (b ∷ t ∷ s) ≡ b ∷ t ∷ name_of s
-unfolding name_of
+pub name_of-pair : (b t : ℕ) (s : Text) → is_pair_of is_name b t ≡ true → leading_name (b ∷ t ∷ s) ≡ b ∷ t ∷ leading_name s
+unfolding leading_name
 name_of-pair b t s e = rw (pair-no-byte is_name is_name b t e, e)
 
 -- what holds where no name goes on, and of a text that begins with a character of names where it holds of the rest, holds of every text
@@ -154,36 +155,36 @@ by_name P none one more (b ∷ t ∷ s) =
     (λ h. more b t s h (by_name P none one more s))
     (λ h. none (b ∷ t ∷ s) (rw (e, h))))
 
-pub name_of-take : (s : Text) → take (length (name_of s)) s ≡ name_of s
+pub name_of-take : (s : Text) → take (length (leading_name s)) s ≡ leading_name s
 name_of-take s =
-    by_name (λ u. take (length (name_of u)) u ≡ name_of u)
+    by_name (λ u. take (length (leading_name u)) u ≡ leading_name u)
     (λ u e. rw (name_of-none u e))
     (λ b u e h. rw (name_of-some b u e) (ap (λ (t : Text). b ∷ t) h))
     (λ b t u e h. rw (name_of-pair b t u e) (ap (λ (v : Text). b ∷ t ∷ v) h))
     s
 
-pub name_of-length : (s : Text) → length (name_of s) ≤ length s
+pub name_of-length : (s : Text) → length (leading_name s) ≤ length s
 name_of-length s =
-    by_name (λ u. length (name_of u) ≤ length u)
+    by_name (λ u. length (leading_name u) ≤ length u)
     (λ u e. rw (name_of-none u e) (omega arith))
     (λ b u e h. rw (name_of-some b u e) (omega arith))
     (λ b t u e h. rw (name_of-pair b t u e) (omega arith))
     s
 
 -- they are a text
-pub name-text : (s : Text) → is_text (name_of s) ≡ true
+pub name-text : (s : Text) → is_text (leading_name s) ≡ true
 unfolding is_byte_of is_pair_of
 name-text s =
-    by_name (λ u. is_text (name_of u) ≡ true)
+    by_name (λ u. is_text (leading_name u) ≡ true)
     (λ u e. rw (name_of-none u e) empty-text)
-    (λ b u e h. rw (name_of-some b u e) (text-behind b (name_of u) (and-true-left (ltb b 128) (is_name b) e) ∙ h))
+    (λ b u e h. rw (name_of-some b u e) (text-behind b (leading_name u) (and-true-left (ltb b 128) (is_name b) e) ∙ h))
     (λ b t u e h. rw (name_of-pair b t u e)
-    (text-pair b t (name_of u) (le-ltb b 128 (omega (arith, pair-high is_name b t e))) ∙ and-true (and-true-left (is_pair b t) _ e) h))
+    (text-pair b t (leading_name u) (le-ltb b 128 (omega (arith, pair-high is_name b t e))) ∙ and-true (and-true-left (is_pair b t) _ e) h))
     s
 
-pub name_of-begun : (s : Text) → begins is_name s ≡ true → 0 < length (name_of s)
+pub name_of-begun : (s : Text) → begins is_name s ≡ true → 0 < length (leading_name s)
 name_of-begun s e =
-    begins-cases is_name (λ u. 0 < length (name_of u)) s e
+    begins-cases is_name (λ u. 0 < length (leading_name u)) s e
     (λ b u h. rw (name_of-some b u h) (omega arith))
     (λ b t u h. rw (name_of-pair b t u h) (omega arith))
 
@@ -199,7 +200,7 @@ bad-not q = let z : ◌≡◌ {A = ℕ} 0 1 = cc in omega arith
 
 -- ---- a name that is read
 
-pub name-begun : (at : ℕ) (s : Text) → begins is_name_start s ≡ true → name at s ≡ behind (at + length (name_of s)) (drop (length (name_of s)) s)
+pub name-begun : (at : ℕ) (s : Text) → begins is_name_start s ≡ true → name at s ≡ behind (at + length (leading_name s)) (drop (length (leading_name s)) s)
 unfolding name
 name-begun at s e = rw e
 
@@ -208,13 +209,13 @@ unfolding name
 name-no-start at s e = rw e
 
 pub name-read : (at : ℕ) (s : Text) (e : ℕ) (r : Text) → name at s ≡ behind e r
-    → (begins is_name_start s ≡ true) × (e ≡ at + length (name_of s)) × (r ≡ drop (length (name_of s)) s)
+    → (begins is_name_start s ≡ true) × (e ≡ at + length (leading_name s)) × (r ≡ drop (length (leading_name s)) s)
 name-read at s e r q =
     bool_cases (begins is_name_start s)
     (λ h. let k = sym (name-begun at s h) ∙ q in (h, sym (behind-at k), sym (behind-rest k)))
     (λ h. absurd (bad-not (sym (name-no-start at s h) ∙ q)))
 
-pub name-size : (at : ℕ) (s : Text) (e : ℕ) (r : Text) → name at s ≡ behind e r → (e ≡ at + length (name_of s)) × (0 < length (name_of s))
+pub name-size : (at : ℕ) (s : Text) (e : ℕ) (r : Text) → name at s ≡ behind e r → (e ≡ at + length (leading_name s)) × (0 < length (leading_name s))
 name-size at s e r q = let n = name-read at s e r q in (n.1, name_of-begun s (begins-name s n.0))
 
 -- a name that is read lies in what is left
@@ -222,38 +223,21 @@ pub name-length : (at : ℕ) (s : Text) (e : ℕ) (r : Text) → name at s ≡ b
 name-length at s e r q = omega (arith, name-size at s e r q, name_of-length s)
 
 -- the part that a name moved over
-pub name-part : (at : ℕ) (s : Text) (e : ℕ) (r : Text) → name at s ≡ behind e r → take (e - at) s ≡ name_of s
+pub name-part : (at : ℕ) (s : Text) (e : ℕ) (r : Text) → name at s ≡ behind e r → take (e - at) s ≡ leading_name s
 name-part at s e r q =
     let size = name-size at s e r q in
-    let count : e - at ≡ length (name_of s) = omega arith in
+    let count : e - at ≡ length (leading_name s) = omega arith in
     rw count (name_of-take s)
-
--- `xml` in any case
-pub xml-three : (s : Text) → length s ≡ 3 → is_xml s ≡ eqb (lower (get_or s 0 0)) 120 && eqb (lower (get_or s 1 0)) 109 && eqb (lower (get_or s 2 0)) 108
-unfolding is_xml
-xml-three [] h = absurd (omega arith)
-xml-three (a ∷ []) h = absurd (omega arith)
-xml-three (a ∷ b ∷ []) h = absurd (omega arith)
-xml-three (a ∷ b ∷ c ∷ []) h = refl
-xml-three (a ∷ b ∷ c ∷ d ∷ s) h = absurd (omega arith)
-
-pub xml-other : (s : Text) → (length s ≡ 3 → ⊥) → is_xml s ≡ false
-unfolding is_xml
-xml-other [] h = refl
-xml-other (a ∷ []) h = refl
-xml-other (a ∷ b ∷ []) h = refl
-xml-other (a ∷ b ∷ c ∷ []) h = absurd (h refl)
-xml-other (a ∷ b ∷ c ∷ d ∷ s) h = refl
 
 pub target-bad : (at : ℕ) (s : Text) → name at s ≡ bad → target at s ≡ bad
 unfolding target
-target-bad at s e = bool_cases (is_xml (name_of s)) (λ h. rw h) (λ h. rw (h, e))
+target-bad at s e = bool_cases (is_xml (leading_name s)) (λ h. rw h) (λ h. rw (h, e))
 
-pub target-xml : (at : ℕ) (s : Text) → is_xml (name_of s) ≡ true → target at s ≡ bad
+pub target-xml : (at : ℕ) (s : Text) → is_xml (leading_name s) ≡ true → target at s ≡ bad
 unfolding target
 target-xml at s h = rw h
 
-pub target_name : (at : ℕ) (s : Text) → is_xml (name_of s) ≡ false → target at s ≡ name at s
+pub target_name : (at : ℕ) (s : Text) → is_xml (leading_name s) ≡ false → target at s ≡ name at s
 unfolding target
 target_name at s h = rw h
 
@@ -267,72 +251,72 @@ pub same-cons-nil : (b : ℕ) (s : Text) → same (b ∷ s) [] ≡ false
 unfolding same
 same-cons-nil b s = refl
 
-pub same_none : (t : Text) → begins is_name t ≡ true → same [] (name_of t) ≡ false
+pub same_none : (t : Text) → begins is_name t ≡ true → same [] (leading_name t) ≡ false
 unfolding same
 same_none t e =
-    begins-cases is_name (λ u. same [] (name_of u) ≡ false) t e
+    begins-cases is_name (λ u. same [] (leading_name u) ≡ false) t e
     (λ b u h. rw (name_of-some b u h))
     (λ b c u h. rw (name_of-pair b c u h))
 
 -- both go on with one byte below 128, and the rest decides
-pub same-byte : (b : ℕ) (s t : Text) → is_byte_of is_name b ≡ true → same (name_of (b ∷ s)) (name_of (b ∷ t)) ≡ same (name_of s) (name_of t)
-same-byte b s t e = rw (name_of-some b s e, name_of-some b t e) (same-cons-on b b (name_of s) (name_of t) refl)
+pub same-byte : (b : ℕ) (s t : Text) → is_byte_of is_name b ≡ true → same (leading_name (b ∷ s)) (leading_name (b ∷ t)) ≡ same (leading_name s) (leading_name t)
+same-byte b s t e = rw (name_of-some b s e, name_of-some b t e) (same-cons-on b b (leading_name s) (leading_name t) refl)
 
 -- they begin with no character alike: then they are the same where both have ended
 abbrev pub Apart : Text → Text → Type 0
 Apart s t = (is_byte_of is_name (first s) ≡ true → first s ≡ first t → ⊥) × (is_pair_of is_name (first s) (first (drop 1 s)) ≡ true → first s ≡ first t → first (drop 1 s) ≡ first (drop 1 t) → ⊥)
 
-same-other : (b : ℕ) (s t : Text) → (b ≡ first t → ⊥) → same (b ∷ s) (name_of t) ≡ false
+same-other : (b : ℕ) (s t : Text) → (b ≡ first t → ⊥) → same (b ∷ s) (leading_name t) ≡ false
 unfolding first
 same-other b s t d =
     bool_cases (begins is_name t)
-    (λ h. begins-cases is_name (λ u. (b ≡ first u → ⊥) → same (b ∷ s) (name_of u) ≡ false) t h
-    (λ c u e n. rw (name_of-some c u e) (same-cons-differ b c s (name_of u) n))
-    (λ c y u e n. rw (name_of-pair c y u e) (same-cons-differ b c s (y ∷ name_of u) n))
+    (λ h. begins-cases is_name (λ u. (b ≡ first u → ⊥) → same (b ∷ s) (leading_name u) ≡ false) t h
+    (λ c u e n. rw (name_of-some c u e) (same-cons-differ b c s (leading_name u) n))
+    (λ c y u e n. rw (name_of-pair c y u e) (same-cons-differ b c s (y ∷ leading_name u) n))
     d)
     (λ h. rw (name_of-none t h) (same-cons-nil b s))
 
-same-others : (b c : ℕ) (s t : Text) → 194 ≤ b → (b ≡ first t → c ≡ first (drop 1 t) → ⊥) → same (b ∷ c ∷ s) (name_of t) ≡ false
+same-others : (b c : ℕ) (s t : Text) → 194 ≤ b → (b ≡ first t → c ≡ first (drop 1 t) → ⊥) → same (b ∷ c ∷ s) (leading_name t) ≡ false
 unfolding first
 same-others b c s t l d =
     bool_cases (begins is_name t)
-    (λ h. begins-cases is_name (λ u. (b ≡ first u → c ≡ first (drop 1 u) → ⊥) → same (b ∷ c ∷ s) (name_of u) ≡ false) t h
-    (λ x u e n. rw (name_of-some x u e) (same-cons-differ b x (c ∷ s) (name_of u) (λ q. omega (arith, byte-low is_name x e))))
+    (λ h. begins-cases is_name (λ u. (b ≡ first u → c ≡ first (drop 1 u) → ⊥) → same (b ∷ c ∷ s) (leading_name u) ≡ false) t h
+    (λ x u e n. rw (name_of-some x u e) (same-cons-differ b x (c ∷ s) (leading_name u) (λ q. omega (arith, byte-low is_name x e))))
     (λ x y u e n. rw (name_of-pair x y u e)
     (bool_cases (eqb b x)
-    (λ q. same-cons-on b x (c ∷ s) (y ∷ name_of u) (eqb-true b x q) ∙ same-cons-differ c y s (name_of u) (n (eqb-true b x q)))
-    (λ q. same-cons-differ b x (c ∷ s) (y ∷ name_of u) (eqb-false b x q))))
+    (λ q. same-cons-on b x (c ∷ s) (y ∷ leading_name u) (eqb-true b x q) ∙ same-cons-differ c y s (leading_name u) (n (eqb-true b x q)))
+    (λ q. same-cons-differ b x (c ∷ s) (y ∷ leading_name u) (eqb-false b x q))))
     d)
     (λ h. rw (name_of-none t h) (same-cons-nil b (c ∷ s)))
 
 -- where the first name has ended, the second must have ended too
-pub same-nothing : (s t : Text) → begins is_name s ≡ false → same (name_of s) (name_of t) ≡ not (begins is_name t)
+pub same-nothing : (s t : Text) → begins is_name s ≡ false → same (leading_name s) (leading_name t) ≡ not (begins is_name t)
 same-nothing s t e =
     rw (name_of-none s e)
     (bool_cases (begins is_name t) (λ k. rw k (same_none t k)) (λ k. rw (k, name_of-none t k) same-nil))
 
-pub same-ended : (s t : Text) → Apart s t → (not (begins is_name s) && not (begins is_name t)) ≡ same (name_of s) (name_of t)
+pub same-ended : (s t : Text) → Apart s t → (not (begins is_name s) && not (begins is_name t)) ≡ same (leading_name s) (leading_name t)
 unfolding first
 same-ended s t d =
     bool_cases (begins is_name s)
-    (λ h. begins-cases is_name (λ u. Apart u t → (not (begins is_name u) && not (begins is_name t)) ≡ same (name_of u) (name_of t)) s h
-    (λ b u e a. rw (begins-byte is_name b u e, name_of-some b u e) (sym (same-other b (name_of u) t (a.0 e))))
-    (λ b c u e a. rw (begins-pair is_name b c u e, name_of-pair b c u e) (sym (same-others b c (name_of u) t (pair-high is_name b c e) (a.1 e))))
+    (λ h. begins-cases is_name (λ u. Apart u t → (not (begins is_name u) && not (begins is_name t)) ≡ same (leading_name u) (leading_name t)) s h
+    (λ b u e a. rw (begins-byte is_name b u e, name_of-some b u e) (sym (same-other b (leading_name u) t (a.0 e))))
+    (λ b c u e a. rw (begins-pair is_name b c u e, name_of-pair b c u e) (sym (same-others b c (leading_name u) t (pair-high is_name b c e) (a.1 e))))
     d)
     (λ h. rw h (sym (same-nothing s t h)))
 
 -- ---- by places of a text
 
 -- the run of name bytes below 128 is the beginning of the name
-pub many-name : (at : ℕ) (s : Text) (e : ℕ) (r : Text) → many (is_byte_of is_name) at s ≡ behind e r → (at ≤ e) × (e + length (name_of r) ≡ at + length (name_of s))
+pub many-name : (at : ℕ) (s : Text) (e : ℕ) (r : Text) → many (is_byte_of is_name) at s ≡ behind e r → (at ≤ e) × (e + length (leading_name r) ≡ at + length (leading_name s))
 unfolding many
-many-name at [] e r q = (omega (arith, behind-at q), ap (λ (k : ℕ). k + length (name_of r)) (sym (behind-at q)) ∙ ap (λ (t : Text). at + length (name_of t)) (sym (behind-rest q)))
+many-name at [] e r q = (omega (arith, behind-at q), ap (λ (k : ℕ). k + length (leading_name r)) (sym (behind-at q)) ∙ ap (λ (t : Text). at + length (leading_name t)) (sym (behind-rest q)))
 many-name at (b ∷ s) e r q =
     bool_cases (is_byte_of is_name b)
     (λ h. let (l, k) = many-name (suc at) s e r (rw h at q) in (omega arith, rw (name_of-some b s h) (omega arith)))
     (λ h.
     let k : behind at (b ∷ s) ≡ behind e r = rw h at q in
-    (omega (arith, behind-at k), ap (λ (j : ℕ). j + length (name_of r)) (sym (behind-at k)) ∙ ap (λ (t : Text). at + length (name_of t)) (sym (behind-rest k))))
+    (omega (arith, behind-at k), ap (λ (j : ℕ). j + length (leading_name r)) (sym (behind-at k)) ∙ ap (λ (t : Text). at + length (leading_name t)) (sym (behind-rest k))))
 
 -- behind it stands no name byte below 128
 pub many-stops : (p : ℕ → Bool) (at : ℕ) (s : Text) (e : ℕ) (r : Text) → p 0 ≡ false → many p at s ≡ behind e r → p (first r) ≡ false

@@ -14,11 +14,11 @@ use Rattle.text.specs.Text.{Text, bytes, first, contains}
 use Rattle.text.proofs.Laws.Tests.{bool_cases, if-either}
 use Rattle.text.proofs.Laws.Texts.{first-drop}
 use Rattle.xsd_parser.specs.Tape.{pair_text}
-use Rattle.xml.specs.Steps.{Step, bad, behind, starts_with, literal, spaces, name, name_of}
+use Rattle.xml.specs.Steps.{Step, bad, behind, starts_with, literal, spaces, name, leading_name}
 use Rattle.xml.specs.Values.{is_quote, value}
 use Rattle.xml.specs.Prolog.{eq}
 use Rattle.xml.specs.Tape.{AttributePairs, TapeEvent}
-use Rattle.xml.specs.Tags.{Part, wrong, last, more, span, attribute_behind, value_behind, eq_behind, attribute, part_behind, part_of, Ended, unended, ended, on_part}
+use Rattle.xml.specs.Tags.{Part, wrong, last, more, span, attribute_behind, value_behind, eq_behind, attribute, part_behind, part_of, TagEnd, unended, ended, on_part}
 use Rattle.xml.specs.Tags.{attributes_from, attributes, Tagged, untagged, tagged, tagged_by, attributes_behind, name_behind, tag}
 use Rattle.xml.specs.Grammar.{is_among}
 use Rattle.xml.specs.Accepted.{offset_behind, NameAt, ValueAt, AttributesAt, EventAt}
@@ -107,7 +107,7 @@ unfolding part_of
 part_at text at s h = part-behind text at s (spaces at s) h refl
 
 -- all parts of a tag: the attributes are those before and some more from here on
-abbrev pub EndedAt : Text → ℕ → List AttributePairs → Ended → Type 0
+abbrev pub EndedAt : Text → ℕ → List AttributePairs → TagEnd → Type 0
 EndedAt text at before unended = Unit {0}
 EndedAt text at before (ended kind xs a u) =
     (ys : List AttributePairs) × (xs ≡ before ++ ys) × AttributesAt text at ys × (1 ≤ kind) × (kind ≤ 2) × (u ≡ drop a text)
@@ -116,7 +116,7 @@ pub attributes-weaken : (text : Text) (from at : ℕ) (xs : List AttributePairs)
 attributes-weaken text from at [] h p = tt
 attributes-weaken text from at (x ∷ xs) h p = (omega (arith, p.0), p.1, p.2, p.3, p.4, p.5)
 
-pub ended-more : (text : Text) (at a : ℕ) (before : List AttributePairs) (x : AttributePairs) (d : Ended) → AttributesAt text at (x ∷ []) → offset_behind x.value ≤ a
+pub ended-more : (text : Text) (at a : ℕ) (before : List AttributePairs) (x : AttributePairs) (d : TagEnd) → AttributesAt text at (x ∷ []) → offset_behind x.value ≤ a
     → EndedAt text a (before ++ x ∷ []) d → EndedAt text at before d
 ended-more text at a before x unended k h p = tt
 ended-more text at a before x (ended kind xs e u) k h p = (
@@ -128,7 +128,7 @@ ended-more text at a before x (ended kind xs e u) k h p = (
   p.5,
 )
 
-pub on-part : (text : Text) (next : List Text → List AttributePairs → ℕ → Text → Ended)
+pub on-part : (text : Text) (next : List Text → List AttributePairs → ℕ → Text → TagEnd)
     → ((keys : List Text) (before : List AttributePairs) (a : ℕ) (r : Text) → r ≡ drop a text → EndedAt text a before (next keys before a r))
     → (keys : List Text) (before : List AttributePairs) (at : ℕ) (d : Part) → PartAt text at d → EndedAt text at before (on_part next keys before d)
 on-part text next ih keys before at wrong p = tt
@@ -160,8 +160,8 @@ less-before text at (b ∷ s) n t h q =
     ap (λ (k : ℕ). get_or text k 0) place ∙ sym (first-drop text at) ∙ ap first (sym h) ∙ eqb-true b 60 y)
     (λ y. absurd (bad-not (rw y at q)))
 
-pub tagged-by : (text : Text) (n e : ℕ) (t : Text) (d : Ended) → n ≤ e → e ≤ length text → get_or text (n - 1) 0 ≡ code "<" → NameAt text (span n e) → EndedAt text e [] d
-    → TaggedAt text (tagged_by (span n e) (name_of t) d)
+pub tagged-by : (text : Text) (n e : ℕ) (t : Text) (d : TagEnd) → n ≤ e → e ≤ length text → get_or text (n - 1) 0 ≡ code "<" → NameAt text (span n e) → EndedAt text e [] d
+    → TaggedAt text (tagged_by (span n e) (leading_name t) d)
 tagged-by text n e t unended h l b k p = tt
 tagged-by text n e t (ended kind xs a u) h l b k p =
     ((p.3, p.4, b, k, omega arith, rw p.1 (attributes-weaken text (n + (e - n)) e p.0 (omega arith) p.2)), p.5)

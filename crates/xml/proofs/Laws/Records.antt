@@ -11,7 +11,8 @@ use lib.Seq.{drop_at}
 use mathlib.Core.Logic.{⊎_elim}
 use borrow.Author.Tests.{eqb-true, le-leb, ne_eqb}
 use Rattle.text.specs.Text.{Text, every, is_text, between}
-use Rattle.text.proofs.Laws.Tests.{and-true, and-true-left, and-true-right, or_cases, two}
+use Rattle.std.proofs.lemmas.Bool.{or_cases, and_parts}
+use Rattle.text.proofs.Laws.Tests.{and-true, and-true-left, and-true-right}
 use Rattle.text.proofs.Laws.Class.{text-around}
 use Rattle.xsd_parser.specs.Tape.{Pair, pairs_of, pair_text, pair_count, form_test, all_inside, all_ascii, tag_record, record1, next, event, Judged, records_from, records}
 use Rattle.xsd_parser.proofs.Laws.Records.{records-none, records-next}
@@ -133,7 +134,7 @@ unfolding tape_marks every records_read
 records-from text [] fuel t f p h = records-none fuel text
 records-from text (e ∷ es) zero t f p h = absurd (omega (arith, h, event-some e, length-append (event_marks e) (tape_marks es)))
 records-from text (e ∷ es) (suc fuel) t f p h =
-    let few = two (few_attributes e) (every few_attributes es) f in
+    let few = and_parts (few_attributes e) (every few_attributes es) f in
     let size = length-append (event_marks e) (tape_marks es) in
     let some = event-some e in
     records-next fuel text (event_marks e ++ tape_marks es) (event_read text e) (tape_marks es) (record-event text e (tape_marks es) t few.0 p.0)

@@ -6,7 +6,7 @@ use mathlib.Core.Bool.{true, false}
 use native.Mathlib.Omega.{arith}
 use lib.ListN.{length}
 use Rattle.text.specs.Text.{Text, bytes, same}
-use Rattle.xml.specs.Steps.{Step, bad, behind, ◌and_then◌, starts_with, literal, spaces, name, name_of}
+use Rattle.xml.specs.Steps.{Step, bad, behind, ◌and_then◌, starts_with, literal, spaces, name, leading_name}
 use Rattle.xml.specs.Values.{char_data}
 use Rattle.xml.specs.Tape.{TapeEvent, tape_marks, event_marks}
 use Rattle.xml.specs.Tags.{tag}
@@ -45,7 +45,7 @@ pub close-bad : (at : ℕ) (s : Text) → literal (bytes "</") at s ≡ bad → 
 unfolding close
 close-bad at s e = rw e
 
-pub close_of : (at : ℕ) (s : Text) (n : ℕ) (t : Text) (d : Step) → literal (bytes "</") at s ≡ behind n t → closing n t ≡ d → close at s ≡ ending_by (name_of t) d
+pub close_of : (at : ℕ) (s : Text) (n : ℕ) (t : Text) (d : Step) → literal (bytes "</") at s ≡ behind n t → closing n t ≡ d → close at s ≡ ending_by (leading_name t) d
 unfolding close
 close_of at s n t d e h = rw (e, h)
 

@@ -6,9 +6,9 @@ use mathlib.Core.Bool.{true, false}
 use native.Mathlib.Omega.{arith}
 use lib.ListN.{length}
 use Rattle.text.specs.Text.{Text, bytes}
-use Rattle.xml.specs.Steps.{behind, literal, name, name_of}
+use Rattle.xml.specs.Steps.{behind, literal, name, leading_name}
 use Rattle.xml.specs.Tape.{AttributePairs, attribute_marks}
-use Rattle.xml.specs.Tags.{wrong, last, more, part_of, Ended, unended, ended, attributes_from, attributes, tagged, span, tag}
+use Rattle.xml.specs.Tags.{wrong, last, more, part_of, TagEnd, unended, ended, attributes_from, attributes, tagged, span, tag}
 use Rattle.xml.specs.Grammar.{is_among}
 
 -- the parts of a tag, by the next one
@@ -29,7 +29,7 @@ unfolding attributes_from
 attributes-twice zero keys xs at s x key a r e m = refl
 attributes-twice (suc turns) keys xs at s x key a r e m = rw (e, m)
 
-pub attributes-on : (n turns : ℕ) (keys : List Text) (xs : List AttributePairs) (at : ℕ) (s : Text) (x : AttributePairs) (key : Text) (a : ℕ) (r : Text) (whole : Ended)
+pub attributes-on : (n turns : ℕ) (keys : List Text) (xs : List AttributePairs) (at : ℕ) (s : Text) (x : AttributePairs) (key : Text) (a : ℕ) (r : Text) (whole : TagEnd)
     → n - at < turns → at < a → a ≤ n → part_of at s ≡ more x key a r → is_among key keys ≡ false → attributes_from turns keys xs at s ≡ whole
     → (t : ℕ) × (n - a < t) × (attributes_from t (key ∷ keys) (xs ++ x ∷ []) a r ≡ whole)
 unfolding attributes_from
@@ -47,6 +47,6 @@ marks-append [] ys = refl
 marks-append (x ∷ xs) ys = ap (λ (l : List ℕ). x.key.offset ∷ x.key.size ∷ x.value.offset ∷ x.value.size ∷ l) (marks-append xs ys)
 
 pub tag-found : (at : ℕ) (s : Text) {n : ℕ} {t : Text} {e : ℕ} {r : Text} {kind : ℕ} {xs : List AttributePairs} {a : ℕ} {u : Text}
-    → literal (bytes "<") at s ≡ behind n t → name n t ≡ behind e r → attributes e r ≡ ended kind xs a u → tag at s ≡ tagged kind (span n e) xs (name_of t) a u
+    → literal (bytes "<") at s ≡ behind n t → name n t ≡ behind e r → attributes e r ≡ ended kind xs a u → tag at s ≡ tagged kind (span n e) xs (leading_name t) a u
 unfolding tag
 tag-found at s p q w = rw (p, q, w)

@@ -12,12 +12,13 @@ use lib.Seq.{drop-cons}
 use native.Mathlib.Nat.{mul-le-mul_left}
 use borrow.Author.Tests.{eqb-true, eq-eqb, ne_eqb, lt-ltb, le-ltb, lt-leb, not-true}
 use Rattle.text.specs.Text.{Text, bytes, between}
-use Rattle.text.proofs.Laws.Tests.{bool_cases, four, or_cases, or-false-left, or-false-right}
+use Rattle.std.proofs.lemmas.Bool.{or_cases}
+use Rattle.text.proofs.Laws.Tests.{bool_cases, four, or-false-left, or-false-right}
 use Rattle.text.proofs.Laws.Texts.{between-above}
 use Rattle.xml.specs.Classes.{is_char}
 use Rattle.xml.specs.Steps.{bad, behind, ◌and_then◌, starts_with, many}
 use Rattle.xml.specs.Grammar.{digit_of}
-use Rattle.xml.specs.Values.{is_number, is_plain, is_reference, value_end, is_quote, value, char_data, is_in_text, is_in_value}
+use Rattle.xml.specs.Values.{is_number, starts_character, is_reference, value_end, is_quote, value, char_data, is_in_text, is_in_value}
 
 -- the number of a reference
 pub number-end : (base v : ℕ) (s : Text) (i : ℕ) → length s ≤ i → is_number base v (drop i s) ≡ false
@@ -80,11 +81,12 @@ pub value-less : (quote : ℕ) (s : Text) (at i : ℕ) → i < length s → (get
 unfolding value_end
 value-less quote s at i h e d = rw (drop-cons s i 0 h, ne_eqb (get_or s i 0) quote e, eq-eqb (get_or s i 0) 60 d)
 
-pub value-wrong : (quote : ℕ) (s : Text) (at i : ℕ) → i < length s → (get_or s i 0 ≡ quote → ⊥) → (get_or s i 0 ≡ code "<" → ⊥) → is_plain (drop i s) ≡ false → value_end quote at (drop i s) ≡ bad
+pub value-wrong : (quote : ℕ) (s : Text) (at i : ℕ) → i < length s → (get_or s i 0 ≡ quote → ⊥) → (get_or s i 0 ≡ code "<" → ⊥) → starts_character (drop i s) ≡ false
+    → value_end quote at (drop i s) ≡ bad
 unfolding value_end
 value-wrong quote s at i h e d p = rw (drop-cons s i 0 h, ne_eqb (get_or s i 0) quote e, ne_eqb (get_or s i 0) 60 d, (rw (drop-cons s i 0 h) at p))
 
-pub value_on : (quote : ℕ) (s : Text) (at i : ℕ) → i < length s → (get_or s i 0 ≡ quote → ⊥) → (get_or s i 0 ≡ code "<" → ⊥) → is_plain (drop i s) ≡ true
+pub value_on : (quote : ℕ) (s : Text) (at i : ℕ) → i < length s → (get_or s i 0 ≡ quote → ⊥) → (get_or s i 0 ≡ code "<" → ⊥) → starts_character (drop i s) ≡ true
     → value_end quote at (drop i s) ≡ value_end quote (suc at) (drop (suc i) s)
 unfolding value_end
 value_on quote s at i h e d p = rw (drop-cons s i 0 h, ne_eqb (get_or s i 0) quote e, ne_eqb (get_or s i 0) 60 d, (rw (drop-cons s i 0 h) at p))
@@ -106,12 +108,12 @@ unfolding value
 value-quoted s at i h e = rw (drop-cons s i 0 h, e)
 
 -- a plain byte
-pub plain-reference : (s : Text) (i : ℕ) → i < length s → get_or s i 0 ≡ code "&" → is_plain (drop i s) ≡ is_reference (drop i s)
-unfolding is_plain
+pub plain-reference : (s : Text) (i : ℕ) → i < length s → get_or s i 0 ≡ code "&" → starts_character (drop i s) ≡ is_reference (drop i s)
+unfolding starts_character
 plain-reference s i h e = rw (drop-cons s i 0 h, eq-eqb (get_or s i 0) 38 e)
 
-pub plain-char : (s : Text) (i : ℕ) → i < length s → (get_or s i 0 ≡ code "&" → ⊥) → is_plain (drop i s) ≡ is_char (get_or s i 0)
-unfolding is_plain
+pub plain-char : (s : Text) (i : ℕ) → i < length s → (get_or s i 0 ≡ code "&" → ⊥) → starts_character (drop i s) ≡ is_char (get_or s i 0)
+unfolding starts_character
 plain-char s i h e = rw (drop-cons s i 0 h, ne_eqb (get_or s i 0) 38 e)
 
 -- character data
@@ -123,11 +125,12 @@ pub data-section : (s : Text) (at i : ℕ) → i < length s → (get_or s i 0 �
 unfolding char_data
 data-section s at i h e d = rw (drop-cons s i 0 h, ne_eqb (get_or s i 0) 60 e, (rw (drop-cons s i 0 h) at d))
 
-pub data-wrong : (s : Text) (at i : ℕ) → i < length s → (get_or s i 0 ≡ code "<" → ⊥) → starts_with (bytes "]]>") (drop i s) ≡ false → is_plain (drop i s) ≡ false → char_data at (drop i s) ≡ bad
+pub data-wrong : (s : Text) (at i : ℕ) → i < length s → (get_or s i 0 ≡ code "<" → ⊥) → starts_with (bytes "]]>") (drop i s) ≡ false → starts_character (drop i s) ≡ false
+    → char_data at (drop i s) ≡ bad
 unfolding char_data
 data-wrong s at i h e d p = rw (drop-cons s i 0 h, ne_eqb (get_or s i 0) 60 e, (rw (drop-cons s i 0 h) at d), (rw (drop-cons s i 0 h) at p))
 
-pub data-on : (s : Text) (at i : ℕ) → i < length s → (get_or s i 0 ≡ code "<" → ⊥) → starts_with (bytes "]]>") (drop i s) ≡ false → is_plain (drop i s) ≡ true
+pub data-on : (s : Text) (at i : ℕ) → i < length s → (get_or s i 0 ≡ code "<" → ⊥) → starts_with (bytes "]]>") (drop i s) ≡ false → starts_character (drop i s) ≡ true
     → char_data at (drop i s) ≡ char_data (suc at) (drop (suc i) s)
 unfolding char_data
 data-on s at i h e d p = rw (drop-cons s i 0 h, ne_eqb (get_or s i 0) 60 e, (rw (drop-cons s i 0 h) at d), (rw (drop-cons s i 0 h) at p))
@@ -146,7 +149,7 @@ other-quote quote b q n =
     (or_cases (eqb quote 34) (eqb quote 39) q)
 
 pub in-value : (quote b at : ℕ) (s : Text) → is_quote quote ≡ true → is_in_value b ≡ true → value_end quote at (b ∷ s) ≡ value_end quote (suc at) s
-unfolding is_in_value value_end is_plain
+unfolding is_in_value value_end starts_character
 in-value quote b at s q h =
     let f = four (is_char b) (not (eqb b 60)) (not (eqb b 38)) (not (is_quote b)) h in
     rw (other-quote quote b q (not-true (is_quote b) f.3), not-true (eqb b 60) f.1, not-true (eqb b 38) f.2, f.0)
@@ -157,7 +160,7 @@ value-run quote q at [] = refl
 value-run quote q at (b ∷ s) = bool_cases (is_in_value b) (λ e. rw e (in-value quote b at s q e ∙ value-run quote q (suc at) s)) (λ e. rw e)
 
 pub in-data : (b at : ℕ) (s : Text) → is_in_text b ≡ true → char_data at (b ∷ s) ≡ char_data (suc at) s
-unfolding is_in_text char_data is_plain starts_with bytes
+unfolding is_in_text char_data starts_character starts_with bytes
 in-data b at s h =
     let f = four (is_char b) (not (eqb b 60)) (not (eqb b 38)) (not (eqb b 93)) h in
     rw (not-true (eqb b 60) f.1, not-true (eqb b 93) f.3, not-true (eqb b 38) f.2, f.0)

@@ -11,16 +11,17 @@ use lib.ListN.{length, drop, length-append, length-drop}
 use lib.Seq.{drop-append-le, drop-append_seam}
 use borrow.Author.Tests.{eqb-true, eqb-false, eq-eqb, ne_eqb, not-true}
 use Rattle.text.specs.Text.{Text, bytes, first, every, is_pair, same, contains, between}
-use Rattle.text.proofs.Laws.Tests.{bool_cases, and-true-left, and-true-right, two, four, or_left, or_right, or_cases, if-cases, if-keeps}
+use Rattle.std.proofs.lemmas.Bool.{and_parts, or_left, or_right, or_cases}
+use Rattle.text.proofs.Laws.Tests.{bool_cases, and-true-left, and-true-right, four, if-cases, if-keeps}
 use Rattle.text.proofs.Laws.Texts.{same-eq}
 use Rattle.text.proofs.Laws.Every.{every-head, every-tail}
 use Rattle.xsd_parser.specs.Event.{Attr, Tag}
 use Rattle.xsd_parser.specs.Tape.{Pair}
 use Rattle.text.specs.Trim.{is_white_space}
 use Rattle.xml.specs.Classes.{is_letter, is_name_start, is_name, is_byte_of, is_pair_of, begins}
-use Rattle.xml.specs.Steps.{behind, starts_with, literal, many, spaces, name, name_of}
+use Rattle.xml.specs.Steps.{behind, starts_with, literal, many, spaces, name, leading_name}
 use Rattle.xml.specs.Grammar.{digit_of, is_among}
-use Rattle.xml.specs.Values.{is_number, is_entity, is_reference, is_plain, value_end, is_quote, value}
+use Rattle.xml.specs.Values.{is_number, is_entity, is_reference, starts_character, value_end, is_quote, value}
 use Rattle.xml.specs.Prolog.{eq}
 use Rattle.xml.specs.Tape.{AttributePairs}
 use Rattle.xml.specs.Tags.{last, more, attribute_from, attribute, part_of, ended, attributes_from, attributes, tagged, tag}
@@ -37,10 +38,10 @@ many-written p at [] (b ∷ r) h e = rw e (ap (λ (k : ℕ). behind k (b ∷ r))
 many-written p at (b ∷ n) r h e =
     rw (every-head p b n h) (many-written p (suc at) n r (every-tail p b n h) e ∙ ap (λ (k : ℕ). behind k r) (omega arith))
 
-pub name_of-written : (n r : Text) → name_of n ≡ n → begins is_name r ≡ false → name_of (n ++ r) ≡ n
+pub name_of-written : (n r : Text) → leading_name n ≡ n → begins is_name r ≡ false → leading_name (n ++ r) ≡ n
 name_of-written n r h e =
-    by_name (λ u. name_of u ≡ u → name_of (u ++ r) ≡ u)
-    (λ u k q. subst (λ (t : Text). name_of (t ++ r) ≡ t) (sym (name_of-none u k) ∙ q) (name_of-none r e))
+    by_name (λ u. leading_name u ≡ u → leading_name (u ++ r) ≡ u)
+    (λ u k q. subst (λ (t : Text). leading_name (t ++ r) ≡ t) (sym (name_of-none u k) ∙ q) (name_of-none r e))
     (λ b u k f q. name_of-some b (u ++ r) k ∙ ap (λ (t : Text). b ∷ t) (f (ap (drop 1) (sym (name_of-some b u k) ∙ q))))
     (λ b c u k f q. name_of-pair b c (u ++ r) k ∙ ap (λ (t : Text). b ∷ c ∷ t) (f (ap (drop 2) (sym (name_of-pair b c u k) ∙ q))))
     n h
@@ -48,11 +49,11 @@ name_of-written n r h e =
 module _ (n : Text) (ok : is_name_text n ≡ true) where
   pub name-begins : begins is_name_start n ≡ true
   unfolding is_name_text
-  name-begins = and-true-left (begins is_name_start n) (same (name_of n) n) ok
+  name-begins = and-true-left (begins is_name_start n) (same (leading_name n) n) ok
 
-  pub name-is-whole : name_of n ≡ n
+  pub name-is-whole : leading_name n ≡ n
   unfolding is_name_text
-  name-is-whole = same-eq (name_of n) n (and-true-right (begins is_name_start n) (same (name_of n) n) ok)
+  name-is-whole = same-eq (leading_name n) n (and-true-right (begins is_name_start n) (same (leading_name n) n) ok)
 
   pub name-written : (at : ℕ) (r : Text) → begins is_name r ≡ false → name at (n ++ r) ≡ behind (at + length n) r
   name-written at r e =
@@ -97,7 +98,7 @@ number-some base v [] h = absurd (false≢true h)
 number-some base v (b ∷ s) h = omega arith
 
 pub or-more : (a b c d : Bool) → (a ≡ true → c ≡ true) → (b ≡ true → d ≡ true) → a || b ≡ true → c || d ≡ true
-or-more a b c d f g h = ⊎_elim (λ p. or_left d (f p)) (λ p. or_right c (g p)) (or_cases a b h)
+or-more a b c d f g h = ⊎_elim (λ p. or_left _ d (f p)) (λ p. or_right c _ (g p)) (or_cases a b h)
 
 pub entity-more : (s t : Text) → is_entity s ≡ true → is_entity (s ++ t) ≡ true
 unfolding is_entity
@@ -139,8 +140,8 @@ reference-more s t h =
     (λ z. rw (y, z) (number_more 10 0 (drop 2 s) t (rw (y, z) at h)))
     (λ z. rw (y, z) (entity-more s t (rw (y, z) at h)))))
 
-pub plain_more : (s t : Text) → is_plain s ≡ true → is_plain (s ++ t) ≡ true
-unfolding is_plain
+pub plain_more : (s t : Text) → starts_character s ≡ true → starts_character (s ++ t) ≡ true
+unfolding starts_character
 plain_more [] t h = absurd (false≢true h)
 plain_more (b ∷ s) t h = bool_cases (eqb b (code "&")) (λ y. rw y (reference-more (b ∷ s) t (rw y at h))) (λ y. rw y (rw y at h))
 
@@ -148,7 +149,7 @@ pub value-end-written : (q at : ℕ) (v r : Text) → is_value q v ≡ true → 
 unfolding value_end is_value
 value-end-written q at [] r h = rw (eq-eqb q q refl) (ap (λ (k : ℕ). behind k r) (omega arith))
 value-end-written q at (b ∷ v) r h =
-    let p = four (not (eqb b q)) (not (eqb b (code "<"))) (is_plain (b ∷ v)) (is_value q v) h in
+    let p = four (not (eqb b q)) (not (eqb b (code "<"))) (starts_character (b ∷ v)) (is_value q v) h in
     rw (not-true (eqb b q) p.0, not-true (eqb b (code "<")) p.1, plain_more (b ∷ v) (q ∷ r) p.2)
     (value-end-written q (suc at) v r p.3 ∙ ap (λ (k : ℕ). behind k r) (omega arith))
 
@@ -271,7 +272,7 @@ pub attribute-read : (at : ℕ) (x : Attr) (r : Text) → written_attribute_ok x
 unfolding written_attribute_ok
 attribute-read at x r ok =
     let q = quote_of x.value in
-    let k = two (is_name_text x.key) (is_value q x.value) ok in
+    let k = and_parts (is_name_text x.key) (is_value q x.value) ok in
     part-written at x.key q x.value r k.0 (quote-is x.value) (quote-no-space x.value) k.1
 
 pub attributes-written : (xs : List Attr) (turns : ℕ) (keys : List Text) (before : List AttributePairs) (at kind : ℕ) (rest : Text) → every written_attribute_ok xs ≡ true → new_keys keys xs ≡ true
@@ -286,7 +287,7 @@ attributes-written (x ∷ xs) zero keys before at kind rest ok new low high h = 
 attributes-written (x ∷ xs) (suc turns) keys before at kind rest ok new low high h =
     let k = length x.key in
     let v = length x.value in
-    let n = two (not (is_among x.key keys)) (new_keys (x.key ∷ keys) xs) new in
+    let n = and_parts (not (is_among x.key keys)) (new_keys (x.key ∷ keys) xs) new in
     let tail = written_attributes xs ++ (tag_end kind ++ rest) in
     let to = at + k + v + 4 in
     let size = written-size x xs in

@@ -6,7 +6,7 @@ use mathlib.Core.Bool.{true, false, not, or-false}
 use lib.ListN.{length, drop}
 use Rattle.text.specs.Text.{Text, first, same}
 use Rattle.xml.specs.Classes.{is_name, is_byte_of, is_pair_of, begins}
-use Rattle.xml.specs.Steps.{name_of}
+use Rattle.xml.specs.Steps.{leading_name}
 use Rattle.xml.proofs.Laws.Names.{name_of-none, name_of-some, name_of-pair, low-no-pair, begins-place, byte-inside-text, pair-inside-text, same-byte, same-nothing, same-ended, zero-no-name}
 
 -- the bytes at a place
@@ -21,33 +21,34 @@ IsPair s i = is_pair_of is_name (byte-at s i) (byte-at s (suc i)) ≡ true
 
 -- ---- one name
 
-pub name-byte : (s : Text) (i : ℕ) → IsByte s i → length (name_of (drop i s)) ≡ suc (length (name_of (drop (suc i) s)))
-name-byte s i e = ap (λ (t : Text). length (name_of t)) (byte-inside-text is_name s i zero-no-name e) ∙ ap length (name_of-some (byte-at s i) (drop (suc i) s) e)
+pub name-byte : (s : Text) (i : ℕ) → IsByte s i → length (leading_name (drop i s)) ≡ suc (length (leading_name (drop (suc i) s)))
+name-byte s i e = ap (λ (t : Text). length (leading_name t)) (byte-inside-text is_name s i zero-no-name e) ∙ ap length (name_of-some (byte-at s i) (drop (suc i) s) e)
 
-pub name-pair : (s : Text) (i : ℕ) → IsPair s i → length (name_of (drop i s)) ≡ suc (suc (length (name_of (drop (suc (suc i)) s))))
+pub name-pair : (s : Text) (i : ℕ) → IsPair s i → length (leading_name (drop i s)) ≡ suc (suc (length (leading_name (drop (suc (suc i)) s))))
 name-pair s i e =
-    ap (λ (t : Text). length (name_of t)) (pair-inside-text is_name s i e) ∙ ap length (name_of-pair (byte-at s i) (byte-at s (suc i)) (drop (suc (suc i)) s) e)
+    ap (λ (t : Text). length (leading_name t)) (pair-inside-text is_name s i e) ∙ ap length (name_of-pair (byte-at s i) (byte-at s (suc i)) (drop (suc (suc i)) s) e)
 
-pub name-stops : (s : Text) (i : ℕ) → is_byte_of is_name (byte-at s i) ≡ false → is_pair_of is_name (byte-at s i) (byte-at s (suc i)) ≡ false → name_of (drop i s) ≡ []
+pub name-stops : (s : Text) (i : ℕ) → is_byte_of is_name (byte-at s i) ≡ false → is_pair_of is_name (byte-at s i) (byte-at s (suc i)) ≡ false → leading_name (drop i s) ≡ []
 name-stops s i e h = name_of-none (drop i s) (begins-place is_name s i zero-no-name ∙ (rw (e, h)))
 
 -- ---- two names
 
-pub same-bytes : (s : Text) (i j : ℕ) → IsByte s i → byte-at s i ≡ byte-at s j → same (name_of (drop i s)) (name_of (drop j s)) ≡ same (name_of (drop (suc i) s)) (name_of (drop (suc j) s))
+pub same-bytes : (s : Text) (i j : ℕ) → IsByte s i → byte-at s i ≡ byte-at s j
+    → same (leading_name (drop i s)) (leading_name (drop j s)) ≡ same (leading_name (drop (suc i) s)) (leading_name (drop (suc j) s))
 same-bytes s i j e q =
     let f : IsByte s j = ap (is_byte_of is_name) (sym q) ∙ e in
-    ap (λ (t : Text). same (name_of t) (name_of (drop j s))) (byte-inside-text is_name s i zero-no-name e)
-    ∙ ap (λ (t : Text). same (name_of (byte-at s i ∷ drop (suc i) s)) (name_of t)) (byte-inside-text is_name s j zero-no-name f ∙ ap (λ (b : ℕ). b ∷ drop (suc j) s) (sym q))
+    ap (λ (t : Text). same (leading_name t) (leading_name (drop j s))) (byte-inside-text is_name s i zero-no-name e)
+    ∙ ap (λ (t : Text). same (leading_name (byte-at s i ∷ drop (suc i) s)) (leading_name t)) (byte-inside-text is_name s j zero-no-name f ∙ ap (λ (b : ℕ). b ∷ drop (suc j) s) (sym q))
     ∙ same-byte (byte-at s i) (drop (suc i) s) (drop (suc j) s) e
 
 -- the first goes on with a byte below 128 that the second does not begin with
-pub differ-there : (s : Text) (i j : ℕ) → IsByte s i → (byte-at s i ≡ byte-at s j → ⊥) → same (name_of (drop i s)) (name_of (drop j s)) ≡ false
+pub differ-there : (s : Text) (i j : ℕ) → IsByte s i → (byte-at s i ≡ byte-at s j → ⊥) → same (leading_name (drop i s)) (leading_name (drop j s)) ≡ false
 differ-there s i j e d =
     sym (same-ended (drop i s) (drop j s) (λ h. d, λ h q r. d q)) ∙ (rw (begins-place is_name s i zero-no-name, e))
 
 -- the first has ended at a byte below 128, and at such a byte the second must have ended too
 pub ended-there : (s : Text) (i j : ℕ) → is_byte_of is_name (byte-at s i) ≡ false → byte-at s i < 128 → byte-at s j < 128
-    → not (is_byte_of is_name (byte-at s j)) ≡ same (name_of (drop i s)) (name_of (drop j s))
+    → not (is_byte_of is_name (byte-at s j)) ≡ same (leading_name (drop i s)) (leading_name (drop j s))
 ended-there s i j e l m =
     let b : begins is_name (drop i s) ≡ false = begins-place is_name s i zero-no-name ∙ (rw (e, low-no-pair is_name (byte-at s i) (byte-at s (suc i)) l)) in
     let c : begins is_name (drop j s) ≡ is_byte_of is_name (byte-at s j) =

@@ -2,20 +2,20 @@
 -- nothing.
 use Prim.Native.Nat.{ℕ, ◌<◌}
 use denote.Enum.Declared.{tag_of}
-use mathlib.Core.Path.{◌≡◌, refl}
+use mathlib.Core.Path.{◌≡◌, refl, ap, ◌∙◌}
 use mathlib.Core.List.{◌∷◌}
 use mathlib.Core.Bool.{Bool, true, not, ◌&&◌}
 use lib.Dec.{eqb, ltb, leb}
 use native.Mathlib.Omega.{arith}
 use lib.ListN.{get_or}
-use borrow.Author.Tests.{not-true, ltb-true, leb-true}
+use borrow.Author.Tests.{not-true, ltb-true, leb-true, eqb-true}
 use Rattle.text.specs.Text.{Text, between}
 use Rattle.text.specs.Trim.{is_white_space}
 use Rattle.text.proofs.Laws.Table.{passes}
 use Rattle.text.proofs.Laws.Agree.{agree, same_bytes}
 use Rattle.text.proofs.Laws.Tests.{and-true-left, and-true-right}
 use Rattle.xml.proofs.Laws.Grammar.Basics.{class-in}
-use Rattle.plain_bytes.specs.Scan.{is_text_run, is_value_run, is_comment_run, is_section_run}
+use Rattle.plain_bytes.specs.Scan.{is_text_run, is_value_run, is_comment_run, is_section_run, is_one}
 use Rattle.xml.specs.Classes.{is_char, is_letter, is_name_start, is_name, is_encoding, is_byte_of}
 use Rattle.xml.specs.Values.{is_quote, is_in_text, is_in_value}
 use Rattle.xml_parts.specs.Answers.{Before, class_of, class_table, has_bit}
@@ -67,6 +67,23 @@ comment-run rest = before is_comment_run 45 rest (λ b e. class-in is_comment_ru
 pub section-run : (rest : Text) → Before is_section_run (93 ∷ rest)
 unfolding is_section_run is_char between
 section-run rest = before is_section_run 93 rest (λ b e. class-in is_section_run (λ (k : ℕ). is_char k && not (eqb k 93)) refl b (plain-small b _ (and-true-left _ _ e)) e)
+
+-- the bytes of a line end and of an indent
+pub one-run : (c : ℕ) → is_in_text c ≡ true → (b : ℕ) → is_one c b ≡ true → is_in_text b ≡ true
+unfolding is_one
+one-run c h b e = ap is_in_text (eqb-true b c e) ∙ h
+
+pub space-in-text : is_in_text 32 ≡ true
+unfolding is_in_text is_char between
+space-in-text = refl
+
+pub tab-in-text : is_in_text 9 ≡ true
+unfolding is_in_text is_char between
+tab-in-text = refl
+
+pub line-in-text : is_in_text 10 ≡ true
+unfolding is_in_text is_char between
+line-in-text = refl
 
 pub return-in-text : is_in_text 13 ≡ true
 unfolding is_in_text is_char between

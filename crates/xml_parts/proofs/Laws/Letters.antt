@@ -1,6 +1,8 @@
 -- Characters of names of two bytes, by their code points (specs/Answers.antt). Assumes nothing.
 use Prim.Native.Nat.{ℕ, ◌+◌, ◌≤◌, ◌<◌}
-use mathlib.Core.Path.{◌≡◌}
+use Rattle.std.specs.Prelude.{Option, Some, None, MatchOption, unwrap_or}
+use mathlib.Core.Path.{◌≡◌, refl, ap, ◌∙◌}
+use mathlib.Core.List.{[]}
 use mathlib.Core.Bool.{Bool, true, false, ◌&&◌, ◌||◌, and-false, or-false}
 use native.Mathlib.Omega.{arith}
 use lib.Dec.{eqb, leb}
@@ -10,8 +12,8 @@ use Rattle.text.specs.Text.{Text, between, is_tail, is_pair, first}
 use Rattle.text.proofs.Laws.Tests.{bool_cases, and-true-left, and-true-right}
 use Rattle.text.proofs.Laws.Texts.{between-low, between-high}
 use Rattle.xml.specs.Classes.{is_letter, is_name_start, is_name, point_of, is_byte_of, is_pair_of, begins}
-use Rattle.xml.specs.Steps.{name_of}
-use Rattle.xml.proofs.Laws.Names.{begins-byte, begins-pair, begins-cases, byte-inside, pair-inside, pair-no-byte, name_of-some, name_of-pair, start-is-name}
+use Rattle.xml.specs.Steps.{leading_name}
+use Rattle.xml.proofs.Laws.Names.{begins-byte, begins-pair, begins-cases, begins-place, zero-no-start, byte-inside, pair-inside, pair-no-byte, name_of-some, name_of-pair, start-is-name}
 use Rattle.xml_parts.specs.Answers.{point_by, start_width}
 
 -- the four bounds of a character of two bytes
@@ -34,6 +36,12 @@ point-high l t e = omega (arith, pair-bounds l t e)
 pub point-class : (p : ℕ → Bool) (l t : ℕ) → leb 128 (point_by l t) && p (point_by l t) ≡ is_pair_of p l t
 unfolding point_by is_pair_of
 point-class p l t = bool_cases (is_pair l t) (λ e. rw (e, le-leb 128 (point_of l t) (point-high l t e))) (λ e. rw e)
+
+-- the class of a code point, where there is one
+pub point-asked : (p : ℕ → Bool) (l t : ℕ) (o : Option ℕ) {r : Bool} → unwrap_or o 0 ≡ point_by l t → MatchOption o (r ≡ false) (λ x. r ≡ (leb 128 x && p x))
+    → r ≡ is_pair_of p l t
+point-asked p l t None e h = h ∙ ap (λ (x : ℕ). leb 128 x && p x) e ∙ point-class p l t
+point-asked p l t (Some x) e h = h ∙ ap (λ (x : ℕ). leb 128 x && p x) e ∙ point-class p l t
 
 -- the names' code points from U+0080 on
 pub high-start : (c : ℕ) → leb 128 c && is_name_start c ≡ between 192 214 c || between 216 246 c || between 248 383 c
@@ -65,17 +73,20 @@ high-name c =
 
 -- ---- the first character of a name
 
-pub width-none : (s : Text) → start_width s ≡ 0 → begins is_name_start s ≡ false
+pub nothing-begins : begins is_name_start [] ≡ false
+unfolding begins
+nothing-begins = refl
+
+-- a byte below 128 that begins a name
+pub one-begins : (text : Text) (at : ℕ) → is_byte_of is_name_start (first (drop at text)) ≡ true
+    → (begins is_name_start (drop at text) ≡ true) × (1 ≡ start_width (drop at text))
 unfolding start_width
-width-none s e =
-    bool_cases (begins is_name_start s)
-    (λ h. bool_cases (is_byte_of is_name_start (first s))
-    (λ k. let z : ◌≡◌ {A = ℕ} 1 0 = rw (h, k) at e in absurd (omega arith))
-    (λ k. let z : ◌≡◌ {A = ℕ} 2 0 = rw (h, k) at e in absurd (omega arith)))
-    (λ h. h)
+one-begins text at e =
+    let b : begins is_name_start (drop at text) ≡ true = begins-place is_name_start text at zero-no-start ∙ rw e in
+    (b, rw (b, e))
 
 abbrev pub Starts : Text → Type 0
-Starts s = (start_width s ≤ length s) × (start_width s + length (name_of (drop (start_width s) s)) ≡ length (name_of s))
+Starts s = (start_width s ≤ length s) × (start_width s + length (leading_name (drop (start_width s) s)) ≡ length (leading_name s))
 
 pub width-some : (s : Text) → begins is_name_start s ≡ true → Starts s
 unfolding start_width first
@@ -85,6 +96,6 @@ width-some s e =
     (λ b t u h.
     rw (begins-pair is_name_start b t u h, pair-no-byte is_name_start is_name_start b t h, name_of-pair b t u (pair-inside is_name_start is_name start-is-name b t h)) (omega arith, omega arith))
 
-pub width-begins : (s : Text) → (start_width s ≡ 0 → ⊥) → begins is_name_start s ≡ true
+pub width-positive : (s : Text) → begins is_name_start s ≡ true → 1 ≤ start_width s
 unfolding start_width
-width-begins s d = bool_cases (begins is_name_start s) (λ h. h) (λ h. absurd (d (rw h)))
+width-positive s e = rw e (bool_cases (is_byte_of is_name_start (first s)) (λ k. rw k (omega arith)) (λ k. rw k (omega arith)))

@@ -13,7 +13,7 @@ use Rattle.text.proofs.Laws.Tests.{bool_cases}
 use Rattle.xsd_parser.specs.Tape.{Pair}
 use Rattle.xsd_parser.specs.Kinds.{kind_number}
 use Rattle.xsd_parser.specs.declared.kinds.Kind.{Kind}
-use Rattle.xml.specs.Steps.{bad, behind, literal, spaces, name, name_of}
+use Rattle.xml.specs.Steps.{bad, behind, literal, spaces, name, leading_name}
 use Rattle.xml.specs.Tape.{AttributePairs, TapeEvent, tape_marks, event_marks}
 use Rattle.xml.specs.Tags.{tagged}
 use Rattle.xml.specs.Root.{ending_by, Level, stop, on, opened, level_of_tag, level_of_close, level_of, Rooted, rooted, add_events, none_open, inside}
@@ -29,7 +29,7 @@ use Rattle.xml.proofs.Laws.Root.{closing, unmatched, tape-append}
 use Rattle.xml_text.proofs.Laws.Tags.{names-push, names-cong}
 
 -- an end tag is held against the innermost open tag
-pub close-same : (text : Text) (slots : List ℕ) (count j : ℕ) (n : Text) (a : ℕ) (r : Text) → count ≡ suc j → same n (name_of (drop (get_or slots j 0) text)) ≡ true
+pub close-same : (text : Text) (slots : List ℕ) (count j : ℕ) (n : Text) (a : ℕ) (r : Text) → count ≡ suc j → same n (leading_name (drop (get_or slots j 0) text)) ≡ true
     → level_of_close (names_up_to text slots count) n a r ≡ on (names_up_to text slots j) (TapeEvent.close ∷ []) a r
 unfolding names_up_to
 close-same text slots count j n a r e h = rw (e, h)
@@ -43,16 +43,16 @@ put-close m used = let one : used + 1 ≡ suc used = omega arith in rw one
 pub open-start : (text : Text) (slots after : List ℕ) (count start : ℕ) (kind : Kind) (pair : Pair) (xs : List AttributePairs) (a : ℕ) (r : Text)
     → kind ≡ Kind.Start → take count after ≡ take count slots
     → count < length after
-    → level_of_tag (names_up_to text slots count) (tagged (kind_number kind) pair xs (name_of (drop start text)) a r)
+    → level_of_tag (names_up_to text slots count) (tagged (kind_number kind) pair xs (leading_name (drop start text)) a r)
     ≡ on (names_up_to text (set after count start) (count + 1)) (TapeEvent.tag (kind_number kind) pair xs ∷ []) a r
 unfolding opened
 open-start text slots after count start kind pair xs a r k e h =
-    let names = names-push text after count start h ∙ ap (λ (l : List Text). name_of (drop start text) ∷ l) (names-cong text after slots count e) in
+    let names = names-push text after count start h ∙ ap (λ (l : List Text). leading_name (drop start text) ∷ l) (names-cong text after slots count e) in
     rw (add-one count, names, k)
 
 pub open-empty : (text : Text) (slots after : List ℕ) (count start : ℕ) (kind : Kind) (pair : Pair) (xs : List AttributePairs) (a : ℕ) (r : Text) → (kind ≡ Kind.Empty) ⊎ (kind ≡ Kind.Close)
     → take count after ≡ take count slots
-    → level_of_tag (names_up_to text slots count) (tagged (kind_number kind) pair xs (name_of (drop start text)) a r)
+    → level_of_tag (names_up_to text slots count) (tagged (kind_number kind) pair xs (leading_name (drop start text)) a r)
     ≡ on (names_up_to text after count) (TapeEvent.tag (kind_number kind) pair xs ∷ []) a r
 unfolding opened
 open-empty text slots after count start kind pair xs a r k e =
@@ -65,19 +65,19 @@ goes-weaken text at start slots marks used after None d h p = p
 goes-weaken text at start slots marks used after (Some o) d h p = (p.0, p.1, p.2, p.3, omega (arith, p.4), p.5)
 
 pub level-bad : (text : Text) (slots : List ℕ) (count j n : ℕ) → count ≡ suc j → matched text n (get_or slots j 0) ≡ bad
-    → level_of (names_up_to text slots count) (ending_by (name_of (drop n text)) (closing n (drop n text))) ≡ stop
+    → level_of (names_up_to text slots count) (ending_by (leading_name (drop n text)) (closing n (drop n text))) ≡ stop
 unfolding matched names_up_to
 level-bad text slots count j n k e =
     rw k
-    (bool_cases (same (name_of (drop n text)) (name_of (drop (get_or slots j 0) text)))
+    (bool_cases (same (leading_name (drop n text)) (leading_name (drop (get_or slots j 0) text)))
     (λ h. let b : name n (drop n text) ≡ bad = rw h at e in rw b)
     (λ h. unmatched _ (names_up_to text slots j) _ (closing n (drop n text)) h))
 
 pub matched_to : (text : Text) (n top e : ℕ) → matched text n top ≡ behind e (drop e text)
-    → (same (name_of (drop n text)) (name_of (drop top text)) ≡ true) × (name n (drop n text) ≡ behind e (drop e text))
+    → (same (leading_name (drop n text)) (leading_name (drop top text)) ≡ true) × (name n (drop n text) ≡ behind e (drop e text))
 unfolding matched
 matched_to text n top e q =
-    bool_cases (same (name_of (drop n text)) (name_of (drop top text)))
+    bool_cases (same (leading_name (drop n text)) (leading_name (drop top text)))
     (λ h. (h, rw h at q))
     (λ h. absurd (bad-not (rw h at q)))
 

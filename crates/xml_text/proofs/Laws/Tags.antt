@@ -9,7 +9,7 @@ use lib.Seq.{sets, get_or-set_same, get_or-set_other, get_or-take, length-take-l
 use Rattle.std.specs.List.{list_any}
 use Rattle.std.proofs.lemmas.List.Folds.{list_any-append}
 use Rattle.text.specs.Text.{Text, same}
-use Rattle.xml.specs.Steps.{behind, literal, name, name_of}
+use Rattle.xml.specs.Steps.{behind, literal, name, leading_name}
 use Rattle.xml.specs.Tape.{AttributePairs, attribute_marks}
 use Rattle.xml.specs.Grammar.{is_among}
 use Rattle.xml_text.specs.Answers.{names_up_to, PartIn}
@@ -27,7 +27,7 @@ names-set text slots (suc k) i v h =
     rw (get_or-set_other slots i k v 0 (λ (e : k ≡ i). omega arith), names-set text slots k i v (omega arith))
 
 -- one slot more
-pub names-push : (text : Text) (slots : List ℕ) (k v : ℕ) → k < length slots → names_up_to text (set slots k v) (suc k) ≡ name_of (drop v text) ∷ names_up_to text slots k
+pub names-push : (text : Text) (slots : List ℕ) (k v : ℕ) → k < length slots → names_up_to text (set slots k v) (suc k) ≡ leading_name (drop v text) ∷ names_up_to text slots k
 unfolding names_up_to
 names-push text slots k v h = rw (get_or-set_same slots k v 0 h, names-set text slots k k v (omega arith))
 
@@ -65,11 +65,11 @@ swap false true = refl
 swap false false = refl
 
 -- whether a name is among those at the first keys, asked of one key after the other
-pub among-any : (n text : Text) (keys : List ℕ) (k : ℕ) → k ≤ length keys → list_any (λ (s : ℕ). same n (name_of (drop s text))) (take k keys) ≡ is_among n (names_up_to text keys k)
+pub among-any : (n text : Text) (keys : List ℕ) (k : ℕ) → k ≤ length keys → list_any (λ (s : ℕ). same n (leading_name (drop s text))) (take k keys) ≡ is_among n (names_up_to text keys k)
 unfolding is_among names_up_to
 among-any n text keys zero h = refl
 among-any n text keys (suc k) h =
-    let f = (λ (s : ℕ). same n (name_of (drop s text))) in
+    let f = (λ (s : ℕ). same n (leading_name (drop s text))) in
     ap (list_any f) (take-suc keys k 0 h) ∙ list_any-append f (take k keys) (get_or keys k 0 ∷ []) ∙ rw (among-any n text keys k (omega arith)) (swap _ _)
 
 -- where the name of a tag starts and ends

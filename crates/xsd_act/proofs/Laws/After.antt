@@ -32,10 +32,6 @@ module _ (namespace : Text) (done last : List Row) where
   unfolding rows_after_all namespace_after rows_after namespace_row
   after-root z n = refl
 
-  pub after-add : (r : Row) → rows_after_all (Action.add r) namespace done last ≡ (namespace_row namespace ∷ (done ++ last)) ++ r ∷ []
-  unfolding rows_after_all namespace_after rows_after
-  after-add r = refl
-
 -- one row behind others
 pub counted-one : {used : Used} (rs : List Row) (r : Row) → used.rows ≡ 2 + length rs → used.names ≡ length (names_of rs) + length (join r.texts) → Counted used (rs ++ r ∷ [])
 counted-one rs r e f =

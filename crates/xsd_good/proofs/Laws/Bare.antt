@@ -20,7 +20,7 @@ use Rattle.xsd_types.specs.Rows.{items_rows}
 use Rattle.xsd_types.specs.Good.{used_pairs, row0_form, limits, root_test, nesting_test, context_test, extension_test, events_test, bare_good}
 use Rattle.xsd_types.specs.Places.{rows_from}
 use Rattle.xsd_types.specs.Count.{count_of, refused_rows, count_in, bare, with_count, state_of, good}
-use Rattle.xsd_types.proofs.Laws.Count.{ten-count, drop-count, bare-words}
+use Rattle.xsd_types.proofs.Laws.Count.{ten-count, drop-count, bare-words, good-bare}
 use Rattle.xsd_refused.proofs.Laws.Finished.{end-room, count-finished, rows_from-count}
 use Rattle.rows.specs.declared.scan.Scan.{Scan}
 use Rattle.rows.specs.Lengths.{parts_fit}
@@ -29,10 +29,10 @@ use Rattle.rows.proofs.Laws.Room.{parts-inside}
 use Rattle.rows.proofs.Laws.Tens.{tens-two}
 use Rattle.xsd_good.specs.Forms.{schema_tests}
 use Rattle.xsd_good.specs.Heads.{head_row}
-use Rattle.xsd_good.specs.End.{finished_end, HeadIs, Held}
+use Rattle.xsd_good.specs.End.{finished_end, HeadIs, HeldState}
 use Rattle.std.specs.Prelude.{None, Some}
 use Rattle.xsd_good.proofs.Laws.Good.{zeros, texts, rest, outside, too-short, apart, good-tests, good-fails}
-use Rattle.xsd_good.proofs.Laws.Held.{good-rows, held-good, end-held}
+use Rattle.xsd_good.proofs.Laws.Held.{good-rows, held-good, end-held, root-held}
 
 -- the rows with 0 for the count
 abbrev bare_rows : List ℕ → List ℕ
@@ -162,7 +162,7 @@ module _ (rows names : List ℕ) (g : bare_good (bare (sheet rows names)) ≡ tr
   bare-used = let u = good-rows (bare_rows rows) names g in (omega (arith, u.0, u.1, length-set rows 17 0), omega (arith, u.1, length-set rows 17 0, ap rows_used_in (ten-count rows 0)))
 
   module _ (w : words rows ≡ true) where
-    pub bare-held : Held (state_of (sheet rows names)) (bare_rows rows) names
+    pub bare-held : HeldState (state_of (sheet rows names)) (bare_rows rows) names
     unfolding bare with_count state_of
     bare-held = held-good (bare_rows rows) names g (bare-words (sheet rows names) w)
 
@@ -179,6 +179,17 @@ module _ (rows names : List ℕ) (g : bare_good (bare (sheet rows names)) ≡ tr
       -- and how many of them lowering refuses
       pub bare-count : refused_rows (rows_from rows names 2 end) ≡ count_of (state_of (sheet rows names))
       bare-count = ap refused_rows (sym (rows_from-count rows names 0 2 end (omega arith))) ∙ count-finished (state_of (sheet rows names)) bare-held.packs bare-held.proper e
+
+-- of a good sheet: what row 0 says is the state's
+module _ (rows names : List ℕ) (g : good (sheet rows names) ≡ true) (w : words rows ≡ true) where
+  pub good-held : HeldState (state_of (sheet rows names)) (bare_rows rows) names
+  good-held = bare-held rows names (good-bare (sheet rows names) g) w
+
+  pub good-root : (z : Row0) → z ≡ row0_from (ten rows) → eqb z.root_seen 1 ≡ (state_of (sheet rows names)).reader.root_seen
+  good-root z e = root-held good-held z (e ∙ ap row0_from (sym (ten-count rows 0)))
+
+  pub good-end : (z : Row0) → z ≡ row0_from (ten rows) → finished_end rows z.context z.rows_used ≡ 2 + length (items_rows (state_of (sheet rows names)).reader.schema.items)
+  good-end z e = ap (λ (y : Row0). finished_end rows y.context y.rows_used) e ∙ bare-end rows names (good-bare (sheet rows names) g) w
 
 -- ---- the count among the tests
 

@@ -9,7 +9,7 @@ use lib.Dec.{eqb}
 use lib.ListN.{length, take, drop}
 use Rattle.std.specs.Prelude.{None, Some}
 use Rattle.text.specs.Text.{every, is_plain, is_text, between}
-use Rattle.text.proofs.Laws.Tests.{not-true-false}
+use Rattle.std.proofs.lemmas.Bool.{false_from_ne_true}
 use Rattle.sheet.specs.Rows.{Ten, ten, tens, all_zero}
 use Rattle.sheet.specs.Calls.{sheet}
 use Rattle.sheet.specs.Form.{row0_of, tens_of, used_parts, zeros_behind, texts_pass}
@@ -58,7 +58,7 @@ module _ (rows names : List ℕ) where
   pub too-short : length rows < 20 → bare_good (sheet rows names) ≡ false
   too-short h =
       let z = row0_from (ten rows) in
-      outside z refl (not-true-false _ (λ e. omega (arith, parts-inside z.rows_used z.names_used (length rows) (length names) e)))
+      outside z refl (false_from_ne_true _ (λ e. omega (arith, parts-inside z.rows_used z.names_used (length rows) (length names) e)))
 
   -- the names are asked row by row
   each-text : names_test (sheet rows names) ≡ every (row_texts schema_tests names) (tens_of (sheet rows names))

@@ -8,7 +8,8 @@ use native.Mathlib.Omega.{arith}
 use lib.Dec.{eqb, leb}
 use lib.ListN.{length, length-append}
 use borrow.Author.Tests.{leb-true, leb-false}
-use Rattle.text.proofs.Laws.Tests.{two, if-cases}
+use Rattle.std.proofs.lemmas.Bool.{and_parts}
+use Rattle.text.proofs.Laws.Tests.{if-cases}
 use Rattle.sheet.specs.Rows.{Ten, Row, ten, numbers, pack, filled}
 use Rattle.sheet.specs.Calls.{sheet}
 use Rattle.sheet.specs.Form.{words, rows_used_in, used_parts, row0_of}
@@ -25,7 +26,7 @@ use Rattle.xsd_types.proofs.Laws.StateOf.{bare_sheet_of-bare_state_of, proper-ba
 use Rattle.rows.specs.Packing.{Packs}
 use Rattle.rows.proofs.Laws.Room.{fits-room}
 use Rattle.rows.proofs.Laws.Sheet.{sheet-packs}
-use Rattle.xsd_good.specs.End.{finished_end, Held}
+use Rattle.xsd_good.specs.End.{finished_end, HeldState}
 use Rattle.xsd_good.proofs.Laws.Open.{open-head-is}
 
 -- the used rows that row 0 of a good sheet gives, at least two, lie inside the buffer
@@ -33,7 +34,7 @@ pub good-rows : (rows names : List ℕ) → bare_good (sheet rows names) ≡ tru
 unfolding used_parts row0_of
 good-rows rows names g =
     let z = row0_from (ten rows) in
-    let used = two (leb 2 z.rows_used) _ (parts-of (sheet rows names) g).parts in
+    let used = and_parts (leb 2 z.rows_used) _ (parts-of (sheet rows names) g).parts in
     let room = fits-room z.rows_used z.names_used (length rows) (length names) used.1 in
     (omega (arith, leb-true 2 z.rows_used used.0, room.0), room.0)
 
@@ -46,7 +47,7 @@ unfolding filled numbers
 ten-packs rows names z rs p = ap ten p.rows_are ∙ ten-numbers z (pack 0 rs) _
 
 -- a good sheet holds its state
-pub held-good : (rows names : List ℕ) → bare_good (sheet rows names) ≡ true → words rows ≡ true → Held (bare_state_of (sheet rows names)) rows names
+pub held-good : (rows names : List ℕ) → bare_good (sheet rows names) ≡ true → words rows ≡ true → HeldState (bare_state_of (sheet rows names)) rows names
 unfolding state_fits bare_sheet_of rows_used names_used
 held-good rows names g w =
     let x = sheet rows names in
@@ -58,14 +59,14 @@ held-good rows names g w =
     }
 
 -- a context with no open type has no rows
-no-open : (c : Context) → context_number c < 2 → context_rows c ≡ []
+pub none_open : (c : Context) → context_number c < 2 → context_rows c ≡ []
 unfolding context_number context_rows
-no-open Context.no_context h = refl
-no-open (Context.in_schema n) h = refl
-no-open (Context.in_simple_type t) h = absurd (omega arith)
-no-open (Context.in_complex_type t) h = absurd (omega arith)
+none_open Context.no_context h = refl
+none_open (Context.in_schema n) h = refl
+none_open (Context.in_simple_type t) h = absurd (omega arith)
+none_open (Context.in_complex_type t) h = absurd (omega arith)
 
-module _ {s : State} {rows names : List ℕ} (h : Held s rows names) where
+module _ {s : State} {rows names : List ℕ} (h : HeldState s rows names) where
   -- row 0 is the state's
   pub row0-held : ten rows ≡ row0_ten (row0 s)
   row0-held = ten-packs rows names (row0_ten (row0 s)) (rows_of s) h.packs
@@ -78,7 +79,7 @@ module _ {s : State} {rows names : List ℕ} (h : Held s rows names) where
       let items = items_rows s.reader.schema.items in
       if-cases (λ (n : ℕ). n ≡ 2 + length items) (leb 2 (context_number c))
       (λ e. open-head-is s h.packs (leb-true 2 (context_number c) e))
-      (λ e. omega (arith, length-append items (context_rows c), ap length (no-open c (leb-false 2 (context_number c) e))))
+      (λ e. omega (arith, length-append items (context_rows c), ap length (none_open c (leb-false 2 (context_number c) e))))
 
   -- by the numbers of row 0 as they were read
   module _ (z : Row0) (e : z ≡ row0_from (ten rows)) where

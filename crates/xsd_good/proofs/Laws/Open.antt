@@ -7,7 +7,7 @@ use Prim.Native.Nat.{ℕ, ◌+◌, ◌-◌, ◌*◌, ◌≤◌}
 use native.Mathlib.Omega.{arith}
 use lib.ListN.{length, get_or}
 use Rattle.text.specs.Text.{every}
-use Rattle.text.proofs.Laws.Tests.{two}
+use Rattle.std.proofs.lemmas.Bool.{and_parts}
 use Rattle.text.proofs.Laws.Every.{every-head, every-tail}
 use Rattle.sheet.specs.Rows.{Row, numbers, pack_row}
 use Rattle.xsd_types.specs.State.{Context, State}
@@ -69,7 +69,7 @@ module _ {rows names z : List ℕ} where
   head-row-group rs [] g p = absurd (false≢true g)
   head-row-group rs (r ∷ us) g p =
       let e = sym (append_assoc rs (r ∷ []) us) in
-      let both = two (is_head r.tag) (every (is_child r.tag) (tags us)) g in
+      let both = and_parts (is_head r.tag) (every (is_child r.tag) (tags us)) g in
       ap (λ (l : List Row). head_row rows (1 + length l)) e
       ∙ head-row-children r.tag (rs ++ r ∷ []) us both.1 (subst (Packs rows names z) e p)
       ∙ head-row-hit rs us r p both.0

@@ -59,6 +59,18 @@ many-heads tag head l =
 pub heads-follow : (tag head : ℕ) → tag ≤ 20 → in_heads (rule_of tag).heads head ≡ may_follow head tag
 heads-follow tag head h = heads-told (λ (t : ℕ). (rule_of t).heads) may_follow 21 all-heads tag head (omega arith) (many-heads tag head)
 
+told-heads : passes (λ (n : ℕ). passes (λ (tag : ℕ). agree (has_bit 126988 tag) (is_head tag)) 32) 1 ≡ true
+unfolding has_bit is_head between
+told-heads = refl
+
+many-tags : (tag : ℕ) → 31 < tag → is_head 31 ≡ is_head tag
+unfolding is_head between
+many-tags tag l = rw (lt-leb tag 3 (omega arith), lt-leb tag 16 (omega arith), and-false (leb 2 tag), and-false (leb 12 tag)) refl
+
+-- the set of the tags of heads
+pub head-told : (tag : ℕ) → in_heads 126988 tag ≡ is_head tag
+head-told tag = heads-told (λ (n : ℕ). 126988) (λ (tag n : ℕ). is_head tag) 1 told-heads 0 tag (omega arith) (many-tags tag)
+
 -- ---- a
 
 a-zero : (p q r y : Bool) → leb 0 (if p || q || r then 4294967295 else if y then 1 else 0) ≡ true

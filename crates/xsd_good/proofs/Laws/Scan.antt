@@ -1,8 +1,8 @@
 -- Laws of the pass over the rows of a schema sheet: it gives what `rows_form`, `names_form` and `head_of` ask, each over all rows, in one pass.
 -- Assumes nothing.
-use Rattle.std.specs.List.{list_all, range_with_len}
-use mathlib.Core.Path.{◌≡◌, refl, ap, ◌∙◌}
-use mathlib.Core.Bool.{Bool, true, false, ◌&&◌, ◌||◌}
+use Rattle.std.specs.List.{fold, range_with_len}
+use mathlib.Core.Path.{◌≡◌, refl, sym, ap, ◌∙◌}
+use mathlib.Core.Bool.{Bool, true, false, ◌&&◌, ◌||◌, and_assoc, and-true}
 use mathlib.Core.List.{List, [], ◌∷◌}
 use Prim.Native.Nat.{ℕ, zero, suc, ◌+◌, ◌*◌}
 use native.Mathlib.Omega.{arith}
@@ -54,12 +54,16 @@ sheet-scanned limit p h (t ∷ ts) =
     let last : w ≡ true → p (last_head 1 (tags ts)) ≡ p (last_head (head_after 0 t.tag) (tags ts)) = λ e. rw (no-head t e) (head-first p h (tags ts)) in
     rw (sheet-ends schema_tests limit p t ts, orders 1 (tags ts), heads 1 (tags ts)) (same-behind w _ _ _ _ _ last)
 
--- the test of c of n rows from row i on
-pub events-all : (events : ℕ) (rows : List ℕ) (n i : ℕ)
-    → list_all (λ (k : ℕ). let t = ten (drop (10 * k) rows) in eqb t.c 0 || ltb t.c events) (range_with_len i n) ≡ events_test events (tens n (drop (10 * i) rows))
+-- the test of c of row k
+abbrev pub c_passes : ℕ → List ℕ → ℕ → Bool
+c_passes events rows k = eqb (ten (drop (10 * k) rows)).c 0 || ltb (ten (drop (10 * k) rows)).c events
+
+-- of n rows from row i on, and of those before them
+pub events-all : (events : ℕ) (rows : List ℕ) (before : Bool) (n i : ℕ)
+    → fold (λ (b : Bool) (k : ℕ). b && c_passes events rows k) before (range_with_len i n) ≡ before && events_test events (tens n (drop (10 * i) rows))
 unfolding events_test every event_number_ok tens
-events-all events rows zero i = refl
-events-all events rows (suc n) i =
-    let t = ten (drop (10 * i) rows) in
+events-all events rows before zero i = sym (and-true before)
+events-all events rows before (suc n) i =
+    let here = c_passes events rows i in
     let at : 10 * (i + 1) ≡ 10 * i + 10 = omega arith in
-    ap (λ (b : Bool). (eqb t.c 0 || ltb t.c events) && b) (events-all events rows n (i + 1) ∙ rw (at, drop-drop 10 (10 * i) rows))
+    events-all events rows (before && here) n (i + 1) ∙ and_assoc before here _ ∙ ap (λ (b : Bool). before && (here && b)) (rw (at, drop-drop 10 (10 * i) rows))

@@ -9,9 +9,7 @@ use native.Mathlib.Omega.{arith}
 use lib.ListN.{length}
 use Rattle.sheet.specs.Lengths.{Lengths}
 use Rattle.xsd_types.specs.State.{State}
-use Rattle.xsd_parser.specs.Event.{Event}
 use Rattle.xsd_parser.specs.Tape.{Judged, event, refused}
-use Rattle.xsd_parser.specs.Handlers.{ok}
 use Rattle.xsd_parser.specs.Step.{step}
 use Rattle.xsd_parser.specs.Read.{Reading, read_records}
 use Rattle.xsd_parser.specs.Accepted.{Accepted, none_left, one_more, Refused, by_form, by_state}
@@ -43,21 +41,6 @@ unfolding read_records
 read_records-accepted lent n {s} none_left = ap (λ m. stopped 0 m s) (omega arith)
 read_records-accepted lent n (one_more {s = s} {s₁ = x} {s₂ = y} {e = e} {js = js} q a) =
     read_ok lent n s x e js q ∙ read_records-accepted lent (suc n) a ∙ ap (λ m. stopped 0 m y) (omega arith)
-
--- each list of records is one or the other: all are accepted, or a first one is refused
-pub data Viewed (lent : Lengths) (s : State) : List Judged → Type 0 where
-  all_accepted : {js : List Judged} {s₁ : State} → Accepted lent s js s₁ → Viewed lent s js
-  first_refused : {js : List Judged} {j : Judged} {k : ℕ} {s₁ : State} (rest : List Judged) → Accepted lent s js s₁ → Refused lent s₁ j k → Viewed lent s (js ++ j ∷ rest)
-
-pub view-more : {lent : Lengths} {s x : State} {e : Event} {js : List Judged} → step lent s e ≡ ok x → Viewed lent x js → Viewed lent s (event e ∷ js)
-view-more q (all_accepted a) = all_accepted (one_more q a)
-view-more q (first_refused rest a r) = first_refused rest (one_more q a) r
-
-pub records-view : (lent : Lengths) (s : State) (js : List Judged) → Viewed lent s js
-records-view lent s [] = all_accepted none_left
-records-view lent s (refused k ∷ js) = first_refused js none_left by_form
-records-view lent s (event e ∷ js) =
-    outcome-cases (step lent s e) (λ x q. view-more q (records-view lent x js)) (λ k q. first_refused js none_left (by_state q))
 
 -- accepted records are events
 pub accepted-events : {lent : Lengths} {s s₁ : State} {js : List Judged} → Accepted lent s js s₁ → all_events js ≡ true

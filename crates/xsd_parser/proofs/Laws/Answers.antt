@@ -42,9 +42,5 @@ pub reading-number : (lent : Lengths) (s : State) (text : Text) (marks : List �
 unfolding read_state records
 reading-number lent s text marks = records_from-number (length marks) lent 0 s text marks
 
--- a reading on a state never answers 1 or 2
-pub reading-not-one : (lent : Lengths) (s : State) (text : Text) (marks : List ℕ) → (read_state lent s text marks).answer.number ≡ 1 → ⊥
-reading-not-one lent s text marks e = ⊎_elim (λ h. omega arith) (λ h. omega arith) (reading-number lent s text marks)
-
 pub reading-not-two : (lent : Lengths) (s : State) (text : Text) (marks : List ℕ) → (read_state lent s text marks).answer.number ≡ 2 → ⊥
 reading-not-two lent s text marks e = ⊎_elim (λ h. omega arith) (λ h. omega arith) (reading-number lent s text marks)

@@ -11,7 +11,8 @@ use lib.ListN.{length, drop, length-append}
 use lib.Seq.{drop-append-le}
 use borrow.Author.Tests.{leb-true, leb-false, le-leb, lt-leb, lt-ltb, ltb-true, eqb-false, ne_eqb}
 use Rattle.text.specs.Text.{Text, between}
-use Rattle.text.proofs.Laws.Tests.{not-true-false, and-true, three, if-either}
+use Rattle.std.proofs.lemmas.Bool.{false_from_ne_true}
+use Rattle.text.proofs.Laws.Tests.{and-true, three, if-either}
 use Rattle.text.proofs.Laws.Texts.{between-low, between-high}
 use Rattle.xsd_parser.specs.Event.{Event}
 use Rattle.xsd_parser.specs.Tape.{Pair, pairs_of, all_inside, all_ascii, tag_of, Recorded, finished, bad, next, pair_count, event_of, form_test, tag_record, record1}
@@ -123,7 +124,7 @@ short-refused text (kind ∷ count ∷ rest) e = rw (short-form kind count rest 
 -- a record that is an event is not cut short
 pub next-whole : (text : Text) (marks : List ℕ) (e : Event) (rest : List ℕ) → record1 text marks ≡ next e rest → cut_short marks ≡ false
 next-whole text marks e rest q =
-    not-true-false (cut_short marks) λ h.
+    false_from_ne_true (cut_short marks) λ h.
     let b = short-refused text marks h in
     let z : ◌≡◌ {A = ℕ} 0 1 = cc in omega arith
 

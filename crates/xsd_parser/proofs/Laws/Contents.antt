@@ -18,7 +18,8 @@ use Rattle.xsd_parser.specs.Handlers.{on_empty_in_complex_type}
 use Rattle.number.proofs.Laws.Numbers.{number_bound}
 use Rattle.xsd_parser.proofs.Laws.SeenTexts.{SeenText, or-empty-text}
 use Rattle.xsd_parser.proofs.Laws.Outcomes.{Gives, value, Any, Kept, gives-if, gives-and_then, gives-parsed}
-use Rattle.text.proofs.Laws.Tests.{and-true, two, if-keeps}
+use Rattle.std.proofs.lemmas.Bool.{and_parts}
+use Rattle.text.proofs.Laws.Tests.{and-true, if-keeps}
 use Rattle.text.proofs.Laws.Class.{empty-text}
 use Rattle.text.proofs.Laws.Every.{every-one-more}
 
@@ -81,7 +82,7 @@ attribute_inside-kept t (ComplexContentBuilder.sequence es) e h = h
 attribute_inside-kept t (ComplexContentBuilder.choice vs) e h = h
 attribute_inside-kept t (ComplexContentBuilder.simple_content base xs false) e h = h
 attribute_inside-kept t (ComplexContentBuilder.simple_content base xs true) e h =
-    let p = two (is_text base) (every attribute_ok xs) h in and-true p.0 (attributes-kept t xs e p.1)
+    let p = and_parts (is_text base) (every attribute_ok xs) h in and-true p.0 (attributes-kept t xs e p.1)
 attribute_inside-kept t (ComplexContentBuilder.any n) e h = h
 
 pub extension-kept : (t : Seen) (c : ComplexContentBuilder) → SeenText t → content_ok c ≡ true → content_ok (on_extension t c) ≡ true
@@ -90,7 +91,7 @@ extension-kept t ComplexContentBuilder.empty e h = refl
 extension-kept t (ComplexContentBuilder.sequence es) e h = h
 extension-kept t (ComplexContentBuilder.choice vs) e h = h
 extension-kept t (ComplexContentBuilder.simple_content base xs flag) e h =
-    and-true (or-empty-text t.base e.base) (two (is_text base) (every attribute_ok xs) h).1
+    and-true (or-empty-text t.base e.base) (and_parts (is_text base) (every attribute_ok xs) h).1
 extension-kept t (ComplexContentBuilder.any n) e h = h
 
 pub content_started-kept : (t : Seen) (c : ComplexContentBuilder) → content_ok c ≡ true → content_ok (content_started t c) ≡ true

@@ -18,7 +18,7 @@ use Rattle.xsd_parser.specs.Whole.{all_events}
 use Rattle.xsd_parser.proofs.Laws.Outcomes.{outcome-cases}
 use Rattle.xsd_parser.proofs.Laws.Refusals.{step-refusal, record-refusal}
 use Rattle.xsd_parser.proofs.Laws.Records.{record-cases, records-finished, records-bad, records-next, records-none, next-shorter, fuel-spare}
-use Rattle.xsd_parser.proofs.Laws.Reads.{read_ok, read-refuse, read_state-place}
+use Rattle.xsd_parser.proofs.Laws.Reads.{read_ok, read-refuse}
 use Rattle.xsd_parser.proofs.Laws.Accepts.{later, read_records-append, read_records-accepted, read_records-later, accepted-events}
 use Rattle.xsd_parser.proofs.Laws.Appended.{next-longer, finished-empty, none-of-length}
 
@@ -107,9 +107,3 @@ cut-joined lent s s₁ text m₁ m₂ a =
 pub cut-accepted : (lent : Lengths) (s : State) (text : Text) (m₁ m₂ : List ℕ) → (read_state lent s text m₁).answer.number ≡ 0
     → read_state lent s text (m₁ ++ m₂) ≡ later (read_state lent s text m₁).answer.place (read_state lent (read_state lent s text m₁).state text m₂)
 cut-accepted lent s text m₁ m₂ h = cut-joined lent s (read_state lent s text m₁).state text m₁ m₂ (zero-accepted lent s text m₁ h)
-
--- the number in the run is the same
-pub cut-number-in-run : (lent : Lengths) (s : State) (text : Text) (m₁ m₂ : List ℕ) → (read_state lent s text m₁).answer.number ≡ 0
-    → s.events + (read_state lent s text (m₁ ++ m₂)).answer.place
-    ≡ (read_state lent s text m₁).state.events + (read_state lent (read_state lent s text m₁).state text m₂).answer.place
-cut-number-in-run lent s text m₁ m₂ h = let k = read_state-place lent s text m₁ in rw (cut-accepted lent s text m₁ m₂ h) (omega arith)

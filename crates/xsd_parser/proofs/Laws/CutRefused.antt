@@ -8,7 +8,7 @@ use lib.ListN.{length, length-append}
 use borrow.Author.Tests.{not-true}
 use Rattle.sheet.specs.Lengths.{Lengths}
 use Rattle.text.specs.Text.{Text}
-use Rattle.text.proofs.Laws.Tests.{not-true-false, two}
+use Rattle.std.proofs.lemmas.Bool.{false_from_ne_true, and_parts}
 use Rattle.xsd_types.specs.State.{State}
 use Rattle.xsd_parser.specs.Event.{Event}
 use Rattle.xsd_parser.specs.Tape.{finished, bad, next, record1, Judged, event, records_from, records}
@@ -25,12 +25,12 @@ use Rattle.xsd_parser.proofs.Laws.Appended.{longer, record1-longer, short-refuse
 -- whole records, one by one
 pub whole-first : (fuel : ℕ) (text : Text) (marks : List ℕ) → whole_from (suc fuel) text marks ≡ true → cut_short marks ≡ false
 unfolding whole_from
-whole-first fuel text marks h = not-true (cut_short marks) (two (not (cut_short marks)) _ h).0
+whole-first fuel text marks h = not-true (cut_short marks) (and_parts (not (cut_short marks)) _ h).0
 
 pub whole-rest : (fuel : ℕ) (text : Text) (marks : List ℕ) (e : Event) (rest : List ℕ) → record1 text marks ≡ next e rest → whole_from (suc fuel) text marks ≡ true
     → whole_from fuel text rest ≡ true
 unfolding whole_from
-whole-rest fuel text marks e rest q h = (two (not (cut_short marks)) (whole_from fuel text rest) (rw (q, whole_from) at h)).1
+whole-rest fuel text marks e rest q h = (and_parts (not (cut_short marks)) (whole_from fuel text rest) (rw (q, whole_from) at h)).1
 
 -- a refused record that is whole stays refused with more marks behind it
 pub bad-some : (text : Text) (marks : List ℕ) (k : ℕ) → record1 text marks ≡ bad k → marks ≡ [] → ⊥
@@ -45,7 +45,7 @@ bad-longer text marks m k q h = record1-longer text marks m (bad-some text marks
 -- 3 is the only refusal of a record cut short
 pub bad-whole : (fuel : ℕ) (text : Text) (marks : List ℕ) (k : ℕ) → record1 text marks ≡ bad k → (k ≡ 3 → whole_from (suc fuel) text marks ≡ true) → cut_short marks ≡ false
 bad-whole fuel text marks k q w =
-    not-true-false (cut_short marks) λ h.
+    false_from_ne_true (cut_short marks) λ h.
     let b = short-refused text marks h in
     let z : k ≡ 3 = cc in
     false≢true (sym (whole-first fuel text marks (w z)) ∙ h)
@@ -122,10 +122,6 @@ events-whole_from (suc f) text marks a =
     (λ q. rw (finished-empty text marks q))
     (λ k q. absurd (events-not-bad f text marks k q a))
     (λ e rest q. rw (next-whole text marks e rest q, q, whole_from) (events-whole_from f text rest (events-rest f text marks e rest q a)))
-
-pub events-whole : (text : Text) (marks : List ℕ) → all_events (records text marks) ≡ true → whole_records text marks ≡ true
-unfolding records whole_records
-events-whole text marks a = events-whole_from (length marks) text marks a
 
 empty-records : (f : ℕ) (text : Text) (marks : List ℕ) → marks ≡ [] → records_from f text marks ≡ []
 empty-records f text marks z = ap (records_from f text) z ∙ records-none f text

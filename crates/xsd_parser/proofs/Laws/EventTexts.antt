@@ -11,7 +11,8 @@ use Rattle.xsd_parser.specs.EventText.{attr_is_text, tag_ok, event_ok, judged_ok
 use Rattle.xsd_parser.specs.Tape.{Pair, pair_text, all_inside, all_ascii, attrs_of, tag_of, Recorded, finished, bad, next, event_of, form_test, pair_count, pairs_of}
 use Rattle.xsd_parser.specs.Tape.{tag_record, record1, records_from, records}
 use Rattle.xsd_parser.proofs.Laws.Records.{record-cases, records-finished, records-bad, records-next}
-use Rattle.text.proofs.Laws.Tests.{and-true, two, if-keeps}
+use Rattle.std.proofs.lemmas.Bool.{and_parts}
+use Rattle.text.proofs.Laws.Tests.{and-true, if-keeps}
 use Rattle.text.proofs.Laws.Class.{empty-text, plain-part-text}
 
 -- 5 is refused for no pair of a plain text
@@ -26,15 +27,15 @@ unfolding all_ascii attrs_of every attr_is_text
 attrs-text text [] e = refl
 attrs-text text (k ∷ []) e = refl
 attrs-text text (k ∷ v ∷ ps) e =
-    let p = two (is_text (pair_text text k)) (all_ascii text (v ∷ ps)) e in
-    let q = two (is_text (pair_text text v)) (all_ascii text ps) p.1 in
+    let p = and_parts (is_text (pair_text text k)) (all_ascii text (v ∷ ps)) e in
+    let q = and_parts (is_text (pair_text text v)) (all_ascii text ps) p.1 in
     and-true (and-true p.0 q.0) (attrs-text text ps q.1)
 
 pub tag-text : (text : Text) (ps : List Pair) → all_ascii text ps ≡ true → tag_ok (tag_of text ps) ≡ true
 unfolding all_ascii tag_of tag_ok every
 tag-text text [] e = rw empty-text
 tag-text text (n ∷ ps) e =
-    let p = two (is_text (pair_text text n)) (all_ascii text ps) e in
+    let p = and_parts (is_text (pair_text text n)) (all_ascii text ps) e in
     and-true p.0 (attrs-text text ps p.1)
 
 -- the event of a record, if it is one, is a text's

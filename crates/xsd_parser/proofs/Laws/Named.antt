@@ -1,5 +1,6 @@
 -- Named in docs/PORT.md: heads that pass a test of name and number still do after each step of a start, an empty tag and a close, where of a tag that a head is
--- made of the name passes with the event's number. No contract cites them: `handled-makes` and `handled-passes` of Numbers say it of an event. Assumes nothing.
+-- made of the name passes with the event's number (`handled-makes` and `handled-passes` of Numbers say it of an event); and that each list of records is accepted, or has a first
+-- that is refused. No contract cites them. Assumes nothing.
 use mathlib.Core.Path.{◌≡◌, refl}
 use mathlib.Core.Bool.{Bool, true, false, ◌&&◌, ◌||◌}
 use mathlib.Core.Option.{Option, some, none}
@@ -7,18 +8,39 @@ use Prim.Native.Nat.{ℕ, zero, suc}
 use lib.Dec.{eqb}
 use Rattle.text.specs.Text.{Text}
 use Rattle.xsd_types.specs.Types.{Item}
-use Rattle.xsd_types.specs.State.{SimpleTypeBuilder, ComplexTypeBuilder, Context, Reader, item_passes, open_passes, heads_pass}
+use Rattle.xsd_types.specs.State.{SimpleTypeBuilder, ComplexTypeBuilder, Context, Reader, item_passes, open_passes, heads_pass, State}
 use Rattle.xsd_parser.specs.declared.words.Word.{Word}
 use Rattle.xsd_parser.specs.Words.{facet_word}
 use Rattle.xsd_parser.specs.Seen.{Seen, tag_is}
-use Rattle.xsd_parser.specs.Handlers.{in_context, with_item, found_root, kept_element, on_top_level_element, with_base, with_facet, with_content, open_simple_type}
+use Rattle.xsd_parser.specs.Handlers.{in_context, with_item, found_root, kept_element, on_top_level_element, with_base, with_facet, with_content, open_simple_type, ok}
 use Rattle.xsd_parser.specs.Handlers.{open_complex_type, below_schema, on_direct_child, on_start_in_schema, raised_simple, on_start_in_simple_type, raised_complex}
 use Rattle.xsd_parser.specs.Handlers.{on_start_in_complex_type, on_start, facet_value, facet_by_word, on_empty_in_simple_type, close_simple_type}
 use Rattle.xsd_parser.specs.Handlers.{close_complex_type}
-use Rattle.xsd_parser.proofs.Laws.Outcomes.{Gives, value, Any, gives-if, gives-and_then, gives-name, gives-facet, gives-any}
+use Rattle.xsd_parser.proofs.Laws.Outcomes.{Gives, value, Any, gives-if, gives-and_then, gives-name, gives-facet, gives-any, outcome-cases}
 use Rattle.xsd_types.proofs.Laws.Events.{passing-parts}
 use Rattle.text.proofs.Laws.Tests.{and-true, if-either, bool_cases}
 use Rattle.text.proofs.Laws.Every.{every-one-more}
+use mathlib.Core.List.{List, [], ◌∷◌, ◌++◌}
+use Rattle.sheet.specs.Lengths.{Lengths}
+use Rattle.xsd_parser.specs.Event.{Event}
+use Rattle.xsd_parser.specs.Tape.{Judged, event, refused}
+use Rattle.xsd_parser.specs.Step.{step}
+use Rattle.xsd_parser.specs.Accepted.{Accepted, none_left, one_more, Refused, by_form, by_state}
+
+-- each list of records is one or the other: all are accepted, or a first one is refused
+pub data Viewed (lent : Lengths) (s : State) : List Judged → Type 0 where
+  all_accepted : {js : List Judged} {s₁ : State} → Accepted lent s js s₁ → Viewed lent s js
+  first_refused : {js : List Judged} {j : Judged} {k : ℕ} {s₁ : State} (rest : List Judged) → Accepted lent s js s₁ → Refused lent s₁ j k → Viewed lent s (js ++ j ∷ rest)
+
+pub view-more : {lent : Lengths} {s x : State} {e : Event} {js : List Judged} → step lent s e ≡ ok x → Viewed lent x js → Viewed lent s (event e ∷ js)
+view-more q (all_accepted a) = all_accepted (one_more q a)
+view-more q (first_refused rest a r) = first_refused rest (one_more q a) r
+
+pub records-view : (lent : Lengths) (s : State) (js : List Judged) → Viewed lent s js
+records-view lent s [] = all_accepted none_left
+records-view lent s (refused k ∷ js) = first_refused js none_left by_form
+records-view lent s (event e ∷ js) =
+    outcome-cases (step lent s e) (λ x q. view-more q (records-view lent x js)) (λ k q. first_refused js none_left (by_state q))
 
 module _ (p : Text → ℕ → Bool) where
   abbrev pub Passing : Reader → Type 0

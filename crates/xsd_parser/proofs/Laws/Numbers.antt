@@ -11,7 +11,8 @@ use lib.ListN.{length, length-append}
 use borrow.Author.Tests.{ltb-true, lt-ltb, le-ltb}
 use mathlib.Core.Logic.{⊎_elim}
 use Rattle.text.specs.Text.{Text, every}
-use Rattle.text.proofs.Laws.Tests.{and-true-right, or_left, or_right, or_cases, if-either, if-cases}
+use Rattle.std.proofs.lemmas.Bool.{or_left, or_right, or_cases}
+use Rattle.text.proofs.Laws.Tests.{and-true-right, if-either, if-cases}
 use Rattle.text.proofs.Laws.Every.{every_append, every-one-more}
 use Rattle.xsd_types.specs.Types.{Item}
 use Rattle.xsd_types.specs.State.{HeadNumber, SimpleTypeBuilder, ComplexTypeBuilder, Context, Reader, event_number_ok, item_passes, open_passes, heads_pass, events_ok}
@@ -202,11 +203,11 @@ module _ (p : Text → ℕ → Bool) where
 pub number_more : (n k : ℕ) → event_number_ok n k ≡ true → event_number_ok (suc n) k ≡ true
 unfolding event_number_ok
 number_more n k h =
-    ⊎_elim (λ e. or_left (ltb k (suc n)) e) (λ e. or_right (eqb k 0) (lt-ltb k (suc n) (omega (arith, ltb-true k n e)))) (or_cases (eqb k 0) (ltb k n) h)
+    ⊎_elim (λ e. or_left _ (ltb k (suc n)) e) (λ e. or_right (eqb k 0) _ (lt-ltb k (suc n) (omega (arith, ltb-true k n e)))) (or_cases (eqb k 0) (ltb k n) h)
 
 pub number-own : (n : ℕ) → event_number_ok (suc n) n ≡ true
 unfolding event_number_ok
-number-own n = or_right (eqb n 0) (lt-ltb n (suc n) (omega arith))
+number-own n = or_right (eqb n 0) _ (lt-ltb n (suc n) (omega arith))
 
 pub numbers-kept : (by_standard : Bool) (n : ℕ) (e : Event) (r r' : Reader) → events_ok r n ≡ true → handled by_standard n e r ≡ ok r' → events_ok r' (suc n) ≡ true
 unfolding events_ok

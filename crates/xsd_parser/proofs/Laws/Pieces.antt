@@ -12,11 +12,12 @@ use Rattle.xsd_types.specs.State.{State}
 use Rattle.xsd_parser.specs.Read.{Reading, read_state}
 use Rattle.xsd_parser.specs.Whole.{whole_records}
 use Rattle.xsd_parser.specs.Pieces.{onward, read_pieces}
-use Rattle.xsd_parser.proofs.Laws.Reads.{stopped, read_state-place}
+use Rattle.xsd_parser.proofs.Laws.Reads.{stopped}
 use Rattle.xsd_parser.proofs.Laws.Accepts.{later}
 use Rattle.xsd_parser.proofs.Laws.Cut.{cut-accepted}
 use Rattle.xsd_parser.proofs.Laws.CutRefused.{cut-refused}
-use Rattle.text.proofs.Laws.Tests.{two, bool_cases}
+use Rattle.std.proofs.lemmas.Bool.{and_parts}
+use Rattle.text.proofs.Laws.Tests.{bool_cases}
 
 pub onward-zero : (r x : Reading) → eqb r.answer.number 0 ≡ true → onward r x ≡ later r.answer.place x
 unfolding onward
@@ -48,11 +49,6 @@ pub cut-pieces : (lent : Lengths) (s : State) (text : Text) (pieces : List (List
 unfolding every join read_pieces
 cut-pieces lent s text [] last w = sym (onward-none (read_state lent s text last))
 cut-pieces lent s text (m ∷ ms) last w =
-    let p = two (whole_records text m) (every (whole_records text) ms) w in
+    let p = and_parts (whole_records text m) (every (whole_records text) ms) w in
     let r = read_state lent s text m in
     rw (append_assoc m (join ms) last) (cut-once lent s text m (join ms ++ last) p.0 ∙ ap (onward r) (cut-pieces lent r.state text ms last p.1))
-
--- the number in the run of the event that the pieces stop at, or of the next one
-pub pieces-number-in-run : (lent : Lengths) (s : State) (text : Text) (pieces : List (List ℕ)) (last : List ℕ) → every (whole_records text) pieces ≡ true
-    → s.events + (read_pieces lent s text (pieces ++ last ∷ [])).answer.place ≡ (read_pieces lent s text (pieces ++ last ∷ [])).state.events
-pieces-number-in-run lent s text pieces last w = rw (cut-pieces lent s text pieces last w) at (read_state-place lent s text (join pieces ++ last))

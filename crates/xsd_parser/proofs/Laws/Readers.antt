@@ -11,7 +11,8 @@ use Rattle.xsd_types.specs.Types.{Item}
 use Rattle.xsd_types.specs.State.{SimpleTypeBuilder, ComplexContentBuilder, ComplexTypeBuilder, Context, Reader, facet_ok, content_ok, namespace_ok, item_ok, schema_ok}
 use Rattle.xsd_types.specs.State.{schema_nesting_ok, context_ok, is_no_context, is_empty, root_ok, started, finish}
 use Rattle.xsd_parser.specs.Handlers.{in_context, with_item}
-use Rattle.text.proofs.Laws.Tests.{and-true, two, three, four, or_right, or-true-left}
+use Rattle.std.proofs.lemmas.Bool.{and_parts, or_right}
+use Rattle.text.proofs.Laws.Tests.{and-true, three, four, or-true-left}
 use Rattle.text.proofs.Laws.Every.{every-one-more}
 
 pub record ReaderOk (by_standard : Bool) (r : Reader) (n : ℕ) : Type 0 where
@@ -32,7 +33,7 @@ seen-root r e = rw e
 pub item-added : (r : Reader) (i : Item) → item_ok i ≡ true → schema_ok r.schema ≡ true → schema_ok (with_item i r).schema ≡ true
 unfolding with_item schema_ok
 item-added r i h e =
-    let p = two (is_text r.schema.target_namespace) (every item_ok r.schema.items) e in
+    let p = and_parts (is_text r.schema.target_namespace) (every item_ok r.schema.items) e in
     and-true p.0 (every-one-more item_ok r.schema.items i p.1 h)
 
 -- "contexts 2 and 3 have at least nesting + 2"
@@ -54,7 +55,7 @@ pub record SchemaOk (by_standard : Bool) (depth n : ℕ) : Type 0 where
 
 pub nested-first : (by_standard : Bool) → schema_nesting_ok by_standard 0 ≡ true
 unfolding schema_nesting_ok
-nested-first b = or_right b refl
+nested-first b = or_right b _ refl
 
 pub nested-less : (by_standard : Bool) (depth : ℕ) → schema_nesting_ok by_standard (suc depth) ≡ true → schema_nesting_ok by_standard depth ≡ true
 unfolding schema_nesting_ok
@@ -98,7 +99,7 @@ module _ (by_standard : Bool) where
   pub schema-parts : (depth n : ℕ) → context_ok by_standard (Context.in_schema depth) n ≡ true → SchemaOk by_standard depth n
   unfolding context_ok
   schema-parts depth n e =
-      let p = two (schema_nesting_ok by_standard depth) (leb (depth + 1) n) e in
+      let p = and_parts (schema_nesting_ok by_standard depth) (leb (depth + 1) n) e in
       record { tags = leb-true (depth + 1) n p.1; nested = p.0 }
 
   pub schema-whole : (depth n : ℕ) → SchemaOk by_standard depth n → context_ok by_standard (Context.in_schema depth) n ≡ true

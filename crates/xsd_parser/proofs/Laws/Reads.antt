@@ -19,7 +19,7 @@ use Rattle.xsd_parser.specs.Read.{Reading, read_records, read_state}
 use Rattle.xsd_parser.proofs.Laws.Outcomes.{outcome-cases}
 use Rattle.xsd_parser.proofs.Laws.EventTexts.{events-are-text}
 use Rattle.xsd_parser.proofs.Laws.Steps.{step-proper, step_fits, step-events}
-use Rattle.text.proofs.Laws.Tests.{two}
+use Rattle.std.proofs.lemmas.Bool.{and_parts}
 
 abbrev pub stopped : ℕ → ℕ → State → Reading
 stopped k n s = record { answer = record { number = k; place = n }; state = s }
@@ -50,7 +50,7 @@ unfolding read_records every judged_ok
 reads-keep P lent h n s [] k p = p
 reads-keep P lent h n s (refused r ∷ js) k p = p
 reads-keep P lent h n s (event e ∷ js) k p =
-    let w = two (event_ok e) (every judged_ok js) k in
+    let w = and_parts (event_ok e) (every judged_ok js) k in
     read_keeps P lent n s e js p (λ x q. reads-keep P lent h (suc n) x js w.1 (h s e x w.0 p q))
 
 pub reads-proper : (lent : Lengths) (n : ℕ) (s : State) (js : List Judged) → every judged_ok js ≡ true → proper s ≡ true

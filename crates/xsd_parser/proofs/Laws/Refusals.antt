@@ -12,7 +12,7 @@ use lib.ListN.{length, drop}
 use Rattle.sheet.specs.Lengths.{Lengths}
 use Rattle.text.specs.Text.{Text}
 use Rattle.text.specs.Trim.{trimmed}
-use Rattle.number.specs.Number.{Parsed, parsed, refused, number, number_below, plain_below, is_minus_zeros, numeral, below, is_numeral, value as digits_value, after_plus}
+use Rattle.number.specs.Number.{Parsed, parsed, refused, number, number_below, plain_below, is_minus_zeros, numeral, below, is_numeral, decimal_value as digits_value, after_plus}
 use Rattle.xsd_types.specs.Types.{MaxOccurs, SequenceElement}
 use Rattle.xsd_types.specs.State.{SimpleTypeBuilder, ComplexContentBuilder, ComplexTypeBuilder, Context, Reader, State}
 use Rattle.xsd_types.specs.Sheet.{state_fits}

@@ -10,21 +10,22 @@ use Rattle.xsd_types.specs.State.{namespace_ok}
 use Rattle.xsd_parser.specs.Event.{Attr, Tag, lookup, attr_value, or_empty}
 use Rattle.xsd_parser.specs.Seen.{Seen, seen}
 use Rattle.xsd_parser.specs.EventText.{attr_is_text, tag_ok}
-use Rattle.text.proofs.Laws.Tests.{two, if-keeps}
+use Rattle.std.proofs.lemmas.Bool.{and_parts}
+use Rattle.text.proofs.Laws.Tests.{if-keeps}
 use Rattle.text.proofs.Laws.Class.{empty-text}
 
 pub lookup-text : (xs : List Attr) (word : String) → every attr_is_text xs ≡ true → namespace_ok (lookup xs word) ≡ true
 unfolding lookup every attr_is_text namespace_ok
 lookup-text [] word e = refl
 lookup-text (x ∷ xs) word e =
-    let p = two (attr_is_text x) (every attr_is_text xs) e in
-    let q = two (is_text x.key) (is_text x.value) p.0 in
+    let p = and_parts (attr_is_text x) (every attr_is_text xs) e in
+    let q = and_parts (is_text x.key) (is_text x.value) p.0 in
     if-keeps namespace_ok (is (local_name x.key) word) (λ b. q.1) (λ b. lookup-text xs word p.1)
 
 -- the value of an attribute is a text
 pub value-text : (t : Tag) (word : String) → tag_ok t ≡ true → namespace_ok (attr_value t word) ≡ true
 unfolding attr_value tag_ok
-value-text t word e = lookup-text t.attributes word (two (is_text t.name) (every attr_is_text t.attributes) e).1
+value-text t word e = lookup-text t.attributes word (and_parts (is_text t.name) (every attr_is_text t.attributes) e).1
 
 pub or-empty-text : (o : Option Text) → namespace_ok o ≡ true → is_text (or_empty o) ≡ true
 unfolding namespace_ok or_empty

@@ -19,12 +19,13 @@ use Rattle.xsd_parser.proofs.Laws.Contents.{start_in_complex-kept}
 use Rattle.xsd_parser.proofs.Laws.Readers.{ReaderOk, root-seen, seen-root, context-set, item-added, SimpleOk, simple-parts, simple-whole, ComplexOk}
 use Rattle.xsd_parser.proofs.Laws.Readers.{complex-parts, complex-whole, schema-parts, schema-whole, schema-first, one-tag-more}
 use Rattle.text.proofs.Laws.Class.{empty-text}
-use Rattle.text.proofs.Laws.Tests.{and-true, two, if-either}
+use Rattle.std.proofs.lemmas.Bool.{and_parts}
+use Rattle.text.proofs.Laws.Tests.{and-true, if-either}
 
 -- the namespace set anew
 pub namespace-set : (t : Seen) (r : Reader) → SeenText t → schema_ok r.schema ≡ true → schema_ok (found_root t r).schema ≡ true
 unfolding found_root schema_ok
-namespace-set t r e h = and-true (or-empty-text t.target_namespace e.target_namespace) (two (is_text r.schema.target_namespace) (every item_ok r.schema.items) h).1
+namespace-set t r e h = and-true (or-empty-text t.target_namespace e.target_namespace) (and_parts (is_text r.schema.target_namespace) (every item_ok r.schema.items) h).1
 
 -- a value that a lookup found
 pub found-text : (t : Seen) (v : Text) → SeenText t → t.name ≡ some v → is_text v ≡ true

@@ -20,7 +20,8 @@ use Rattle.xsd_parser.proofs.Laws.Starts.{start-kept}
 use Rattle.xsd_parser.proofs.Laws.Empties.{empty-kept}
 use Rattle.xsd_parser.proofs.Laws.Closes.{close-kept}
 use Rattle.xsd_parser.proofs.Laws.Numbers.{numbers-kept}
-use Rattle.text.proofs.Laws.Tests.{and-true, two, four}
+use Rattle.std.proofs.lemmas.Bool.{and_parts}
+use Rattle.text.proofs.Laws.Tests.{and-true, four}
 
 -- an accepted event: the open tags and the reader after it
 pub record StepParts (lent : Lengths) (s : State) (e : Event) (s' : State) : Type 0 where
@@ -112,9 +113,9 @@ pub proper-parts : (s : State) → proper s ≡ true → ProperParts s
 unfolding proper counters_ok
 proper-parts s e =
     let before = counters_ok s && root_ok s.reader && context_ok s.by_standard s.reader.context s.open_tags && schema_ok s.reader.schema in
-    let both = two before (events_ok s.reader s.events) e in
+    let both = and_parts before (events_ok s.reader s.events) e in
     let p = four (counters_ok s) (root_ok s.reader) (context_ok s.by_standard s.reader.context s.open_tags) (schema_ok s.reader.schema) both.0 in
-    let c = two (leb s.events 1000000) (leb s.open_tags 255) p.0 in
+    let c = and_parts (leb s.events 1000000) (leb s.open_tags 255) p.0 in
     record { events = leb-true s.events 1000000 c.0; tags = leb-true s.open_tags 255 c.1; reader = record { root = p.1; context = p.2; schema = p.3 }; numbers = both.1 }
 
 pub proper-whole : (s : State) → ProperParts s → proper s ≡ true

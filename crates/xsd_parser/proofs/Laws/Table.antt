@@ -26,7 +26,8 @@ use Rattle.xsd_parser.proofs.Laws.Refusals.{Within, handled-refusal}
 use Rattle.xsd_parser.proofs.Laws.Records.{record-cases, records-finished, records-bad, records-next, next-shorter, nothing_left}
 use Rattle.xsd_parser.proofs.Laws.Appended.{finished-empty}
 use Rattle.xsd_parser.proofs.Laws.Reads.{read_ok, read-refuse}
-use Rattle.text.proofs.Laws.Tests.{test-cases, if-cases}
+use Rattle.std.proofs.lemmas.Bool.{cases_Bool}
+use Rattle.text.proofs.Laws.Tests.{if-cases}
 
 -- what an outcome gives, told by the outcome itself
 gives_self : {A : Type 0} {Q : ℕ → Type 0} (o : Outcome A) → ((k : ℕ) → o ≡ refuse k → Q k) → Gives (λ x. o ≡ ok x) Q o
@@ -78,7 +79,7 @@ tags-table lent s (Event.empty t) k h q = let z : ◌≡◌ {A = ℕ} 0 1 = cc i
 tags-table lent s Event.close k h q = close-table lent s k s.open_tags h refl q
 
 nine-or-ten : (k : ℕ) → Within 9 10 k → (k ≡ 9) ⊎ (k ≡ 10)
-nine-or-ten k w = ⊎_elim (λ h. inl (eqb-true k 9 h)) (λ h. let u = eqb-false k 9 h in inr (omega arith)) (test-cases (eqb k 9))
+nine-or-ten k w = ⊎_elim (λ h. inl (eqb-true k 9 h)) (λ h. let u = eqb-false k 9 h in inr (omega arith)) (cases_Bool (eqb k 9))
 
 handled-table : (lent : Lengths) (s : State) (e : Event) (n k : ℕ) → s.events < 1000000 → tags_after e s.open_tags ≡ ok n
     → handled s.by_standard s.events e s.reader ≡ refuse k → EventTable lent s e k
@@ -131,6 +132,6 @@ pub read_table : (x : Sheet) (text : Text) (marks : List ℕ) → ReadTable x te
 unfolding read read_state records
 read_table x text marks =
     ⊎_elim (λ h. ⊎_elim (λ g. ReadTable.judged h g _ (reads-from (length marks) (lengths_of x) text 0 (state_of x) marks (omega arith)) (rw (h, g)))
-    (λ g. ReadTable.not_good h g (rw (h, g))) (test-cases (good x)))
+    (λ g. ReadTable.not_good h g (rw (h, g))) (cases_Bool (good x)))
     (λ h. ReadTable.lengths h (rw h))
-    (test-cases (good_lengths (lengths_of x) && tape_lengths (length text) (length marks)))
+    (cases_Bool (good_lengths (lengths_of x) && tape_lengths (length text) (length marks)))

@@ -1,9 +1,9 @@
 -- Tapes written out as tags, for the examples.
 --     Tag           a start tag, an empty tag, or a close; keys and values in order
---     text_of, marks_of k    the text of a list of tags, and the marks where it stands in the text from k: each piece directly behind the one before
+--     text_of, tags_marks k  the text of a list of tags, and the marks where it stands in the text from k: each piece directly behind the one before
 --     reads x tags  the reading of that tape into the sheet x
---     gives n p x   a reading's number and place with the sheet afterwards
---     named, typed, based, valued, schema, simpleType, complexType    attributes and tags that come often
+--     read_gives n p x  a reading's number and place with the sheet afterwards
+--     name_attribute, type_attributes, based, value_attribute, schema, simpleType, complexType  attributes and tags that come often
 --     taped         one name that unfolds all that the examples compute with
 use Rattle.std.specs.Prelude.{ℕ, ◌+◌, List, [], ◌∷◌, ◌++◌, length}
 use Prim.Native.String.{String}
@@ -14,7 +14,7 @@ use Rattle.builtin.specs.Unfold.{computes as builtins}
 use Rattle.sheet.specs.Rows.{Sheet}
 use Rattle.sheet.specs.Unfold.{computes as sheets}
 use Rattle.xsd_types.specs.Unfold.{computes as schemas}
-use Rattle.xsd_types.specs.Examples.Sheets.{answer, written}
+use Rattle.xsd_types.specs.Examples.Sheets.{answer, example_sheets}
 use Rattle.xsd_parser.specs.Unfold.{computes as readings}
 use Rattle.xsd_parser.specs.Read.{ReadAnswer, read}
 
@@ -48,39 +48,39 @@ tag_marks k (start name xs) = 1 ∷ length xs ∷ k ∷ length (bytes name) ∷ 
 tag_marks k (empty name xs) = 2 ∷ length xs ∷ k ∷ length (bytes name) ∷ attributes_marks (k + length (bytes name)) xs
 tag_marks k close = 3 ∷ 0 ∷ []
 
-unfoldable pub marks_of : ℕ → List Tag → List ℕ
-marks_of k [] = []
-marks_of k (t ∷ ts) = tag_marks k t ++ marks_of (k + length (tag_text t)) ts
+unfoldable pub tags_marks : ℕ → List Tag → List ℕ
+tags_marks k [] = []
+tags_marks k (t ∷ ts) = tag_marks k t ++ tags_marks (k + length (tag_text t)) ts
 
 unfoldable pub reads : Sheet → List Tag → ReadAnswer
-reads x ts = read x (text_of ts) (marks_of 0 ts)
+reads x ts = read x (text_of ts) (tags_marks 0 ts)
 
-unfoldable pub gives : ℕ → ℕ → Sheet → ReadAnswer
-gives n p x = record { answer = answer n p; sheet = x }
+unfoldable pub read_gives : ℕ → ℕ → Sheet → ReadAnswer
+read_gives n p x = record { answer = answer n p; sheet = x }
 
 -- attribute lists and tags that come often
-unfoldable pub named : String → List (String × String)
-named n = ("name", n) ∷ []
+unfoldable pub name_attribute : String → List (String × String)
+name_attribute n = ("name", n) ∷ []
 
-unfoldable pub typed : String → String → List (String × String)
-typed n t = ("name", n) ∷ ("type", t) ∷ []
+unfoldable pub type_attributes : String → String → List (String × String)
+type_attributes n t = ("name", n) ∷ ("type", t) ∷ []
 
 unfoldable pub based : String → List (String × String)
 based b = ("base", b) ∷ []
 
-unfoldable pub valued : String → List (String × String)
-valued v = ("value", v) ∷ []
+unfoldable pub value_attribute : String → List (String × String)
+value_attribute v = ("value", v) ∷ []
 
 unfoldable pub schema : Tag
 schema = start "schema" []
 
 unfoldable pub simple_type : String → Tag
-simple_type n = start "simpleType" (named n)
+simple_type n = start "simpleType" (name_attribute n)
 
 unfoldable pub complex_type : String → Tag
-complex_type n = start "complexType" (named n)
+complex_type n = start "complexType" (name_attribute n)
 
 unfoldable pub taped : Unit {0}
-unfolding named typed based valued schema simple_type complex_type attributes_text tag_text text_of attributes_marks tag_marks marks_of reads gives
-    written texts numbers builtins sheets schemas readings
+unfolding name_attribute type_attributes based value_attribute schema simple_type complex_type attributes_text tag_text text_of attributes_marks tag_marks tags_marks reads read_gives
+    example_sheets texts numbers builtins sheets schemas readings
 taped = tt

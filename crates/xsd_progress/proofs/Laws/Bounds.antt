@@ -20,9 +20,6 @@ module _ (s : State) (e : proper s ≡ true) where
   pub proper-events : s.events ≤ 1000000
   proper-events = (proper-parts s e).events
 
-  pub proper-tags : s.open_tags ≤ 255
-  proper-tags = (proper-parts s e).tags
-
   pub proper-nesting : nesting s.reader.context ≤ 254
   proper-nesting =
       let p = proper-parts s e in

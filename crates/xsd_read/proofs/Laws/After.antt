@@ -11,14 +11,14 @@ use Rattle.text.specs.Text.{Text}
 use Rattle.text.proofs.Laws.Tests.{if-cases}
 use Rattle.sheet.specs.declared.refusal.Refusal.{Refusal}
 use Rattle.sheet.specs.Rows.{Row, names_of}
-use Rattle.sheet.specs.Lengths.{Lengths, fits}
+use Rattle.sheet.specs.Lengths.{fits}
 use Rattle.xsd_types.specs.Types.{Item}
-use Rattle.xsd_types.specs.State.{Context, Reader, State}
+use Rattle.xsd_types.specs.State.{Reader, State}
 use Rattle.xsd_types.specs.Rows.{rows_of, rows_used, names_used, namespace_row, items_rows, context_rows, context_number}
 use Rattle.xsd_types.specs.Sheet.{state_fits}
 use Rattle.xsd_parser.specs.Event.{Event}
-use Rattle.xsd_parser.specs.Handlers.{ok, refuse}
-use Rattle.xsd_parser.specs.Step.{counted, room_for}
+use Rattle.xsd_parser.specs.Handlers.{ok}
+use Rattle.xsd_parser.specs.Step.{counted}
 use Rattle.rows.specs.declared.numbers.Used.{Used}
 use Rattle.rows.specs.declared.writer.SheetWriter.{SheetWriter}
 use Rattle.rows.specs.Writer.{Held}
@@ -39,8 +39,10 @@ use Rattle.xsd_act.proofs.Laws.Room.{counted-fits}
 use Rattle.xsd_progress.specs.declared.Progress.{Progress}
 use Rattle.xsd_progress.specs.Progress.{At, lent_to}
 use Rattle.std.specs.Prelude.{Ok, Err}
-use Rattle.xsd_read.specs.Due.{head_after, stands_at, StandsAfter, Due, DueRoom, Ended, Stepped}
+use Rattle.xsd_read.specs.Due.{open_head_after, stands_at, StandsAfter, Due, DueRoom, EventEnded, Stepped}
 use Rattle.xsd_read.proofs.Laws.Ready.{ready_at, due-small, used-fits}
+use Rattle.xsd_parser.proofs.Laws.Room.{room_fits, room-lacks}
+use Rattle.xsd_good.proofs.Laws.Held.{none_open}
 
 -- the rows after an action, for the parts of a state
 abbrev pub all_after : Action → State → List Row
@@ -49,14 +51,6 @@ all_after a s = rows_after_all a s.reader.schema.target_namespace (items_rows s.
 pub rows-after : (s : State) {by_standard : Bool} {e : Event} {a : Action} {r : Reader} (tags : ℕ) → Acted by_standard e s.reader a r → rows_of (counted s tags r) ≡ all_after a s
 unfolding rows_of counted rows_after_all reader_rows
 rows-after s tags x = ap₂ (λ (n : Text) (rs : List Row). namespace_row n ∷ rs) x.namespace x.rows
-
--- no type is open in the contexts 0 and 1
-pub none_open : (c : Context) → context_number c < 2 → context_rows c ≡ []
-unfolding context_rows context_number
-none_open Context.no_context h = refl
-none_open (Context.in_schema n) h = refl
-none_open (Context.in_simple_type t) h = absurd (omega arith)
-none_open (Context.in_complex_type t) h = absurd (omega arith)
 
 -- there the rows used end where a type that is opened will stand
 pub end-of-items : {s : State} {w : SheetWriter} {p : Progress} → At s w p → context_number s.reader.context < 2
@@ -69,8 +63,8 @@ end-of-items {s} at h =
 
 -- a type that is open after an event stands where it stood, or behind the rows used before
 pub head-after : {s : State} {w : SheetWriter} {p : Progress} (items : List Item) → At s w p → items ≡ s.reader.schema.items
-    → head_after p w.used.rows ≡ 2 + length (items_rows items)
-unfolding head_after mode_of
+    → open_head_after p w.used.rows ≡ 2 + length (items_rows items)
+unfolding open_head_after mode_of
 head-after {p = p} items at e =
     let context = ap (λ (m : Mode). m.context) at.mode in
     let place = ap (λ (is : List Item). 2 + length (items_rows is)) (sym e) in
@@ -87,7 +81,7 @@ mode-due {p = p} {x} {s} {e} due y =
 
 -- the sheet after the action holds the state after the event
 pub at_after : {w w' : SheetWriter} {p : Progress} {x : Arrival} {s : State} {e : Event} {r : Reader} {after : Arrived}
-    → Due w p x s e r → Done w p.head (decision x.decision) w' → EventAfter x p.mode after → At (counted s x.open_tags r) w' (stands_at p after (head_after p w.used.rows))
+    → Due w p x s e r → Done w p.head (decision x.decision) w' → EventAfter x p.mode after → At (counted s x.open_tags r) w' (stands_at p after (open_head_after p w.used.rows))
 unfolding counted
 at_after {w' = w'} {x = x} {s} {r = r} due done y =
     let at = due.at in
@@ -118,24 +112,16 @@ pub fits_counted : {w : SheetWriter} {p : Progress} {x : Arrival} {s : State} {e
     → state_fits n m (counted s x.open_tags r) ≡ fits need.rows need.names n m
 fits_counted n m due y few = fits_after n m due y.needed ∙ sym (needed-fits n m few y)
 
-pub room-refused : (lent : Lengths) (s : State) → state_fits lent.rows lent.names s ≡ false → room_for lent s ≡ refuse 11
-unfolding room_for
-room-refused lent s e = rw e
-
-pub room-given : (lent : Lengths) (s : State) → state_fits lent.rows lent.names s ≡ true → room_for lent s ≡ ok s
-unfolding room_for
-room-given lent s e = rw e
-
 -- what has no room is refused with 11
 pub stepped-refused : {w : SheetWriter} {p : Progress} {x : Arrival} {need : Used}
     → Needed w.rows.now w.used p.head (decision x.decision) need → fits need.rows need.names (length w.rows.now) (length w.names.now) ≡ false
     → Stepped w p x (Err Refusal.NoRoom) w
-unfolding Ended
+unfolding EventEnded
 stepped-refused {w} {p} {x} y e =
     record {
       same = same_itself w;
       ended = λ s ev r due. record {
-        refused = room-refused (lent_to w.rows.now w.names.now) (counted s x.open_tags r)
+        refused = room-lacks (lent_to w.rows.now w.names.now) (counted s x.open_tags r)
             (fits_counted (length w.rows.now) (length w.names.now) due y w.few ∙ e);
         kept = refl;
       };
@@ -144,21 +130,21 @@ stepped-refused {w} {p} {x} y e =
 -- what has room is done
 pub stepped-done : {w w' : SheetWriter} {p p' : Progress} {x : Arrival} {need : Used}
     → Needed w.rows.now w.used p.head (decision x.decision) need → fits need.rows need.names (length w.rows.now) (length w.names.now) ≡ true
-    → Done w p.head (decision x.decision) w' → StandsAfter p x (head_after p w.used.rows) p' → Stepped w p x (Ok p') w'
-unfolding Ended
+    → Done w p.head (decision x.decision) w' → StandsAfter p x (open_head_after p w.used.rows) p' → Stepped w p x (Ok p') w'
+unfolding EventEnded
 stepped-done {w} {w'} {x = x} y e done after =
     record {
       same = done.same;
       ended = λ s ev r due. record {
         s' = counted s x.open_tags r;
-        accepted = room-given (lent_to w.rows.now w.names.now) (counted s x.open_tags r) (fits_counted (length w.rows.now) (length w.names.now) due y w.few ∙ e);
+        accepted = room_fits (lent_to w.rows.now w.names.now) (counted s x.open_tags r) (fits_counted (length w.rows.now) (length w.names.now) due y w.few ∙ e);
         stands = subst (At (counted s x.open_tags r) w') (sym after.stands) (at_after due done after.arrived);
       };
     }
 
 -- a sheet that is kept needs what it uses, which has room
 pub stepped_kept : {w : SheetWriter} {p p' : Progress} {x : Arrival} {d : Decision} → DueRoom w p x → x.decision ≡ Ok d → d ≡ Decision.Keep
-    → StandsAfter p x (head_after p w.used.rows) p' → Stepped w p x (Ok p') w
+    → StandsAfter p x (open_head_after p w.used.rows) p' → Stepped w p x (Ok p') w
 unfolding decision
 stepped_kept {x = x} q o e after =
     let kept : decision x.decision ≡ ok Action.keep = ap decision (o ∙ ap Ok e) in

@@ -7,7 +7,8 @@ use lib.Dec.{eqb, leb}
 use lib.ListN.{length}
 use borrow.Author.Tests.{leb-true}
 use Rattle.text.specs.Text.{Text}
-use Rattle.text.proofs.Laws.Tests.{two, four}
+use Rattle.std.proofs.lemmas.Bool.{and_parts}
+use Rattle.text.proofs.Laws.Tests.{four}
 use Rattle.sheet.specs.Rows.{Sheet}
 use Rattle.sheet.specs.Lengths.{Answer, sheet_lengths, tape_lengths, lengths_of, good_lengths}
 use Rattle.sheet.specs.Calls.{sheet, answered}
@@ -41,7 +42,7 @@ pub good-sheet : (rows names : List ℕ) (text : Text) (marks : List ℕ) → le
     → CountedSheet rows names text
 unfolding sheet_lengths tape_lengths
 good-sheet rows names text marks e f =
-    let both = two (sheet_lengths (length rows) (length names)) (tape_lengths (length text) (length marks)) e in
+    let both = and_parts (sheet_lengths (length rows) (length names)) (tape_lengths (length text) (length marks)) e in
     let s = four (eqb (length rows % 10) 0) (leb 20 (length rows)) (leb (length rows) 40960) (leb (length names) 65536) both.0 in
-    let t = two (leb (length text) 65536) (leb (length marks) 16384) both.1 in
+    let t = and_parts (leb (length text) 65536) (leb (length marks) 16384) both.1 in
     record { is_good = f; lent = record { few_rows = leb-true _ _ s.2; few_names = leb-true _ _ s.3; few_bytes = leb-true _ _ t.0 } }

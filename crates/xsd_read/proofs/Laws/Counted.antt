@@ -24,7 +24,7 @@ use Rattle.xsd_types.proofs.Laws.Counted.{items_rows-append}
 use Rattle.xsd_types.proofs.Laws.Count.{good-bare, good-count, proper-state_of, fits-state_of}
 use Rattle.xsd_refused.proofs.Laws.Count.{count-few}
 use Rattle.xsd_refused.proofs.Laws.Finished.{end-room, count-finished, count-new}
-use Rattle.xsd_good.specs.End.{finished_end, Held}
+use Rattle.xsd_good.specs.End.{finished_end, HeldState}
 use Rattle.xsd_good.proofs.Laws.Held.{good-used, held-good, end-held}
 use Rattle.xsd_good.proofs.Laws.Bare.{bare-used, bare-end}
 use Rattle.xsd_parser.specs.Read.{Reading, read_state, sheet_of_reading}
@@ -94,8 +94,8 @@ module _ {rows names : List ℕ} {text : Text} (c : CountedSheet rows names text
       used-after = good-used rows' names' good-after
 
       module _ (w' : words rows' ≡ true) where
-        held_after : Held reading.state rows' names'
-        held_after = subst (λ (s : State). Held s rows' names') state-after (held-good rows' names' good-after w')
+        held_after : HeldState reading.state rows' names'
+        held_after = subst (λ (s : State). HeldState s rows' names') state-after (held-good rows' names' good-after w')
 
         pub place_after : finished_end rows' (row0_from (ten rows')).context (rows_used_in (ten rows')) ≡ 2 + length (items_rows reading.state.reader.schema.items)
         place_after = end-held held_after (row0_from (ten rows')) refl

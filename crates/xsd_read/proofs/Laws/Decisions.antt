@@ -15,8 +15,6 @@ use Rattle.xsd_types.specs.Rows.{rows_of}
 use Rattle.xsd_parser.specs.Event.{Tag, Event}
 use Rattle.xsd_parser.specs.Handlers.{Outcome, ok, refuse}
 use Rattle.xsd_parser.specs.Step.{handled, tags_after}
-use Rattle.xsd_parser.specs.Kinds.{kind_number}
-use Rattle.xsd_parser.specs.declared.kinds.Kind.{Kind}
 use Rattle.tape.specs.Pairs.{tag_at}
 use Rattle.tape.specs.declared.TagRecord.{TagRecord}
 use Rattle.tape.specs.Answers.{record_event}
@@ -35,11 +33,6 @@ use Rattle.xsd_progress.specs.Progress.{At}
 pub record-as : (text : Text) (marks : List ℕ) (t : TagRecord) → record_event text marks t ≡ event_as t.kind (tag_at text marks t.pairs t.count)
 unfolding record_event event_as
 record-as text marks t = refl
-
--- so it is of the kind that has the same events
-pub record-kind : (text : Text) (marks : List ℕ) (t : TagRecord) {k x : Kind} → ((g : Tag) → event_as (kind_number k) g ≡ event_as t.kind g) → k ≡ x
-    → record_event text marks t ≡ event_as (kind_number x) (tag_at text marks t.pairs t.count)
-record-kind text marks t f e = let g = tag_at text marks t.pairs t.count in record-as text marks t ∙ sym (f g) ∙ ap (λ (kind : Kind). event_as (kind_number kind) g) e
 
 -- the open tags after it are those of its kind
 pub counted-as : (text : Text) (marks : List ℕ) (t : TagRecord) (n : ℕ) {r : Result ℕ Refusal} (o : Result ℕ Refusal) → ((g : Tag) → tags r ≡ tags_after (event_as t.kind g) n) → r ≡ o

@@ -33,7 +33,7 @@ use Rattle.tape.specs.Pairs.{TagInside}
 use Rattle.tape.specs.Answers.{record_event, recorded, IsPlaced, RecordAt}
 use Rattle.xsd_progress.specs.declared.Progress.{Progress}
 use Rattle.xsd_progress.specs.Progress.{At, lent_to, Standing}
-use Rattle.xsd_read.specs.Due.{Ended}
+use Rattle.xsd_read.specs.Due.{EventEnded}
 use Rattle.xsd_read.specs.Events.{EventRoom, EventTaken}
 use Rattle.xsd_read.specs.Records.{stopped_at, Reached, RecordsRead}
 use Rattle.xsd_read.proofs.Laws.Records.{read_from, reads_none, reads-bad, reads-refused, reads_on}
@@ -137,23 +137,23 @@ followed-text {text} {marks} {at} {t} f = next-text text (drop at marks) (record
 -- the event is refused
 pub reads-refuse : {w₀ w w' : SheetWriter} {marks : List ℕ} {text : Text} {p₀ p : Progress} {place at : ℕ} {t : TagRecord} {y : Result Progress Refusal} (k : Refusal)
     → Reads w₀ text marks p₀ w p place at → Followed text marks at t → EventTaken w p (record_event text marks t) y w' → y ≡ Err k → RecordsRead w₀ text marks p₀ (stopped_at k place p) w'
-unfolding Ended
+unfolding EventEnded
 reads-refuse {w = w} {w'} {marks} {text} {place = place} {at = at} {t = t} k reads f x q =
     reads-stopped (refusal_number k) (Err (record { refusal = k; place = place })) refl reads x.same (λ s a.
     let e = record_event text marks t in
-    let h = subst (Ended (step (lent_to w.rows.now w.names.now) s e) w w') q (x.ended s a (followed-text f)) in
+    let h = subst (EventEnded (step (lent_to w.rows.now w.names.now) s e) w w') q (x.ended s a (followed-text f)) in
     record { kept = h.kept; reads = λ n. reads-refused (lent_to w.rows.now w.names.now) n s text (drop at marks) e (drop t.next marks) (refusal_number k) f.is h.refused })
 
 -- it is done, and the reading goes on behind it
 pub here-next : {w₀ w w' : SheetWriter} {marks : List ℕ} {text : Text} {p₀ p : Progress} {place at : ℕ} {t : TagRecord} {y : Result Progress Refusal} (p' : Progress)
     → Reads w₀ text marks p₀ w p place at → Followed text marks at t → EventTaken w p (record_event text marks t) y w' → y ≡ Ok p'
     → (s : State) → At s w₀ p₀ → Here w' (lent_to w₀.rows.now w₀.names.now) text (drop t.next marks) p' (place + 1) (read_state (lent_to w₀.rows.now w₀.names.now) s text marks)
-unfolding Ended
+unfolding EventEnded
 here-next {w = w} {w'} {marks} {text} {place = place} {at} {t} p' reads f x q s₀ at₀ =
     let e = record_event text marks t in
     let h = reads.here s₀ at₀ in
     let lent = lent_to w.rows.now w.names.now in
-    let go = subst (Ended (step lent h.s e) w w') q (x.ended h.s h.stands (followed-text f)) in
+    let go = subst (EventEnded (step lent h.s e) w w') q (x.ended h.s h.stands (followed-text f)) in
     let step-on = reads_on lent place h.s go.s' text (drop at marks) e (drop t.next marks) f.is go.accepted in
     let on = ap (λ (l : Lengths). read_from l (suc place) go.s' text (drop t.next marks)) (sym (buffers-lent reads.same)) ∙ sym step-on
     ∙ ap (λ (l : Lengths). read_from l place h.s text (drop at marks)) (buffers-lent reads.same) ∙ h.leads in

@@ -25,7 +25,7 @@ use Rattle.xsd_progress.specs.Answers.{event_as}
 use Rattle.xsd_progress.specs.declared.open_tags.Arrival.{Arrival}
 use Rattle.xsd_progress.specs.declared.Progress.{Progress}
 use Rattle.xsd_progress.specs.Progress.{At, lent_to}
-use Rattle.xsd_read.specs.Due.{Due, DueRoom, Ended, Stepped}
+use Rattle.xsd_read.specs.Due.{Due, DueRoom, EventEnded, Stepped}
 use Rattle.xsd_read.specs.Events.{EventRoom, EventTaken}
 use Rattle.xsd_read.proofs.Laws.Decisions.{Told, Handled, told-refused, told-accepted}
 
@@ -45,7 +45,7 @@ step-on lent s e n h q = rw (lt-ltb s.events events_limit h, q)
 -- a refusal leaves the sheet
 taken_refused : {w : SheetWriter} {p : Progress} {e : Event} (r : Refusal) → ((s : State) → At s w p → step (lent_to w.rows.now w.names.now) s e ≡ refuse (refusal_number r))
     → EventTaken w p e (Err r) w
-unfolding Ended
+unfolding EventEnded
 taken_refused {w} r f = record { same = same_itself w; ended = λ s at k. record { refused = f s at; kept = refl } }
 
 -- 8
@@ -112,5 +112,5 @@ taken-done {w} {w'} {e = e} {x = x} {y = y} arrived step =
       same = step.same;
       ended = λ s at k.
           let done = told-accepted arrived.action arrived.told at arrived.said in
-          subst (λ (z : Outcome State). Ended z w w' y) (sym (arrives-on arrived at)) (rw done.handles (step.ended s e done.r' (due-at arrived arrived.said at k done)));
+          subst (λ (z : Outcome State). EventEnded z w w' y) (sym (arrives-on arrived at)) (rw done.handles (step.ended s e done.r' (due-at arrived arrived.said at k done)));
     }

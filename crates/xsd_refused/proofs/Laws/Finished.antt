@@ -8,7 +8,7 @@ use lib.ListN.{length, set, drop, replicate, length-append}
 use lib.Seq.{drop_at}
 use Rattle.text.specs.Text.{every}
 use Rattle.sheet.specs.Rows.{Row, numbers, pack, names_of, filled}
-use Rattle.sheet.specs.Form.{counted}
+use Rattle.sheet.specs.Form.{texts_counted}
 use Rattle.sheet.proofs.Laws.Numbers.{tens-numbers}
 use Rattle.sheet.proofs.Laws.Packs.{rows_back, length-pack}
 use Rattle.xsd_types.specs.Types.{Item}
@@ -31,7 +31,7 @@ module _ (rows names z : List ℕ) (rs : List Row) (p : Packs rows names z rs) w
       let zeros : List ℕ = replicate (length rows - length (z ++ numbers (pack 0 rs))) 0 in
       ap (drop k) (p.rows_are ∙ append_assoc z (numbers (pack 0 rs)) zeros) ∙ drop_at z (numbers (pack 0 rs) ++ zeros) k (p.ten ∙ sym e)
 
-  pub packed-rows : every (counted used_pairs) rs ≡ true → rows_from rows names 1 (1 + length rs) ≡ rs
+  pub packed-rows : every (texts_counted used_pairs) rs ≡ true → rows_from rows names 1 (1 + length rs) ≡ rs
   unfolding rows_from filled
   packed-rows c =
       let count : 1 + length rs - 1 ≡ length (pack 0 rs) = omega (arith, length-pack 0 rs) in

@@ -7,12 +7,13 @@ use native.Mathlib.Omega.{arith}
 use lib.Dec.{eqb, leb}
 use lib.ListN.{length}
 use borrow.Author.Tests.{leb-true, eq-eqb}
-use Rattle.text.proofs.Laws.Tests.{bool_cases, test-cases, four, and-true-left, and-true, or_right}
+use Rattle.std.proofs.lemmas.Bool.{cases_Bool, or_right}
+use Rattle.text.proofs.Laws.Tests.{bool_cases, four, and-true-left, and-true}
 use Rattle.sheet.specs.Rows.{Sheet}
 use Rattle.sheet.specs.Lengths.{sheet_lengths}
 use Rattle.xsd_types.specs.Good.{bare_good}
 use Rattle.xsd_types.specs.Count.{count_of, count_in, with_count, bare, state_of, good}
-use Rattle.xsd_types.specs.Convert.{Converted, convertible, converted, convert}
+use Rattle.xsd_types.specs.Convert.{Converted, convertible, convert}
 use Rattle.xsd_types.specs.Table.{ConvertTable}
 use Rattle.xsd_types.proofs.Laws.Count.{with_count-bare, bare-with_count, with_count-twice, count_in-with_count, state_of-with_count, good-bare, good-count, good-both}
 
@@ -25,8 +26,8 @@ module _ (x : Sheet) where
   pub convert-table : ConvertTable x (convert x)
   unfolding convert
   convert-table =
-      ⊎_elim (λ l. ⊎_elim (λ c. ConvertTable.filled l c (rw (l, c))) (λ c. ConvertTable.fault l c (rw (l, c))) (test-cases (convertible x)))
-      (λ l. ConvertTable.lengths l (rw l)) (test-cases (sheet_lengths (length x.rows) (length x.names)))
+      ⊎_elim (λ l. ⊎_elim (λ c. ConvertTable.filled l c (rw (l, c))) (λ c. ConvertTable.fault l c (rw (l, c))) (cases_Bool (convertible x)))
+      (λ l. ConvertTable.lengths l (rw l)) (cases_Bool (sheet_lengths (length x.rows) (length x.names)))
 
   -- the right count is its own state's
   same_count : good x ≡ true → with_count (count_of (state_of x)) x ≡ x
@@ -34,18 +35,13 @@ module _ (x : Sheet) where
 
   good-convertible : good x ≡ true → convertible x ≡ true
   unfolding convertible
-  good-convertible g = and-true (good-bare x g) (or_right (eqb (count_in x) 0) (eq-eqb (count_in x) (count_of (state_of x)) (good-count x g)))
+  good-convertible g = and-true (good-bare x g) (or_right (eqb (count_in x) 0) _ (eq-eqb (count_in x) (count_of (state_of x)) (good-count x g)))
 
   -- a good sheet stays
   pub convert-good : good x ≡ true → (convert x).sheet ≡ x
   unfolding convert
   convert-good g =
       bool_cases (sheet_lengths (length x.rows) (length x.names)) (λ l. rw (l, good-convertible g) (same_count g)) (λ l. rw l)
-
-  -- and, with lengths as the paper has them, is taken
-  pub convert-taken : sheet_lengths (length x.rows) (length x.names) ≡ true → good x ≡ true → convert x ≡ converted 0 x
-  unfolding convert
-  convert-taken l g = rw (l, good-convertible g) (ap (converted 0) (same_count g))
 
   filled-good : sheet_lengths (length x.rows) (length x.names) ≡ true → convertible x ≡ true → good (with_count (count_of (state_of x)) x) ≡ true
   unfolding convertible

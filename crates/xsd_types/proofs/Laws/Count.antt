@@ -69,10 +69,6 @@ module _ (x : Sheet) where
   unfolding bare with_count
   bare-length = length-set x.rows 17 0
 
-  pub bare-names : (bare x).names ≡ x.names
-  unfolding bare with_count
-  bare-names = refl
-
   pub bare-row0 : row0_in (bare x) ≡ row0_in x
   unfolding bare with_count row0_of
   bare-row0 = ap row0_from (ten-count x.rows 0)

@@ -8,7 +8,8 @@ use native.Mathlib.Omega.{arith}
 use lib.Dec.{eqb}
 use borrow.Author.Tests.{eqb-true, ne_eqb}
 use Rattle.text.specs.Text.{Text, every, between}
-use Rattle.text.proofs.Laws.Tests.{and-true-right, not-true-false, if-cases}
+use Rattle.std.proofs.lemmas.Bool.{false_from_ne_true}
+use Rattle.text.proofs.Laws.Tests.{and-true-right, if-cases}
 use Rattle.text.proofs.Laws.Every.{every-head, every-tail}
 use Rattle.text.proofs.Laws.Texts.{between-low}
 use Rattle.sheet.specs.Rows.{Row, row}
@@ -33,13 +34,13 @@ refused_types-append (i ∷ is) js =
     (λ e. rw e (refused_types-append is js))
 
 -- a row that is no head of a simple type does not count
-other_row : (r : Row) (rs : List Row) → eqb r.tag 3 ≡ false → refused_row r rs ≡ false
+pub other_row : (r : Row) (rs : List Row) → eqb r.tag 3 ≡ false → refused_row r rs ≡ false
 unfolding refused_row
 other_row r rs e = rw e
 
 no-simple : (n : ℕ) → is_head n ≡ false → eqb n 3 ≡ false
 unfolding is_head between
-no-simple n e = not-true-false (eqb n 3) (λ q. false≢true (sym e ∙ rw (eqb-true n 3 q)))
+no-simple n e = false_from_ne_true (eqb n 3) (λ q. false≢true (sym e ∙ rw (eqb-true n 3 q)))
 
 children-pass : (h : ℕ) (cs more : List Row) → every (is_child h) (tags cs) ≡ true → refused_rows (cs ++ more) ≡ refused_rows more
 unfolding refused_rows

@@ -7,7 +7,8 @@ use Prim.Native.Nat.{ℕ}
 use lib.ListN.{length}
 use Prim.Native.Nat.{◌+◌}
 use Rattle.text.specs.Text.{Text, every, join}
-use Rattle.text.proofs.Laws.Tests.{and-true, two}
+use Rattle.std.proofs.lemmas.Bool.{and_parts}
+use Rattle.text.proofs.Laws.Tests.{and-true}
 use Rattle.text.proofs.Laws.Every.{every_append, every_map, every-weaken}
 use Rattle.sheet.specs.Rows.{Ten, Row, row, pack_row, pack, unpack_row}
 use Rattle.xsd_types.specs.Types.{Facet, MaxOccurs, SequenceElement, Item}
@@ -104,7 +105,7 @@ module _ (events : ℕ) where
 -- the two parts of what is asked of every head
 pub passing-parts : (p : Text → ℕ → Bool) (r : Reader) → heads_pass p r ≡ true → (every (item_passes p) r.schema.items ≡ true) × (open_passes p r.context ≡ true)
 unfolding heads_pass
-passing-parts p r h = two (every (item_passes p) r.schema.items) (open_passes p r.context) h
+passing-parts p r h = and_parts (every (item_passes p) r.schema.items) (open_passes p r.context) h
 
 -- a test that is weaker passes too
 module _ (p q : Text → ℕ → Bool) (w : (v : Text) (n : ℕ) → p v n ≡ true → q v n ≡ true) where

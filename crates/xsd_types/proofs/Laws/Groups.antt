@@ -5,7 +5,8 @@ use mathlib.Core.List.{List, [], ◌∷◌, ◌++◌, append-nil}
 use Prim.Native.Nat.{ℕ}
 use lib.Dec.{eqb}
 use Rattle.text.specs.Text.{every}
-use Rattle.text.proofs.Laws.Tests.{or_left, and-true-left, and-true-right, and-true}
+use Rattle.std.proofs.lemmas.Bool.{or_left}
+use Rattle.text.proofs.Laws.Tests.{and-true-left, and-true-right, and-true}
 use Rattle.sheet.specs.Rows.{Row}
 use Rattle.xsd_types.specs.Good.{is_head, is_child, may_follow, in_order, last_head}
 use Rattle.xsd_types.specs.Back.{Group, add_row, grouped, no_group}
@@ -31,7 +32,7 @@ in_order-group n [] o g = refl
 in_order-group n (h ∷ cs) o g =
     let e : is_head h.tag ≡ true = and-true-left _ _ g in
     let d = in_order-children h.tag (tags cs) (and-true-right (is_head h.tag) _ g) in
-    rw (after-head n h.tag e) (and-true (and-true o (or_left (is_child n h.tag) e)) d)
+    rw (after-head n h.tag e) (and-true (and-true o (or_left _ (is_child n h.tag) e)) d)
 
 pub last_head-group : (n : ℕ) (rs : List Row) → is_group rs ≡ true → last_head n (tags rs) ≡ head_tag rs
 unfolding is_group last_head head_tag

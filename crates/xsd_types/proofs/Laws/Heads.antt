@@ -8,7 +8,8 @@ use Prim.Native.Nat.{ℕ, zero, suc}
 use native.Mathlib.Omega.{arith}
 use borrow.Author.Tests.{eqb-true, leb-true}
 use Rattle.text.specs.Text.{Text, every, is_text, between}
-use Rattle.text.proofs.Laws.Tests.{or_cases, and-true-left, and-true-right, and-true}
+use Rattle.std.proofs.lemmas.Bool.{or_cases}
+use Rattle.text.proofs.Laws.Tests.{and-true-left, and-true-right, and-true}
 use Rattle.sheet.specs.Rows.{Row}
 use Rattle.sheet.specs.Form.{is_flag}
 use Rattle.xsd_types.specs.Types.{ComplexContent, Item}

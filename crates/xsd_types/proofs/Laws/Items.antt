@@ -13,9 +13,9 @@ use Rattle.xsd_types.specs.State.{ComplexContentBuilder, started, finish}
 use Rattle.xsd_types.specs.Rows.{facet_row, occurs_row, element_row, variant_row, attribute_row, simple_type_rows, complex_type_rows, item_rows}
 use Rattle.xsd_types.specs.Good.{is_head, is_child}
 use Rattle.xsd_types.specs.Back.{text0, text1, facet_of, element_of, variant_of, attribute_of, content_of, item_of}
-use Rattle.xsd_types.proofs.Laws.Order.{tags}
 use Rattle.xsd_types.proofs.Laws.Groups.{is_group, head_tag, as_group}
 use Rattle.text.proofs.Laws.Tests.{and-true}
+use Rattle.xsd_types.proofs.Laws.Order.{tags, child_of, child-no-head}
 
 pub facet-child : (f : Facet) → is_child 3 (facet_row f).tag ≡ true
 unfolding is_child facet_row row between
@@ -32,6 +32,24 @@ pub occurs-child : (name type_name : Text) (min : ℕ) (max : MaxOccurs) → is_
 unfolding is_child occurs_row row between
 occurs-child name type_name min (MaxOccurs.bounded n) = refl
 occurs-child name type_name min MaxOccurs.unbounded = refl
+
+-- no child is a head
+pub facet-no_head : (f : Facet) → is_head (facet_row f).tag ≡ false
+facet-no_head f = child-no-head (child_of 3 (facet_row f).tag (facet-child f))
+
+pub element-no_head : (e : SequenceElement) → is_head (element_row e).tag ≡ false
+unfolding element_row
+element-no_head e =
+    let r = occurs_row e.name e.type_name e.min_occurs e.max_occurs in
+    child-no-head (child_of 12 r.tag (occurs-child e.name e.type_name e.min_occurs e.max_occurs))
+
+pub variant-no_head : (v : ChoiceVariant) → is_head (variant_row v).tag ≡ false
+unfolding variant_row row is_head between
+variant-no_head v = refl
+
+pub attribute-no_head : (x : Attribute) → is_head (attribute_row x).tag ≡ false
+unfolding attribute_row row is_head between
+attribute-no_head x = refl
 
 -- rows made one by one whose tags all pass
 pub every-tags : {A : Type 0} (p : ℕ → Bool) (f : A → Row) → ((x : A) → p (f x).tag ≡ true) → (xs : List A) → every p (tags (map f xs)) ≡ true

@@ -7,7 +7,8 @@ use lib.Dec.{eqb, leb}
 use lib.ListN.{length}
 use Prim.Native.Nat.{◌+◌}
 use Rattle.text.specs.Text.{Text, every, is_text, join}
-use Rattle.text.proofs.Laws.Tests.{three, four, or_right, and-true-left, and-true-right, and-true}
+use Rattle.std.proofs.lemmas.Bool.{or_right}
+use Rattle.text.proofs.Laws.Tests.{three, four, and-true-left, and-true-right, and-true}
 use Rattle.sheet.specs.Rows.{Ten, Row, row, bit, pack_row, pack, names_of}
 use Rattle.sheet.specs.Form.{is_flag}
 use Rattle.xsd_types.specs.Types.{Item}
@@ -82,7 +83,7 @@ unfolding head_tag complex_type_rows row content_flag
 flag-complex event name ComplexContentBuilder.empty = refl
 flag-complex event name (ComplexContentBuilder.sequence es) = refl
 flag-complex event name (ComplexContentBuilder.choice vs) = refl
-flag-complex event name (ComplexContentBuilder.simple_content base xs flag) = or_right (eqb (bit flag) 0) refl
+flag-complex event name (ComplexContentBuilder.simple_content base xs flag) = or_right (eqb (bit flag) 0) _ refl
 flag-complex event name (ComplexContentBuilder.any n) = refl
 
 pub test-extension : (n : ℕ) (is : List Item) (c : Context) → eqb (extension_flag c) 0 || (eqb (context_number c) 3 && eqb (last_head n (tags (items_rows is ++ context_rows c))) 14) ≡ true

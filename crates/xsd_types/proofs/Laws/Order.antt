@@ -9,7 +9,8 @@ use lib.Dec.{eqb, leb}
 use borrow.Author.Tests.{eqb-true, lt-leb}
 use Rattle.text.specs.Text.{every, between}
 use Rattle.text.proofs.Laws.Texts.{between-low, between-high, between-below}
-use Rattle.text.proofs.Laws.Tests.{or_right, or_cases, and-true-left, and-true-right, and-true}
+use Rattle.std.proofs.lemmas.Bool.{or_right, or_cases}
+use Rattle.text.proofs.Laws.Tests.{and-true-left, and-true-right, and-true}
 use Rattle.sheet.specs.Rows.{Row}
 use Rattle.xsd_types.specs.Good.{is_head, is_child, may_follow, head_after, in_order, last_head}
 use Rattle.text.proofs.Laws.Every.{every-head, every-tail}
@@ -61,10 +62,10 @@ child-no-head attribute = refl
 
 pub child-follows : {h t : ℕ} → ChildOf h t → is_child h t ≡ true → may_follow h t ≡ true
 unfolding may_follow
-child-follows {t = t} (facet e) c = or_right (is_head t) c
-child-follows {t = t} (element e) c = or_right (is_head t) c
-child-follows variant c = or_right (is_head 19) c
-child-follows attribute c = or_right (is_head 20) c
+child-follows {t = t} (facet e) c = or_right (is_head t) _ c
+child-follows {t = t} (element e) c = or_right (is_head t) _ c
+child-follows variant c = or_right (is_head 19) _ c
+child-follows attribute c = or_right (is_head 20) _ c
 
 pub in_order-append : (h : ℕ) (xs ys : List ℕ) → in_order h (xs ++ ys) ≡ in_order h xs && in_order (last_head h xs) ys
 unfolding in_order last_head

@@ -7,7 +7,8 @@ use mathlib.Core.Option.{Option, some, none}
 use Prim.Native.Nat.{ℕ}
 use lib.Dec.{eqb}
 use Rattle.text.specs.Text.{Text, every, is_text}
-use Rattle.text.proofs.Laws.Tests.{test-cases, and-true-left, and-true-right, and-true}
+use Rattle.std.proofs.lemmas.Bool.{cases_Bool}
+use Rattle.text.proofs.Laws.Tests.{and-true-left, and-true-right, and-true}
 use Rattle.sheet.specs.Rows.{Row}
 use Rattle.xsd_types.specs.Types.{Item}
 use Rattle.xsd_types.specs.State.{ComplexContentBuilder, namespace_ok, item_ok}
@@ -81,4 +82,4 @@ parse h [] f o = record { loose = []; items = []; event = 0; still = none; same 
 parse h (r ∷ rs) f o =
     let m : may_follow h r.tag ≡ true = and-true-left _ _ o in
     let n = and-true-right (may_follow h r.tag) (in_order (head_after h r.tag) (tags rs)) o in
-    parse-row h r rs (every-head full_row r rs f) m n (parse (head_after h r.tag) rs (every-tail full_row r rs f) n) (test-cases (is_head r.tag))
+    parse-row h r rs (every-head full_row r rs f) m n (parse (head_after h r.tag) rs (every-tail full_row r rs f) n) (cases_Bool (is_head r.tag))

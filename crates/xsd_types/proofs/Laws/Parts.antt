@@ -6,14 +6,15 @@ use mathlib.Core.List.{List, [], ◌∷◌, map}
 use Prim.Native.Nat.{ℕ, ◌+◌, ◌*◌, ◌≤◌}
 use native.Mathlib.Omega.{arith}
 use lib.Dec.{eqb, leb}
-use lib.ListN.{length, drop}
+use lib.ListN.{drop}
 use borrow.Author.Tests.{eqb-true, leb-true, le-leb}
 use Rattle.text.specs.Text.{every, between}
-use Rattle.text.proofs.Laws.Tests.{two, six, eleven, and-true-left, and-true-right, and-true}
+use Rattle.std.proofs.lemmas.Bool.{and_parts}
+use Rattle.text.proofs.Laws.Tests.{six, eleven, and-true-left, and-true-right, and-true}
 use Rattle.sheet.specs.Rows.{Ten, Sheet, all_zero}
 use Rattle.sheet.specs.Form.{is_flag, covers, covered, rows_used_of, names_used_of, tens_of, used_parts, zeros_behind}
 use Rattle.sheet.proofs.Laws.Unpacks.{few}
-use Rattle.sheet.proofs.Laws.Formed.{Headed, headed, few-headed, used-two, used-rows, used-names, covers-true, covered-is}
+use Rattle.sheet.proofs.Laws.Formed.{Headed, headed, few-headed, covers-true, covered-is}
 use Rattle.xsd_types.specs.Row0.{Row0, row0_in}
 use Rattle.xsd_types.specs.Good.{used_pairs, row_form, in_order, row0_form, ten_form, rows_form, names_form, names_test, limits, root_test, nesting_test, context_test}
 use Rattle.xsd_types.specs.Good.{extension_test, head_of, events_test, bare_good}
@@ -42,7 +43,7 @@ parts-of x g =
     let ts = tens_of x in
     let before = used_parts x && row0_form z && rows_form ts && names_form z.names_used ts && zeros_behind x && names_test x && limits z && root_test z && nesting_test z
     && context_test z.context (head_of ts) && extension_test z (head_of ts) in
-    let both = two before (events_test z.events ts) g in
+    let both = and_parts before (events_test z.events ts) g in
     let e = eleven (used_parts x) (row0_form z) (rows_form ts) (names_form z.names_used ts) (zeros_behind x) (names_test x) (limits z) (root_test z) (nesting_test z)
     (context_test z.context (head_of ts)) (extension_test z (head_of ts)) both.0 in
     record { parts = e.0; row0 = e.1; rows = e.2; names = e.3; zeros = e.4; text = e.5; limit = e.6; root = e.7; nest = e.8; context = e.9; extension = e.10; events = both.1 }
@@ -76,17 +77,8 @@ pub few-rows : (ts : List Ten) → rows_form ts ≡ true → every (few used_pai
 unfolding used_pairs between
 few-rows ts e = few-headed ten_form (λ bs. in_order 1 (map (λ (t : Ten). t.tag) bs)) used_pairs refl few-form ts (behind ts e)
 
--- the parts of a good sheet as numbers
+-- the names of a good sheet as numbers, and the zeros
 module _ (x : Sheet) (p : Parts x) where
-  pub rows-two : 2 ≤ rows_used_of x
-  rows-two = used-two x p.parts
-
-  pub rows-room : 10 * rows_used_of x ≤ length x.rows
-  rows-room = used-rows x p.parts
-
-  pub names-room : names_used_of x ≤ length x.names
-  names-room = used-names x p.parts
-
   pub pairs-cover : covers used_pairs 0 (tens_of x) ≡ true
   unfolding names_form
   pairs-cover = covers-true used_pairs (tens_of x) (names_used_of x) p.names

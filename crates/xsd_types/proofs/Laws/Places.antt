@@ -8,7 +8,7 @@ use native.Mathlib.Omega.{arith}
 use lib.ListN.{length, get_or, take, drop, length-map}
 use lib.Seq.{drop-drop, get_or-drop}
 use Rattle.text.specs.Text.{Text, between}
-use Rattle.text.proofs.Laws.Tests.{or_cases}
+use Rattle.std.proofs.lemmas.Bool.{or_cases}
 use Rattle.text.proofs.Laws.Every.{EachFrom, between-each}
 use Rattle.sheet.specs.Rows.{Row, Ten, ten, tens, text_at, unpack_row}
 use Rattle.sheet.proofs.Laws.Numbers.{length-tens}
@@ -80,11 +80,6 @@ pub second-taken : (n : ℕ) (x y z : Text) → 2 ≤ n → get_or (take n (x �
 second-taken zero x y z h = absurd (omega arith)
 second-taken (suc zero) x y z h = absurd (omega arith)
 second-taken (suc (suc n)) x y z h = refl
-
--- a head uses a pair, a simple type's two
-pub used-simple : (a : ℕ) → 2 ≤ used_pairs 3 a
-unfolding used_pairs between
-used-simple a = omega arith
 
 used-head : (tag a : ℕ) → is_head tag ≡ true → 1 ≤ used_pairs tag a
 unfolding is_head used_pairs between EachFrom

@@ -8,7 +8,7 @@ use lib.Dec.{eqb, ltb}
 use lib.ListN.{length, take, drop, length-map}
 use Rattle.text.specs.Text.{Text, every, between}
 use Rattle.sheet.specs.Rows.{Ten, Row, Sheet, row, names_of, text_at, unpack_row, sheet_of_rows}
-use Rattle.sheet.specs.Form.{counted, row0_of, rows_used_of, names_used_of, tens_of, texts_pass, words}
+use Rattle.sheet.specs.Form.{texts_counted, row0_of, rows_used_of, names_used_of, tens_of, texts_pass, words}
 use Rattle.sheet.proofs.Laws.Numbers.{every-tens, length-tens}
 use Rattle.sheet.proofs.Laws.Unpacks.{few, counted-unpack}
 use Rattle.sheet.proofs.Laws.Sheets.{length-read, sheet-read}
@@ -23,10 +23,11 @@ use Rattle.xsd_types.proofs.Laws.Heads.{full_row, no-loose}
 use Rattle.xsd_types.proofs.Laws.Events.{event_row, events-unpack}
 use Rattle.xsd_types.proofs.Laws.Parse.{parse, still_rows}
 use Rattle.xsd_types.proofs.Laws.Open.{Opened, opened}
-use Rattle.xsd_types.proofs.Laws.Parts.{Parts, behind, few-rows, rows-two, rows-room, names-room, pairs-cover, names-end, zero-rows, zero-names, first_of}
+use Rattle.xsd_types.proofs.Laws.Parts.{Parts, behind, few-rows, pairs-cover, names-end, zero-rows, zero-names, first_of}
 use Rattle.xsd_types.proofs.Laws.Row0.{nesting-both}
 use Rattle.text.proofs.Laws.Tests.{and-true}
 use Rattle.text.proofs.Laws.Every.{every_map, every-both, every-tail, every_drop}
+use Rattle.sheet.proofs.Laws.Formed.{used-two, used-rows, used-names}
 
 -- reading keeps the tags
 pub tags-unpack : (names : List ℕ) (ts : List Ten) → tags (map (unpack_row used_pairs names) ts) ≡ map (λ (t : Ten). t.tag) ts
@@ -53,7 +54,7 @@ module _ (x : Sheet) (p : Parts x) where
 
   pub names-length : length (names_of (rows_in x)) ≡ names_used_of x
   unfolding rows_in tens_of
-  names-length = length-read used_pairs x (rows_used_of x - 1) few-pairs (pairs-cover x p) (rw (names-end x p) (names-room x p)) ∙ names-end x p
+  names-length = length-read used_pairs x (rows_used_of x - 1) few-pairs (pairs-cover x p) (rw (names-end x p) (used-names x p.parts)) ∙ names-end x p
 
   pub names-text : every text_row (rows_in x) ≡ true
   unfolding names_test texts_pass rows_in text_row
@@ -62,22 +63,22 @@ module _ (x : Sheet) (p : Parts x) where
   pub sheet-again : sheet_of_rows (row0_of x) (rows_in x) (length x.rows) (length x.names) ≡ x
   unfolding rows_in tens_of row0_of
   sheet-again =
-      let all : 10 * (1 + (rows_used_of x - 1)) ≡ 10 * rows_used_of x = omega (arith, rows-two x p) in
-      sheet-read used_pairs x (rows_used_of x - 1) few-pairs (pairs-cover x p) (rw all (rows-room x p)) (rw (names-end x p) (names-room x p)) (rw all (zero-rows x p))
+      let all : 10 * (1 + (rows_used_of x - 1)) ≡ 10 * rows_used_of x = omega (arith, used-two x p.parts) in
+      sheet-read used_pairs x (rows_used_of x - 1) few-pairs (pairs-cover x p) (rw all (used-rows x p.parts)) (rw (names-end x p) (used-names x p.parts)) (rw all (zero-rows x p))
       (rw (names-end x p) (zero-names x p))
 
   pub rows-length : 1 + length (rows_in x) ≡ rows_used_of x
   unfolding rows_in tens_of
-  rows-length = rw (length-map (tens_of x) (unpack_row used_pairs x.names), length-tens (rows_used_of x - 1) (drop 10 x.rows)) (omega (arith, rows-two x p))
+  rows-length = rw (length-map (tens_of x) (unpack_row used_pairs x.names), length-tens (rows_used_of x - 1) (drop 10 x.rows)) (omega (arith, used-two x p.parts))
 
   pub words-rows : words x.rows ≡ true → every word_row (rows_in x) ≡ true
   unfolding rows_in tens_of word_row unpack_row
   words-rows w = every_map (λ (t : Ten). ltb t.a (2 ^ 32) && ltb t.b (2 ^ 32)) word_row (unpack_row used_pairs x.names) (λ t e. e) (tens_of x)
       (every-tens (λ (n : ℕ). ltb n (2 ^ 32)) refl (rows_used_of x - 1) (drop 10 x.rows) (every_drop (λ (n : ℕ). ltb n (2 ^ 32)) 10 x.rows w))
 
-  pub counted-read : every (counted used_pairs) (rows_in x) ≡ true
+  pub counted-read : every (texts_counted used_pairs) (rows_in x) ≡ true
   unfolding rows_in
-  counted-read = every_map (few used_pairs) (counted used_pairs) (unpack_row used_pairs x.names) (counted-unpack used_pairs x.names) (tens_of x) few-pairs
+  counted-read = every_map (few used_pairs) (texts_counted used_pairs) (unpack_row used_pairs x.names) (counted-unpack used_pairs x.names) (tens_of x) few-pairs
 
 -- row 1 and the rows behind it, with their texts
 unfoldable pub body_in : (x : Sheet) → Parts x → List Row
@@ -103,9 +104,9 @@ module _ (x : Sheet) (p : Parts x) where
   pub body-full : words x.rows ≡ true → every full_row (body_in x p) ≡ true
   unfolding full_row sound_row
   body-full w =
-      let two = every-both formed_row (counted used_pairs) (λ (r : Row). formed_row r && counted used_pairs r) (λ r e f. and-true e f) (body_in x p) body-formed
-      (body-every (counted used_pairs) (counted-read x p)) in
-      let three = every-both (λ (r : Row). formed_row r && counted used_pairs r) text_row sound_row (λ r e f. and-true e f) (body_in x p) two (body-every text_row (names-text x p)) in
+      let two = every-both formed_row (texts_counted used_pairs) (λ (r : Row). formed_row r && texts_counted used_pairs r) (λ r e f. and-true e f) (body_in x p) body-formed
+      (body-every (texts_counted used_pairs) (counted-read x p)) in
+      let three = every-both (λ (r : Row). formed_row r && texts_counted used_pairs r) text_row sound_row (λ r e f. and-true e f) (body_in x p) two (body-every text_row (names-text x p)) in
       every-both sound_row word_row full_row (λ r e f. and-true e f) (body_in x p) three (body-every word_row (words-rows x p w))
 
   pub body-numbered : every (event_row (row0_in x).events) (body_in x p) ≡ true

@@ -6,9 +6,10 @@ use mathlib.Core.Option.{some, none}
 use Prim.Native.Nat.{ℕ, ◌+◌, ◌%◌, ◌/◌, ◌^◌}
 use lib.Dec.{eqb, leb, ltb}
 use Rattle.text.specs.Text.{Text, every, is_text, between}
-use Rattle.text.proofs.Laws.Tests.{two, three, four, and-true-left, and-true-right, and-true}
+use Rattle.std.proofs.lemmas.Bool.{and_parts}
+use Rattle.text.proofs.Laws.Tests.{three, four, and-true-left, and-true-right, and-true}
 use Rattle.sheet.specs.Rows.{Row, row, bit}
-use Rattle.sheet.specs.Form.{is_flag, counted}
+use Rattle.sheet.specs.Form.{is_flag, texts_counted}
 use Rattle.xsd_types.specs.Types.{Facet, MaxOccurs, SequenceElement, ChoiceVariant, Attribute, Item}
 use Rattle.xsd_types.specs.State.{ComplexContentBuilder, Context, State, element_ok, facet_ok, max_occurs_ok, sequence_element_ok, choice_variant_ok, attribute_ok}
 use Rattle.xsd_types.specs.State.{namespace_ok, content_ok, started, item_ok, context_ok, schema_ok, root_ok, counters_ok, events_ok, proper}
@@ -23,10 +24,10 @@ unfoldable pub text_row : Row → Bool
 text_row r = every is_text r.texts
 
 unfoldable pub sound_row : Row → Bool
-sound_row r = formed_row r && counted used_pairs r && text_row r
+sound_row r = formed_row r && texts_counted used_pairs r && text_row r
 
 pub sound-facet : (f : Facet) → facet_ok f ≡ true → sound_row (facet_row f) ≡ true
-unfolding sound_row formed_row text_row counted facet_ok facet_row row row_form is_head used_pairs between every
+unfolding sound_row formed_row text_row texts_counted facet_ok facet_row row row_form is_head used_pairs between every
 sound-facet (Facet.enumeration v) e = and-true e refl
 sound-facet (Facet.pattern v) e = and-true e refl
 sound-facet (Facet.min_length n) e = rw (or-true (eqb (n / 2 ^ 32) 0), or-true (eqb (n % 2 ^ 32) 0))
@@ -42,7 +43,7 @@ unfolding every
 both-texts s t p q = and-true p (and-true q refl)
 
 pub sound-occurs : (name type_name : Text) (min : ℕ) (max : MaxOccurs) → is_text name ≡ true → is_text type_name ≡ true → sound_row (occurs_row name type_name min max) ≡ true
-unfolding sound_row formed_row text_row counted occurs_row row row_form is_head used_pairs between
+unfolding sound_row formed_row text_row texts_counted occurs_row row row_form is_head used_pairs between
 sound-occurs name type_name min (MaxOccurs.bounded max) p q = simp (or-false, or-true) (both-texts name type_name p q)
 sound-occurs name type_name min MaxOccurs.unbounded p q = simp (or-false, or-true) (both-texts name type_name p q)
 
@@ -53,11 +54,11 @@ sound-element e ok =
     sound-occurs e.name e.type_name e.min_occurs e.max_occurs w.0 w.1
 
 pub sound-variant : (v : ChoiceVariant) → choice_variant_ok v ≡ true → sound_row (variant_row v) ≡ true
-unfolding sound_row formed_row text_row counted variant_row row row_form is_head used_pairs between choice_variant_ok
+unfolding sound_row formed_row text_row texts_counted variant_row row row_form is_head used_pairs between choice_variant_ok
 sound-variant v ok = both-texts v.name v.type_name (and-true-left _ _ ok) (and-true-right (is_text v.name) _ ok)
 
 pub sound-flagged : (name type_name : Text) (flag : Bool) → is_text name ≡ true → is_text type_name ≡ true → sound_row (row 20 (name ∷ type_name ∷ []) (bit flag) 0 0) ≡ true
-unfolding sound_row formed_row text_row counted row bit row_form is_head used_pairs between is_flag
+unfolding sound_row formed_row text_row texts_counted row bit row_form is_head used_pairs between is_flag
 sound-flagged name type_name true p q = both-texts name type_name p q
 sound-flagged name type_name false p q = both-texts name type_name p q
 
@@ -68,11 +69,11 @@ sound-attribute x ok = sound-flagged x.name x.type_name x.required (and-true-lef
 -- heads of one text and of two
 pub sound-simple : (event : ℕ) (name base : Text) (fs : List Facet) → is_text name ≡ true → is_text base ≡ true
     → every facet_ok fs ≡ true → every sound_row (simple_type_rows event name base fs) ≡ true
-unfolding simple_type_rows sound_row formed_row text_row counted row row_form is_head used_pairs between every
+unfolding simple_type_rows sound_row formed_row text_row texts_counted row row_form is_head used_pairs between every
 sound-simple event name base fs p q ok = and-true (both-texts name base p q) (every_map facet_ok sound_row facet_row sound-facet fs ok)
 
 pub sound-complex : (event : ℕ) (name : Text) (c : ComplexContentBuilder) → is_text name ≡ true → content_ok c ≡ true → every sound_row (complex_type_rows event name c) ≡ true
-unfolding complex_type_rows sound_row formed_row text_row counted row row_form is_head used_pairs between every is_flag content_ok namespace_ok
+unfolding complex_type_rows sound_row formed_row text_row texts_counted row row_form is_head used_pairs between every is_flag content_ok namespace_ok
 sound-complex event name ComplexContentBuilder.empty p ok = and-true (and-true p refl) refl
 sound-complex event name (ComplexContentBuilder.sequence es) p ok = and-true (and-true p refl) (every_map sequence_element_ok sound_row element_row sound-element es ok)
 sound-complex event name (ComplexContentBuilder.choice vs) p ok = and-true (and-true p refl) (every_map choice_variant_ok sound_row variant_row sound-variant vs ok)
@@ -82,7 +83,7 @@ sound-complex event name (ComplexContentBuilder.any none) p ok = and-true (and-t
 sound-complex event name (ComplexContentBuilder.any (some n)) p ok = and-true (both-texts name n p ok) refl
 
 pub sound-item : (i : Item) → item_ok i ≡ true → every sound_row (item_rows i) ≡ true
-unfolding item_rows sound_row formed_row text_row counted row row_form is_head used_pairs between every item_ok element_ok
+unfolding item_rows sound_row formed_row text_row texts_counted row row_form is_head used_pairs between every item_ok element_ok
 sound-item (Item.element e) ok = and-true (both-texts e.name e.type_name (and-true-left _ _ ok) (and-true-right (is_text e.name) _ ok)) refl
 sound-item (Item.simple_type t) ok =
     let w = three (is_text t.name) (is_text t.base) (every facet_ok t.facets) ok in
@@ -109,15 +110,15 @@ sound-context b (Context.in_complex_type t) n ok =
 module _ (r : Row) (e : sound_row r ≡ true) where
   pub sound-formed : formed_row r ≡ true
   unfolding sound_row
-  sound-formed = (three (formed_row r) (counted used_pairs r) (text_row r) e).0
+  sound-formed = (three (formed_row r) (texts_counted used_pairs r) (text_row r) e).0
 
-  pub sound-counted : counted used_pairs r ≡ true
+  pub sound-counted : texts_counted used_pairs r ≡ true
   unfolding sound_row
-  sound-counted = (three (formed_row r) (counted used_pairs r) (text_row r) e).1
+  sound-counted = (three (formed_row r) (texts_counted used_pairs r) (text_row r) e).1
 
   pub sound-text : text_row r ≡ true
   unfolding sound_row
-  sound-text = (three (formed_row r) (counted used_pairs r) (text_row r) e).2
+  sound-text = (three (formed_row r) (texts_counted used_pairs r) (text_row r) e).2
 
 -- all rows behind row 1
 unfoldable pub body_rows : State → List Row
@@ -129,7 +130,7 @@ module _ (s : State) (ok : proper s ≡ true) where
   unfolding proper
   proper-parts =
       let before = counters_ok s && root_ok s.reader && context_ok s.by_standard s.reader.context s.open_tags && schema_ok s.reader.schema in
-      let both = two before (events_ok s.reader s.events) ok in
+      let both = and_parts before (events_ok s.reader s.events) ok in
       let w = four (counters_ok s) (root_ok s.reader) (context_ok s.by_standard s.reader.context s.open_tags) (schema_ok s.reader.schema) both.0 in
       (w.0, w.1, w.2, w.3, both.1)
 
@@ -144,9 +145,9 @@ module _ (s : State) (ok : proper s ≡ true) where
       every_append sound_row (items_rows s.reader.schema.items) (context_rows s.reader.context)
       ∙ and-true items (sound-context s.by_standard s.reader.context s.open_tags proper-parts.2)
 
-  pub counted-rows : every (counted used_pairs) (rows_of s) ≡ true
-  unfolding rows_of namespace_row row every counted used_pairs between body_rows
-  counted-rows = every-weaken sound_row (counted used_pairs) sound-counted (body_rows s) sound-body
+  pub counted-rows : every (texts_counted used_pairs) (rows_of s) ≡ true
+  unfolding rows_of namespace_row row every texts_counted used_pairs between body_rows
+  counted-rows = every-weaken sound_row (texts_counted used_pairs) sound-counted (body_rows s) sound-body
 
   pub text-rows : every text_row (rows_of s) ≡ true
   unfolding rows_of namespace_row row every text_row body_rows

@@ -9,7 +9,8 @@ use lib.Dec.{eqb}
 use lib.ListN.{length, length-append}
 use borrow.Author.Tests.{eqb-true}
 use Rattle.text.specs.Text.{Text, every, is_text, join}
-use Rattle.text.proofs.Laws.Tests.{three, or_left, or_right, or_cases, and-true-left, and-true}
+use Rattle.std.proofs.lemmas.Bool.{or_left, or_right, or_cases}
+use Rattle.text.proofs.Laws.Tests.{three, and-true-left, and-true}
 use Rattle.sheet.specs.Rows.{Row, Sheet, row, names_of}
 use Rattle.xsd_types.specs.Types.{Item}
 use Rattle.xsd_types.specs.State.{Context, State, schema_ok, is_no_context, is_empty, root_ok, counters_ok, heads_pass, events_ok, proper}
@@ -126,7 +127,7 @@ module _ (x : Sheet) (p : Parts x) (w : words x.rows ≡ true) where
 
   pub held-root : root_ok held.reader ≡ true
   unfolding root_ok root_test held state_with
-  held-root = ⊎_elim (λ e. or_left _ e) (λ e. or_right (eqb (row0_in x).root_seen 1) (held-nothing e))
+  held-root = ⊎_elim (λ e. or_left _ _ e) (λ e. or_right (eqb (row0_in x).root_seen 1) _ (held-nothing e))
       (or_cases (eqb (row0_in x).root_seen 1) (eqb (row0_in x).context 0 && eqb (rows_used_of x) 2 && eqb (names_used_of x) 0) p.root)
 
   pub held-events : events_ok held.reader held.events ≡ true

@@ -4,7 +4,7 @@ use mathlib.Core.Bool.{◌&&◌}
 use Prim.Native.Nat.{ℕ}
 use lib.Dec.{leb}
 use lib.ListN.{length}
-use Rattle.text.proofs.Laws.Tests.{test-cases}
+use Rattle.std.proofs.lemmas.Bool.{cases_Bool}
 use Rattle.sheet.specs.Rows.{Sheet}
 use Rattle.sheet.specs.Lengths.{sheet_lengths}
 use Rattle.xsd_types.specs.Clear.{clear}
@@ -14,4 +14,4 @@ pub clear-table : (choice : ℕ) (x : Sheet) → ClearTable choice x (clear choi
 unfolding clear
 clear-table choice x =
     ⊎_elim (λ h. ClearTable.cleared h (rw h)) (λ h. ClearTable.lengths h (rw h))
-    (test-cases (sheet_lengths (length x.rows) (length x.names) && leb choice 1))
+    (cases_Bool (sheet_lengths (length x.rows) (length x.names) && leb choice 1))

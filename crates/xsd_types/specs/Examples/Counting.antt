@@ -2,29 +2,29 @@
 use Rattle.std.specs.Prelude.{ℕ, ◌≡◌, refl, [], ◌∷◌}
 use Rattle.sheet.specs.Rows.{Sheet}
 use Rattle.xsd_types.specs.Convert.{converted, convert}
-use Rattle.xsd_types.specs.Examples.Sheets.{line, counting, sheet}
-use Rattle.xsd_types.specs.Examples.Judging.{Part, verdict, fine, bad_by, judged}
+use Rattle.xsd_types.specs.Examples.Sheets.{line, counting, filled_sheet}
+use Rattle.xsd_types.specs.Examples.Judging.{GoodClause, verdict, fine, bad_by, judged}
 
 -- one type, finished, and two of one name
 unfoldable one : ℕ → Sheet
-one c = sheet 30 2 (line 0 3 2 1 0 1 0 1 0 0 ∷ counting c ∷ line 3 0 1 1 1 0 0 0 0 0 ∷ []) "SB"
+one c = filled_sheet 30 2 (line 0 3 2 1 0 1 0 1 0 0 ∷ counting c ∷ line 3 0 1 1 1 0 0 0 0 0 ∷ []) "SB"
 
 unfoldable two : ℕ → Sheet
-two c = sheet 50 4 (line 0 4 4 1 0 1 0 1 0 0 ∷ counting c ∷ line 3 0 1 1 1 0 0 0 0 0 ∷ line 3 2 1 3 1 0 0 0 0 0 ∷ []) "SBSB"
+two c = filled_sheet 50 4 (line 0 4 4 1 0 1 0 1 0 0 ∷ counting c ∷ line 3 0 1 1 1 0 0 0 0 0 ∷ line 3 2 1 3 1 0 0 0 0 0 ∷ []) "SBSB"
 
 one_right : verdict (one 1) ≡ fine
 unfolding one judged
 one_right = refl
 
-one_none : verdict (one 0) ≡ bad_by Part.count
+one_none : verdict (one 0) ≡ bad_by GoodClause.count
 unfolding one judged
 one_none = refl
 
-one_more : verdict (one 2) ≡ bad_by Part.count
+one_more : verdict (one 2) ≡ bad_by GoodClause.count
 unfolding one judged
 one_more = refl
 
-one-most : verdict (one 4294967295) ≡ bad_by Part.count
+one-most : verdict (one 4294967295) ≡ bad_by GoodClause.count
 unfolding one judged
 one-most = refl
 
@@ -33,26 +33,26 @@ two-right : verdict (two 2) ≡ fine
 unfolding two judged
 two-right = refl
 
-two-less : verdict (two 1) ≡ bad_by Part.count
+two-less : verdict (two 1) ≡ bad_by GoodClause.count
 unfolding two judged
 two-less = refl
 
 -- the open type is not counted
-open-type : verdict (sheet 30 2 (line 0 3 2 2 0 1 0 2 0 0 ∷ counting 0 ∷ line 3 0 1 1 1 0 0 0 0 0 ∷ []) "SB") ≡ fine
+open-type : verdict (filled_sheet 30 2 (line 0 3 2 2 0 1 0 2 0 0 ∷ counting 0 ∷ line 3 0 1 1 1 0 0 0 0 0 ∷ []) "SB") ≡ fine
 unfolding judged
 open-type = refl
 
 -- nor is a code enum, whatever its base; an enumeration beside another facet is none
-code-enum : verdict (sheet 40 3 (line 0 4 3 1 0 1 0 1 0 0 ∷ counting 0 ∷ line 3 0 1 1 1 0 0 0 0 0 ∷ line 4 2 1 0 0 0 0 0 0 0 ∷ []) "SBv") ≡ fine
+code-enum : verdict (filled_sheet 40 3 (line 0 4 3 1 0 1 0 1 0 0 ∷ counting 0 ∷ line 3 0 1 1 1 0 0 0 0 0 ∷ line 4 2 1 0 0 0 0 0 0 0 ∷ []) "SBv") ≡ fine
 unfolding judged
 code-enum = refl
 
-no-code-enum : verdict (sheet 50 4 (line 0 5 4 1 0 1 0 1 0 0 ∷ counting 1 ∷ line 3 0 1 1 1 0 0 0 0 0 ∷ line 4 2 1 0 0 0 0 0 0 0 ∷ line 5 3 1 0 0 0 0 0 0 0 ∷ []) "SBvp") ≡ fine
+no-code-enum : verdict (filled_sheet 50 4 (line 0 5 4 1 0 1 0 1 0 0 ∷ counting 1 ∷ line 3 0 1 1 1 0 0 0 0 0 ∷ line 4 2 1 0 0 0 0 0 0 0 ∷ line 5 3 1 0 0 0 0 0 0 0 ∷ []) "SBvp") ≡ fine
 unfolding judged
 no-code-enum = refl
 
 -- a built-in base, with a prefix too
-built_in : verdict (sheet 30 8 (line 0 3 8 1 0 1 0 1 0 0 ∷ counting 0 ∷ line 3 0 1 1 7 0 0 0 0 0 ∷ []) "Sxs:date") ≡ fine
+built_in : verdict (filled_sheet 30 8 (line 0 3 8 1 0 1 0 1 0 0 ∷ counting 0 ∷ line 3 0 1 1 7 0 0 0 0 0 ∷ []) "Sxs:date") ≡ fine
 unfolding judged
 built_in = refl
 
@@ -74,11 +74,11 @@ unfolding two judged
 most = refl
 
 -- another fault: b of row 1
-fault : convert (sheet 20 0 (line 0 2 0 0 0 1 0 0 0 0 ∷ line 1 0 0 0 0 0 0 0 1 0 ∷ []) "") ≡ converted 2 (sheet 20 0 (line 0 2 0 0 0 1 0 0 0 0 ∷ line 1 0 0 0 0 0 0 0 1 0 ∷ []) "")
+fault : convert (filled_sheet 20 0 (line 0 2 0 0 0 1 0 0 0 0 ∷ line 1 0 0 0 0 0 0 0 1 0 ∷ []) "") ≡ converted 2 (filled_sheet 20 0 (line 0 2 0 0 0 1 0 0 0 0 ∷ line 1 0 0 0 0 0 0 0 1 0 ∷ []) "")
 unfolding judged
 fault = refl
 
 -- a length comes first
-short : convert (sheet 10 0 (line 0 1 0 0 0 1 0 0 0 0 ∷ []) "") ≡ converted 1 (sheet 10 0 (line 0 1 0 0 0 1 0 0 0 0 ∷ []) "")
+short : convert (filled_sheet 10 0 (line 0 1 0 0 0 1 0 0 0 0 ∷ []) "") ≡ converted 1 (filled_sheet 10 0 (line 0 1 0 0 0 1 0 0 0 0 ∷ []) "")
 unfolding judged
 short = refl

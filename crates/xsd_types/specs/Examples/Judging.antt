@@ -1,5 +1,5 @@
 -- Which sentences of "A sheet is good if" a sheet breaks.
---     Part          a sentence, or a part of "it has this form"
+--     GoodClause    a sentence, or a part of "it has this form"
 --     broken        the parts that do not hold; the count of order 7 is asked where all others hold
 --     verdict       whether the sheet is good, with the broken parts
 --     fine, bad_by, bad_by_both    what a good sheet gives, and one that breaks exactly one part, or two
@@ -15,12 +15,12 @@ use Rattle.xsd_types.specs.Unfold.{computes as schemas}
 use Rattle.xsd_types.specs.Row0.{row0_in}
 use Rattle.xsd_types.specs.Count.{count_of, count_in, bare, state_of, good}
 use Rattle.xsd_types.specs.Good.{used_pairs, in_order, row0_form, ten_form, names_test, limits, root_test, nesting_test, context_test, extension_test, head_of, events_test, bare_good}
-use Rattle.xsd_types.specs.Examples.Sheets.{written}
+use Rattle.xsd_types.specs.Examples.Sheets.{example_sheets}
 
-pub data Part : Type 0 where
-  lent row0 row1 numbers order pairs names_used zeros names counts root nesting context extension events count : Part
+pub data GoodClause : Type 0 where
+  lent row0 row1 numbers order pairs names_used zeros names counts root nesting context extension events count : GoodClause
 
-unfoldable pub unless : Bool → Part → List Part → List Part
+unfoldable pub unless : Bool → GoodClause → List GoodClause → List GoodClause
 unless true p ps = ps
 unless false p ps = p ∷ ps
 
@@ -28,11 +28,11 @@ unfoldable pub row1_test : List Ten → Bool
 row1_test [] = false
 row1_test (n ∷ ts) = eqb n.tag 1 && eqb n.a 0 && eqb n.b 0 && eqb n.c 0
 
-unfoldable pub behind : List Ten → List Ten
-behind [] = []
-behind (n ∷ ts) = ts
+unfoldable pub behind_first_ten : List Ten → List Ten
+behind_first_ten [] = []
+behind_first_ten (n ∷ ts) = ts
 
-unfoldable pub broken : Sheet → List Part
+unfoldable pub broken : Sheet → List GoodClause
 broken x =
     let y = bare x in
     let z = row0_in y in
@@ -40,8 +40,8 @@ broken x =
     unless (used_parts y) lent
     (unless (row0_form z) row0
     (unless (row1_test ts) row1
-    (unless (every ten_form (behind ts)) numbers
-    (unless (in_order 1 (map (λ (t : Ten). t.tag) (behind ts))) order
+    (unless (every ten_form (behind_first_ten ts)) numbers
+    (unless (in_order 1 (map (λ (t : Ten). t.tag) (behind_first_ten ts))) order
     (unless (covers used_pairs 0 ts) pairs
     (unless (eqb (covered 0 ts) z.names_used) names_used
     (unless (zeros_behind y) zeros
@@ -54,22 +54,22 @@ broken x =
     (unless (events_test z.events ts) events
     (unless (not (bare_good y) || eqb (count_in x) (count_of (state_of x))) count [])))))))))))))))
 
-pub record Verdict : Type 0 where
+pub record GoodVerdict : Type 0 where
   pub is_good : Bool
-  pub breaks : List Part
+  pub breaks : List GoodClause
 
-unfoldable pub verdict : Sheet → Verdict
+unfoldable pub verdict : Sheet → GoodVerdict
 verdict x = record { is_good = good x; breaks = broken x }
 
-unfoldable pub fine : Verdict
+unfoldable pub fine : GoodVerdict
 fine = record { is_good = true; breaks = [] }
 
-unfoldable pub bad_by : Part → Verdict
+unfoldable pub bad_by : GoodClause → GoodVerdict
 bad_by p = record { is_good = false; breaks = p ∷ [] }
 
-unfoldable pub bad_by_both : Part → Part → Verdict
+unfoldable pub bad_by_both : GoodClause → GoodClause → GoodVerdict
 bad_by_both p q = record { is_good = false; breaks = p ∷ q ∷ [] }
 
 unfoldable pub judged : Unit {0}
-unfolding unless row1_test behind broken verdict fine bad_by bad_by_both written texts builtins sheets schemas
+unfolding unless row1_test behind_first_ten broken verdict fine bad_by bad_by_both example_sheets texts builtins sheets schemas
 judged = tt

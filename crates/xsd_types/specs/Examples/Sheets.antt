@@ -2,11 +2,11 @@
 --     line          a row: tag, three pairs, a, b, c; of row 0: 0, rows used, names used, context, nesting, root seen, events done, open tags,
 --                   extension flag, choice
 --     no_namespace   row 1 with the empty namespace; counting c: with the count c
---     sheet r n rows names    buffers of r numbers and n bytes: the rows and the names, zeros behind
+--     filled_sheet r n rows names  buffers of r numbers and n bytes: the rows and the names, zeros behind
 --     junk r n      buffers of r numbers and n bytes with something in them
 --     blank_by choice r n    the same, cleared; blank r n: with choice 0
 --     answer        a call's number and place
---     written       one name that unfolds them
+--     example_sheets  one name that unfolds them
 use Rattle.std.specs.Prelude.{ℕ, List, [], ◌∷◌, replicate}
 use Prim.Native.String.{String}
 use Rattle.text.specs.Text.{bytes, join}
@@ -23,8 +23,8 @@ no_namespace = line 1 0 0 0 0 0 0 0 0 0
 unfoldable pub counting : ℕ → List ℕ
 counting c = line 1 0 0 0 0 0 0 c 0 0
 
-unfoldable pub sheet : ℕ → ℕ → List (List ℕ) → String → Sheet
-sheet r n rows names = record { rows = filled r (join rows); names = filled n (bytes names) }
+unfoldable pub filled_sheet : ℕ → ℕ → List (List ℕ) → String → Sheet
+filled_sheet r n rows names = record { rows = filled r (join rows); names = filled n (bytes names) }
 
 unfoldable pub junk : ℕ → ℕ → Sheet
 junk r n = record { rows = replicate r 7; names = replicate n 7 }
@@ -38,6 +38,6 @@ blank r n = blank_by 0 r n
 unfoldable pub answer : ℕ → ℕ → Answer
 answer n p = record { number = n; place = p }
 
-unfoldable pub written : Unit {0}
-unfolding line no_namespace counting sheet junk blank_by blank answer
-written = tt
+unfoldable pub example_sheets : Unit {0}
+unfolding line no_namespace counting filled_sheet junk blank_by blank answer
+example_sheets = tt

@@ -6,7 +6,7 @@ use mathlib.Core.Path.{◌≡◌, refl, sym, ap, ◌∙◌}
 use mathlib.Core.Bool.{Bool, true, false, ◌&&◌}
 use mathlib.Core.List.{List, [], ◌∷◌, ◌++◌}
 use mathlib.Core.Option.{Option, some, none}
-use lib.Dec.{eqb, leb}
+use lib.Dec.{leb}
 use lib.ListN.{length, set, drop, replicate}
 use lib.Seq.{sets, sets-eq}
 use borrow.Author.Tests.{le-leb, leb-true, leb-false}
@@ -20,18 +20,15 @@ use Rattle.sheet.specs.Form.{words}
 use Rattle.buffer.proofs.Laws.Middle.{drop-filled}
 use Rattle.xsd_types.specs.Types.{Schema}
 use Rattle.xsd_types.specs.State.{State}
-use Rattle.xsd_types.specs.Row0.{Row0, row0_from}
 use Rattle.xsd_types.specs.Good.{used_pairs}
 use Rattle.xsd_types.specs.Rows.{namespace_row, items_rows}
 use Rattle.xsd_types.specs.Count.{good, state_of}
 use Rattle.xsd_types.specs.Back.{text0}
 use Rattle.xsd_types.specs.Places.{row_at, rows_from}
 use Rattle.xsd_types.proofs.Laws.Places.{rows_from-cons}
-use Rattle.xsd_types.proofs.Laws.Count.{good-bare, ten-count}
+use Rattle.xsd_types.proofs.Laws.Count.{good-bare}
 use Rattle.xsd_refused.proofs.Laws.Finished.{rows-one, finished-rows, rows_from-count}
-use Rattle.xsd_good.specs.End.{finished_end, Held}
-use Rattle.xsd_good.proofs.Laws.Held.{root-held}
-use Rattle.xsd_good.proofs.Laws.Bare.{row1-bare, bare-used, bare-held, bare-end}
+use Rattle.xsd_good.proofs.Laws.Bare.{row1-bare, bare-used, good-held}
 use Rattle.xsd_written.specs.Schema.{schema_text}
 use Rattle.xsd_written.specs.ByRows.{schema_by_rows}
 use Rattle.xsd_written.specs.Call.{Wrote, holds, unheld_from, first_unheld, text_unchanged, zeroed, text_written, unheld_or_written, write_state, write_back}
@@ -159,20 +156,12 @@ module _ (s : State) (rows names : List ℕ) (end : ℕ) (f : rows_from rows nam
   finished-state root lent q = rw (unheld-is, text-is) (finished-is s root lent q)
 
 module _ (rows names : List ℕ) (g : good (sheet rows names) ≡ true) (w : words rows ≡ true) where
-  held : Held (state_of (sheet rows names)) (set rows 17 0) names
-  held = bare-held rows names (good-bare (sheet rows names) g) w
-
-  pub good-end : (z : Row0) → z ≡ row0_from (ten rows) → finished_end rows z.context z.rows_used ≡ 2 + length (items_rows (state_of (sheet rows names)).reader.schema.items)
-  good-end z e = ap (λ (y : Row0). finished_end rows y.context y.rows_used) e ∙ bare-end rows names (good-bare (sheet rows names) g) w
-
-  pub good-root : (z : Row0) → z ≡ row0_from (ten rows) → eqb z.root_seen 1 ≡ (state_of (sheet rows names)).reader.root_seen
-  good-root z e = root-held held z (e ∙ ap row0_from (sym (ten-count rows 0)))
-
   pub good-written : {end : ℕ} → end ≡ 2 + length (items_rows (state_of (sheet rows names)).reader.schema.items) → (root : Bool) (lent : ℕ) → root ≡ (state_of (sheet rows names)).reader.root_seen
       → finished root (unheld_from 1 (rows_from rows names 1 end)) (schema_rows (text0 (row_at rows names 1)) (rows_from rows names 2 end)) lent
       ≡ write_state (state_of (sheet rows names)) lent
   good-written {end} e root lent q =
       let s = state_of (sheet rows names) in
+      let held = good-held rows names g w in
       let used = bare-used rows names (good-bare (sheet rows names) g) in
       let there = row1-texts rows names s.reader.schema.target_namespace (omega (arith, used.0)) (rows-one s held.packs held.proper) in
       finished-state s rows names end (sym (rows_from-count rows names 0 2 end (omega arith)) ∙ finished-rows s held.packs held.proper e) there (omega (arith, e)) root lent q

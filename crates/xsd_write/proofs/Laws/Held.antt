@@ -1,10 +1,10 @@
--- The first value that XML cannot hold, row by row, and the texts of a row one after the other (the crate `xsd_written`, specs/Call.antt). Assumes nothing.
+-- The first value that XML cannot hold, row by row (the crate `xsd_written`, specs/Call.antt). Assumes nothing.
 use Rattle.std.specs.List.{find, range_with_len}
 use Prim.Native.Nat.{ℕ, zero, suc, ◌+◌, ◌-◌, ◌≤◌}
 use native.Mathlib.Omega.{arith}
 use native.Mathlib.Numerals.{add-one}
 use mathlib.Core.Path.{◌≡◌, refl}
-use mathlib.Core.Bool.{Bool, true, false, not, ◌&&◌}
+use mathlib.Core.Bool.{Bool, true, not}
 use mathlib.Core.List.{List, [], ◌∷◌}
 use lib.ListN.{take, drop}
 use Rattle.text.specs.Text.{Text, every}
@@ -19,43 +19,6 @@ use Rattle.xml.proofs.Laws.Written.{quote-is}
 use Rattle.xml_parts.proofs.Laws.Held.{plain-held}
 use Rattle.xsd_written.specs.Call.{holds, unheld_from}
 use Rattle.xsd_write.specs.Steps.{unheld_of}
-
--- the first n of three texts
-module _ (n : ℕ) (x y z : Text) where
-  pub no-pair : n ≡ 0 → every holds (take n (x ∷ y ∷ z ∷ [])) ≡ true
-  unfolding every
-  no-pair e = rw e
-
-  pub one-pair : n ≡ 1 → holds x ≡ true → every holds (take n (x ∷ y ∷ z ∷ [])) ≡ true
-  unfolding every
-  one-pair e h = rw (e, h)
-
-  pub two-pairs : n ≡ 2 → holds x ≡ true → holds y ≡ true → every holds (take n (x ∷ y ∷ z ∷ [])) ≡ true
-  unfolding every
-  two-pairs e h k = rw (e, h, k)
-
-pub first-fails : (n : ℕ) (x y z : Text) → (n ≡ 0 → ⊥) → holds x ≡ false → every holds (take n (x ∷ y ∷ z ∷ [])) ≡ false
-unfolding every
-first-fails zero x y z s h = absurd (s refl)
-first-fails (suc n) x y z s h = rw h
-
-pub second-fails : (n : ℕ) (x y z : Text) → (n ≡ 0 → ⊥) → (n ≡ 1 → ⊥) → holds x ≡ true → holds y ≡ false → every holds (take n (x ∷ y ∷ z ∷ [])) ≡ false
-unfolding every
-second-fails zero x y z s t h k = absurd (s refl)
-second-fails (suc zero) x y z s t h k = absurd (t refl)
-second-fails (suc (suc n)) x y z s t h k = rw (h, k)
-
-and-end : (b : Bool) → b && true ≡ b
-and-end true = refl
-and-end false = refl
-
-pub third-decides : (n : ℕ) (x y z : Text) → (n ≡ 0 → ⊥) → (n ≡ 1 → ⊥) → (n ≡ 2 → ⊥) → holds x ≡ true → holds y ≡ true → every holds (take n (x ∷ y ∷ z ∷ [])) ≡ holds z
-unfolding every
-third-decides zero x y z s t u h k = absurd (s refl)
-third-decides (suc zero) x y z s t u h k = absurd (t refl)
-third-decides (suc (suc zero)) x y z s t u h k = absurd (u refl)
-third-decides (suc (suc (suc zero))) x y z s t u h k = rw (h, k) (and-end (holds z))
-third-decides (suc (suc (suc (suc n)))) x y z s t u h k = rw (h, k) (and-end (holds z))
 
 -- the place of the first row with such a text, among n of them from row p on
 pub unheld-found : (rows names : List ℕ) (end n p : ℕ) → end - p ≡ n

@@ -1,5 +1,6 @@
 -- The text of a row as the code writes it is the definition's (specs/Texts.antt; the crate `xsd_written`, specs/ByRows.antt): by the tests of the tag, one
 -- after the other. Assumes nothing.
+use Rattle.std.proofs.lemmas.List.{get_or-take}
 use Prim.Native.Nat.{ℕ, zero, suc, ◌+◌, ◌*◌, ◌^◌, ◌≤◌, ◌<◌}
 use mathlib.Core.Path.{◌≡◌, refl, sym, ap, ◌∙◌}
 use mathlib.Core.Bool.{true, false}
@@ -9,9 +10,9 @@ use lib.Dec.{eqb}
 use lib.ListN.{get_or, take, drop}
 use Rattle.text.specs.Text.{Text, bytes, between}
 use Rattle.text.proofs.Laws.Tests.{if-in, bool_cases}
-use Rattle.sheet.specs.Rows.{Row, Ten, ten, text_at, unpack_row}
+use Rattle.sheet.specs.Rows.{Row, ten, text_at, unpack_row}
 use Rattle.rows.specs.declared.ten.Ten.{Ten as Numbers}
-use Rattle.rows.specs.Ten.{as_ten}
+use Rattle.rows.specs.Ten.{as_ten, pair_of}
 use Rattle.xsd_types.specs.Good.{used_pairs, is_head, head_after}
 use Rattle.xsd_types.specs.Back.{text0, text1}
 use Rattle.xsd_types.specs.Places.{row_at, rows_from}
@@ -22,24 +23,19 @@ use Rattle.xsd_written.specs.ByRows.{max_occurs_text, occurs_text, use_text, chi
 use Rattle.xsd_write.specs.declared.part.Row.{Row as Given}
 use Rattle.xsd_write.specs.Texts.{given_row, as_row, content_text, row_text}
 
--- no text where no pair is used
-first-none : (n : ℕ) (x y z : Text) → n < 1 → get_or (take n (x ∷ y ∷ z ∷ [])) 0 [] ≡ []
-first-none zero x y z h = refl
-first-none (suc n) x y z h = absurd (omega arith)
+-- no text where a pair is not used, and the text under one that is
+pub text-none : (n k : ℕ) (ts : List Text) → n ≤ k → get_or (take n ts) k [] ≡ []
+text-none zero k ts h = refl
+text-none (suc n) k [] h = refl
+text-none (suc n) zero (t ∷ ts) h = absurd (omega arith)
+text-none (suc n) (suc k) (t ∷ ts) h = text-none n k ts (omega arith)
 
-second_none : (n : ℕ) (x y z : Text) → n < 2 → get_or (take n (x ∷ y ∷ z ∷ [])) 1 [] ≡ []
-second_none zero x y z h = refl
-second_none (suc zero) x y z h = refl
-second_none (suc (suc n)) x y z h = absurd (omega arith)
-
-module _ (names : List ℕ) (t : Ten) where
-  pub text0-none : used_pairs t.tag t.a < 1 → text0 (unpack_row used_pairs names t) ≡ []
-  unfolding text0 unpack_row
-  text0-none h = first-none (used_pairs t.tag t.a) (text_at names t.at0 t.len0) (text_at names t.at1 t.len1) (text_at names t.at2 t.len2) h
-
-  pub text1-none : used_pairs t.tag t.a < 2 → text1 (unpack_row used_pairs names t) ≡ []
-  unfolding text1 unpack_row
-  text1-none h = second_none (used_pairs t.tag t.a) (text_at names t.at0 t.len0) (text_at names t.at1 t.len1) (text_at names t.at2 t.len2) h
+pub text-under : (names : Text) (t : Numbers) (n k : ℕ) → k < 3 → k < n
+    → get_or (take n (text_at names t.at0 t.len0 ∷ text_at names t.at1 t.len1 ∷ text_at names t.at2 t.len2 ∷ [])) k [] ≡ text_at names (pair_of t k).at (pair_of t k).len
+text-under names t n zero h l = get_or-take n _ zero [] l
+text-under names t n (suc zero) h l = get_or-take n _ 1 [] l
+text-under names t n (suc (suc zero)) h l = get_or-take n _ 2 [] l
+text-under names t n (suc (suc (suc k))) h l = absurd (omega arith)
 
 -- heads by their tags
 pub content-extension : (r : Row) → r.tag ≡ 14 → content_text r ≡ bytes "><xs:simpleContent><xs:extension" ++ (attribute_text "base" (text1 r) ++ bytes ">")

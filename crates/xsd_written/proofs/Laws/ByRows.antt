@@ -1,9 +1,7 @@
 -- The text told row by row is the text by items (specs/ByRows.antt): a head's children are all rows up to the next head, which closes it, and each row says what
 -- the markup of its item says. Assumes nothing.
-use Prim.Native.Nat.{ℕ, ◌+◌, ◌*◌, ◌/◌, ◌%◌, ◌^◌}
+use Prim.Native.Nat.{ℕ, ◌+◌, ◌/◌}
 use Prim.Native.String.{String}
-use native.Mathlib.Omega.{arith}
-use native.Mathlib.Nat.{div-add-mod'}
 use mathlib.Core.Path.{◌≡◌, refl, sym, ap, ◌∙◌}
 use mathlib.Core.Bool.{Bool, true, false}
 use mathlib.Core.List.{List, [], ◌∷◌, ◌++◌, map, append_assoc, append-nil}
@@ -24,6 +22,8 @@ use Rattle.xsd_written.specs.Schema.{attr, prefixed, prefixed_tag, around, value
 use Rattle.xsd_written.specs.Schema.{items_markup, schema_markup, schema_text}
 use Rattle.xsd_written.specs.ByRows.{attribute_text, empty_text, named_text, complex_text, any_text, head_markup, facet_word_text, facet_value_text, max_occurs_text, occurs_text}
 use Rattle.xsd_written.specs.ByRows.{use_text, child_text, close_text, rows_text, schema_by_rows}
+use Rattle.xsd_types.proofs.Laws.Items.{halves, facet-no_head, element-no_head, variant-no_head, attribute-no_head}
+use Rattle.xml.proofs.Laws.Grammar.Basics.{regroup}
 
 -- ---- markup as text
 
@@ -72,15 +72,12 @@ valued-text : (word : String) (v : Text) → markup_text (valued word v) ≡ emp
 unfolding valued attribute_text
 valued-text word v = empty-text word (attr "value" v ∷ [])
 
-whole : (n : ℕ) → n % 2 ^ 32 + n / 2 ^ 32 * 2 ^ 32 ≡ n
-whole n = omega (arith, div-add-mod' n (2 ^ 32))
-
 facet-text : (f : Facet) → child_text (facet_row f) ≡ markup_text (facet_markup f)
 unfolding child_text facet_row facet_markup row between facet_word_text facet_value_text text0
 facet-text (Facet.enumeration v) = sym (valued-text "enumeration" v)
 facet-text (Facet.pattern v) = sym (valued-text "pattern" v)
-facet-text (Facet.min_length n) = rw (whole n) (sym (valued-text "minLength" (decimal n)))
-facet-text (Facet.max_length n) = rw (whole n) (sym (valued-text "maxLength" (decimal n)))
+facet-text (Facet.min_length n) = rw (halves n) (sym (valued-text "minLength" (decimal n)))
+facet-text (Facet.max_length n) = rw (halves n) (sym (valued-text "maxLength" (decimal n)))
 facet-text (Facet.min_inclusive v) = sym (valued-text "minInclusive" v)
 facet-text (Facet.max_inclusive v) = sym (valued-text "maxInclusive" v)
 facet-text (Facet.total_digits n) = sym (valued-text "totalDigits" (decimal n))
@@ -132,34 +129,6 @@ module _ {A : Type 0} (f : A → Row) (g : A → Markup) (child : (x : A) → is
   children-text pending (x ∷ xs) rs =
       rw (child x, text x)
       (ap (λ (u : Text). markup_text (g x) ++ u) (children-text pending xs rs) ∙ sym (append_assoc (markup_text (g x)) (markups_text (map g xs)) (rows_text pending rs)))
-
-facet-child : (f : Facet) → is_head (facet_row f).tag ≡ false
-unfolding facet_row row is_head between
-facet-child (Facet.enumeration v) = refl
-facet-child (Facet.pattern v) = refl
-facet-child (Facet.min_length n) = refl
-facet-child (Facet.max_length n) = refl
-facet-child (Facet.min_inclusive v) = refl
-facet-child (Facet.max_inclusive v) = refl
-facet-child (Facet.total_digits n) = refl
-facet-child (Facet.fraction_digits n) = refl
-
-occurs-child : (n t : Text) (low : ℕ) (high : MaxOccurs) → is_head (occurs_row n t low high).tag ≡ false
-unfolding occurs_row row is_head between
-occurs-child n t low (MaxOccurs.bounded high) = refl
-occurs-child n t low MaxOccurs.unbounded = refl
-
-element-child : (e : SequenceElement) → is_head (element_row e).tag ≡ false
-unfolding element_row
-element-child e = occurs-child e.name e.type_name e.min_occurs e.max_occurs
-
-variant-child : (v : ChoiceVariant) → is_head (variant_row v).tag ≡ false
-unfolding variant_row row is_head between
-variant-child v = refl
-
-attribute-child : (x : Attribute) → is_head (attribute_row x).tag ≡ false
-unfolding attribute_row row is_head between
-attribute-child x = refl
 
 -- a head closes the one before it
 head_rows : (pending : ℕ) (r : Row) (rs : List Row) → is_head r.tag ≡ true → rows_text pending (r ∷ rs) ≡ close_text pending ++ (head_markup r ++ rows_text r.tag rs)
@@ -231,9 +200,6 @@ one-shape h o d r = rw (append-nil o) (append_assoc h o (d ++ r))
 abbrev named : Text → List Attr
 named n = attr "name" n ∷ []
 
-more : (a n b o : Text) → (a ++ (n ++ b)) ++ o ≡ a ++ (n ++ (b ++ o))
-more a n b o = simp append_assoc
-
 abbrev complex_head : Text → Text → Text
 complex_head n content = bytes "<xs:complexType" ++ (written_attributes (named n) ++ content)
 
@@ -244,7 +210,7 @@ unfolding bytes written_attributes
 extension-level n ys ms r =
     let a = complex_head n (bytes "><xs:simpleContent>") in
     let d = shuts "simpleContent" ++ shuts "complexType" in
-    ap (λ (u : Text). u ++ (markups_text ms ++ ((shuts "extension" ++ d) ++ r))) (sym (more (bytes "<xs:complexType") (written_attributes (named n)) (bytes "><xs:simpleContent>")
+    ap (λ (u : Text). u ++ (markups_text ms ++ ((shuts "extension" ++ d) ++ r))) (sym (regroup (bytes "<xs:complexType") (written_attributes (named n)) (bytes "><xs:simpleContent>")
     (opens "extension" ys)))
     ∙ three-shape a (opens "extension" ys) (markups_text ms) (shuts "extension") d r
     ∙ ap (λ (u : Text). a ++ (u ++ (d ++ r))) (sym (around-opens "extension" ys ms))
@@ -258,7 +224,7 @@ any-level n xs r =
     let a = complex_head n (bytes "><xs:sequence>") in
     let d = shuts "sequence" ++ shuts "complexType" in
     let m = empty_text (bytes "any") (written_attributes xs) in
-    ap (λ (u : Text). u ++ (d ++ r)) (sym (more (bytes "<xs:complexType") (written_attributes (named n)) (bytes "><xs:sequence>") m))
+    ap (λ (u : Text). u ++ (d ++ r)) (sym (regroup (bytes "<xs:complexType") (written_attributes (named n)) (bytes "><xs:sequence>") m))
     ∙ one-shape a m d r
     ∙ ap (λ (u : Text). a ++ ((u ++ []) ++ (d ++ r))) (sym (empty-text "any" xs))
     ∙ two-levels "complexType" "sequence" (named n) [] (empties (prefixed_tag "any" xs) ∷ []) a d r refl refl
@@ -287,7 +253,7 @@ module _ (is : List Item) where
   unfolding row is_head between head_markup close_text item_markup simple_type_rows attribute_text text0 text1 bytes
   simple-rows n b fs event =
       let h = row 3 (n ∷ b ∷ []) 0 0 event in
-      group-rows facet_row facet_markup facet-child facet-text h fs refl
+      group-rows facet_row facet_markup facet-no_head facet-text h fs refl
       ∙ two-levels "simpleType" "restriction" (named n) (attr "base" b ∷ []) (map facet_markup fs) (head_markup h) (close_text 3) behind refl refl
 
   complex-rows : (n : Text) (c : ComplexContent) (event : ℕ) → rows_text 0 (complex_type_rows event n (started c) ++ items_rows is)
@@ -295,14 +261,14 @@ module _ (is : List Item) where
   unfolding row is_head between head_markup close_text item_markup content_markup complex_type_rows started complex_text any_text empty_text attribute_text written_attributes text0 text1 bytes
   complex-rows n (ComplexContent.sequence es) event =
       let h = row 12 (n ∷ []) 0 0 event in
-      group-rows element_row element_markup element-child element-text h es refl
+      group-rows element_row element_markup element-no_head element-text h es refl
       ∙ two-levels "complexType" "sequence" (named n) [] (map element_markup es) (head_markup h) (close_text 12) behind refl refl
   complex-rows n (ComplexContent.choice vs) event =
       let h = row 13 (n ∷ []) 0 0 event in
-      group-rows variant_row variant_markup variant-child variant-text h vs refl
+      group-rows variant_row variant_markup variant-no_head variant-text h vs refl
       ∙ two-levels "complexType" "choice" (named n) [] (map variant_markup vs) (head_markup h) (close_text 13) behind refl refl
   complex-rows n (ComplexContent.simple_content base xs) event =
-      group-rows attribute_row attribute_markup attribute-child attribute-text (row 14 (n ∷ base ∷ []) 0 0 event) xs refl
+      group-rows attribute_row attribute_markup attribute-no_head attribute-text (row 14 (n ∷ base ∷ []) 0 0 event) xs refl
       ∙ extension-level n (attr "base" base ∷ []) (map attribute_markup xs) behind
   complex-rows n (ComplexContent.any none) event = head_rows 0 (row 15 (n ∷ []) 0 0 event) (items_rows is) refl ∙ rw (pending-close 15 is) (any-level n [] behind)
   complex-rows n (ComplexContent.any (some v)) event =
@@ -335,4 +301,4 @@ schema-by-rows s =
     let xs = attr "xmlns:xs" (bytes "http://www.w3.org/2001/XMLSchema") ∷ attr "targetNamespace" s.target_namespace ∷ [] in
     let m = markups_text (items_markup s.items) ++ shuts "schema" in
     ap (λ (u : Text). schema_head ++ (t ++ (bytes ">" ++ (u ++ bytes "</xs:schema>")))) (rows-text s.items)
-    ∙ sym (around-opens "schema" xs (items_markup s.items) ∙ ap (λ (u : Text). u ++ m) (schema-head s.target_namespace) ∙ more schema_head t (bytes ">") m)
+    ∙ sym (around-opens "schema" xs (items_markup s.items) ∙ ap (λ (u : Text). u ++ m) (schema-head s.target_namespace) ∙ regroup schema_head t (bytes ">") m)

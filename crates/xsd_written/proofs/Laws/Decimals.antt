@@ -10,13 +10,13 @@ use borrow.Author.Tests.{ltb-true, le-leb, ne_eqb}
 use Rattle.text.specs.Text.{Text, every, is_digit, between}
 use Rattle.text.proofs.Laws.Tests.{if-cases, and-true}
 use Rattle.text.proofs.Laws.Every.{every-append-true, every-head}
-use Rattle.number.specs.Number.{parsed, value, is_numeral, after_plus, numeral, plain_below, plain_number, number}
+use Rattle.number.specs.Number.{parsed, decimal_value, is_numeral, after_plus, numeral, plain_below, plain_number, number}
 use Rattle.number.proofs.Laws.Numbers.{digit-within, below-within}
 use Rattle.number.proofs.Laws.Spellings.{number-kept}
 use Rattle.xsd_written.specs.Decimal.{decimal_up, decimal}
 
-value-more : (v : ℕ) (d : Text) (b : ℕ) → value v (d ++ b ∷ []) ≡ value v d * 10 + (b - 48)
-unfolding value
+value-more : (v : ℕ) (d : Text) (b : ℕ) → decimal_value v (d ++ b ∷ []) ≡ decimal_value v d * 10 + (b - 48)
+unfolding decimal_value
 value-more v [] b = refl
 value-more v (c ∷ d) b = value-more (v * 10 + (c - 48)) d b
 
@@ -41,11 +41,11 @@ module _ (f n : ℕ) (h : n < 10 ^ suc (suc f)) where
   tenth : n / 10 < 10 ^ suc f
   tenth = (div-lt_iff_lt-mul (lit< tt)).1 (rw pow-suc at h)
 
-pub decimal-value : (f n : ℕ) → n < 10 ^ suc f → value 0 (decimal_up f n) ≡ n
-unfolding decimal_up value
+pub decimal-value : (f n : ℕ) → n < 10 ^ suc f → decimal_value 0 (decimal_up f n) ≡ n
+unfolding decimal_up decimal_value
 decimal-value zero n h = omega (arith, digit_value n)
 decimal-value (suc f) n h =
-    if-cases (λ (d : Text). value 0 d ≡ n) (ltb n 10)
+    if-cases (λ (d : Text). decimal_value 0 d ≡ n) (ltb n 10)
     (λ e. omega (arith, digit_value n))
     (λ e. value-more 0 (decimal_up f (n / 10)) (48 + n % 10) ∙ ap₂ (λ (x y : ℕ). x * 10 + y) (decimal-value f (n / 10) (tenth f n h)) (digit_value (n % 10)) ∙ div-add-mod' n 10)
 

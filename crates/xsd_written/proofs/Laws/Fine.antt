@@ -8,7 +8,8 @@ use mathlib.Core.List.{List, [], ◌∷◌, ◌++◌}
 use lib.Dec.{leb, ltb, eqb}
 use lib.ListN.{length}
 use Rattle.text.specs.Text.{Text, bytes, every, is_text, contains}
-use Rattle.text.proofs.Laws.Tests.{and-true, and-true-left, and-true-right, two, four, if-keeps}
+use Rattle.std.proofs.lemmas.Bool.{and_parts}
+use Rattle.text.proofs.Laws.Tests.{and-true, and-true-left, and-true-right, four, if-keeps}
 use Rattle.text.proofs.Laws.Every.{every-head, every-tail, every-weaken}
 use Rattle.text.proofs.Laws.Class.{empty-text, texts-append, text-behind}
 use Rattle.xsd_parser.specs.Event.{Attr, Tag}
@@ -40,7 +41,7 @@ markup_fine (ends n) = name_fine n
 attr-ok : (x : Attr) → attr_fine x ≡ true → written_attribute_ok x ≡ true
 unfolding attr_fine name_fine value_fine holds written_attribute_ok
 attr-ok x h =
-    let (k, v) = two (name_fine x.key) (value_fine x.value) h in
+    let (k, v) = and_parts (name_fine x.key) (value_fine x.value) h in
     and-true (and-true-left (is_name_text x.key) (is_text x.key) k) (and-true-left (holds x.value) (is_text x.value) v)
 
 tag-ok : (t : Tag) → tag_fine t ≡ true → written_tag_ok t ≡ true
@@ -68,7 +69,7 @@ attributes-text : (xs : List Attr) → every attr_fine xs ≡ true → is_text (
 unfolding written_attributes attr_fine name_fine value_fine
 attributes-text [] h = empty-text
 attributes-text (x ∷ xs) h =
-    let (k, v) = two (name_fine x.key) (value_fine x.value) (every-head attr_fine x xs h) in
+    let (k, v) = and_parts (name_fine x.key) (value_fine x.value) (every-head attr_fine x xs h) in
     let q = quote_of x.value in
     let rest = written_attributes xs in
     let w = text-behind q rest (quote-plain x.value) ∙ attributes-text xs (every-tail attr_fine x xs h) in

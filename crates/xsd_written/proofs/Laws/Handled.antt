@@ -1,6 +1,6 @@
 -- Events that are refused for nothing but room (specs/Reads.antt, Handled): where the last state has room all are accepted, since no state before it is larger; else
 -- reading ends with 11. Assumes nothing.
-use Prim.Native.Nat.{ℕ, suc, ◌+◌, ◌*◌, ◌≤◌, ◌<◌}
+use Prim.Native.Nat.{ℕ, suc, ◌+◌, ◌*◌, ◌≤◌}
 use native.Mathlib.Omega.{arith}
 use mathlib.Core.Path.{◌≡◌, refl, sym, ap, ◌∙◌}
 use mathlib.Core.Logic.{◌⊎◌, inl, inr, ⊎_elim}
@@ -8,25 +8,27 @@ use mathlib.Core.Bool.{true, false, false≢true}
 use mathlib.Core.List.{List, ◌∷◌, ◌++◌}
 use lib.Dec.{leb}
 use lib.ListN.{length, length-append}
-use borrow.Author.Tests.{lt-ltb, leb-true, le-leb}
-use Rattle.text.proofs.Laws.Tests.{and-true, two, bool_cases}
+use borrow.Author.Tests.{leb-true, le-leb}
+use Rattle.std.proofs.lemmas.Bool.{and_parts}
+use Rattle.text.proofs.Laws.Tests.{and-true, bool_cases}
 use Rattle.sheet.specs.Rows.{Row, names_of}
 use Rattle.sheet.specs.Lengths.{Lengths, fits}
 use Rattle.sheet.specs.Returned.{no_room}
 use Rattle.sheet.proofs.Laws.Packs.{names_of-append}
-use Rattle.xsd_types.specs.State.{Reader, State}
+use Rattle.xsd_types.specs.State.{State}
 use Rattle.xsd_types.specs.Rows.{rows_of, rows_used, names_used}
 use Rattle.xsd_types.specs.Sheet.{state_fits}
 use Rattle.xsd_parser.specs.Event.{Event}
 use Rattle.xsd_parser.specs.Tape.{Judged, event}
-use Rattle.xsd_parser.specs.Handlers.{ok, refuse, ◌and_then◌}
-use Rattle.xsd_parser.specs.Step.{handled, tags_after, counted, room_for, step}
+use Rattle.xsd_parser.specs.Handlers.{ok}
+use Rattle.xsd_parser.specs.Step.{counted, step}
 use Rattle.xsd_parser.specs.Read.{Reading, read_records}
 use Rattle.xsd_parser.specs.Accepted as accepted
 use Rattle.xsd_parser.specs.Accepted.{Accepted}
 use Rattle.xsd_parser.proofs.Laws.Reads.{stopped, read_ok, read-refuse}
 use Rattle.xsd_parser.proofs.Laws.Accepts.{read_records-accepted}
 use Rattle.xsd_written.specs.Reads.{Below, Handled, none_left, one_more}
+use Rattle.xsd_parser.proofs.Laws.Room.{step_room, room_fits, room-lacks}
 
 -- ---- fewer rows
 
@@ -58,7 +60,7 @@ below-behind front {a} {b} p =
 pub fits_below : (r n : ℕ) (s t : State) → Below (rows_of s) (rows_of t) → state_fits r n t ≡ true → state_fits r n s ≡ true
 unfolding state_fits fits rows_used names_used
 fits_below r n s t h e =
-    let (a, b) = two (leb (10 * (1 + length (rows_of t))) r) (leb (length (names_of (rows_of t))) n) e in
+    let (a, b) = and_parts (leb (10 * (1 + length (rows_of t))) r) (leb (length (names_of (rows_of t))) n) e in
     let c = leb-true (10 * (1 + length (rows_of t))) r a in
     let d = leb-true (length (names_of (rows_of t))) n b in
     and-true (le-leb (10 * (1 + length (rows_of s))) r (omega (arith, h.rows))) (le-leb (length (names_of (rows_of s))) n (omega (arith, h.names)))
@@ -72,19 +74,6 @@ handled-then (one_more t h b k) m = one_more t h b (handled-then k m)
 pub handled-below : {s s₂ : State} {js : List Judged} → Handled s js s₂ → Below (rows_of s) (rows_of s₂)
 handled-below none_left = below-same refl
 handled-below (one_more t h b k) = below_then b (handled-below k)
-
-step_room : (lent : Lengths) (s : State) (e : Event) (o : ℕ) (r : Reader) → s.events < 1000000 → tags_after e s.open_tags ≡ ok o → handled s.by_standard s.events e s.reader ≡ ok r
-    → step lent s e ≡ room_for lent (counted s o r)
-unfolding step ◌and_then◌
-step_room lent s e o r l t h = rw (lt-ltb s.events 1000000 l, t, h)
-
-room_fits : (lent : Lengths) (s : State) → state_fits lent.rows lent.names s ≡ true → room_for lent s ≡ ok s
-unfolding room_for
-room_fits lent s e = rw e
-
-room-lacks : (lent : Lengths) (s : State) → state_fits lent.rows lent.names s ≡ false → room_for lent s ≡ refuse no_room
-unfolding room_for
-room-lacks lent s e = rw e
 
 module _ (lent : Lengths) where
   pub handled-accepted : {s s₂ : State} {js : List Judged} → Handled s js s₂ → s.events + length js ≤ 1000000 → state_fits lent.rows lent.names s₂ ≡ true → Accepted lent s js s₂

@@ -15,7 +15,8 @@ use borrow.Author.Tests.{ltb-true, le-leb, lt-ltb, ne_eqb}
 use Rattle.text.specs.Text.{Text, bytes, every, is_text, is_digit, between, contains}
 use Rattle.text.specs.Unfold.{computes}
 use Rattle.text.proofs.Laws.Class.{empty-text, text-behind}
-use Rattle.text.proofs.Laws.Tests.{and-true, and-true-left, and-true-right, two, three, four, bool_cases}
+use Rattle.std.proofs.lemmas.Bool.{and_parts}
+use Rattle.text.proofs.Laws.Tests.{and-true, and-true-left, and-true-right, three, four, bool_cases}
 use Rattle.text.proofs.Laws.Every.{every-head, every-tail, every_append, every-append-true}
 use Rattle.number.specs.Number.{is_numeral}
 use Rattle.number.proofs.Laws.Numbers.{digit-within}
@@ -25,9 +26,9 @@ use Rattle.xsd_types.specs.State.{element_ok, facet_ok, max_occurs_ok, sequence_
 use Rattle.xsd_types.specs.Rows.{facet_row, occurs_row, element_row, variant_row, attribute_row, simple_type_rows, complex_type_rows, item_rows, items_rows}
 use Rattle.xsd_parser.specs.Event.{Attr}
 use Rattle.xml.specs.Classes.{is_char, is_letter, is_name_start, is_name, is_byte_of, begins}
-use Rattle.xml.specs.Steps.{name_of}
+use Rattle.xml.specs.Steps.{leading_name}
 use Rattle.xml.specs.Grammar.{is_among}
-use Rattle.xml.specs.Values.{is_plain}
+use Rattle.xml.specs.Values.{starts_character}
 use Rattle.xml.specs.Written.{is_name_text, is_value, quote_of, new_keys}
 use Rattle.xsd_written.specs.Decimal.{decimal}
 use Rattle.xsd_written.specs.Markup.{Markup, empties, ends}
@@ -39,8 +40,8 @@ use Rattle.xsd_written.proofs.Laws.Fine.{name_fine, value_fine, attr_fine, tag_f
 
 -- ---- digits are held
 
-digit-plain : (b : ℕ) (s : Text) → is_digit b ≡ true → is_plain (b ∷ s) ≡ true
-unfolding is_plain is_char between
+digit-plain : (b : ℕ) (s : Text) → is_digit b ≡ true → starts_character (b ∷ s) ≡ true
+unfolding starts_character is_char between
 digit-plain b s h =
     let (low, high) = digit-within b h in
     rw (ne_eqb b 38 (λ e. omega arith), ne_eqb b 9 (λ e. omega arith), ne_eqb b 10 (λ e. omega arith), ne_eqb b 13 (λ e. omega arith), le-leb 32 b (omega arith), le-leb b 55295 (omega arith))
@@ -106,7 +107,7 @@ around-fine word xs ms t h =
 
 -- quoted words compute
 unfoldable words : Unit {0}
-unfolding computes name_fine is_name_text begins is_byte_of name_of is_name_start is_name is_letter prefixed attr new_keys is_among
+unfolding computes name_fine is_name_text begins is_byte_of leading_name is_name_start is_name is_letter prefixed attr new_keys is_among
 words = tt
 
 one-fine : (word key : String) (v : Text) → name_fine (prefixed word) ≡ true → name_fine (bytes key) ≡ true → value_fine v ≡ true → tag_fine (prefixed_tag word (attr key v ∷ [])) ≡ true
@@ -155,11 +156,11 @@ unfolding words
 pair-fine word n t w n_text t_text h = tag-fine word (attr "name" n ∷ attr "type" t ∷ []) w (named-fine n t [] n_text t_text h refl) refl refl
 
 unbounded-fine : value_fine (bytes "unbounded") ≡ true
-unfolding words value_fine holds is_value quote_of contains is_plain is_char
+unfolding words value_fine holds is_value quote_of contains starts_character is_char
 unbounded-fine = refl
 
 required-fine : value_fine (bytes "required") ≡ true
-unfolding words value_fine holds is_value quote_of contains is_plain is_char
+unfolding words value_fine holds is_value quote_of contains starts_character is_char
 required-fine = refl
 
 bounds-fine : (n t : Text) (low : ℕ) (high : MaxOccurs) → is_text n ≡ true → is_text t ≡ true → ltb low (2 ^ 32) ≡ true → max_occurs_ok high ≡ true → row_holds (occurs_row n t low high) ≡ true
@@ -177,7 +178,7 @@ element-fine e k h =
 variant-fine : (v : ChoiceVariant) → choice_variant_ok v ≡ true → row_holds (variant_row v) ≡ true → markup_fine (variant_markup v) ≡ true
 unfolding words variant_row row variant_markup markup_fine choice_variant_ok
 variant-fine v k h =
-    let (a, b) = two (is_text v.name) (is_text v.type_name) k in
+    let (a, b) = and_parts (is_text v.name) (is_text v.type_name) k in
     pair-fine "element" v.name v.type_name refl a b h
 
 use-fine : (n t : Text) (required : Bool) → is_text n ≡ true → is_text t ≡ true → every holds (n ∷ t ∷ []) ≡ true
@@ -191,7 +192,7 @@ use-fine n t false a b h = pair-fine "attribute" n t refl a b h
 attribute-fine : (x : Attribute) → attribute_ok x ≡ true → row_holds (attribute_row x) ≡ true → markup_fine (attribute_markup x) ≡ true
 unfolding attribute_row row attribute_ok
 attribute-fine x k h =
-    let (a, b) = two (is_text x.name) (is_text x.type_name) k in
+    let (a, b) = and_parts (is_text x.name) (is_text x.type_name) k in
     use-fine x.name x.type_name x.required a b h
 
 children-fine : {A : Type 0} (ok : A → Bool) (f : A → Row) (g : A → Markup) → ((x : A) → ok x ≡ true → row_holds (f x) ≡ true → markup_fine (g x) ≡ true)
@@ -235,7 +236,7 @@ content-fine n (ComplexContent.choice vs) event k h =
           (children-fine choice_variant_ok variant_row variant_markup variant-fine vs k (every-tail row_holds (row 13 (n ∷ []) 0 0 event) (map variant_row vs) h)),
     )
 content-fine n (ComplexContent.simple_content base xs) event k h =
-    let (b, a) = two (is_text base) (every attribute_ok xs) k in
+    let (b, a) = and_parts (is_text base) (every attribute_ok xs) k in
     let t = every-head row_holds (row 14 (n ∷ base ∷ []) 0 0 event) (map attribute_row xs) h in
     let v = value-fine base b (every-head holds base [] (every-tail holds n (base ∷ []) t)) in
     let ms = map attribute_markup xs in (
@@ -253,13 +254,13 @@ content-fine n (ComplexContent.any (some v)) event k h =
 item-fine : (i : Item) → item_ok i ≡ true → every row_holds (item_rows i) ≡ true → every markup_fine (item_markup i) ≡ true
 unfolding words item_ok element_ok item_rows row item_markup markup_fine
 item-fine (Item.element e) k h =
-    let (a, b) = two (is_text e.name) (is_text e.type_name) k in
+    let (a, b) = and_parts (is_text e.name) (is_text e.type_name) k in
     and-true (pair-fine "element" e.name e.type_name refl a b (every-head row_holds (row 2 (e.name ∷ e.type_name ∷ []) 0 0 e.event) [] h)) refl
 item-fine (Item.simple_type t) k h =
     let (a, b, c) = three (is_text t.name) (is_text t.base) (every facet_ok t.facets) k in
     simple-fine t.name t.base t.facets t.event a b c h
 item-fine (Item.complex_type t) k h =
-    let (a, c) = two (is_text t.name) (content_ok (started t.content)) k in
+    let (a, c) = and_parts (is_text t.name) (content_ok (started t.content)) k in
     let (n, m) = content-fine t.name t.content t.event c h in
     around-fine "complexType" (attr "name" t.name ∷ []) (content_markup t.content) (one-fine "complexType" "name" t.name refl refl (value-fine t.name a n)) m
 
@@ -267,7 +268,7 @@ items-fine : (is : List Item) → every item_ok is ≡ true → every row_holds 
 unfolding every items_rows items_markup
 items-fine [] k h = refl
 items-fine (i ∷ is) k h =
-    let (a, b) = two (every row_holds (item_rows i)) (every row_holds (items_rows is)) (sym (every_append row_holds (item_rows i) (items_rows is)) ∙ h) in
+    let (a, b) = and_parts (every row_holds (item_rows i)) (every row_holds (items_rows is)) (sym (every_append row_holds (item_rows i) (items_rows is)) ∙ h) in
     every-append-true markup_fine (item_markup i) (items_markup is) (item-fine i (and-true-left (item_ok i) (every item_ok is) k) a) (items-fine is (and-true-right (item_ok i) (every item_ok is) k) b)
 
 -- ---- the schema
@@ -288,7 +289,7 @@ none-unheld s h =
     (λ e. let z : ◌≡◌ {A = ℕ} 0 1 = cc (rw e at h) in absurd (omega arith))
 
 namespace-fine : value_fine (bytes "http://www.w3.org/2001/XMLSchema") ≡ true
-unfolding words value_fine holds is_value quote_of contains is_plain is_char
+unfolding words value_fine holds is_value quote_of contains starts_character is_char
 namespace-fine = refl
 
 abbrev pub schema_attributes : Text → List Attr
@@ -297,7 +298,7 @@ schema_attributes n = attr "xmlns:xs" (bytes "http://www.w3.org/2001/XMLSchema")
 pub schema-fine : (s : Schema) → schema_ok s ≡ true → first_unheld s ≡ none → every markup_fine (schema_markup s) ≡ true
 unfolding words schema_ok schema_markup
 schema-fine s k h =
-    let (t, is) = two (is_text s.target_namespace) (every item_ok s.items) k in
+    let (t, is) = and_parts (is_text s.target_namespace) (every item_ok s.items) k in
     let (n, rs) = none-unheld s h in
     let xs = schema_attributes s.target_namespace in
     let v = value-fine s.target_namespace t n in

@@ -29,6 +29,7 @@ use Rattle.xsd_written.specs.Schema.{attribute_markup, namespace_of, content_mar
 use Rattle.xsd_written.specs.Reads.{event_of_markup, events_of, Below, Handled, none_left, one_more}
 use Rattle.xsd_written.proofs.Laws.Handled.{below-same, below_then, below_more, below-behind, handled-then}
 use Rattle.xsd_written.proofs.Laws.Children.{reader, simple, complex, facet-read, element-read, variant-read, attribute-read}
+use Rattle.xsd_types.proofs.Laws.Counted.{items_rows-append}
 
 -- ---- events of markup
 
@@ -49,11 +50,6 @@ unfolding names_of
 below-cons n m {a} {b} h p =
     record { rows = omega (arith, p.rows); names = omega (arith, p.names, length-append (join n.texts) (names_of a), length-append (join m.texts) (names_of b)) }
 
-items-rows : (is js : List Item) → items_rows (is ++ js) ≡ items_rows is ++ items_rows js
-unfolding items_rows
-items-rows [] js = refl
-items-rows (i ∷ is) js = ap (λ (rs : List Row). item_rows i ++ rs) (items-rows is js) ∙ sym (append_assoc (item_rows i) (items_rows is) (items_rows js))
-
 -- ---- states
 
 abbrev pub with_one : Schema → Item → Schema
@@ -71,7 +67,7 @@ module _ (by_standard : Bool) where
   item-below : (z : Schema) (c : Context) (i : Item) (o e p f : ℕ) → Below (context_rows c) (item_rows i) → Below (rows_of (within z c o e)) (rows_of (within (with_one z i) (Context.in_schema 0) p f))
   unfolding rows_of context_rows items_rows namespace_row row
   item-below z c i o e p f h =
-      let r : items_rows (z.items ++ i ∷ []) ++ [] ≡ items_rows z.items ++ item_rows i = append-nil (items_rows (z.items ++ i ∷ [])) ∙ items-rows z.items (i ∷ [])
+      let r : items_rows (z.items ++ i ∷ []) ++ [] ≡ items_rows z.items ++ item_rows i = append-nil (items_rows (z.items ++ i ∷ [])) ∙ items_rows-append z.items (i ∷ [])
       ∙ ap (λ (rs : List Row). items_rows z.items ++ rs) (append-nil (item_rows i)) in
       below-cons (namespace_row z.target_namespace) (namespace_row z.target_namespace) (omega arith) (rw r (below-behind (items_rows z.items) h))
 

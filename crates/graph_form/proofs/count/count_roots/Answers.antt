@@ -1,24 +1,9 @@
--- `graph_form::count::count_roots` meets its contract. The invariant: the roots so far and those of the rows from the place at hand on are all. Assumes nothing.
-use Prim.Native.Nat.{ℕ}
-use mathlib.Core.Path.{ap, ◌∙◌}
-use mir.Val.{bool_byte}
-use native.Mathlib.Omega.{arith}
+-- `graph_form::count::count_roots` meets its contract. Assumes nothing.
+use mathlib.Core.Path.{◌∙◌}
+use Rattle.std.proofs.Common.{rules, tests}
 use Rattle.graph_form.specs.Tests.{is_root}
-use Rattle.graph_form.proofs.Laws.Count.{flag-small, counted-on, counted-end}
+use Rattle.graph_form.proofs.Laws.Count.{counted}
 use Rattle.graph_form.proofs.count.count_roots.Goals as goal
 
-pub loop-place-init : goal.loop-place-init
-loop-place-init c = (omega arith, omega arith)
-
-pub overflow_add-n : goal.overflow_add-n
-overflow_add-n c = omega (arith, flag-small _ c.from-n.ensures, c.loop-place.invariant.0, c.loop-place-test.true)
-
-pub loop-place-preserved : goal.loop-place-preserved
-loop-place-preserved c =
-    let loop = c.loop-place in (
-      omega (arith, flag-small _ c.from-n.ensures, loop.invariant.0),
-      counted-on is_root _ loop.n loop.place _ c.loop-place-test.true (c.from-n.ensures ∙ ap (λ (t : ℕ). bool_byte (is_root t)) c.tag.ensures) ∙ loop.invariant.1,
-    )
-
 pub returns : goal.returns
-returns c = counted-end is_root _ c.loop-place.n c.loop-place.place _ c.loop-place-test.false c.loop-place.invariant.1
+returns c = c.count_tags.ensures is_root (λ tag b e. search (rules, tests)) ∙ counted is_root c.args.part.now.rows.now c.args.part.now.end c.requires

@@ -7,4 +7,4 @@ use Rattle.ir_reduce.proofs.index.index_heads.Given as goal
 
 abbrev pub invariant-loop-place : goal.invariant-loop-place
 invariant-loop-place l = (l.table.numbers.ghost_name ≡ l.initial.table.numbers.ghost_name) × (l.table.buckets ≡ buckets) × (length l.table.numbers.now ≡ 8192)
-    × Entering l.part.rows.now l.part.names.now l.part.end l.table.numbers.now l.table.entries l.place
+    × Entering l.part.rows.now l.part.names.now l.part.end l.table.numbers.now l.table.entries l.table.sorted l.place

@@ -9,6 +9,6 @@ pub overflow_cast-to : goal.overflow_cast-to
 overflow_cast-to c = omega (
   arith,
   c.unwrap_or.ensures ∙ ap (λ o. unwrap_or o 0) c.target_at.ensures,
-  target-inside c.requires.0.all.index c.loop-place.place,
+  target-inside c.requires.0.all c.loop-place.place,
   c.requires.1,
 )

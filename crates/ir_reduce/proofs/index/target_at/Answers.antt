@@ -1,4 +1,5 @@
 -- `ir_reduce::index::target_at` meets its contract: what is asked for is the definition's text. Assumes nothing.
+use mathlib.Core.Path.{◌∙◌}
 use native.Mathlib.Omega.{arith}
 use Rattle.ir_reduce.proofs.Laws.Index.{asked-at-most, target_none, target-some}
 use Rattle.ir_reduce.proofs.index.target_at.Goals as goal
@@ -16,4 +17,4 @@ pub returns : goal.returns
 returns c =
     let a = c.args in
     rw (target-some a.part.now.rows.now a.part.now.names.now _ a.place c.in_ok-pair.ensures)
-    (rw (c.pair_text.ensures, c.requires.0.buckets_are) at c.find.ensures)
+    ((rw (c.pair_text.ensures, c.requires.0.buckets_are) at c.find.ensures) ∙ c.requires.0.all.answers _)

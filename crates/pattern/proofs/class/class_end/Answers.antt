@@ -3,7 +3,7 @@
 use borrow.Author.Tests.{ne_eqb, not-true}
 use native.Mathlib.Omega.{arith}
 use mathlib.Core.Path.{refl, sym, ◌∙◌}
-use Rattle.pattern.specs.Scan.{Mode, go, step, final}
+use Rattle.pattern.specs.Scan.{Mode, go, pattern_step, final}
 use Rattle.pattern.specs.Answers.{is_bracket}
 use Rattle.pattern.proofs.Laws.Places.{byte-to, end-at, opened-at, bracket-first}
 use Rattle.pattern.proofs.class.class_end.Goals as goal
@@ -24,7 +24,7 @@ returns-then-s-e c =
     λ d. z.invariant.2 d ∙ g.reads d ∙ end-at (go d Mode.class) _ c.in_class_end-e.result c.if-s-e.true
 
 pub returns-then-s-e-eq93 : goal.returns-then-s-e-eq93
-unfolding step
+unfolding pattern_step
 returns-then-s-e-eq93 c =
     let z = c.loop-i in
     let g = c.in_class_end-e.ensures in

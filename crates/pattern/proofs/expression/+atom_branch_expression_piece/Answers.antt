@@ -4,10 +4,11 @@ use Prim.Native.Nat.{ℕ, suc, ◌+◌}
 use mathlib.Core.Path.{◌≡◌, refl, sym, ap, ◌∙◌}
 use mathlib.Core.Bool.{true}
 use borrow.Author.Tests.{eqb-true}
+use Rattle.pattern.specs.Grammar.{is_mark}
 use Rattle.pattern.specs.Scan as scanning
-use Rattle.pattern.specs.Scan.{is_escaped, go, scan, step, fresh, leave, final, start}
-use Rattle.pattern.specs.Answers.{is_close, is_tail, any_byte}
-use Rattle.pattern.proofs.Laws.Places.{end-at, to_at, off_at, byte-to, before, behind, open-final, close-byte, fresh-off, unmarked-at, unmarked-end, mark-at}
+use Rattle.pattern.specs.Scan.{is_escaped, go, scan, pattern_step, fresh, leave, final, start}
+use Rattle.pattern.specs.Answers.{is_close, is_branch_end, any_byte}
+use Rattle.pattern.proofs.Laws.Places.{end-at, to_at, off_at, byte-to, before, behind, open-final, close-byte, fresh-off, unmarked-at, unmarked-end, mark-at, marked-off}
 use Rattle.pattern.proofs.Laws.Places.{escaped-off, escaped-part, plain-no_tail}
 use Rattle.pattern.proofs.Laws.Derived.{plain-fresh}
 use Rattle.pattern.proofs.expression.+atom_branch_expression_piece.Goals.{branch-else-not-is_plain-via-then-not-is_plain+else-s-i, branch-else-not-is_plain-via-else-not-is_plain}
@@ -18,19 +19,19 @@ unfolding is_close
 closing b e = eqb-true b 41 e
 
 pub atom-returns-in_err-e : goal.atom-returns-in_err-e
-unfolding step fresh
+unfolding pattern_step fresh
 atom-returns-in_err-e t c =
     rw c.from_residual.ensures (λ d. byte-to (go d start) c.args.s.now c.args.at 40 c.requires.0 c.if-b-eq40.true refl ∙ c.in_err-e.ensures (suc d))
 
 pub atom-returns-then-s-e : goal.atom-returns-then-s-e
-unfolding step fresh
+unfolding pattern_step fresh
 atom-returns-then-s-e t c =
     let s = c.args.s.now in
     λ d. byte-to (go d start) s c.args.at 40 c.requires.0 c.if-b-eq40.true refl ∙ c.in_ok-e.ensures.reads (suc d)
     ∙ end-at (go (suc d) start) s c.in_ok-e.e c.if-s-e.true ∙ open-final d
 
 pub atom-returns-then-b-eq40 : goal.atom-returns-then-b-eq40
-unfolding step fresh leave
+unfolding pattern_step fresh leave
 atom-returns-then-b-eq40 t c =
     let s = c.args.s.now in
     let g = c.in_ok-e.ensures in
@@ -44,7 +45,7 @@ atom-returns-then-b-eq40 t c =
     }
 
 pub atom-returns-then-b-eq91 : goal.atom-returns-then-b-eq91
-unfolding step fresh
+unfolding pattern_step fresh
 atom-returns-then-b-eq91 t c =
     let s = c.args.s.now in
     let at = c.args.at in
@@ -52,7 +53,7 @@ atom-returns-then-b-eq91 t c =
     (λ d. byte-to (go d start) s at 91 c.requires.0 c.if-b-eq91.true refl) c.class_end.result c.class_end.ensures
 
 pub atom-returns-then-is_escaped : goal.atom-returns-then-is_escaped
-unfolding step fresh final
+unfolding pattern_step fresh final
 atom-returns-then-is_escaped t c =
     let s = c.args.s.now in
     let at = c.args.at in
@@ -60,7 +61,7 @@ atom-returns-then-is_escaped t c =
     (sym (c.is_escaped.ensures ∙ ap is_escaped c.byte_at.ensures) ∙ c.if-is_escaped.true)
 
 pub atom-returns-then-b-eq92 : goal.atom-returns-then-b-eq92
-unfolding step fresh final
+unfolding pattern_step fresh final
 atom-returns-then-b-eq92 t c =
     let s = c.args.s.now in
     let at = c.args.at in
@@ -68,7 +69,7 @@ atom-returns-then-b-eq92 t c =
     λ d. byte-to (go d start) s at 92 c.requires.0 c.if-b-eq92.true refl ∙ escaped-off scanning.escape scanning.atom (λ d b. refl) (λ d. refl) s (at + 1) x d
 
 pub atom-returns-then-is_plain : goal.atom-returns-then-is_plain
-unfolding step
+unfolding pattern_step
 atom-returns-then-is_plain t c =
     let g = c.plain_end.ensures in
     record {
@@ -79,19 +80,19 @@ atom-returns-then-is_plain t c =
     }
 
 pub atom-returns : goal.atom-returns
-unfolding step
+unfolding pattern_step
 atom-returns t c =
     λ d. off_at (go d start) c.args.s.now c.args.at c.requires.0
     (fresh-off d _ c.if-b-eq40.false c.requires.1 c.if-b-eq91.false c.if-b-eq92.false (sym c.is_plain.ensures ∙ c.if-is_plain.false))
 
 pub branch-returns-then-s-i : goal.branch-returns-then-s-i
-unfolding is_tail
+unfolding is_branch_end
 branch-returns-then-s-i t c =
     let z = c.loop-i.invariant in
     record { onward = z.0; within = z.1; stops = λ _. c.if-s-i.true; reads = z.2 }
 
 pub branch-piece-requires : goal.branch-piece-requires
-unfolding is_tail
+unfolding is_branch_end
 branch-piece-requires t c = (
   omega arith,
   (
@@ -114,7 +115,7 @@ expression-returns-then-s-e-ne124 t c =
     }
 
 pub expression-loop-e-preserved : goal.expression-loop-e-preserved
-unfolding step fresh
+unfolding pattern_step fresh
 expression-loop-e-preserved t c =
     let g = c.in_ok-e.ensures in (
       omega (arith, g.onward),
@@ -127,11 +128,16 @@ piece-returns-then-s-e t c =
     let g = c.in_ok-e.ensures in
     behind g (omega arith) g.within (λ d. unmarked-end d c.args.s.now c.in_ok-e.e c.if-s-e.true)
 
+pub piece-returns-then-not-is_mark : goal.piece-returns-then-not-is_mark
+piece-returns-then-not-is_mark t c =
+    let g = c.in_ok-e.ensures in
+    behind g (omega arith) g.within (λ d. unmarked-at d c.args.s.now c.in_ok-e.e (sym c.is_mark.ensures ∙ c.if-not-is_mark.true))
+
 pub piece-returns-then-is_mark : goal.piece-returns-then-is_mark
 piece-returns-then-is_mark t c =
-    behind c.in_ok-e.ensures (omega arith) (omega arith) (λ d. mark-at d c.args.s.now c.in_ok-e.e c.if-s-e.false (sym c.is_mark.ensures ∙ c.if-is_mark.true))
+    let x = sym (c.is_mark-2.ensures ∙ ap is_mark c.byte_at.ensures) ∙ c.if-is_mark.true in
+    λ d. c.in_ok-e.ensures.reads d ∙ mark-at d c.args.s.now c.in_ok-e.e c.if-s-e.false (sym c.is_mark.ensures ∙ c.if-not-is_mark.false) ∙ marked-off d _ x
 
-pub piece-returns-else-is_mark : goal.piece-returns-else-is_mark
-piece-returns-else-is_mark t c =
-    let g = c.in_ok-e.ensures in
-    behind g (omega arith) g.within (λ d. unmarked-at d c.args.s.now c.in_ok-e.e (sym c.is_mark.ensures ∙ c.if-is_mark.false))
+pub piece-returns : goal.piece-returns
+piece-returns t c =
+    behind c.in_ok-e.ensures (omega arith) (omega arith) (λ d. mark-at d c.args.s.now c.in_ok-e.e c.if-s-e.false (sym c.is_mark.ensures ∙ c.if-not-is_mark.false))

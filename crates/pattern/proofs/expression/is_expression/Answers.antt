@@ -7,8 +7,8 @@ use lib.ListN.{length, drop, get_or}
 use borrow.Author.Tests.{eqb-true, leb-true, leb-false}
 use Rattle.text.specs.Text.{Text}
 use Rattle.pattern.specs.Grammar.{Derives, reg_exp}
-use Rattle.pattern.specs.Scan.{start, go, scan, step, fresh, leave, final}
-use Rattle.pattern.specs.Answers.{Goes, Judged, is_close}
+use Rattle.pattern.specs.Scan.{start, go, scan, pattern_step, fresh, leave, final}
+use Rattle.pattern.specs.Answers.{Goes, ExpressionJudged, is_close}
 use Rattle.pattern.proofs.Laws.Places.{byte-to, stop-at, end-at}
 use Rattle.pattern.proofs.Laws.One.{derived-true}
 use Rattle.pattern.proofs.Laws.Sound.{scan-derived}
@@ -17,11 +17,11 @@ use Rattle.pattern.proofs.expression.is_expression.Goals as goal
 judged-false : (s : Text) → scan (go 0 start) s ≡ false → Derives reg_exp s → ⊥
 judged-false s e k = false≢true (sym e ∙ derived-true s k)
 
-judged : (s : Text) (e : ℕ) → Goes s start 0 start 0 e is_close → Judged s (leb (length s) e)
-unfolding is_close step fresh leave final
+judged : (s : Text) (e : ℕ) → Goes s start 0 start 0 e is_close → ExpressionJudged s (leb (length s) e)
+unfolding is_close pattern_step fresh leave final
 judged s e g = go_on (leb (length s) e) refl
   where
-    go_on : (t : Bool) → leb (length s) e ≡ t → Judged s t
+    go_on : (t : Bool) → leb (length s) e ≡ t → ExpressionJudged s t
     go_on true w = scan-derived s (g.reads 0 ∙ end-at (go 0 start) s e (leb-true (length s) e w))
     go_on false w =
         let h = leb-false (length s) e w in

@@ -4,4 +4,4 @@ use Rattle.rows.proofs.used.pair_is_text.Goals as goal
 
 pub returns-else-not-used : goal.returns-else-not-used
 unfolding text_at
-returns-else-not-used g c = rw (c.if-not-used.false, ← c.wide.ensures, ← c.wide-else-not-used.ensures, ← c.part_of.ensures) c.is_text.ensures
+returns-else-not-used g c = rw (c.if-not-used.false, ← c.part_of.ensures) c.is_text.ensures

@@ -5,4 +5,5 @@ use Rattle.rows.proofs.used.row_is_text.Goals as goal
 
 pub returns : goal.returns
 returns g c =
-    used-texts g.R.RowTests.tests c.args.names.now (as_ten c.args.t) c.used_pairs-used.ensures c.pair_is_text.ensures c.pair_is_text-2.ensures c.pair_is_text-3.ensures
+    used-texts g.R.RowTests.tests c.args.names.now (as_ten c.args.t) c.used_pairs-used.ensures (rw c.pair.ensures at c.pair_is_text.ensures)
+    (rw c.pair-2.ensures at c.pair_is_text-2.ensures) (rw c.pair-3.ensures at c.pair_is_text-3.ensures)

@@ -6,11 +6,11 @@ use mathlib.Core.Bool.{true, false, not, ◌&&◌, false≢true}
 use native.Mathlib.Omega.{arith}
 use lib.Dec.{eqb}
 use lib.ListN.{length, drop, length-append}
-use Rattle.text.specs.Text.{Text, bytes, between, lower}
+use Rattle.text.specs.Text.{Text, bytes, between, lower_byte}
 use Rattle.text.specs.Trim.{is_white_space}
 use Rattle.text.proofs.Laws.Tests.{bool_cases, or-false-right}
 use Rattle.xml.specs.Classes.{is_letter, is_name_start, is_name, is_byte_of, begins}
-use Rattle.xml.specs.Steps.{behind, starts_with, name_of}
+use Rattle.xml.specs.Steps.{behind, starts_with, leading_name}
 use Rattle.xml.specs.Grammar.{is_xml, absent, present, Many, none, more, run, PITarget, PI, declares, XMLDecl, xml_decl, Misc, misc_comment, misc_pi, misc_s, Prolog}
 use Rattle.xml.specs.Prolog.{declaration, is_misc, misc, is_declaration, prolog}
 use Rattle.xml.specs.Grammar as grammar
@@ -41,12 +41,12 @@ declaration-is (xml_decl (declares (run {b} y h) c d) e f o) r = ap not (white-n
 white-no-less : (b : ℕ) → is_white_space b ≡ true → eqb b 60 ≡ false
 white-no-less = white-is (λ (b : ℕ). eqb b 60 ≡ false) refl refl refl refl
 
-name-xml : (n : Text) (s : Text) → name_of s ≡ n → starts_with (bytes "xml") s ≡ true → begins is_name (drop 3 s) ≡ false → is_xml n ≡ true
-unfolding is_xml bytes lower between is_byte_of is_name is_name_start is_letter
+name-xml : (n : Text) (s : Text) → leading_name s ≡ n → starts_with (bytes "xml") s ≡ true → begins is_name (drop 3 s) ≡ false → is_xml n ≡ true
+unfolding is_xml bytes lower_byte between is_byte_of is_name is_name_start is_letter
 name-xml n s h k f =
     let w = word-starts (bytes "xml") s k in
     let e : n ≡ bytes "xml" =
-    sym h ∙ ap name_of w ∙ name_of-some 120 _ refl
+    sym h ∙ ap leading_name w ∙ name_of-some 120 _ refl
     ∙ ap (λ (t : Text). 120 ∷ t) (name_of-some 109 _ refl ∙ ap (λ (t : Text). 109 ∷ t) (name_of-some 108 _ refl ∙ ap (λ (t : Text). 108 ∷ t) (name_of-none (drop 3 s) f))) in
     ap is_xml e
 

@@ -11,10 +11,11 @@ use lib.Seq.{drop-append_seam, take-append_seam}
 use borrow.Author.Tests.{eqb-true, eq-eqb}
 use Rattle.text.specs.Text.{Text, bytes, first, every, between}
 use Rattle.text.specs.Trim.{is_white_space}
-use Rattle.text.proofs.Laws.Tests.{bool_cases, two}
+use Rattle.std.proofs.lemmas.Bool.{and_parts}
+use Rattle.text.proofs.Laws.Tests.{bool_cases}
 use Rattle.text.proofs.Laws.Table.{passes, at as at_place}
 use Rattle.xml.specs.Classes.{is_char, is_letter, is_name_start, is_name, begins}
-use Rattle.xml.specs.Steps.{Step, behind, ◌and_then◌, starts_with, literal, many, one_then, spaces, space, name, name_of}
+use Rattle.xml.specs.Steps.{Step, behind, ◌and_then◌, starts_with, literal, many, one_then, spaces, space, name, leading_name}
 use Rattle.xml.specs.Grammar.{Opt, absent, present, Many, none, more, Run, run, CharOf, one_byte, two_bytes, S, Name, Eq, equals}
 use Rattle.xml.specs.Grammar as grammar
 use Rattle.xml.specs.Prolog.{eq}
@@ -98,35 +99,35 @@ unfolding one_then
 run-complete p q (run {b} {s} y h) at r n = rw y (many-written q (suc at) s r h n ∙ behind-same (omega arith))
 
 -- names
-name-chars : (s : Text) → Many (CharOf is_name) (name_of s)
+name-chars : (s : Text) → Many (CharOf is_name) (leading_name s)
 name-chars s =
-    by_name (λ u. Many (CharOf is_name) (name_of u))
+    by_name (λ u. Many (CharOf is_name) (leading_name u))
     (λ u e. rw (name_of-none u e) none)
     (λ b u e m. rw (name_of-some b u e) (more (one_byte e) m))
     (λ b t u e m. rw (name_of-pair b t u e) (more (two_bytes e) m))
     s
 
-pub name-made : (s : Text) → begins is_name_start s ≡ true → Name (name_of s)
+pub name-made : (s : Text) → begins is_name_start s ≡ true → Name (leading_name s)
 name-made s e =
-    begins-cases is_name_start (λ u. Name (name_of u)) s e
+    begins-cases is_name_start (λ u. Name (leading_name u)) s e
     (λ b u h. rw (name_of-some b u (byte-inside is_name_start is_name start-is-name b h)) (grammar.name (one_byte h) (name-chars u)))
     (λ b t u h. rw (name_of-pair b t u (pair-inside is_name_start is_name start-is-name b t h)) (grammar.name (two_bytes h) (name-chars u)))
 
 pub name-sound : Sound Name name
 name-sound at s e r q =
     let n = name-read at s e r q in (
-      name_of s,
+      leading_name s,
       name-made s n.0,
-      sym (take-append-drop (length (name_of s)) s) ∙ ap (λ (t : Text). t ++ drop (length (name_of s)) s) (name_of-take s) ∙ ap (λ (t : Text). name_of s ++ t) (sym n.2),
+      sym (take-append-drop (length (leading_name s)) s) ∙ ap (λ (t : Text). t ++ drop (length (leading_name s)) s) (name_of-take s) ∙ ap (λ (t : Text). leading_name s ++ t) (sym n.2),
       n.1,
     )
 
-chars-complete : {v : Text} → Many (CharOf is_name) v → (r : Text) → begins is_name r ≡ false → name_of (v ++ r) ≡ v
+chars-complete : {v : Text} → Many (CharOf is_name) v → (r : Text) → begins is_name r ≡ false → leading_name (v ++ r) ≡ v
 chars-complete none r n = name_of-none r n
 chars-complete (more {t} (one_byte {b} e) m) r n = name_of-some b (t ++ r) e ∙ ap (λ (u : Text). b ∷ u) (chars-complete m r n)
 chars-complete (more {t} (two_bytes {b} {t = c} e) m) r n = name_of-pair b c (t ++ r) e ∙ ap (λ (u : Text). b ∷ c ∷ u) (chars-complete m r n)
 
-pub name_of-complete : {v : Text} → Name v → (r : Text) → begins is_name r ≡ false → name_of (v ++ r) ≡ v
+pub name_of-complete : {v : Text} → Name v → (r : Text) → begins is_name r ≡ false → leading_name (v ++ r) ≡ v
 name_of-complete (grammar.name {t} (one_byte {b} e) m) r n =
     name_of-some b (t ++ r) (byte-inside is_name_start is_name start-is-name b e) ∙ ap (λ (u : Text). b ∷ u) (chars-complete m r n)
 name_of-complete (grammar.name {t} (two_bytes {b} {t = c} e) m) r n =
@@ -144,10 +145,10 @@ pub name-first : {v : Text} → Name v → (b : ℕ) × (u : Text) × (v ≡ b �
 name-first (grammar.name {t} (one_byte {b} e) m) = (b, t, refl, byte-may-start b e)
 name-first (grammar.name {t} (two_bytes {b} {t = c} e) m) = (b, c ∷ t, refl, pair-may-start b c e)
 
-pub name-whole : (at : ℕ) (s : Text) (e : ℕ) (r v : Text) → name at s ≡ behind e r → s ≡ v ++ r → e ≡ at + length v → name_of s ≡ v
+pub name-whole : (at : ℕ) (s : Text) (e : ℕ) (r v : Text) → name at s ≡ behind e r → s ≡ v ++ r → e ≡ at + length v → leading_name s ≡ v
 name-whole at s e r v q h k =
     let n = name-size at s e r q in
-    let size : length (name_of s) ≡ length v = omega (arith, n.0) in
+    let size : length (leading_name s) ≡ length v = omega (arith, n.0) in
     sym (name_of-take s) ∙ ap (λ (j : ℕ). take j s) size ∙ ap (take (length v)) h ∙ take-append_seam v r
 
 -- the four bytes of white space
@@ -181,7 +182,7 @@ space-complete n = run-complete is_white_space is_white_space n
 pub white-opt : (v : Text) → every is_white_space v ≡ true → Opt S v
 unfolding every
 white-opt [] h = absent
-white-opt (b ∷ v) h = let k = two (is_white_space b) (every is_white_space v) h in present (run k.0 k.1)
+white-opt (b ∷ v) h = let k = and_parts (is_white_space b) (every is_white_space v) h in present (run k.0 k.1)
 
 pub opt-white : {v : Text} → Opt S v → every is_white_space v ≡ true
 unfolding every

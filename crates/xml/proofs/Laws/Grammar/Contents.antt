@@ -13,7 +13,7 @@ use Rattle.text.proofs.Laws.Tests.{bool_cases, if-either}
 use Rattle.text.proofs.Laws.Texts.{same_refl, same-eq}
 use Rattle.xsd_parser.specs.Tape.{Pair}
 use Rattle.xml.specs.Classes.{is_letter, is_name_start, is_name, begins}
-use Rattle.xml.specs.Steps.{Step, bad, behind, ◌and_then◌, starts_with, literal, spaces, name, name_of, comment, instruction, section}
+use Rattle.xml.specs.Steps.{Step, bad, behind, ◌and_then◌, starts_with, literal, spaces, name, leading_name, comment, instruction, section}
 use Rattle.xml.specs.Values.{char_data}
 use Rattle.xml.specs.Tape.{AttributePairs, TapeEvent}
 use Rattle.xml.specs.Tags.{Tagged, untagged, tagged, tag}
@@ -38,7 +38,7 @@ ending-by : (n : Text) (d : Step) (m : Text) (a : ℕ) (r : Text) → ending_by 
 ending-by n bad m a r h = let z : ◌≡◌ {A = ℕ} 0 1 = cc in absurd (omega arith)
 ending-by n (behind b u) m a r h = (cc, cc)
 
-close-behind : (d : Step) (m : Text) (a : ℕ) (r : Text) → close_behind d ≡ ending m a r → (b : ℕ) × (t : Text) × (d ≡ behind b t) × (ending_by (name_of t) (closing b t) ≡ ending m a r)
+close-behind : (d : Step) (m : Text) (a : ℕ) (r : Text) → close_behind d ≡ ending m a r → (b : ℕ) × (t : Text) × (d ≡ behind b t) × (ending_by (leading_name t) (closing b t) ≡ ending m a r)
 close-behind bad m a r h = let z : ◌≡◌ {A = ℕ} 0 1 = cc in absurd (omega arith)
 close-behind (behind b t) m a r h = (b, t, refl, h)
 
@@ -50,7 +50,7 @@ unfolding close bytes
 close-sound at s m a r h =
     let l = close-behind (literal (bytes "</") at s) m a r h in
     let w = literal-sound (bytes "</") at s l.0 l.1 l.2 in
-    let i = ending-by (name_of l.1) (closing l.0 l.1) m a r l.3 in
+    let i = ending-by (leading_name l.1) (closing l.0 l.1) m a r l.3 in
     let z = then-ends (name l.0 l.1 and_then spaces) (literal (bytes ">")) a r i.1 in
     let y = then-ends (name l.0 l.1) spaces z.0 z.1 z.2 in
     let n = name-sound l.0 l.1 y.0 y.1 y.2 in
@@ -98,7 +98,7 @@ ending-piece at s n (behind a r) k = k a r refl
 closed-behind : (at : ℕ) (s : Text) (d : Step) → literal (bytes "</") at s ≡ d → PieceIs at s (close_behind d)
 closed-behind at s bad p = tt
 closed-behind at s (behind b t) p =
-    ending-piece at s (name_of t) (closing b t) (λ a r e. close-sound at s (name_of t) a r (close_of at s b t (behind a r) p e))
+    ending-piece at s (leading_name t) (closing b t) (λ a r e. close-sound at s (leading_name t) a r (close_of at s b t (behind a r) p e))
 
 closed-piece : (at : ℕ) (s : Text) → PieceIs at s (close at s)
 unfolding close

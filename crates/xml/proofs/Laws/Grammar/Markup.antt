@@ -10,10 +10,11 @@ use lib.ListN.{length, length-append}
 use borrow.Author.Tests.{eqb-true, eq-eqb, ne_eqb}
 use Rattle.text.specs.Text.{Text, bytes, first, every, between}
 use Rattle.text.specs.Trim.{is_white_space}
-use Rattle.text.proofs.Laws.Tests.{bool_cases, two}
+use Rattle.std.proofs.lemmas.Bool.{and_parts}
+use Rattle.text.proofs.Laws.Tests.{bool_cases}
 use Rattle.text.proofs.Laws.Every.{every-cons, every-append-true, every-weaken}
 use Rattle.xml.specs.Classes.{is_char, is_letter, is_name_start, is_name, begins}
-use Rattle.xml.specs.Steps.{behind, ◌and_then◌, starts_with, literal, until, comment, name_of, target, instruction_end, instruction, section}
+use Rattle.xml.specs.Steps.{behind, ◌and_then◌, starts_with, literal, until, comment, leading_name, target, instruction_end, instruction, section}
 use Rattle.xml.specs.Grammar.{is_xml, Opt, absent, present, Many, none, more, run, Without, S, CommentPart, no_hyphen, one_hyphen, Comment, PITarget, PIText, behind_target, PI, CDSect}
 use Rattle.xml.specs.Grammar as grammar
 use Rattle.xml.proofs.Laws.Names.{bad-not, begins-low}
@@ -114,7 +115,7 @@ pub until-complete : (w : ℕ) (word : Text) → Alone (w ∷ word) → (v : Tex
 unfolding until every
 until-complete w word al [] c n at r = rw (starts-word (w ∷ word) r) (literal-complete (w ∷ word) at r ∙ behind-same (omega arith))
 until-complete w word al (b ∷ v) c n at r =
-    let k = two (is_char b) (every is_char v) c in
+    let k = and_parts (is_char b) (every is_char v) c in
     rw (al b v r n, k.0) (until-complete w word al v k.1 (without-tail (w ∷ word) b v n) (suc at) r ∙ behind-same (omega arith))
 
 pub some-not : (w : ℕ) (word : Text) → Without (w ∷ word) []
@@ -132,12 +133,10 @@ question-alone b (c ∷ v) r n =
     (λ z. rw (y, z)))
     (λ y. rw y)
 
--- `]]>`
-pub bracket-alone : Alone (93 ∷ 93 ∷ 62 ∷ [])
+-- `]]>`, where the three bytes stand in what it does not stand in
+pub bracket-third : (b c d : ℕ) (v t : Text) → Without (93 ∷ 93 ∷ 62 ∷ []) (b ∷ c ∷ d ∷ v) → starts_with (93 ∷ 93 ∷ 62 ∷ []) (b ∷ c ∷ d ∷ t) ≡ false
 unfolding starts_with
-bracket-alone b [] r n = bool_cases (eqb b 93) (λ y. rw y) (λ y. rw y)
-bracket-alone b (c ∷ []) r n = bool_cases (eqb b 93) (λ y. bool_cases (eqb c 93) (λ z. rw (y, z)) (λ z. rw (y, z))) (λ y. rw y)
-bracket-alone b (c ∷ d ∷ v) r n =
+bracket-third b c d v t n =
     bool_cases (eqb b 93)
     (λ y. bool_cases (eqb c 93)
     (λ z. bool_cases (eqb d 62)
@@ -145,6 +144,12 @@ bracket-alone b (c ∷ d ∷ v) r n =
     (λ x. rw (y, z, x)))
     (λ z. rw (y, z)))
     (λ y. rw y)
+
+pub bracket-alone : Alone (93 ∷ 93 ∷ 62 ∷ [])
+unfolding starts_with
+bracket-alone b [] r n = bool_cases (eqb b 93) (λ y. rw y) (λ y. rw y)
+bracket-alone b (c ∷ []) r n = bool_cases (eqb b 93) (λ y. bool_cases (eqb c 93) (λ z. rw (y, z)) (λ z. rw (y, z))) (λ y. rw y)
+bracket-alone b (c ∷ d ∷ v) r n = bracket-third b c d v (v ++ (93 ∷ 93 ∷ 62 ∷ r)) n
 
 -- [18]
 pub section-sound : Sound CDSect section
@@ -166,7 +171,7 @@ section-complete (grammar.section {s} c n) at r =
 pub target_sound : Sound PITarget target
 unfolding target
 target_sound at s e r q =
-    bool_cases (is_xml (name_of s))
+    bool_cases (is_xml (leading_name s))
     (λ y. absurd (bad-not (rw y at q)))
     (λ y.
     let p = rw y at q in
@@ -181,7 +186,7 @@ target-complete (grammar.target n x) at r h = rw (name_of-complete n r h, x) (na
 first-white : (v r : Text) → is_white_space (first (v ++ (63 ∷ 62 ∷ r))) ≡ true → Before (63 ∷ 62 ∷ []) v → PIText v
 unfolding first is_white_space every bytes
 first-white [] r h k = absurd (false≢true h)
-first-white (b ∷ v) r h k = behind_target {s = b ∷ []} {t = v} (run h refl) (two (is_char b) (every is_char v) k.0).1 (without-tail (63 ∷ 62 ∷ []) b v k.1)
+first-white (b ∷ v) r h k = behind_target {s = b ∷ []} {t = v} (run h refl) (and_parts (is_char b) (every is_char v) k.0).1 (without-tail (63 ∷ 62 ∷ []) b v k.1)
 
 instruction-end-sound : (at : ℕ) (s : Text) (e : ℕ) (r : Text) → instruction_end at s ≡ behind e r → (v : Text) × Opt PIText v × (s ≡ v ++ (bytes "?>" ++ r))
 unfolding instruction_end bytes
@@ -200,8 +205,8 @@ unfolding every
 white-without [] t h n u w e = n u w e
 white-without (b ∷ s) t h n [] w e =
     let p : b ≡ 63 = cc in
-    false≢true (sym (white-not b (two (is_white_space b) (every is_white_space s) h).0) ∙ eq-eqb b 63 p)
-white-without (b ∷ s) t h n (c ∷ u) w e = white-without s t (two (is_white_space b) (every is_white_space s) h).1 n u w (cc)
+    false≢true (sym (white-not b (and_parts (is_white_space b) (every is_white_space s) h).0) ∙ eq-eqb b 63 p)
+white-without (b ∷ s) t h n (c ∷ u) w e = white-without s t (and_parts (is_white_space b) (every is_white_space s) h).1 n u w (cc)
 
 instruction-end-complete : {v : Text} → Opt PIText v → (at : ℕ) (r : Text) → instruction_end at (v ++ (bytes "?>" ++ r)) ≡ behind (at + length v + 2) r
 unfolding instruction_end bytes first is_white_space literal starts_with

@@ -9,7 +9,8 @@ use lib.ListN.{length, length-append}
 use borrow.Author.Tests.{eqb-true}
 use Rattle.text.specs.Text.{Text, bytes, first, every, between, is_digit}
 use Rattle.text.specs.Trim.{is_white_space}
-use Rattle.text.proofs.Laws.Tests.{bool_cases, two}
+use Rattle.std.proofs.lemmas.Bool.{and_parts}
+use Rattle.text.proofs.Laws.Tests.{bool_cases}
 use Rattle.xml.specs.Classes.{is_letter, is_encoding}
 use Rattle.xml.specs.Steps.{Step, behind, ◌and_then◌, starts_with, literal, many, one_then, spaces, space}
 use Rattle.xml.specs.Grammar.{Opt, absent, present, Many, none, more, S, Comment, PI, VersionNum, version_num, EncName, YesNo, Quoted, single, double, Declares}
@@ -77,7 +78,7 @@ white-over : (w : Text) → every is_white_space w ≡ true → (at : ℕ) (u : 
 unfolding spaces many every
 white-over [] h at u = ap (λ (x : ℕ). many is_white_space x u) (omega arith)
 white-over (b ∷ w) h at u =
-    let k = two (is_white_space b) (every is_white_space w) h in
+    let k = and_parts (is_white_space b) (every is_white_space w) h in
     rw k.0 (white-over w k.1 (suc at) u ∙ ap (λ (x : ℕ). many is_white_space x u) (omega arith))
 
 less-stop : (at : ℕ) (s : Text) → spaces at (60 ∷ s) ≡ behind at (60 ∷ s)

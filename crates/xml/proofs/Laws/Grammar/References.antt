@@ -9,11 +9,12 @@ use lib.Dec.{eqb, ltb}
 use lib.ListN.{length, drop}
 use borrow.Author.Tests.{eqb-true, lt-ltb, not-true, ltb-true}
 use Rattle.text.specs.Text.{Text, bytes, every, between, is_digit}
-use Rattle.text.proofs.Laws.Tests.{bool_cases, and-true, two, four}
+use Rattle.std.proofs.lemmas.Bool.{and_parts}
+use Rattle.text.proofs.Laws.Tests.{bool_cases, and-true, four}
 use Rattle.text.proofs.Laws.Texts.{between-low, between-high}
 use Rattle.text.proofs.Laws.Every.{every-append-true, every-weaken}
 use Rattle.xml.specs.Classes.{is_char, is_letter, is_name_start, is_name, is_byte_of, begins}
-use Rattle.xml.specs.Steps.{starts_with, name_of}
+use Rattle.xml.specs.Steps.{starts_with, leading_name}
 use Rattle.xml.specs.Grammar.{digit_of, Run, run, is_hex_digit, number_of, decimal, hex, amp, lt, gt, apos, quot, entity, Reference, entity_ref, char_ref}
 use Rattle.xml.specs.Values.{is_number, is_entity, is_reference, is_quote, is_in_text, is_in_value}
 use Rattle.xml.proofs.Laws.Grammar.Basics.{class-in, word-starts, regroup, name-made}
@@ -74,7 +75,7 @@ number-complete : (base v : ℕ) (p : ℕ → Bool) → ((b : ℕ) → p b ≡ t
 unfolding is_number number_of every
 number-complete base v p k n [] r h = refl
 number-complete base v p k n (b ∷ d) r h =
-    let t = two (p b) (every p d) h in
+    let t = and_parts (p b) (every p d) h in
     rw (n b t.0, lt-ltb (digit_of b) base (k b t.0)) (number-complete base (v * base + digit_of b) p k n d r t.1)
 
 zero-no-char : is_char 0 ≡ false
@@ -84,14 +85,14 @@ zero-no-char = refl
 some-digits : (base : ℕ) (p : ℕ → Bool) (d : Text) → every p d ≡ true → is_char (number_of base 0 d) ≡ true → Run p p d
 unfolding every number_of
 some-digits base p [] h c = absurd (false≢true (sym zero-no-char ∙ c))
-some-digits base p (b ∷ d) h c = let t = two (p b) (every p d) h in run t.0 t.1
+some-digits base p (b ∷ d) h c = let t = and_parts (p b) (every p d) h in run t.0 t.1
 
 -- [68]: the five entities
 entity-split : (w s : Text) → Reference w → starts_with w s ≡ true → (v : Text) × (r : Text) × Reference v × (s ≡ v ++ r)
 entity-split w s d h = (w, drop (length w) s, d, word-starts w s h)
 
 entity-sound : (s : Text) → is_entity s ≡ true → (v : Text) × (r : Text) × Reference v × (s ≡ v ++ r)
-unfolding is_entity bytes begins is_byte_of name_of is_name_start is_name is_letter between every
+unfolding is_entity bytes begins is_byte_of leading_name is_name_start is_name is_letter between every
 entity-sound s h =
     bool_cases (starts_with (bytes "&amp;") s) (λ y. entity-split (bytes "&amp;") s (entity_ref (entity (name-made (bytes "amp") refl) amp)) y)
     (λ y. bool_cases (starts_with (bytes "&lt;") s) (λ z. entity-split (bytes "&lt;") s (entity_ref (entity (name-made (bytes "lt") refl) lt)) z)

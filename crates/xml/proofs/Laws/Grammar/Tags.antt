@@ -10,14 +10,15 @@ use lib.ListN.{length, drop, length-append}
 use borrow.Author.Tests.{eq-eqb, ne_eqb, not-true}
 use Rattle.text.specs.Text.{Text, bytes, first, between}
 use Rattle.text.specs.Trim.{is_white_space}
-use Rattle.text.proofs.Laws.Tests.{bool_cases, two}
+use Rattle.std.proofs.lemmas.Bool.{and_parts}
+use Rattle.text.proofs.Laws.Tests.{bool_cases}
 use Rattle.xsd_parser.specs.Tape.{Pair}
 use Rattle.xml.specs.Classes.{is_letter, is_name_start, is_name, begins}
-use Rattle.xml.specs.Steps.{Step, bad, behind, starts_with, literal, spaces, name, name_of}
+use Rattle.xml.specs.Steps.{Step, bad, behind, starts_with, literal, spaces, name, leading_name}
 use Rattle.xml.specs.Values.{value}
 use Rattle.xml.specs.Prolog.{eq}
 use Rattle.xml.specs.Tape.{AttributePairs, TapeEvent}
-use Rattle.xml.specs.Tags.{Part, wrong, last, more, span, attribute_from, attribute_behind, value_behind, eq_behind, attribute, part_behind, part_of, Ended, unended}
+use Rattle.xml.specs.Tags.{Part, wrong, last, more, span, attribute_from, attribute_behind, value_behind, eq_behind, attribute, part_behind, part_of, TagEnd, unended}
 use Rattle.xml.specs.Tags.{ended, on_part, attributes_from, attributes, untagged, tagged, tagged_by, attributes_behind, name_behind, tag}
 use Rattle.xml.specs.Grammar.{is_among, Opt, absent, present, run, S, Name, Eq, equals, AttValue, double_quoted, single_quoted, Attribute, Attributes, no_attribute}
 use Rattle.xml.specs.Grammar.{one_more, new_key, TagBody, tag_body, STag, start_tag, EmptyElemTag, empty_tag}
@@ -42,7 +43,7 @@ module _ {x : AttributePairs} {key : Text} {a : ℕ} {r : Text} where
   value-part at s e bad h = wrong-not h
   value-part at s e (behind q t) h = (q, t, refl, h)
 
-  whole_part : (at : ℕ) (s : Text) (e q : ℕ) (d : Step) → attribute_behind at s e q d ≡ more x key a r → (d ≡ behind a r) × (attribute_from at e q a ≡ x) × (name_of s ≡ key)
+  whole_part : (at : ℕ) (s : Text) (e q : ℕ) (d : Step) → attribute_behind at s e q d ≡ more x key a r → (d ≡ behind a r) × (attribute_from at e q a ≡ x) × (leading_name s ≡ key)
   whole_part at s e q bad h = wrong-not h
   whole_part at s e q (behind f u) h =
       let m : f ≡ a = cc in
@@ -210,7 +211,7 @@ one-before keys before at s x key b v kind xs a r n t w c d p e (ks, ys, u, o, d
       ends-from (b + length u) (at + length (t ++ (w ++ u))) o kind a r (omega (arith, size)) f,
     )
 
-on-part-sound : (next : List Text → List AttributePairs → ℕ → Text → Ended) (kind : ℕ) (xs : List AttributePairs) (a : ℕ) (r : Text)
+on-part-sound : (next : List Text → List AttributePairs → ℕ → Text → TagEnd) (kind : ℕ) (xs : List AttributePairs) (a : ℕ) (r : Text)
     → ((keys : List Text) (before : List AttributePairs) (at : ℕ) (s : Text) → next keys before at s ≡ ended kind xs a r → Derived keys before at s kind xs a r)
     → (keys : List Text) (before : List AttributePairs) (at : ℕ) (s : Text) (d : Part) → part_of at s ≡ d → on_part next keys before d ≡ ended kind xs a r → Derived keys before at s kind xs a r
 unfolding part_of
@@ -256,13 +257,13 @@ tag-join at s t u n v o kind a r ks xs p q m h ds k (w, c, inr (y, z, f)) =
 untagged-not : {kind : ℕ} {pair : Pair} {xs : List AttributePairs} {n : Text} {a : ℕ} {r : Text} {A : Type 0} → untagged ≡ tagged kind pair xs n a r → A
 untagged-not q = let z : ◌≡◌ {A = ℕ} 0 1 = cc in absurd (omega arith)
 
-tag-by : (pair : Pair) (m : Text) (d : Ended) (kind : ℕ) (p : Pair) (xs : List AttributePairs) (n : Text) (a : ℕ) (r : Text) → tagged_by pair m d ≡ tagged kind p xs n a r
+tag-by : (pair : Pair) (m : Text) (d : TagEnd) (kind : ℕ) (p : Pair) (xs : List AttributePairs) (n : Text) (a : ℕ) (r : Text) → tagged_by pair m d ≡ tagged kind p xs n a r
     → (d ≡ ended kind xs a r) × (pair ≡ p) × (m ≡ n)
 tag-by pair m unended kind p xs n a r h = untagged-not h
 tag-by pair m (ended k ys b u) kind p xs n a r h = (cc, cc, cc)
 
 tag-name : (b : ℕ) (t : Text) (d : Step) (kind : ℕ) (p : Pair) (xs : List AttributePairs) (n : Text) (a : ℕ) (r : Text) → attributes_behind b t d ≡ tagged kind p xs n a r
-    → (e : ℕ) × (u : Text) × (d ≡ behind e u) × (tagged_by (span b e) (name_of t) (attributes e u) ≡ tagged kind p xs n a r)
+    → (e : ℕ) × (u : Text) × (d ≡ behind e u) × (tagged_by (span b e) (leading_name t) (attributes e u) ≡ tagged kind p xs n a r)
 tag-name b t bad kind p xs n a r h = untagged-not h
 tag-name b t (behind e u) kind p xs n a r h = (e, u, refl, h)
 
@@ -280,7 +281,7 @@ unfolding tag attributes bytes
 tag-sound at s kind pair xs n a r h =
     let l = tag-less (literal (bytes "<") at s) kind pair xs n a r h in
     let m = tag-name l.0 l.1 (name l.0 l.1) kind pair xs n a r l.3 in
-    let b = tag-by (span l.0 m.0) (name_of l.1) (attributes m.0 m.1) kind pair xs n a r m.3 in
+    let b = tag-by (span l.0 m.0) (leading_name l.1) (attributes m.0 m.1) kind pair xs n a r m.3 in
     let w = literal-sound (bytes "<") at s l.0 l.1 l.2 in
     let k = name-sound l.0 l.1 m.0 m.1 m.2 in
     let d = attributes-from-sound (suc (length m.1)) kind xs a r [] [] m.0 m.1 b.0 in
@@ -343,7 +344,7 @@ attributes-complete {at} no_attribute turns keys before n l t kind a r h =
     attributes-last turns keys before at t kind a r l (ap (λ (z : ℕ). part_of z t) (omega arith) ∙ h) ∙ ap (λ (z : List AttributePairs). ended kind z a r) (sym (append-nil before))
 attributes-complete (one_more c d ds) zero keys before n l t kind a r h = absurd (omega arith)
 attributes-complete {at} (one_more {s} {t = w} {u} {k} {x} {ks} {xs} c d ds) (suc turns) keys before n l t kind a r h =
-    let f = two (not (is_among k keys)) (new_key (k ∷ keys) ks) n in
+    let f = and_parts (not (is_among k keys)) (new_key (k ∷ keys) ks) n in
     let size = length-append s (w ++ u) ∙ ap (λ (j : ℕ). length s + j) (length-append w u) in
     let whole : (s ++ (w ++ u)) ++ t ≡ s ++ (w ++ (u ++ t)) = simp append_assoc in
     let long = s-some c in

@@ -10,17 +10,18 @@ use lib.Dec.{eqb}
 use lib.ListN.{length, length-append}
 use borrow.Author.Tests.{eqb-true, eq-eqb, not-true}
 use Rattle.text.specs.Text.{Text, bytes, first, every}
-use Rattle.text.proofs.Laws.Tests.{bool_cases, two, three, four, or_cases}
+use Rattle.std.proofs.lemmas.Bool.{and_parts, or_cases}
+use Rattle.text.proofs.Laws.Tests.{bool_cases, three, four}
 use Rattle.text.proofs.Laws.Every.{every-cons, every-head, every-tail}
 use Rattle.xml.specs.Classes.{is_char}
-use Rattle.xml.specs.Steps.{behind, starts_with}
-use Rattle.xml.specs.Values.{is_reference, is_plain, value_end, is_quote, value, char_data, is_in_text, is_in_value}
+use Rattle.xml.specs.Steps.{Step, behind, starts_with}
+use Rattle.xml.specs.Values.{is_reference, starts_character, value_end, is_quote, value, char_data, is_in_text, is_in_value}
 use Rattle.xml.specs.Grammar.{Many, none, more, Without, Reference, is_value_char, ValuePart, value_char, value_reference, AttValue, double_quoted, single_quoted, is_text_char, CharData}
 use Rattle.xml.specs.Grammar as grammar
 use Rattle.xml.proofs.Laws.Names.{behind-rest, bad-not}
 use Rattle.xml.proofs.Laws.Values.{in-value, in-data}
 use Rattle.xml.proofs.Laws.Grammar.Basics.{behind-same, regroup}
-use Rattle.xml.proofs.Laws.Grammar.Markup.{without_more, without-tail, some-not}
+use Rattle.xml.proofs.Laws.Grammar.Markup.{without_more, without-tail, some-not, bracket-third}
 use Rattle.xml.proofs.Laws.Grammar.References.{reference-sound, reference-complete, is_in_both, reference-bytes}
 
 -- a reference has bytes
@@ -32,8 +33,8 @@ value-over : (q : ℕ) → is_quote q ≡ true → (w : Text) → every is_in_bo
 unfolding every is_in_both
 value-over q k [] h at r = ap (λ (x : ℕ). value_end q x r) (omega arith)
 value-over q k (b ∷ w) h at r =
-    let f = two (is_in_both b) (every is_in_both w) h in
-    let g = two (is_in_text b) (is_in_value b) f.0 in
+    let f = and_parts (is_in_both b) (every is_in_both w) h in
+    let g = and_parts (is_in_text b) (is_in_value b) f.0 in
     in-value q b at (w ++ r) k g.1 ∙ value-over q k w f.1 (suc at) r ∙ ap (λ (x : ℕ). value_end q x r) (omega arith)
 
 amp-no-quote : (q : ℕ) → is_quote q ≡ true → eqb 38 q ≡ false
@@ -41,7 +42,7 @@ unfolding is_quote
 amp-no-quote q k = ⊎_elim (λ e. rw (eqb-true q 34 e)) (λ e. rw (eqb-true q 39 e)) (or_cases (eqb q 34) (eqb q 39) k)
 
 value-amp : (q : ℕ) → is_quote q ≡ true → (at : ℕ) (s : Text) → is_reference (38 ∷ s) ≡ true → value_end q at (38 ∷ s) ≡ value_end q (suc at) s
-unfolding value_end is_plain
+unfolding value_end starts_character
 value-amp q k at s h = rw (amp-no-quote q k, h)
 
 pub value-pass : (q : ℕ) → is_quote q ≡ true → {v : Text} → Reference v → (at : ℕ) (r : Text) → value_end q at (v ++ r) ≡ value_end q (at + length v) r
@@ -55,12 +56,12 @@ data-over : (w : Text) → every is_in_both w ≡ true → (at : ℕ) (r : Text)
 unfolding every is_in_both
 data-over [] h at r = ap (λ (x : ℕ). char_data x r) (omega arith)
 data-over (b ∷ w) h at r =
-    let f = two (is_in_both b) (every is_in_both w) h in
-    let g = two (is_in_text b) (is_in_value b) f.0 in
+    let f = and_parts (is_in_both b) (every is_in_both w) h in
+    let g = and_parts (is_in_text b) (is_in_value b) f.0 in
     in-data b at (w ++ r) g.0 ∙ data-over w f.1 (suc at) r ∙ ap (λ (x : ℕ). char_data x r) (omega arith)
 
 data-amp : (at : ℕ) (s : Text) → is_reference (38 ∷ s) ≡ true → char_data at (38 ∷ s) ≡ char_data (suc at) s
-unfolding char_data is_plain bytes starts_with
+unfolding char_data starts_character bytes starts_with
 data-amp at s h = rw h
 
 pub data-pass : {v : Text} → Reference v → (at : ℕ) (r : Text) → char_data at (v ++ r) ≡ char_data (at + length v) r
@@ -70,9 +71,17 @@ data-pass {v} d at r =
     ap (λ (t : Text). char_data at (t ++ r)) b.1 ∙ data-amp at (b.0 ++ r) h ∙ data-over b.0 b.2 (suc at) r
     ∙ ap (λ (x : ℕ). char_data x r) (omega (arith, ap length b.1))
 
+-- a reference taken off the front: the scan goes on behind it
+reference-off : (f : ℕ → Text → Step) → ((v : Text) → Reference v → (at : ℕ) (r : Text) → f at (v ++ r) ≡ f (at + length v) r) → (n at : ℕ) (s : Text) → is_reference s ≡ true
+    → length s ≤ suc n → (v : Text) × (t : Text) × Reference v × (s ≡ v ++ t) × (length t ≤ n) × (f at s ≡ f (at + length v) t)
+reference-off f pass n at s w l =
+    let d = reference-sound s w in
+    let size = ap length d.3 ∙ length-append d.0 d.1 in
+    (d.0, d.1, d.2, d.3, omega (arith, reference-some d.2), ap (f at) d.3 ∙ pass d.0 d.2 at d.1)
+
 -- [10]
 value-end-sound : (n q : ℕ) → is_quote q ≡ true → (at : ℕ) (s : Text) → length s ≤ n → (e : ℕ) (r : Text) → value_end q at s ≡ behind e r → (v : Text) × Many (ValuePart q) v × (s ≡ v ++ (q ∷ r))
-unfolding value_end is_plain is_value_char
+unfolding value_end starts_character is_value_char
 value-end-sound zero q k at [] l e r h = absurd (bad-not h)
 value-end-sound zero q k at (b ∷ s) l e r h = absurd (omega arith)
 value-end-sound (suc n) q k at [] l e r h = absurd (bad-not h)
@@ -89,10 +98,8 @@ value-end-sound (suc n) q k at (b ∷ s) l e r h =
     (λ x.
     bool_cases (is_reference (b ∷ s))
     (λ w.
-    let d = reference-sound (b ∷ s) w in
-    let g : value_end q (at + length d.0) d.1 ≡ behind e r = sym (value-pass q k d.2 at d.1) ∙ ap (value_end q at) (sym d.3) ∙ h in
-    let size = ap length d.3 ∙ length-append d.0 d.1 in
-    let i = value-end-sound n q k (at + length d.0) d.1 (omega (arith, reference-some d.2)) e r g in
+    let d = reference-off (value_end q) (λ v d. value-pass q k d) n at (b ∷ s) w l in
+    let i = value-end-sound n q k (at + length d.0) d.1 d.4 e r (sym d.5 ∙ h) in
     (d.0 ++ i.0, more (value_reference d.2) i.1, d.3 ∙ ap (λ (t : Text). d.0 ++ t) i.2 ∙ sym (append_assoc d.0 i.0 (q ∷ r))))
     (λ w. absurd (bad-not (rw (x, w) at o))))
     (λ x.
@@ -103,7 +110,7 @@ value-end-sound (suc n) q k at (b ∷ s) l e r h =
     (λ w. absurd (bad-not (rw (x, w) at o))))))
 
 pub value-end-complete : (q : ℕ) → is_quote q ≡ true → {v : Text} → Many (ValuePart q) v → (at : ℕ) (r : Text) → value_end q at (v ++ (q ∷ r)) ≡ behind (at + length v + 1) r
-unfolding value_end is_plain is_value_char
+unfolding value_end starts_character is_value_char
 value-end-complete q k none at r = rw (eq-eqb q q refl) (behind-same (omega arith))
 value-end-complete q k (more {t = v} (value_char {b} c) m) at r =
     let f = four (is_char b) (not (eqb b 60)) (not (eqb b 38)) (not (eqb b q)) c in
@@ -151,7 +158,7 @@ unfolding is_text_char
 more-data b s a x c l m n h (grammar.char_data y k) = grammar.char_data {s = b ∷ a} (every-cons is_text_char b a (rw (c, l, m)) y) (without_more (bytes "]]>") b s a x n h k)
 
 data-sound-from : (n at : ℕ) (s : Text) → length s ≤ n → (e : ℕ) (r : Text) → char_data at s ≡ behind e r → (a : Text) × (t : Text) × CharData a × Refs t × (s ≡ a ++ (t ++ r))
-unfolding char_data is_plain
+unfolding char_data starts_character
 data-sound-from zero at [] l e r h = ([], [], nothing, no_ref, behind-rest h)
 data-sound-from (suc n) at [] l e r h = ([], [], nothing, no_ref, behind-rest h)
 data-sound-from zero at (b ∷ s) l e r h = absurd (omega arith)
@@ -168,10 +175,8 @@ data-sound-from (suc n) at (b ∷ s) l e r h =
     (λ x.
     bool_cases (is_reference (b ∷ s))
     (λ w.
-    let d = reference-sound (b ∷ s) w in
-    let g : char_data (at + length d.0) d.1 ≡ behind e r = sym (data-pass d.2 at d.1) ∙ ap (char_data at) (sym d.3) ∙ h in
-    let size = ap length d.3 ∙ length-append d.0 d.1 in
-    let i = data-sound-from n (at + length d.0) d.1 (omega (arith, reference-some d.2)) e r g in
+    let d = reference-off char_data (λ v d. data-pass d) n at (b ∷ s) w l in
+    let i = data-sound-from n (at + length d.0) d.1 d.4 e r (sym d.5 ∙ h) in
     ([], d.0 ++ (i.0 ++ i.1), nothing, one_ref d.2 i.2 i.3, d.3 ∙ ap (λ (t : Text). d.0 ++ t) i.4 ∙ sym (regroup d.0 i.0 i.1 r)))
     (λ w. absurd (bad-not (rw (x, w) at o))))
     (λ x.
@@ -199,17 +204,10 @@ no-bracket b [] (x ∷ r) n h = bool_cases (eqb b 93) (λ y. rw (y, stops-other 
 no-bracket b (c ∷ []) [] n h = bool_cases (eqb b 93) (λ y. bool_cases (eqb c 93) (λ z. rw (y, z)) (λ z. rw (y, z))) (λ y. rw y)
 no-bracket b (c ∷ []) (x ∷ r) n h =
     bool_cases (eqb b 93) (λ y. bool_cases (eqb c 93) (λ z. rw (y, z, stops-other 62 refl refl x r h)) (λ z. rw (y, z))) (λ y. rw y)
-no-bracket b (c ∷ d ∷ v) r n h =
-    bool_cases (eqb b 93)
-    (λ y. bool_cases (eqb c 93)
-    (λ z. bool_cases (eqb d 62)
-    (λ x. absurd (n [] v (rw (eqb-true b 93 y, eqb-true c 93 z, eqb-true d 62 x))))
-    (λ x. rw (y, z, x)))
-    (λ z. rw (y, z)))
-    (λ y. rw y)
+no-bracket b (c ∷ d ∷ v) r n h = bracket-third b c d v (v ++ r) n
 
 data-on-complete : (c : Text) → every is_text_char c ≡ true → Without (93 ∷ 93 ∷ 62 ∷ []) c → (at : ℕ) (r : Text) → Stops r → char_data at (c ++ r) ≡ char_data (at + length c) r
-unfolding char_data is_plain is_text_char bytes
+unfolding char_data starts_character is_text_char bytes
 data-on-complete [] y n at r h = ap (λ (x : ℕ). char_data x r) (omega arith)
 data-on-complete (b ∷ c) y n at r h =
     let f = three (is_char b) (not (eqb b 60)) (not (eqb b 38)) (every-head is_text_char b c y) in

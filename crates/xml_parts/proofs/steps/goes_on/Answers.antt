@@ -12,4 +12,4 @@ returns-then-is_name c =
 pub returns-else-is_name : goal.returns-else-is_name
 returns-else-is_name c =
     let e = ap (is_byte_of is_name) (sym c.byte_at.ensures) ∙ sym c.is_name.ensures ∙ c.if-is_name.false in
-    rw (begins-place is_name c.args.text.now c.args.at zero-no-name, e) c.name_at.ensures
+    rw (begins-place is_name c.args.text.now c.args.at zero-no-name, e) c.is_name_at.ensures

@@ -8,9 +8,10 @@ use borrow.Author.Tests.{eq-eqb, eqb-true}
 use lib.ListN.{length}
 use Rattle.std.specs.Prelude.{IsTrue, ◌↔◌}
 use Rattle.std.specs.Char.{to_ascii_lowercase}
-use Rattle.text.specs.Text.{Text, lower}
+use Rattle.text.specs.Text.{Text, lower_byte}
 use Rattle.text.proofs.Laws.Std.{lower_is}
-use Rattle.text.proofs.Laws.Tests.{three, not-true-false}
+use Rattle.std.proofs.lemmas.Bool.{false_from_ne_true}
+use Rattle.text.proofs.Laws.Tests.{three}
 use Rattle.xml.specs.Grammar.{is_xml}
 use Rattle.xml_parts.proofs.steps.is_xml.Goals as goal
 
@@ -33,15 +34,15 @@ to (a ∷ []) e = absurd (false≢true e)
 to (a ∷ b ∷ []) e = absurd (false≢true e)
 to (a ∷ b ∷ c ∷ []) e =
     let t = three _ _ _ e in
-    let x = lower_is a ∙ eqb-true (lower a) 120 t.0 in
-    let m = lower_is b ∙ eqb-true (lower b) 109 t.1 in
-    let l = lower_is c ∙ eqb-true (lower c) 108 t.2 in
+    let x = lower_is a ∙ eqb-true (lower_byte a) 120 t.0 in
+    let m = lower_is b ∙ eqb-true (lower_byte b) 109 t.1 in
+    let l = lower_is c ∙ eqb-true (lower_byte c) 108 t.2 in
     rw (x, m, l)
 to (a ∷ b ∷ c ∷ d ∷ s) e = absurd (false≢true e)
 
 both : (r : Bool) (s : Text) → (IsTrue r ↔ (map to_ascii_lowercase s ≡ 120 ∷ 109 ∷ 108 ∷ [])) → r ≡ is_xml s
 both true s h = sym (from s (h.0 refl))
-both false s h = sym (not-true-false (is_xml s) (λ e. false≢true (h.1 (to s e))))
+both false s h = sym (false_from_ne_true (is_xml s) (λ e. false≢true (h.1 (to s e))))
 
 pub returns : goal.returns
 returns c = both c.eq_ignore_ascii_case.result c.args.name.now c.eq_ignore_ascii_case.ensures.test

@@ -2,36 +2,28 @@
 use Prim.Native.Nat.{ℕ, ◌+◌}
 use native.Mathlib.Omega.{arith}
 use native.Mathlib.Nat.{le_refl}
-use mathlib.Core.Path.{◌≡◌, refl, sym, ap, ◌∙◌}
-use mathlib.Core.List.{[]}
-use mathlib.Core.Bool.{true, false}
+use mathlib.Core.Path.{◌≡◌, sym, ap, ◌∙◌}
+use mathlib.Core.Bool.{true}
 use lib.ListN.{length, drop, drop_of_length-le}
 use lib.Seq.{drop-drop}
 use Rattle.text.specs.Text.{Text, first}
 use Rattle.text.proofs.Laws.Texts.{first-drop}
 use Rattle.xml.specs.Classes.{is_name_start, is_byte_of, begins}
-use Rattle.xml.specs.Steps.{behind, name, name_of}
-use Rattle.xml.proofs.Laws.Names.{begins-place, name-begun, name-no-start, zero-no-start}
-use Rattle.xml_parts.specs.Answers.{start_width}
-use Rattle.xml_parts.proofs.Laws.Letters.{width-begins, width-some}
+use Rattle.xml.specs.Steps.{behind, name, leading_name}
+use Rattle.xml.proofs.Laws.Names.{name-begun, name-no-start}
+use Rattle.xml_parts.proofs.Laws.Letters.{nothing-begins, one-begins, width-some}
 use Rattle.xml_parts.proofs.steps.name.Goals as goal
 
-nothing-begins : begins is_name_start [] ≡ false
-unfolding begins
-nothing-begins = refl
-
 -- a name whose first character is one byte
-one-byte : (text : Text) (at end : ℕ) → is_byte_of is_name_start (first (drop at text)) ≡ true → end ≡ at + 1 + length (name_of (drop (at + 1) text))
+one-byte : (text : Text) (at end : ℕ) → is_byte_of is_name_start (first (drop at text)) ≡ true → end ≡ at + 1 + length (leading_name (drop (at + 1) text))
     → behind end (drop end text) ≡ name at (drop at text)
-unfolding start_width
 one-byte text at end e h =
     let s = drop at text in
-    let one : start_width s ≡ 1 = rw (begins-place is_name_start text at zero-no-start, e) in
-    let b = width-begins s (λ z. omega (arith, one, z)) in
-    let rest : length (name_of (drop 1 s)) ≡ length (name_of (drop (at + 1) text)) = ap (λ (t : Text). length (name_of t)) (drop-drop 1 at text) in
-    let whole : 1 + length (name_of (drop 1 s)) ≡ length (name_of s) = rw one at (width-some s b).1 in
-    let k : end ≡ at + length (name_of s) = omega (arith, h, rest, whole) in
-    ap (λ (n : ℕ). behind n (drop n text)) k ∙ sym (name-begun at s b ∙ ap (behind (at + length (name_of s))) (drop-drop (length (name_of s)) at text))
+    let (b, one) = one-begins text at e in
+    let rest : length (leading_name (drop 1 s)) ≡ length (leading_name (drop (at + 1) text)) = ap (λ (t : Text). length (leading_name t)) (drop-drop 1 at text) in
+    let whole : 1 + length (leading_name (drop 1 s)) ≡ length (leading_name s) = rw (sym one) at (width-some s b).1 in
+    let k : end ≡ at + length (leading_name s) = omega (arith, h, rest, whole) in
+    ap (λ (n : ℕ). behind n (drop n text)) k ∙ sym (name-begun at s b ∙ ap (behind (at + length (leading_name s))) (drop-drop (length (leading_name s)) at text))
 
 pub returns-in_err-get : goal.returns-in_err-get
 returns-in_err-get c =

@@ -9,6 +9,6 @@ use Rattle.xml_parts.proofs.steps.same_long.Goals as goal
 
 pub overflow_add-a : goal.overflow_add-a
 overflow_add-a c =
-    let inside : length c.name_of-name.result.now ≤ length c.args.text.now - c.args.a =
-    omega (arith, ap length c.name_of-name.ensures, name_of-length (drop c.args.a c.args.text.now), length-drop c.args.a c.args.text.now) in
+    let inside : length c.leading_name-name.result.now ≤ length c.args.text.now - c.args.a =
+    omega (arith, ap length c.leading_name-name.ensures, name_of-length (drop c.args.a c.args.text.now), length-drop c.args.a c.args.text.now) in
     search rules

@@ -8,7 +8,7 @@ use Rattle.std.specs.Prelude.{is_some, IfSome}
 use Rattle.std.specs.Bool.{then_some}
 use Rattle.text.proofs.Laws.Texts.{first-drop}
 use Rattle.xml.specs.Classes.{is_name, is_byte_of}
-use Rattle.xml.specs.Steps.{name_of}
+use Rattle.xml.specs.Steps.{leading_name}
 use Rattle.xml.proofs.Laws.Names.{low-no-pair}
 use Rattle.xml_parts.proofs.Laws.Alike.{IsByte, name-byte, name-stops, same-bytes, differ-there, ended-there}
 use Rattle.xml_parts.proofs.steps.same_run.Goals as goal
@@ -37,7 +37,7 @@ returns-then-y-lt128-clause-ends c =
     let i = c.args.a + c.loop-k.k in
     let e = ap (is_byte_of is_name) (first-drop text i) ∙ sym c.is_name.ensures ∙ c.if-not-is_name.true in
     let stop = ap length (name-stops text i e (low-no-pair is_name _ _ (omega (arith, first-drop text i, c.if-x-lt128.true)))) in
-    rw c.then_some.ensures (ends (λ (e : ℕ). e ≡ c.args.a + length (name_of (drop c.args.a text))) _ _ (omega (arith, stop, c.loop-k.invariant.ends)))
+    rw c.then_some.ensures (ends (λ (e : ℕ). e ≡ c.args.a + length (leading_name (drop c.args.a text))) _ _ (omega (arith, stop, c.loop-k.invariant.ends)))
 
 pub returns-then-x-y-clause-alike : goal.returns-then-x-y-clause-alike
 returns-then-x-y-clause-alike c =

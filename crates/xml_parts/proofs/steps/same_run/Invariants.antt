@@ -3,11 +3,11 @@ use Prim.Native.Nat.{◌+◌}
 use mathlib.Core.Path.{◌≡◌}
 use lib.ListN.{length, drop}
 use Rattle.text.specs.Text.{same}
-use Rattle.xml.specs.Steps.{name_of}
+use Rattle.xml.specs.Steps.{leading_name}
 use Rattle.xml_parts.proofs.steps.same_run.Given as goal
 
 abbrev pub invariant-loop-k : goal.invariant-loop-k
 invariant-loop-k l = record {
-  alike : same (name_of (drop (l.a + l.k) l.text)) (name_of (drop (l.b + l.k) l.text)) ≡ same (name_of (drop l.a l.text)) (name_of (drop l.b l.text));
-  ends : l.k + length (name_of (drop (l.a + l.k) l.text)) ≡ length (name_of (drop l.a l.text));
+  alike : same (leading_name (drop (l.a + l.k) l.text)) (leading_name (drop (l.b + l.k) l.text)) ≡ same (leading_name (drop l.a l.text)) (leading_name (drop l.b l.text));
+  ends : l.k + length (leading_name (drop (l.a + l.k) l.text)) ≡ length (leading_name (drop l.a l.text));
 }

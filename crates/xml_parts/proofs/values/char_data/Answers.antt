@@ -4,10 +4,10 @@ use native.Mathlib.Omega.{arith}
 use Prim.Native.Nat.{ℕ, ◌+◌}
 use mathlib.Core.Path.{◌≡◌, sym, ap, ◌∙◌}
 use native.Mathlib.Numerals.{add-one}
-use lib.ListN.{drop}
+use lib.ListN.{drop, get_or}
 use Rattle.text.specs.Text.{Text, bytes}
 use Rattle.text.proofs.Laws.Texts.{first-drop}
-use Rattle.xml.specs.Steps.{Step, ◌and_then◌, many}
+use Rattle.xml.specs.Steps.{Step, behind, ◌and_then◌, many}
 use Rattle.xml.specs.Values.{char_data, is_in_text}
 use Rattle.xml.proofs.Laws.Moves.{many-moves}
 use Rattle.xml.proofs.Laws.Steps.{inside-some}
@@ -18,18 +18,28 @@ use Rattle.xml_parts.proofs.values.char_data.Goals as goal
 on : (text : Text) (i at : ℕ) → many is_in_text i (drop i text) ≡ many is_in_text at (drop at text) → char_data i (drop i text) ≡ char_data at (drop at text)
 on text i at e = data-run i (drop i text) ∙ ap (λ (d : Step). d and_then char_data) e ∙ sym (data-run at (drop at text))
 
+less : (text : Text) (i : ℕ) → get_or text i 0 ≡ 60 → behind i (drop i text) ≡ char_data i (drop i text)
+less text i here = sym (data-less text i i (inside-some text i 59 here) here)
+
 pub returns-then-byte_at-eq60 : goal.returns-then-byte_at-eq60
 returns-then-byte_at-eq60 c =
     let text = c.args.text.now in
-    let i = c.skip_lines-first.result in
+    let i = c.indent-inside.result in
     let here = sym (first-drop text i) ∙ sym c.byte_at.ensures ∙ c.if-byte_at-eq60.true in
-    sym (data-less text i i (inside-some text i 59 here) here) ∙ on text i c.args.at c.skip_lines-first.ensures
+    less text i here ∙ on text i c.args.at c.indent-inside.ensures
+
+pub returns-then-byte_at-eq60-2 : goal.returns-then-byte_at-eq60-2
+returns-then-byte_at-eq60-2 c =
+    let text = c.args.text.now in
+    let i = c.skip_lines-first.result in
+    let here = sym (first-drop text i) ∙ sym c.byte_at-2.ensures ∙ c.if-byte_at-eq60-2.true in
+    less text i here ∙ on text i c.args.at (c.skip_lines-first.ensures ∙ c.indent-inside.ensures)
 
 pub loop-i-init : goal.loop-i-init
 loop-i-init c =
     let a = c.args in
     ap (λ (d : Step). d and_then char_data) c.many-i.ensures ∙ sym (data-run c.skip_lines-first.result (drop c.skip_lines-first.result a.text.now))
-    ∙ on a.text.now c.skip_lines-first.result a.at c.skip_lines-first.ensures
+    ∙ on a.text.now c.skip_lines-first.result a.at (c.skip_lines-first.ensures ∙ c.indent-inside.ensures)
 
 pub returns-then-text-i-eq60 : goal.returns-then-text-i-eq60
 returns-then-text-i-eq60 c =

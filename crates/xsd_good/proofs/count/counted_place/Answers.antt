@@ -1,7 +1,16 @@
 -- `xsd_good::count::counted_place` meets its contract: the count is compared with the one that is right. Assumes nothing.
-use mathlib.Core.Path.{sym, ◌∙◌}
+use Rattle.std.specs.Prelude.{Option, MatchOption}
+use Rattle.std.specs.Bool.{then_some}
+use Prim.Native.Nat.{ℕ}
+use mathlib.Core.Path.{◌≡◌, sym}
+use mathlib.Core.Bool.{Bool, true, false}
+use mathlib.Core.List.{List}
 use native.Mathlib.Omega.{arith}
-use borrow.Author.Tests.{eq-eqb, ne_eqb}
+use lib.Dec.{eqb}
+use Rattle.sheet.specs.Rows.{Sheet}
+use Rattle.sheet.specs.Calls.{sheet}
+use Rattle.xsd_types.specs.Count.{good}
+use Rattle.xsd_good.specs.End.{FinishedAt}
 use Rattle.xsd_good.proofs.Laws.Bare.{bare-used, good-by-count}
 use Rattle.xsd_good.proofs.count.counted_place.Goals as goal
 
@@ -18,13 +27,15 @@ count_to-requires c =
     let p = c.finished_place-end.ensures in
     (c.requires, record { place = p.place; words = p.words })
 
-pub returns-then-count_in-count_to : goal.returns-then-count_in-count_to
-returns-then-count_in-count_to c =
+-- what the test of the count and the place make
+counted : (x : Sheet) (rows : List ℕ) (b : Bool) (end : ℕ) {r : Option ℕ} → r ≡ then_some b end → good x ≡ b → FinishedAt rows end
+    → MatchOption r (good x ≡ false) (λ e. (good x ≡ true) × FinishedAt rows e)
+counted x rows true end e g f = rw e (g, f)
+counted x rows false end e g f = rw e g
+
+pub returns : goal.returns
+returns c =
     let a = c.args in
     let p = c.finished_place-end.ensures in
-    (sym (good-by-count a.rows.now a.names.now c.requires c.count_in.ensures c.count_to.ensures.count) ∙ eq-eqb _ _ c.if-count_in-count_to.true, record { place = p.place; words = p.words })
-
-pub returns-else-count_in-count_to : goal.returns-else-count_in-count_to
-returns-else-count_in-count_to c =
-    let a = c.args in
-    sym (good-by-count a.rows.now a.names.now c.requires c.count_in.ensures c.count_to.ensures.count) ∙ ne_eqb _ _ c.if-count_in-count_to.false
+    counted (sheet a.rows.now a.names.now) a.rows.now (eqb c.count_in.result c.count_to.result) c.finished_place-end.result c.then_some.ensures
+    (sym (good-by-count a.rows.now a.names.now c.requires c.count_in.ensures c.count_to.ensures.count)) (record { place = p.place; words = p.words })

@@ -11,7 +11,7 @@ pub stands_after-after-requires : goal.stands_after-after-requires
 stands_after-after-requires c = due-counters c.requires
 
 pub returns-in-Ok-Keep : goal.returns-in-Ok-Keep
-returns-in-Ok-Keep c = stepped_kept c.requires c.in-Ok-Keep.is (rw c.in-Ok-Keep.is at c.in-Ok-Keep.field-0-is) (rw (← c.head_after-head.ensures) c.stands_after-after.ensures)
+returns-in-Ok-Keep c = stepped_kept c.requires c.in-Ok-Keep.is (rw c.in-Ok-Keep.is at c.in-Ok-Keep.field-0-is) (rw (← c.open_head_after-head.ensures) c.stands_after-after.ensures)
 
 pub needed-need-requires : goal.needed-need-requires
 needed-need-requires c = rw c.as_rows.ensures (record { ready = ready_for c.requires; small = due-small c.requires })
@@ -30,4 +30,4 @@ act-requires c =
 pub returns : goal.returns
 returns c =
     stepped-done (rw c.as_rows.ensures at c.needed-need.ensures) (sym c.has_room.ensures ∙ c.if-not-has_room.false)
-    c.act.ensures (rw (← c.head_after-head.ensures) c.stands_after-after.ensures)
+    c.act.ensures (rw (← c.open_head_after-head.ensures) c.stands_after-after.ensures)

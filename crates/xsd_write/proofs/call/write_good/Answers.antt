@@ -14,8 +14,8 @@ use Rattle.xsd_types.specs.Count.{good, state_of}
 use Rattle.xsd_good.specs.End.{finished_end}
 use Rattle.xsd_good.specs.Row0.{as_row0}
 use Rattle.xsd_types.proofs.Laws.Count.{good-bare}
-use Rattle.xsd_good.proofs.Laws.Bare.{bare-used, bare-room}
-use Rattle.xsd_write.proofs.Laws.Calls.{good-end, good-root, good-written}
+use Rattle.xsd_good.proofs.Laws.Bare.{bare-used, bare-room, good-root, good-end}
+use Rattle.xsd_write.proofs.Laws.Calls.{good-written}
 use Rattle.xsd_write.proofs.call.write_good.Goals as goal
 
 -- the finished items end where the call says

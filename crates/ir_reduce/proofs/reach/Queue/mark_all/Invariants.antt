@@ -2,12 +2,12 @@
 use Prim.Native.Nat.{◌-◌}
 use Rattle.ir_reduce.specs.Marks.{AllDone}
 use Rattle.ir_reduce.specs.Parts.{part_flags}
-use Rattle.ir_reduce.specs.Queue.{SameBuffers, HasRoom, IsMarking}
+use Rattle.ir_reduce.specs.Queue.{SameQueueBuffers, HasRoom, IsMarking}
 use Rattle.ir_reduce.proofs.reach.Queue.mark_all.Given as goal
 
 abbrev pub invariant-loop-k : goal.invariant-loop-k
 invariant-loop-k l = record {
-  same : SameBuffers l.initial.self l.self;
+  same : SameQueueBuffers l.initial.self l.self;
   room : HasRoom l.part l.to l.self;
   done : IsMarking l.part l.to l.initial.self
       → AllDone (part_flags l.part) l.to l.initial.self.marks.now l.initial.self.places.now l.initial.self.count l.self.marks.now l.self.places.now l.self.count l.k;

@@ -6,7 +6,6 @@ use mathlib.Core.Path.{◌≡◌, refl, sym, ap, ◌∙◌}
 use mathlib.Core.Bool.{true}
 use native.Mathlib.Omega.{arith}
 use lib.Dec.{eqb, leb}
-use Rattle.text.proofs.Laws.Tests.{and-true-left}
 use Rattle.sheet.specs.Rows.{bit}
 use Rattle.rows.proofs.Laws.Table.{bit-small}
 use Rattle.xsd_types.specs.Good.{used_pairs, ten_form}
@@ -20,19 +19,23 @@ use Rattle.xsd_good.proofs.forms.row.SchemaRowRowTests.passes.Goals as goal
 second : (tag a : ℕ) {s : ℕ} {r : Rule} → a_form tag a ≡ true → r ≡ rule_of tag → s ≡ (if eqb tag 15 then a else r.second) → s ≡ bit (leb 2 (used_pairs tag a))
 second tag a flag r s = s ∙ ap (λ (q : Rule). if eqb tag 15 then a else q.second) r ∙ second-told tag a flag
 
-pub returns-then-not-row_form-may_follow : goal.returns-then-not-row_form-may_follow
+pub returns-then-not-row_form : goal.returns-then-not-row_form
 unfolding ten_form
-returns-then-not-row_form-may_follow c = rw (← c.row_form.ensures, ← c.may_follow.ensures, c.if-not-row_form-may_follow.true) refl
+returns-then-not-row_form c = rw (← c.row_form.ensures, c.if-not-row_form.true) refl
+
+pub returns-then-not-may_follow : goal.returns-then-not-may_follow
+unfolding ten_form
+returns-then-not-may_follow c = rw (← c.row_form.ensures, c.if-not-row_form.false, ← c.may_follow.ensures, c.if-not-may_follow.true) refl
 
 pub rule_of-rule-requires : goal.rule_of-rule-requires
 rule_of-rule-requires c =
     let t = c.args.t in
-    form-tag t.tag t.a t.b t.c (sym c.row_form.ensures ∙ and-true-left c.row_form.result c.may_follow.result c.if-not-row_form-may_follow.false)
+    form-tag t.tag t.a t.b t.c (sym c.row_form.ensures ∙ c.if-not-row_form.false)
 
 pub pairs_by-requires : goal.pairs_by-requires
 pairs_by-requires c =
     let t = c.args.t in
-    let flag = form-flag t.tag t.a t.b t.c (sym c.row_form.ensures ∙ and-true-left c.row_form.result c.may_follow.result c.if-not-row_form-may_follow.false) in
+    let flag = form-flag t.tag t.a t.b t.c (sym c.row_form.ensures ∙ c.if-not-row_form.false) in
     let s = second t.tag t.a flag c.rule_of-rule.ensures c.second_pair.ensures in
     (rw c.rule_of-rule.ensures (first-small t.tag), rw s (bit-small (leb 2 (used_pairs t.tag t.a))), omega arith, c.requires)
 
@@ -41,6 +44,6 @@ unfolding ten_form
 returns c =
     let t = c.args.t in
     let r = c.rule_of-rule.ensures in
-    let flag = form-flag t.tag t.a t.b t.c (sym c.row_form.ensures ∙ and-true-left c.row_form.result c.may_follow.result c.if-not-row_form-may_follow.false) in
-    rw (← c.row_form.ensures, ← c.may_follow.ensures, c.if-not-row_form-may_follow.false)
+    let flag = form-flag t.tag t.a t.b t.c (sym c.row_form.ensures ∙ c.if-not-row_form.false) in
+    rw (← c.row_form.ensures, c.if-not-row_form.false, ← c.may_follow.ensures, c.if-not-may_follow.false)
     (c.pairs_by.ensures used_pairs (ap (λ (q : Rule). q.first) r ∙ first-told t.tag t.a) (second t.tag t.a flag r c.second_pair.ensures) (third-told t.tag t.a flag))
