@@ -94,7 +94,7 @@ fn enter_turn(
     Ok(())
 }
 
-// Enters the heads of the turns that are left, as many as the table takes. A `while`: how far it comes, the table says.
+// Enters the heads of the turns that are left, as many as the table takes. A `while`: a `for` would make the block in two places, where the table is full and where the turns end.
 fn enter_block(
     part: &SheetPart<'_>,
     numbers: &mut [u32],
@@ -134,7 +134,8 @@ fn came_at(part: &SheetPart<'_>, table: &Table<'_>, turn: usize) -> Option<usize
     Some(place)
 }
 
-// The first turn whose head came with a block. A loop and no `find`: what `came_at` requires would be asked for at the call, of all turns at once.
+// The first turn whose head came with a block. A loop: with `find_map`, which was tried, what the call asks is found, and its answer (`returns`) stays open. The library has
+// laws of `find` and `position` over a range and none of `find_map`, so one would be proved here beside the induction over the turns.
 fn first_came(part: &SheetPart<'_>, table: &Table<'_>, search: Search) -> Option<Came>
     requires index { HeadsOf part.now table.now }
     requires within { Within part.now search × (search.from ≤ search.limit) }

@@ -14,7 +14,12 @@ use rows::part::SheetPart;
 use rows::parts::pair_text;
 use sheet::limits;
 
-pub const BUCKETS: usize = 4096;
+// A place for each row that a graph can have; in the table as many buckets, and behind them an entry for each place.
+pub const PLACES: usize = 4096;
+
+pub const BUCKETS: usize = PLACES;
+
+pub const NUMBERS: usize = BUCKETS + PLACES;
 
 // What is told of a table in which the heads are entered: how many entries it has, and whether they stand in order.
 #[derive(Clone, Copy)]
@@ -44,8 +49,8 @@ fn enter_head(part: &SheetPart, table: &mut TableWriter, place: usize) -> Option
 }
 
 // Enters every head, up to the first whose name came before. None where two have one name.
-pub fn index_heads(part: &SheetPart, numbers: &mut [u32]) -> Option<Indexed>
-    requires { (length part.now.rows.now ≤ rows_limit) × (length numbers.old ≡ 8192) × (1 ≤ part.now.end) }
+pub fn index_heads(part: &SheetPart, numbers: &mut [u32; NUMBERS]) -> Option<Indexed>
+    requires { (length part.now.rows.now ≤ rows_limit) × (1 ≤ part.now.end) }
     ensures { HeadsIndexed part.now numbers.new result }
 {
     let mut table = TableWriter::start(numbers, BUCKETS);
@@ -96,6 +101,7 @@ fn target_at(part: &SheetPart, table: &Table, place: usize) -> Option<usize>
 }
 
 // What each row behind row 0 leads to. The array keeps 0 for nowhere: an `Option<u32>` in each of its 4,096 places would take twice the bytes of stack.
+// A slice, as the marks in `put_kept` and `count_kept`: it serves callers with fewer places, where the part has no more rows.
 pub fn put_targets(part: &SheetPart, table: &Table, to: &mut [u32])
     requires { IsIndex part.now table.now × (length part.now.rows.now ≤ rows_limit) × (part.now.end ≤ length to.old) × (1 ≤ part.now.end) × TargetsIn part.now 1 to.old }
     ensures targets_put { TargetsIn part.now part.now.end to.new }

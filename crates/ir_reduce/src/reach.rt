@@ -15,7 +15,8 @@ fn is_behind(part: &SheetPart, p: usize, row: usize) -> bool
     p < row && is_type(part.tag(row))
 }
 
-// The marks of the places, and the places that are marked, `count` of them, in the order in which they were.
+// The marks of the places, and the places that are marked, `count` of them, in the order in which they were. A mark is a byte, 0 where there is none, and no `bool`: callers
+// may mark with any other byte.
 #[derive(Drop)]
 pub struct Queue<'a> {
     pub marks: &'a mut [u8],

@@ -1,14 +1,15 @@
 -- What the answers of the code say.
 --     Goes          the scan from a place goes on at another; Ends: where a part of a pattern ends, in the terms of the scan
+--     Escapes       in a mode of the scan, the byte begins an escape or no pattern goes on with it
 --     is_close, is_branch_end, is_bracket  a byte that ends an expression, a branch, a class; any_byte: no test
 --     ExpressionJudged  whether the whole is an expression
 --     classes       the classes of each byte, a bit for each class; has_class: a byte has the bit k; class_bit: the bit of a `Class`
-use Rattle.std.specs.Prelude.{ℕ, List, [], ◌∷◌, ◌≤◌, ◌<◌, ◌≡◌, Bool, true, false, ◌||◌, Option, Some, None, eqb, length, drop, get_or}
+use Rattle.std.specs.Prelude.{ℕ, List, [], ◌∷◌, ◌≤◌, ◌<◌, ◌≡◌, Bool, true, false, ◌||◌, Option, Some, None, eqb, length, drop, get_or, if◌then◌else◌}
 use Rattle.std.specs.Int.{bit_at}
 use Prim.Native.Char.{code}
 use Rattle.text.specs.Text.{Text}
 use Rattle.pattern.specs.Grammar.{Derives, reg_exp}
-use Rattle.pattern.specs.Scan.{Mode, go, scan}
+use Rattle.pattern.specs.Scan.{Mode, stop, go, is_escaped, pattern_step, final, scan}
 use Rattle.pattern.specs.declared.tests.Class.{Class}
 
 -- the scan from `at` on, in the mode m, goes on at e, not before `least`, in the mode n, with the byte there under the test P
@@ -22,6 +23,13 @@ pub record Goes (s : Text) (m : Mode) (at : ℕ) (n : Mode) (least e : ℕ) (P :
 abbrev pub Ends : Text → Mode → ℕ → Mode → ℕ → (ℕ → Bool) → Option ℕ → Type 0
 Ends s m at n least P (Some e) = Goes s m at n least e P
 Ends s m at n least P None = (d : ℕ) → scan (go d m) (drop at s) ≡ false
+
+-- in the mode m, at the byte b: behind a backslash the mode is e, and n behind a byte that may be escaped; with another byte than a backslash no pattern goes on
+pub record Escapes (m e n : Mode) (b : ℕ) : Type 0 where
+  pub begins : (d : ℕ) → pattern_step (go d m) (code "\\") ≡ go d e
+  pub others : (b ≡ code "\\" → ⊥) → (d : ℕ) → pattern_step (go d m) b ≡ stop
+  pub goes_on : (d c : ℕ) → pattern_step (go d e) c ≡ (if is_escaped c then go d n else stop)
+  pub unfinished : (d : ℕ) → final (go d e) ≡ false
 
 unfoldable pub is_close : ℕ → Bool
 is_close b = eqb b (code ")")

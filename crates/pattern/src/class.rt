@@ -1,8 +1,8 @@
 // A class in brackets.
-ghost use Rattle.std.specs.Prelude.{not, ◌≡◌, ◌+◌, ◌≤◌, ◌<◌, length, get_or, false};
-ghost use Rattle.pattern.specs.Scan.{atom, opened, class};
+ghost use Rattle.std.specs.Prelude.{not, ◌+◌, ◌≤◌, ◌<◌, length, get_or};
+ghost use Rattle.pattern.specs.Scan.{Mode, atom, opened, class};
 ghost use Rattle.pattern.specs.Grammar.{is_in_class};
-ghost use Rattle.pattern.specs.Answers.{Goes, Ends, is_bracket, any_byte};
+ghost use Rattle.pattern.specs.Answers.{Goes, Ends, Escapes, any_byte};
 
 use crate::tests::{is_escaped, is_in_class};
 use text::byte_at;
@@ -17,10 +17,10 @@ fn in_class_end(s: &[u8], at: usize) -> usize
         .unwrap_or(s.len())
 }
 
-// An escape, where the byte is none that may stand in a class by itself.
-fn escape(s: &[u8], at: usize) -> Option<usize>
-    requires { (at < length s.now) × (is_bracket (get_or s.now at 0) ≡ false) × (is_in_class (get_or s.now at 0) ≡ false) }
-    ensures { Ends s.now class at class (at + 1) any_byte result }
+// An escape, in a class or outside: its clause is over the modes of the scan in which any other byte is refused here.
+pub fn escape(s: &[u8], at: usize) -> Option<usize>
+    requires { at < length s.now }
+    ensures { (m : Mode) (e : Mode) (n : Mode) → Escapes m e n (get_or s.now at 0) → Ends s.now m at n (at + 1) any_byte result }
 {
     if s[at] != b'\\' {
         return None;

@@ -5,8 +5,8 @@ ghost use Rattle.std.specs.Prelude.{◌≡◌, ◌+◌, ◌≤◌, ◌<◌, fals
 ghost use Rattle.pattern.specs.Scan.{start, atom};
 ghost use Rattle.pattern.specs.Answers.{Goes, Ends, ExpressionJudged, is_close, is_branch_end, any_byte};
 
-use crate::class::class_end;
-use crate::tests::{is_escaped, is_mark, is_plain};
+use crate::class::{class_end, escape};
+use crate::tests::{is_mark, is_plain};
 use text::byte_at;
 
 // Branches with bars between them.
@@ -67,7 +67,7 @@ fn piece(s: &[u8], at: usize) -> Option<usize>
     Some(e + 1)
 }
 
-// A character, an expression in parentheses, or a class; characters that follow a character are taken with it, since only the last can have a quantifier.
+// A character, an expression in parentheses, a class, or an escape; characters that follow a character are taken with it, since only the last can have a quantifier.
 #[cycle(atom_branch_expression_piece)]
 fn atom(s: &[u8], at: usize) -> Option<usize>
     requires { (at < length s.now) × (is_branch_end (get_or s.now at 0) ≡ false) }
@@ -87,13 +87,7 @@ fn atom(s: &[u8], at: usize) -> Option<usize>
     if b == b'[' {
         return class_end(s, at + 1);
     }
-    if b == b'\\' {
-        if is_escaped(byte_at(s, at + 1)) {
-            return Some(at + 2);
-        }
-        return None;
-    }
-    None
+    escape(s, at)
 }
 
 // Where a run of characters ends. It differs from `in_class_end` in its test and in the mode that the scan is in: a function that is handed the test would promise

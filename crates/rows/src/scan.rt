@@ -15,6 +15,8 @@ use crate::ten::Ten;
 const NAMESPACE: u32 = 1;
 
 // The tests of a row. A head and a tag are two arguments, as in the definitions: a struct of both would be made for each row and taken apart in each test.
+// Where the names stand so far, k, is an argument with a clause, and no field of a `Scan` that says it: the definitions make a `Scan` of any ten numbers, and row 1 is asked at 0
+// before there is one. With the `Scan` handed on in the place of both numbers all was proved and went back with what it came with (docs/DECISIONS.md, 255).
 pub trait RowTests {
     ghost tests: { Tests };
 

@@ -15,7 +15,8 @@ fn pair_end(offset: u32, size: u32) -> usize
     offset as usize + size as usize
 }
 
-// 4: whether each of n pairs lies inside the text and starts at or after the end of the one before.
+// 4: whether each of n pairs lies inside the text and starts at or after the end of the one before. By an index: a pair is two of the marks, which each turn reads at
+// once.
 pub fn pairs_inside(limit: usize, marks: &[u32], from: usize, n: usize) -> bool
     requires { from + 2 * n ≤ length marks.now }
     ensures { result ≡ all_inside limit 0 (pairs_of n (drop from marks.now)) }

@@ -106,8 +106,8 @@ fn long_end(classes: &Classes, text: &[u8], at: usize) -> usize
     end
 }
 
-// Behind the name bytes below 128 that stand at a position, eight at a time with one test of the length. A `while`, as in `plain_bytes::skip`. Inlined: a call for
-// each name took as many instructions as the eight save.
+// Behind the name bytes below 128 that stand at a position, eight at a time with one test of the length. A `while`: the place where it ends is the answer,
+// which a chain over chunks would have to count again. Inlined: a call for each name took as many instructions as the eight save.
 #[inline(always)]
 fn name_bytes(classes: &Classes, text: &[u8], at: usize) -> usize
     requires { at ≤ length text.now }
@@ -176,7 +176,7 @@ fn same_long(classes: &Classes, text: &[u8], a: usize, b: usize) -> Option<usize
     text::same_text(name, leading_name(classes, text, b)).then_some(a + name.len())
 }
 
-// The same, where most names are bytes below 128 alone.
+// The same, where most names are bytes below 128 alone. By an index: each turn reads two places, and where the first name ends is the answer.
 fn same_run(classes: &Classes, text: &[u8], a: usize, b: usize) -> Option<usize>
     ensures alike { is_some result ≡ same (leading_name (drop a text.now)) (leading_name (drop b text.now)) }
     ensures ends { IfSome result (λ e. e ≡ a + length (leading_name (drop a text.now))) }

@@ -18,7 +18,8 @@ pub fn digit_of(b: u8) -> Option<u32>
     char::from(b).to_digit(16)
 }
 
-// Whether digits and a semicolon stand at a position, and give a character. A number past the last code point stays there.
+// Whether digits and a semicolon stand at a position, and give a character. A number past the last code point stays there. By an index: the
+// place may be past the end, where no slice of the text begins.
 pub fn is_number(text: &[u8], at: usize, base: u32) -> bool
     requires { (1 ≤ base) × (base ≤ 16) }
     ensures { result ≡ is_number base 0 (drop at text.now) }

@@ -18,7 +18,7 @@ use Rattle.text.proofs.Laws.Tests.{bool_cases, or-false-left, or-false-right}
 use Rattle.text.proofs.Laws.Texts.{first-drop}
 use Rattle.xml.specs.Classes.{is_char}
 use Rattle.pattern.specs.Grammar.{char_but, is_normal, is_mark, is_in_class, is_single, is_multi}
-use Rattle.pattern.specs.Answers.{Goes, Ends, is_close, is_branch_end, is_bracket, any_byte}
+use Rattle.pattern.specs.Answers.{Goes, Ends, Escapes, is_close, is_branch_end, is_bracket, any_byte}
 use Rattle.std.specs.Prelude.{Option, Some, None}
 use Rattle.pattern.specs.Scan.{Mode, start, atom, ScanState, stop, go, is_escaped, is_single_char, fresh, class_step, pattern_step, final, scan}
 use Rattle.pattern.proofs.Laws.Derived.{differs, plain-fresh, plain-unmarked, unmarked-scan}
@@ -142,28 +142,17 @@ bracket-first s i e d =
     bool_cases (ltb i (length s)) (λ h. off_at (go d Mode.opened) s i (ltb-true i (length s) h) (ap (pattern_step (go d Mode.opened)) f))
     (λ h. end-at (go d Mode.opened) s i (ltb-false i (length s) h) ∙ refl)
 
-module _ (s : Text) (at : ℕ) (h : at < length s) (n : is_bracket (get_or s at 0) ≡ false) where
-  in_step : (d : ℕ) → pattern_step (go d Mode.class) (get_or s at 0) ≡ class_step d (get_or s at 0)
-  unfolding pattern_step is_bracket
-  in_step d = rw n
+-- an escape in a class, at a byte that is no closing bracket and may not stand there by itself
+pub class-escapes : (b : ℕ) → is_bracket b ≡ false → is_in_class b ≡ false → Escapes Mode.class Mode.class_escape Mode.class b
+unfolding pattern_step class_step final is_bracket
+class-escapes b h x =
+    record { begins = λ d. refl; others = λ m d. rw (h, ne_eqb b 92 m, x); goes_on = λ d c. refl; unfinished = λ d. refl }
 
-  -- a backslash in a class
-  item-slash : get_or s at 0 ≡ 92 → (d : ℕ) → scan (go d Mode.class) (drop at s) ≡ scan (go d Mode.class_escape) (drop (at + 1) s)
-  unfolding class_step
-  item-slash e d = to_at (go d Mode.class) s at h (in_step d ∙ ap (class_step d) e)
-
-  pub item-escaped : get_or s at 0 ≡ 92 → is_escaped (first (drop (at + 1) s)) ≡ true → Goes s Mode.class at Mode.class (at + 1) (at + 2) any_byte
-  unfolding pattern_step final
-  item-escaped e x = escaped-part Mode.class_escape Mode.class (λ d b. refl) (λ d. refl) s Mode.class at (item-slash e) x
-
-  pub item-bad : get_or s at 0 ≡ 92 → is_escaped (first (drop (at + 1) s)) ≡ false → (d : ℕ) → scan (go d Mode.class) (drop at s) ≡ false
-  unfolding pattern_step final
-  item-bad e x d = item-slash e d ∙ escaped-off Mode.class_escape Mode.class (λ d b. refl) (λ d. refl) s (at + 1) x d
-
-  module _ (m : get_or s at 0 ≡ 92 → ⊥) where
-    pub item-off : is_in_class (get_or s at 0) ≡ false → (d : ℕ) → scan (go d Mode.class) (drop at s) ≡ false
-    unfolding class_step
-    item-off x d = off_at (go d Mode.class) s at h (in_step d ∙ rw (ne_eqb _ 92 m, x))
+-- .. and outside, at a byte that begins nothing else
+pub atom-escapes : (b : ℕ) → (b ≡ 40 → ⊥) → is_branch_end b ≡ false → (b ≡ 91 → ⊥) → is_single_char b ≡ false → Escapes start Mode.escape atom b
+unfolding pattern_step fresh final
+atom-escapes b h t k x =
+    record { begins = λ d. refl; others = λ m d. fresh-off d b h t k m x; goes_on = λ d c. refl; unfinished = λ d. refl }
 
 -- a character behind an atom
 pub plain_at : (d : ℕ) (s : Text) (i : ℕ) → i < length s → is_single_char (get_or s i 0) ≡ true → scan (go d atom) (drop i s) ≡ scan (go d atom) (drop (i + 1) s)

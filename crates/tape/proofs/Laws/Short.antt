@@ -1,6 +1,6 @@
 -- Two texts of one length told apart by their first and their last k bytes, which may overlap. No contract cites them. Assumes nothing.
 use Rattle.std.proofs.Common.{◌≡◌, ℕ, zero, suc, ◌+◌, ◌-◌, ◌*◌, ◌≤◌, ◌<◌, List, [], ◌∷◌, ◌++◌, length, get_or, take, drop, nat_eq}
-use Rattle.std.proofs.Common.{refl, sym, ap, ◌∙◌, arith, take-append-drop, length-drop}
+use Rattle.std.proofs.Common.{sym, ap, ◌∙◌, arith, take-append-drop, length-drop}
 use Rattle.std.proofs.lemmas.List.{drop-drop, take_all, get_or-drop}
 use Rattle.text.specs.Text.{Text, same}
 use Rattle.text.proofs.Laws.Tests.{bool_cases}

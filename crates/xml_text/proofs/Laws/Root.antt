@@ -15,8 +15,8 @@ use Rattle.xsd_parser.specs.Kinds.{kind_number}
 use Rattle.xsd_parser.specs.declared.kinds.Kind.{Kind}
 use Rattle.xml.specs.Steps.{bad, behind, literal, spaces, name, leading_name}
 use Rattle.xml.specs.Tape.{AttributePairs, TapeEvent, tape_marks, event_marks}
-use Rattle.xml.specs.Tags.{tagged}
-use Rattle.xml.specs.Root.{ending_by, Level, stop, on, opened, level_of_tag, level_of_close, level_of, Rooted, rooted, add_events, none_open, inside}
+use Rattle.xml.specs.Tags.{Tagged, tagged, tag}
+use Rattle.xml.specs.Root.{ending_by, Level, stop, on, opened, level_of_tag, level_of_close, level_of, Rooted, rooted, add_events, none_open, inside, root}
 use Rattle.xml_parts.specs.Answers.{matched}
 use Rattle.xml_text.specs.Answers.{names_up_to, GoesOn, IsRoot}
 use Rattle.xml_text.specs.declared.root.WholeRoot.{WholeRoot}
@@ -25,7 +25,7 @@ use Rattle.std.specs.Prelude.{Option, Some, None}
 use Rattle.xml_text.proofs.Laws.Marks.{sets-append}
 use Rattle.xml.proofs.Laws.Moves.{inside-text, literal-passes, name-passes, spaces-moves}
 use Rattle.xml.proofs.Laws.Names.{bad-not}
-use Rattle.xml.proofs.Laws.Root.{closing, unmatched, tape-append}
+use Rattle.xml.proofs.Laws.Root.{closing, unmatched, one-event, root-found, tape-append}
 use Rattle.xml_text.proofs.Laws.Tags.{names-push, names-cong}
 
 -- an end tag is held against the innermost open tag
@@ -58,6 +58,21 @@ unfolding opened
 open-empty text slots after count start kind pair xs a r k e =
     let names = names-cong text after slots count e in
     ⊎_elim (λ (h : kind ≡ Kind.Empty). rw (names, h)) (λ (h : kind ≡ Kind.Close). rw (names, h)) k
+
+-- an answer of one tag, where its kind says which tags are open behind it
+pub one-tag : (text : Text) (at : ℕ) (slots marks : List ℕ) (used : ℕ) (after : List ℕ) (count n a : ℕ) (event : TapeEvent) (tags : List Text) {found tag : Tagged} → found ≡ tag
+    → level_of_tag tags tag ≡ on (names_up_to text slots count) (event ∷ []) a (drop a text)
+    → n ≡ used + length (event_marks event) → after ≡ sets marks used (event_marks event)
+    → at < a → a ≤ length text → (events : List TapeEvent) × (level_of_tag tags found ≡ on (names_up_to text slots count) events a (drop a text)) × (n ≡ used + length (tape_marks events))
+    × (after ≡ sets marks used (tape_marks events)) × (at < a) × (a ≤ length text)
+one-tag text at slots marks used after count n a event tags f l e m h k = (
+  event ∷ [],
+  ap (level_of_tag tags) f ∙ l,
+  omega (arith, e, ap length (one-event event)),
+  m ∙ ap (sets marks used) (sym (one-event event)),
+  h,
+  k,
+)
 
 pub goes-weaken : (text : Text) (at start : ℕ) (slots marks : List ℕ) (used : ℕ) (after : List ℕ) (r : Option Onward) (d : Level) → at ≤ start → GoesOn text start slots marks used after r d
     → GoesOn text at slots marks used after r d
@@ -121,3 +136,12 @@ root-joined text m m1 m2 n es (Some k) inner whole w s e p = (
   omega (arith, p.2, ap length (tape-append es p.0), length-append (tape_marks es) (tape_marks p.0)),
   p.3 ∙ ap (λ (l : List ℕ). sets l n (tape_marks p.0)) s ∙ tape-more m 0 n es p.0 e,
 )
+
+-- the root by its tag and its content
+pub root-one : (text : Text) (m m1 m2 : List ℕ) (at n : ℕ) (event : TapeEvent) (tags : List Text) (a : ℕ) {found : Tagged} (r : Option WholeRoot) → tag at (drop at text) ≡ found
+    → level_of_tag [] found ≡ on tags (event ∷ []) a (drop a text)
+    → n ≡ 0 + length (event_marks event) → m1 ≡ sets m 0 (event_marks event)
+    → IsRoot text m1 n m2 r (inside (suc (length (drop a text))) tags a (drop a text)) → IsRoot text m 0 m2 r (root at (drop at text))
+root-one text m m1 m2 at n event tags a r f l k s i =
+    root-joined text m m1 m2 n (event ∷ []) r _ _ (root-found at _ _ (ap (level_of_tag []) f ∙ l)) (s ∙ ap (sets m 0) (sym (one-event event)))
+    (omega (arith, k, ap length (one-event event))) i

@@ -9,7 +9,7 @@ pub loop-place-init : goal.loop-place-init
 loop-place-init c =
     let part = c.args.part.now in
     let s = c.start-table.ensures.started in
-    (refl, s.buckets_are, s.same_length ∙ c.requires.1, rw s.none (entering-start part.rows.now part.names.now part.end _ _ (s.index part.rows.now part.names.now _)))
+    (refl, s.buckets_are, s.same_length ∙ c.told-numbers, rw s.none (entering-start part.rows.now part.names.now part.end _ _ (s.index part.rows.now part.names.now _)))
 
 pub enter_head-requires-clause-index : goal.enter_head-requires-clause-index
 enter_head-requires-clause-index c = record { buckets_are = c.loop-place.invariant.1; index = c.loop-place.invariant.3.index }

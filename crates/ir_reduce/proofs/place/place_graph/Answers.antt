@@ -11,7 +11,7 @@ pub write_graph-requires : goal.write_graph-requires
 write_graph-requires c =
     let a = c.args in
     let z = c.zero_graph.ensures in
-    (c.requires.0, cleared_by (part_sheet a.part.now) a.rows.now a.names.now c.requires.1 z.0 z.1, c.requires.2)
+    (c.requires.0, cleared_by (part_sheet a.part.now) a.rows.now a.names.now c.requires.1 z.0 z.1)
 
 pub returns-in_default : goal.returns-in_default
 returns-in_default c =

@@ -9,7 +9,7 @@ use Rattle.ir_reduce.proofs.place.write_graph.Goals as goal
 pub put_kept-requires : goal.put_kept-requires
 put_kept-requires c =
     let g = c.requires.0 in
-    (omega (arith, rows_inside_lem g, g.few, c.requires.2), omega (arith, at_least g), rows-stand g)
+    (omega (arith, rows_inside_lem g, g.few, c.told-marks), omega (arith, at_least g), rows-stand g)
 
 pub returns-in_err-put_kept : goal.returns-in_err-put_kept
 returns-in_err-put_kept c = rw c.from_residual.ensures (written-full c.requires.1 c.start-writer.ensures.begins c.in_err-put_kept.ensures)
@@ -17,12 +17,12 @@ returns-in_err-put_kept c = rw c.from_residual.ensures (written-full c.requires.
 pub count_kept-roots-requires : goal.count_kept-roots-requires
 count_kept-roots-requires c =
     let g = c.requires.0 in
-    (omega (arith, rows_inside_lem g, g.few, c.requires.2), omega (arith, at_least g), omega (arith, rows_inside_lem g, g.few))
+    (omega (arith, rows_inside_lem g, g.few, c.told-marks), omega (arith, at_least g), omega (arith, rows_inside_lem g, g.few))
 
 pub count_kept-types-requires : goal.count_kept-types-requires
 count_kept-types-requires c =
     let g = c.requires.0 in
-    (omega (arith, rows_inside_lem g, g.few, c.requires.2), omega (arith, at_least g), omega (arith, rows_inside_lem g, g.few))
+    (omega (arith, rows_inside_lem g, g.few, c.told-marks), omega (arith, at_least g), omega (arith, rows_inside_lem g, g.few))
 
 pub put_row0-requires : goal.put_row0-requires
 put_row0-requires c =

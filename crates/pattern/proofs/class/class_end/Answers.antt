@@ -1,11 +1,17 @@
 -- `pattern::class::class_end` meets its contract: a class that does not begin with its closing bracket is read like the rest of a class. The loop's invariant:
 -- the scan goes on at i, inside the class. The measure is what is left. Assumes nothing.
+use Prim.Native.Nat.{ℕ, ◌+◌}
+use mathlib.Core.Bool.{not, true}
+use lib.ListN.{get_or}
 use borrow.Author.Tests.{ne_eqb, not-true}
 use native.Mathlib.Omega.{arith}
-use mathlib.Core.Path.{refl, sym, ◌∙◌}
+use mathlib.Core.Path.{◌≡◌, refl, sym, ◌∙◌}
+use Rattle.std.specs.Prelude.{Option, Some, None}
+use Rattle.text.specs.Text.{Text}
+use Rattle.pattern.specs.Grammar.{is_in_class}
 use Rattle.pattern.specs.Scan.{Mode, go, pattern_step, final}
-use Rattle.pattern.specs.Answers.{is_bracket}
-use Rattle.pattern.proofs.Laws.Places.{byte-to, end-at, opened-at, bracket-first}
+use Rattle.pattern.specs.Answers.{Ends, Escapes, is_bracket, any_byte}
+use Rattle.pattern.proofs.Laws.Places.{byte-to, end-at, opened-at, bracket-first, class-escapes}
 use Rattle.pattern.proofs.class.class_end.Goals as goal
 
 pub returns-then-byte_at-eq93 : goal.returns-then-byte_at-eq93
@@ -35,9 +41,29 @@ returns-then-s-e-eq93 c =
       reads = λ d. z.invariant.2 d ∙ g.reads d ∙ byte-to (go d Mode.class) _ c.in_class_end-e.result 93 c.if-s-e.false c.if-s-e-eq93.true refl;
     }
 
-pub escape-requires : goal.escape-requires
+-- at the byte where the run of characters ends
+escaped : (s : Text) (e : ℕ) (r : Option ℕ) → (get_or s e 0 ≡ 93 → ⊥) → not (is_in_class (get_or s e 0)) ≡ true
+    → ((m n k : Mode) → Escapes m n k (get_or s e 0) → Ends s m e k (e + 1) any_byte r) → Ends s Mode.class e Mode.class (e + 1) any_byte r
 unfolding is_bracket
-escape-requires c = (c.if-s-e.false, ne_eqb _ 93 c.if-s-e-eq93.false, not-true _ (c.in_class_end-e.ensures.stops c.if-s-e.false))
+escaped s e r m x f = f Mode.class Mode.class_escape Mode.class (class-escapes _ (ne_eqb _ 93 m) (not-true _ x))
+
+pub returns-in_err-i : goal.returns-in_err-i
+returns-in_err-i c =
+    let g = c.in_class_end-e.ensures in
+    let off = escaped c.args.s.now c.in_class_end-e.result None c.if-s-e-eq93.false (g.stops c.if-s-e.false) c.in_err-i.ensures in
+    rw c.from_residual.ensures (λ d. c.loop-i.invariant.2 d ∙ g.reads d ∙ off d)
+
+pub loop-i-preserved : goal.loop-i-preserved
+loop-i-preserved c =
+    let g = c.in_class_end-e.ensures in
+    let h = escaped c.args.s.now c.in_class_end-e.result (Some _) c.if-s-e-eq93.false (g.stops c.if-s-e.false) c.in_ok-i.ensures in
+    (omega (arith, g.onward, h.onward), h.within, λ d. c.loop-i.invariant.2 d ∙ g.reads d ∙ h.reads d)
+
+pub loop-i-smaller : goal.loop-i-smaller
+loop-i-smaller c =
+    let g = c.in_class_end-e.ensures in
+    let h = escaped c.args.s.now c.in_class_end-e.result (Some _) c.if-s-e-eq93.false (g.stops c.if-s-e.false) c.in_ok-i.ensures in
+    omega (arith, g.onward, h.onward)
 
 pub returns : goal.returns
 unfolding final

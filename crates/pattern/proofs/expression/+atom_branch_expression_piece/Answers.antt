@@ -6,10 +6,10 @@ use mathlib.Core.Bool.{true}
 use borrow.Author.Tests.{eqb-true}
 use Rattle.pattern.specs.Grammar.{is_mark}
 use Rattle.pattern.specs.Scan as scanning
-use Rattle.pattern.specs.Scan.{is_escaped, go, scan, pattern_step, fresh, leave, final, start}
+use Rattle.pattern.specs.Scan.{go, scan, pattern_step, fresh, leave, final, start}
 use Rattle.pattern.specs.Answers.{is_close, is_branch_end, any_byte}
-use Rattle.pattern.proofs.Laws.Places.{end-at, to_at, off_at, byte-to, before, behind, open-final, close-byte, fresh-off, unmarked-at, unmarked-end, mark-at, marked-off}
-use Rattle.pattern.proofs.Laws.Places.{escaped-off, escaped-part, plain-no_tail}
+use Rattle.pattern.proofs.Laws.Places.{end-at, to_at, byte-to, before, behind, open-final, close-byte, unmarked-at, unmarked-end, mark-at, marked-off}
+use Rattle.pattern.proofs.Laws.Places.{atom-escapes, plain-no_tail}
 use Rattle.pattern.proofs.Laws.Derived.{plain-fresh}
 use Rattle.pattern.proofs.expression.+atom_branch_expression_piece.Goals.{branch-else-not-is_plain-via-then-not-is_plain+else-s-i, branch-else-not-is_plain-via-else-not-is_plain}
 use Rattle.pattern.proofs.expression.+atom_branch_expression_piece.Goals as goal
@@ -52,22 +52,6 @@ atom-returns-then-b-eq91 t c =
     before s start scanning.opened at (at + 1) scanning.atom (at + 1) any_byte
     (λ d. byte-to (go d start) s at 91 c.requires.0 c.if-b-eq91.true refl) c.class_end.result c.class_end.ensures
 
-pub atom-returns-then-is_escaped : goal.atom-returns-then-is_escaped
-unfolding pattern_step fresh final
-atom-returns-then-is_escaped t c =
-    let s = c.args.s.now in
-    let at = c.args.at in
-    escaped-part scanning.escape scanning.atom (λ d b. refl) (λ d. refl) s start at (λ d. byte-to (go d start) s at 92 c.requires.0 c.if-b-eq92.true refl)
-    (sym (c.is_escaped.ensures ∙ ap is_escaped c.byte_at.ensures) ∙ c.if-is_escaped.true)
-
-pub atom-returns-then-b-eq92 : goal.atom-returns-then-b-eq92
-unfolding pattern_step fresh final
-atom-returns-then-b-eq92 t c =
-    let s = c.args.s.now in
-    let at = c.args.at in
-    let x = sym (c.is_escaped.ensures ∙ ap is_escaped c.byte_at.ensures) ∙ c.if-is_escaped.false in
-    λ d. byte-to (go d start) s at 92 c.requires.0 c.if-b-eq92.true refl ∙ escaped-off scanning.escape scanning.atom (λ d b. refl) (λ d. refl) s (at + 1) x d
-
 pub atom-returns-then-is_plain : goal.atom-returns-then-is_plain
 unfolding pattern_step
 atom-returns-then-is_plain t c =
@@ -80,10 +64,8 @@ atom-returns-then-is_plain t c =
     }
 
 pub atom-returns : goal.atom-returns
-unfolding pattern_step
 atom-returns t c =
-    λ d. off_at (go d start) c.args.s.now c.args.at c.requires.0
-    (fresh-off d _ c.if-b-eq40.false c.requires.1 c.if-b-eq91.false c.if-b-eq92.false (sym c.is_plain.ensures ∙ c.if-is_plain.false))
+    c.escape.ensures start scanning.escape scanning.atom (atom-escapes _ c.if-b-eq40.false c.requires.1 c.if-b-eq91.false (sym c.is_plain.ensures ∙ c.if-is_plain.false))
 
 pub branch-returns-then-s-i : goal.branch-returns-then-s-i
 unfolding is_branch_end
