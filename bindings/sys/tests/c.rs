@@ -1,6 +1,7 @@
 //! Programs in C over the header and the archive: `examples/graph.c` built and run as C and as C++, and the stack of each
-//! call as the header says it.
+//! call as the header says it; and what the archive asks of whoever links it.
 
+use std::collections::BTreeSet;
 use std::error::Error;
 use std::fs;
 use std::path::{Path, PathBuf};
@@ -133,5 +134,20 @@ fn the_stack_of_each_call_is_as_the_header_says() -> Tried {
         let rounded = found.next_multiple_of(1024);
         assert_eq!(bytes, rounded, "LUBIKSAN_{name}_STACK: {found} bytes");
     }
+    Ok(())
+}
+
+#[test]
+fn the_archive_asks_for_memset_alone() -> Tried {
+    let output = Command::new("nm")
+        .args(["-u", env!("LUBIKSAN_ARCHIVE")])
+        .output()?;
+    succeeded(&output)?;
+    let said = String::from_utf8(output.stdout)?;
+    let asked: BTreeSet<&str> = said
+        .lines()
+        .filter_map(|line| line.trim().strip_prefix("U "))
+        .collect();
+    assert_eq!(asked, BTreeSet::from(["memset"]));
     Ok(())
 }

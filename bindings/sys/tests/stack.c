@@ -131,9 +131,6 @@ int main(int argc, char **argv) {
     static const char *const told[] = {"TAPE", "CLEAR", "READ", "LOWER", "REDUCE", "WRITE", "PATTERN", "OTHER"};
     enum { CALLS = sizeof calls / sizeof calls[0] };
     size_t most[CALLS] = {0};
-    /* The functions of the C library that the archive uses are called before it is measured: what the loader takes when one is
-       called for the first time is not taken by the calls. */
-    memmove(out, out + 1, sizeof out - 1);
     if (posix_memalign((void **)&stack, 4096, STACK) != 0) {
         return EXIT_FAILURE;
     }

@@ -4,6 +4,7 @@ ghost use Rattle.std.specs.Prelude.{◌≡◌, List, ◌++◌, ℕ, ◌+◌, ◌
 ghost use Rattle.sheet.specs.Rows.{filled};
 
 use crate::copy_text;
+use crate::shift::shift_names;
 
 // Replaces the text of len bytes at `at` in the names, whose used part ends at `used`. Not a slice of the used part: the new text may take room behind it.
 pub fn replace_names(names: &mut [u8], used: usize, at: usize, len: usize, new: &[u8])
@@ -13,8 +14,9 @@ pub fn replace_names(names: &mut [u8], used: usize, at: usize, len: usize, new: 
 {
     let from = at + len;
     let to = at + new.len();
-    names.copy_within(from..used, to);
-    let end = to + (used - from);
+    let count = used - from;
+    shift_names(names, from, to, count);
+    let end = to + count;
     names[end..used.max(end)].fill(0);
     copy_text(names, at, new);
 }

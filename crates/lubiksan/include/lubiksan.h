@@ -8,7 +8,7 @@
    A text is ASCII and the characters from U+0080 to U+017F in UTF-8, of two bytes each; in a graph U+02BC, U+0307 and U+039C may
    stand too, which case brings in. Each pair of a tape, and each used pair of a sheet, holds whole characters.
    Nothing is allocated and nothing is kept between calls: what goes from call to call is the sheet. Of the C library the archive
-   uses memset and memmove alone. It is for x86-64 Linux. */
+   uses memset alone. It is for x86-64 Linux. */
 #ifndef LUBIKSAN_H
 #define LUBIKSAN_H
 

@@ -1,7 +1,7 @@
 // An index of names over the places of heads: is there a head of this name, and where. A table of `buckets` numbers and then one number for each head
 // so far. A name is looked for in its bucket alone, and compared byte by byte, as long as no bucket has more than `CHAIN` entries. With so many buckets as entries a name comes to a longer
 // one only where names are chosen to collide. Then the entries are put in order of their names, and a name is looked for by halves, in as many steps as the number of entries has bits. What is
-// left of the square for such names is that an entry moves those behind it, 4,094 numbers at most: they are moved by one call of memmove.
+// left of the square for such names is that an entry moves those behind it, 4,094 numbers at most, by one `copy_within`.
 #![tactic(auto)]
 
 ghost use Rattle.std.specs.Prelude.{◌≡◌, true, false, ◌+◌, ◌*◌, ◌/◌, ◌%◌, ◌≤◌, ◌<◌, length, get_or, None};

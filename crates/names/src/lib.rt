@@ -17,6 +17,7 @@ ghost use Rattle.names.specs.Answers.{Put};
 ghost use Rattle.names.specs.Scans.{segments};
 
 use bytes::{put_byte, put_bytes};
+use plain_bytes::copy_bytes;
 use reading::Reading;
 use segments::{SegmentBytes, cased_byte};
 use text::has_byte;
@@ -65,10 +66,10 @@ pub fn put_same(s: &[u8], out: &mut [u8]) -> Option<usize>
     ensures { Put s.now out.old result out.new }
 {
     if out.len() < s.len() {
-        out.copy_from_slice(&s[..out.len()]);
+        copy_bytes(out, &s[..out.len()]);
         return None;
     }
-    out[..s.len()].copy_from_slice(s);
+    copy_bytes(&mut out[..s.len()], s);
     Some(s.len())
 }
 

@@ -2,3 +2,4 @@
 pub mod Zeros
 pub mod Runs
 pub mod Same
+pub mod Copied

@@ -218,3 +218,42 @@ pub fn same_bytes(x: &[u8], y: &[u8]) -> bool
     let last = x.len() - 8;
     word_at(x, last) == word_at(y, last)
 }
+
+// Copies fewer than four bytes.
+fn copy_few(out: &mut [u8], bytes: &[u8])
+    requires { length out.old ≡ length bytes.now }
+    ensures { out.new ≡ bytes.now }
+{
+    for k in 0..bytes.len() {
+        out[k] = bytes[k];
+    }
+}
+
+// Copies fewer than eight bytes: from four on the first and the last four, some of them twice.
+fn copy_short(out: &mut [u8], bytes: &[u8])
+    requires { (length out.old ≡ length bytes.now) × (length bytes.now < 8) }
+    ensures { out.new ≡ bytes.now }
+{
+    let n = bytes.len();
+    if n < 4 {
+        return copy_few(out, bytes);
+    }
+    out[..4].copy_from_slice(&bytes[..4]);
+    out[n - 4..].copy_from_slice(&bytes[n - 4..]);
+}
+
+// Copies bytes into a part of their length, eight at a time, the last eight together, some of them twice. std's method does not take its place where the length is known only
+// when it runs: it calls memmove there, and of the C library the archive uses memset alone.
+pub fn copy_bytes(out: &mut [u8], bytes: &[u8])
+    requires { length out.old ≡ length bytes.now }
+    ensures { out.new ≡ bytes.now }
+{
+    let n = bytes.len();
+    if n < 8 {
+        return copy_short(out, bytes);
+    }
+    for k in 0..n / 8 {
+        out[8 * k..8 * k + 8].copy_from_slice(&bytes[8 * k..8 * k + 8]);
+    }
+    out[n - 8..].copy_from_slice(&bytes[n - 8..]);
+}

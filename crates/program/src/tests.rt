@@ -1,20 +1,28 @@
-// That each call which needs memory or writes can succeed, and what a read that fails leaves: no clause says so.
+// That each call which needs memory or writes can succeed, and what a read that fails leaves, for lack of memory too: no clause says so.
 use crate::buffers::Buffers;
 use crate::{input, numbers, print, run};
+use std::alloc::AllocError;
 use std::io;
 use std::io::{ErrorKind, Read, Write};
 use std::test::Fail;
 
-// A reader that gives some bytes once, and fails from then on.
+// A reader that gives some bytes once, and fails in one way from then on.
 #[derive(Drop)]
 struct Failing {
     given: bool,
+    kind: ErrorKind,
+}
+
+impl Failing {
+    fn new(kind: ErrorKind) -> Failing {
+        Failing { given: false, kind }
+    }
 }
 
 impl Read for Failing {
     fn read(&mut self, buf: &mut [u8]) -> io::Result<usize> {
         if self.given {
-            return Err(io::Error::from(ErrorKind::TimedOut));
+            return Err(io::Error::from(self.kind));
         }
         self.given = true;
         b"1 2 x".as_slice().read(buf)
@@ -55,7 +63,7 @@ fn numbers_are_read(rt: HostRuntime) -> Result<(), Fail> {
 #[test]
 fn work_is_done_on_what_was_read(rt: HostRuntime) -> Result<(), Fail> {
     let mut written = Vec::new(rt.alloc());
-    let failing = Failing { given: false };
+    let failing = Failing::new(ErrorKind::TimedOut);
     let done = run::on_input(rt.alloc(), failing, 100, &mut written, |_, out, input| {
         out.write_all(input)
     });
@@ -74,5 +82,30 @@ fn work_is_done_on_what_was_read(rt: HostRuntime) -> Result<(), Fail> {
     );
     assert!(rt; done.is_err());
     assert_eq!(rt; written.as_slice(), b"1 2 ".as_slice());
+    Ok(())
+}
+
+// A lack of memory is told. What is cut by it is not worked on.
+#[test]
+fn lack_of_memory_is_told(rt: HostRuntime) -> Result<(), Fail> {
+    let mut written = Vec::new(rt.alloc());
+    let failing = Failing::new(ErrorKind::OutOfMemory);
+    let done = run::on_input(rt.alloc(), failing, 100, &mut written, |_, out, input| {
+        out.write_all(input)
+    });
+    assert!(rt; done.is_err());
+    assert!(rt; written.is_empty());
+    assert!(rt; run::pass_over_io(done).is_err());
+    assert!(rt; run::pass_over_io(Ok(7)).is_ok());
+    for kind in [
+        ErrorKind::BrokenPipe,
+        ErrorKind::StorageFull,
+        ErrorKind::TimedOut,
+    ] {
+        let done: io::Result<usize> = Err(io::Error::from(kind));
+        assert!(rt; run::pass_over_io(done).is_ok());
+    }
+    let lack: io::Result<usize> = Err(io::Error::from(AllocError));
+    assert!(rt; run::pass_over_io(lack).is_err());
     Ok(())
 }

@@ -16,3 +16,4 @@ pub mod Middle
 pub mod Sheet
 pub mod More
 pub mod Writer
+pub mod Named

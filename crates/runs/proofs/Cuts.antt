@@ -36,7 +36,7 @@ ran_on front r = record { answers = front ++ r.answers; last = r.last }
 
 -- ---- calls behind calls
 
-run_calls-append : (a b : List Call) (h : RunHolds) → run_calls (a ++ b) h ≡ ran_on (run_calls a h).answers (run_calls b (held_behind a h))
+pub run_calls-append : (a b : List Call) (h : RunHolds) → run_calls (a ++ b) h ≡ ran_on (run_calls a h).answers (run_calls b (held_behind a h))
 unfolding run_calls answered_first held_behind
 run_calls-append [] b h = refl
 run_calls-append (Call.reading text marks ∷ a) b h =
@@ -59,12 +59,12 @@ joined_from-append (Call.lowering graph scratch ∷ a) b h = joined_from-append 
 
 -- ---- one reading on a state
 
-read_held_lem : (lent : Lengths) (s : State) (text : Text) (marks : List ℕ) → tape_lengths (length text) (length marks) ≡ true
+pub read_held_lem : (lent : Lengths) (s : State) (text : Text) (marks : List ℕ) → tape_lengths (length text) (length marks) ≡ true
     → read_held (RunHolds.holding lent s) text marks ≡ held_after lent s (read_state lent s text marks)
 unfolding read_held
 read_held_lem lent s text marks t = rw t
 
-read-long : (lent : Lengths) (s : State) (text : Text) (marks : List ℕ) → tape_lengths (length text) (length marks) ≡ false
+pub read-long : (lent : Lengths) (s : State) (text : Text) (marks : List ℕ) → tape_lengths (length text) (length marks) ≡ false
     → read_held (RunHolds.holding lent s) text marks ≡ refused_with 1 (RunHolds.holding lent s)
 unfolding read_held
 read-long lent s text marks t = rw t
@@ -109,10 +109,10 @@ unfolding joined_from judged_held held_after
 joined_from-read lent s text marks calls t = rw (read_held_lem lent s text marks t, t)
 
 -- what the calls of a tape leave: the answers, what is held, the records judged
-record Leaves (lent : Lengths) (text : Text) (s : State) (marks : List ℕ) (calls : List Call) (r : Reading) : Type 0 where
-  answers : PiecesAnswer r.answer.number (number_in_run s.events r.answer) r.answer.place (run_calls calls (RunHolds.holding lent s)).answers
-  held : held_behind calls (RunHolds.holding lent s) ≡ RunHolds.holding lent r.state
-  events : joined_from calls (RunHolds.holding lent s) ≡ judged_in lent s text marks
+pub record Leaves (lent : Lengths) (text : Text) (s : State) (marks : List ℕ) (calls : List Call) (r : Reading) : Type 0 where
+  pub answers : PiecesAnswer r.answer.number (number_in_run s.events r.answer) r.answer.place (run_calls calls (RunHolds.holding lent s)).answers
+  pub held : held_behind calls (RunHolds.holding lent s) ≡ RunHolds.holding lent r.state
+  pub events : joined_from calls (RunHolds.holding lent s) ≡ judged_in lent s text marks
 
 one-leaves : (lent : Lengths) (text : Text) (s : State) (marks : List ℕ) → tape_lengths (length text) (length marks) ≡ true
     → Leaves lent text s marks (Call.reading text marks ∷ []) (read_state lent s text marks)
@@ -127,10 +127,10 @@ one-leaves lent text s marks t =
 -- ---- a piece that is accepted, and the rest
 
 module _ (lent : Lengths) (text : Text) (s : State) (m₁ m₂ : List ℕ) (z : (read_state lent s text m₁).answer.number ≡ 0) where
-  abbrev r₁ : Reading
+  abbrev pub r₁ : Reading
   r₁ = read_state lent s text m₁
 
-  abbrev r₂ : Reading
+  abbrev pub r₂ : Reading
   r₂ = read_state lent r₁.state text m₂
 
   place-first : r₁.answer.place ≡ length (records text m₁)
@@ -148,14 +148,14 @@ module _ (lent : Lengths) (text : Text) (s : State) (m₁ m₂ : List ℕ) (z : 
       rw (judged-first, cut-records text m₁ m₂ (accepted-events (zero-accepted lent s text m₁ z)), cut-accepted lent s text m₁ m₂ z, k)
       (take-append-add (records text m₁) (records text m₂) (suc n))
 
-  number_same : number_in_run s.events (record { number = r₂.answer.number; place = r₁.answer.place + r₂.answer.place }) ≡ number_in_run r₁.state.events r₂.answer
+  pub number_same : number_in_run s.events (record { number = r₂.answer.number; place = r₁.answer.place + r₂.answer.place }) ≡ number_in_run r₁.state.events r₂.answer
   unfolding number_in_run
   number_same =
       let k : s.events + (r₁.answer.place + r₂.answer.place) ≡ r₁.state.events + r₂.answer.place = omega (arith, read_state-place lent s text m₁) in
       rw k
 
   module _ (t : tape_lengths (length text) (length m₁) ≡ true) where
-    first-held : read_held (RunHolds.holding lent s) text m₁ ≡ record { answer = record { number = 0; place = r₁.answer.place }; in_run = none; held = RunHolds.holding lent r₁.state }
+    pub first-held : read_held (RunHolds.holding lent s) text m₁ ≡ record { answer = record { number = 0; place = r₁.answer.place }; in_run = none; held = RunHolds.holding lent r₁.state }
     unfolding held_after number_in_run between
     first-held =
         read_held_lem lent s text m₁ t
@@ -165,7 +165,7 @@ module _ (lent : Lengths) (text : Text) (s : State) (m₁ m₂ : List ℕ) (z : 
       passed-held : held_behind (between ++ calls) (RunHolds.holding lent r₁.state) ≡ held_behind calls (RunHolds.holding lent r₁.state)
       passed-held = held_behind-append between calls (RunHolds.holding lent r₁.state) ∙ rw (passing-held lent r₁.state between o)
 
-      passed-ran : (run_calls (between ++ calls) (RunHolds.holding lent r₁.state)).answers
+      pub passed-ran : (run_calls (between ++ calls) (RunHolds.holding lent r₁.state)).answers
           ≡ (run_calls between (RunHolds.holding lent r₁.state)).answers ++ (run_calls calls (RunHolds.holding lent r₁.state)).answers
       passed-ran =
           ap (λ (r : Ran). r.answers) (run_calls-append between calls (RunHolds.holding lent r₁.state))
@@ -200,7 +200,7 @@ judged-dropped lent s text m₁ m₂ w r =
     let k : suc (read_state lent s text m₁).answer.place ≤ length (records text m₁) = omega (arith, refused-place lent 0 s (records text m₁) r) in
     rw (cut-refused lent s text m₁ m₂ r (λ n. w), front.1) (take-append-le (suc (read_state lent s text m₁).answer.place) (records text m₁) front.0 k)
 
-pieces-leave : {lent : Lengths} {text : Text} {s : State} {marks : List ℕ} {calls : List Call} → Pieces lent text s marks calls → Leaves lent text s marks calls (read_state lent s text marks)
+pub pieces-leave : {lent : Lengths} {text : Text} {s : State} {marks : List ℕ} {calls : List Call} → Pieces lent text s marks calls → Leaves lent text s marks calls (read_state lent s text marks)
 pieces-leave {lent} {text} {s} (Pieces.last {marks = marks} t) = one-leaves lent text s marks t
 pieces-leave {lent} {text} {s} (Pieces.onward m₁ m₂ ls calls t z o p) = next-leaves lent text s m₁ m₂ z t ls calls o (pieces-leave p)
 pieces-leave {lent} {text} {s} (Pieces.dropped m₁ m₂ t w r) =

@@ -88,8 +88,9 @@ fn put_lines<W: Write>(alloc: Global, out: &mut W, input: &[u8]) -> io::Result<(
     Ok(())
 }
 
-// What cannot be written is passed over: the program ends as it does where all is written.
+// What cannot be written is passed over: the program ends as it does where all is written. Where there is no memory it ends with status 1.
 // Beside that of the other program, which differs in the limit and in the work: the call is what is the same.
-fn main(rt: HostRuntime) {
-    let _ = run::on_input(rt.alloc(), rt.reader(), LONGEST, io::writer(&rt), put_lines);
+fn main(rt: HostRuntime) -> io::Result<()> {
+    let done = run::on_input(rt.alloc(), rt.reader(), LONGEST, io::writer(&rt), put_lines);
+    run::pass_over_io(done)
 }

@@ -16,3 +16,4 @@ pub mod Reads
 pub mod Written
 pub mod Back
 pub mod Grammar
+pub mod Named

@@ -7,13 +7,14 @@
 --     start_width    how many bytes the first character of a name has; matched: a name that is the name at another place
 --     body_of        the step of a `Body`
 --     Before        bytes that may be passed over before a word
+--     GoesAlike     bytes with which the names at two places begin alike; SameUpTo: where two names have been held against each other, as far as they are bytes below 128
 --     StandsAt      bytes that stand at two places, with no more of a name behind the second
-use Rattle.std.specs.Prelude.{ℕ, ◌+◌, ◌<◌, ◌≡◌, List, [], ◌∷◌, Bool, true, false, Option, Some, None, length, get_or, take, drop, eqb, ltb, leb, if◌then◌else◌}
+use Rattle.std.specs.Prelude.{ℕ, ◌+◌, ◌-◌, ◌≤◌, ◌<◌, ◌≡◌, List, [], ◌∷◌, Bool, true, false, Option, Some, None, length, get_or, take, drop, eqb, ltb, leb, if◌then◌else◌}
 use Rattle.std.specs.Int.{bit_at}
 use Rattle.text.specs.Text.{Text, is_digit, is_pair, first, same}
 use Rattle.text.specs.Trim.{is_white_space}
 use Rattle.xml.specs.Classes.{is_char, is_letter, is_name_start, is_name, is_encoding, point_of, is_byte_of, begins}
-use Rattle.xml.specs.Steps.{Step, bad, behind, name, leading_name}
+use Rattle.xml.specs.Steps.{Step, bad, behind, many, name, leading_name}
 use Rattle.xml.specs.Values.{is_in_text, is_in_value}
 use Rattle.xml.specs.Prolog.{version_number, encoding_name, yes_or_no}
 use Rattle.xml_parts.specs.declared.classes.Class.{Class}
@@ -78,6 +79,18 @@ pub record Before (p : ℕ → Bool) (word : Text) : Type 0 where
   pub some : 0 < length word
   pub chars : (b : ℕ) → p b ≡ true → is_char b ≡ true
   pub others : (b : ℕ) → p b ≡ true → eqb b (get_or word 0 0) ≡ false
+
+-- the names at two places have their first n bytes alike: they are the same where the rests behind those are, and the first goes on as its rest does
+pub record GoesAlike (text : Text) (a b n : ℕ) : Type 0 where
+  pub inside : (n ≤ length text - a) × (n ≤ length text - b)
+  pub alike : same (leading_name (drop (a + n) text)) (leading_name (drop (b + n) text)) ≡ same (leading_name (drop a text)) (leading_name (drop b text))
+  pub ends : n + length (leading_name (drop (a + n) text)) ≡ length (leading_name (drop a text))
+
+-- the names at a and b are the same where those at i and j are, and the run of the first goes on at i: a byte that is no name's, or differs from the one at j
+pub record SameUpTo (text : Text) (a b i j : ℕ) : Type 0 where
+  pub same_names : same (leading_name (drop i text)) (leading_name (drop j text)) ≡ same (leading_name (drop a text)) (leading_name (drop b text))
+  pub same-run : many (is_byte_of is_name) i (drop i text) ≡ many (is_byte_of is_name) a (drop a text)
+  pub differ : is_byte_of is_name (get_or text i 0) ≡ true → get_or text i 0 ≡ get_or text j 0 → ⊥
 
 -- the n bytes at one place stand at another one too, and no name goes on behind them there
 pub record StandsAt (text : Text) (at n top : ℕ) : Type 0 where

@@ -15,16 +15,17 @@ pub enum Class {
     InValue,
 }
 
-// Whether a code point is a character. The ranges are tests of their own: with all in one `matches!` a text with comments took a thirtieth more instructions
+// Whether a code point is a character. The range of most is asked first: behind the three that stand alone the text of an instruction took 1.8 times the instructions. The ranges are tests
+// of their own: with all in one `matches!` a text with comments took a thirtieth more instructions
 // (the bar: the tape is no slower in compare/CALLS.md).
 #[tactic(auto, unfolding(xml::specs::Classes::is_char, text::specs::Text::between))]
 pub fn is_char(c: u32) -> bool
     ensures { result ≡ is_char c }
 {
-    matches!(c, 9 | 10 | 13)
-        | (32..=55295).contains(&c)
-        | (57344..=65533).contains(&c)
-        | (65536..=1114111).contains(&c)
+    (32..=55295).contains(&c)
+        || matches!(c, 9 | 10 | 13)
+        || (57344..=65533).contains(&c)
+        || (65536..=1114111).contains(&c)
 }
 
 // The classes of each byte, a bit for each class.

@@ -5,7 +5,7 @@ ghost use Rattle.xml.specs.Classes.{is_name_start, is_name, is_byte_of, begins};
 ghost use Rattle.text.specs.Text.{bytes, same};
 ghost use Rattle.xml.specs.Steps.{behind, starts_with, literal, many, one_then, spaces, name, leading_name, until, comment, target, instruction_end, instruction, section};
 ghost use Rattle.xml.specs.Grammar.{is_xml};
-ghost use Rattle.xml_parts.specs.Answers.{Before, StandsAt, class_of, moved, start_width, matched};
+ghost use Rattle.xml_parts.specs.Answers.{Before, GoesAlike, SameUpTo, class_of, moved, start_width, matched};
 
 use crate::classes::{Class, Classes, is_char};
 use crate::letters;
@@ -197,6 +197,25 @@ fn same_run(classes: &Classes, text: &[u8], a: usize, b: usize) -> Option<usize>
     same_long(classes, text, a, b)
 }
 
+// Two places, up to which two names are the same.
+#[derive(Clone, Copy)]
+pub struct Places(pub usize, pub usize);
+
+// Where the names at two places end or differ, as far as they are bytes below 128. By an index, like `same_run`, which is not written over it: with the bytes at both places read again
+// behind the loop the tape of pain.001.001.09 took 591,290 instructions and not 586,327 (the bar: the tape is no slower in compare/CALLS.md).
+pub fn same_end(classes: &Classes, text: &[u8], a: usize, b: usize) -> Places
+    ensures { SameUpTo text.now a b result.0 result.1 }
+{
+    let beside = text.len().saturating_sub(a.max(b));
+    for k in 0..beside {
+        let (x, y) = (text[a + k], text[b + k]);
+        if !classes.is_name(x) || x != y {
+            return Places(a + k, b + k);
+        }
+    }
+    Places(a + beside, b + beside)
+}
+
 // Whether the names at two positions are the same. Most keys of a tag differ in their first byte.
 pub fn same_name(classes: &Classes, text: &[u8], a: usize, b: usize) -> bool
     ensures { result ≡ same (leading_name (drop a text.now)) (leading_name (drop b text.now)) }
@@ -208,7 +227,26 @@ pub fn same_name(classes: &Classes, text: &[u8], a: usize, b: usize) -> bool
     same_run(classes, text, a, b).is_some()
 }
 
-// Behind the first place of the word, with only characters before it.
+// The bytes from a place up to another one are looked at one by one: what the search for the word comes to, where one of them decides it. Inlined, so that each search has its word
+// at hand: as a call of its own a comment with a hyphen at each second byte took a third more instructions than with `until` alone.
+#[inline(always)]
+fn look(text: &[u8], from: usize, to: usize, word: &[u8]) -> Option<Option<usize>>
+    requires { (from ≤ to) × (to ≤ length text.now) }
+    ensures { MatchOption result (until word.now to (drop to text.now) ≡ until word.now from (drop from text.now))
+        (λ found. moved text.now found ≡ until word.now from (drop from text.now)) }
+{
+    for i in from..to {
+        if starts(text, i, word) {
+            return Some(Some(i + word.len()));
+        }
+        if !is_char(text[i] as u32) {
+            return Some(None);
+        }
+    }
+    None
+}
+
+// Behind the first place of the word, with only characters before it. Not by `look`: its answer in two Options takes two instructions more a byte.
 pub fn until(text: &[u8], at: usize, word: &[u8]) -> Option<usize>
     ensures { moved text.now result ≡ until word.now at (drop at text.now) }
 {
@@ -223,20 +261,30 @@ pub fn until(text: &[u8], at: usize, word: &[u8]) -> Option<usize>
     None
 }
 
-// The same over the bytes of a run, which neither begin the word nor need a look, eight at a time. A `while`: each turn goes on behind a run of any length.
+// How many bytes are looked at one by one before the next run is tried: twice as many as the last time, up to 1,024, where the run had fewer than ten bytes, and else one.
+fn next_stretch(stretch: usize, passed: usize) -> usize
+    requires { 1 ≤ stretch }
+    ensures { 1 ≤ result }
+{
+    if passed < 10 { 2 * stretch.min(512) } else { 1 }
+}
+
+// The same over the bytes of a run, which neither begin the word nor need a look, eight at a time. Where runs are short a run is tried less often: tried behind each byte, a comment with a
+// hyphen at each second byte took four times as long (docs/LOOK-BACK.md). A `while`: a turn goes on behind a run of any length.
 fn until_over<R: Run>(text: &[u8], at: usize, word: &[u8]) -> Option<usize>
     requires { Before R.is_in word.now }
     ensures { moved text.now result ≡ until word.now at (drop at text.now) }
 {
     let mut i = skip::<R>(text, at);
+    let mut stretch: usize = 1;
     while i < text.len() {
-        if starts(text, i, word) {
-            return Some(i + word.len());
+        let to = text.len().min(i.saturating_add(stretch));
+        if let Some(found) = look(text, i, to, word) {
+            return found;
         }
-        if !is_char(text[i] as u32) {
-            return None;
-        }
-        i = skip::<R>(text, i + 1);
+        let next = skip::<R>(text, to);
+        stretch = next_stretch(stretch, next - to);
+        i = next;
     }
     None
 }
@@ -298,30 +346,29 @@ pub fn section(text: &[u8], at: usize) -> Option<usize>
     until_over::<SectionRun>(text, inside, b"]]>")
 }
 
-// Whether the bytes of a part stand at an earlier place too, with no more of a name behind them.
-fn is_there(classes: &Classes, text: &[u8], at: usize, end: usize, top: usize) -> bool
-    requires { (at ≤ end) × (end ≤ length text.now) }
-    ensures { result ≡ true → StandsAt text.now at (end - at) top }
+// How many bytes of the names at two places are alike, as far as eight at a time are, all of them name bytes below 128. A `while`: where it ends is the answer. Inlined, like `name_bytes`.
+#[inline(always)]
+fn alike_bytes(classes: &Classes, text: &[u8], a: usize, b: usize) -> usize
+    ensures { GoesAlike text.now a b result }
 {
-    if at < top {
-        return false;
+    let beside = text.len().saturating_sub(a.max(b));
+    let mut k = 0;
+    while 8 <= beside - k {
+        let (x, y) = (&text[a + k..a + k + 8], &text[b + k..b + k + 8]);
+        if !same_bytes(x, y) || !x.iter().all(|b| classes.is_name(*b)) {
+            return k;
+        }
+        k += 8;
     }
-    let behind = top + (end - at);
-    if goes_on(classes, text, behind) {
-        return false;
-    }
-    same_bytes(&text[at..end], &text[top..behind])
+    k
 }
 
-// Behind the name at a position, where it is the name at another one. Its end is looked for and then words of eight are compared: byte by byte, as `same_run` goes, the
-// tape of pain.001.001.09 took about 15,000 instructions more, of 574,265 (the bar: the tape is no slower in compare/CALLS.md).
+// Behind the name at a position, where it is the name at another one. The two are held against each other while they are read, so that nothing behind the first byte that differs is read: eight
+// bytes at a time, and then byte by byte: by `same_run` alone the tape of pain.001.001.09 took about 15,000 instructions more, of 574,265 (the bar: the tape is no slower in compare/CALLS.md).
 pub fn matched_name(classes: &Classes, text: &[u8], at: usize, top: usize) -> Option<usize>
     ensures { moved text.now result ≡ matched text.now at top }
 {
     start_width(classes, text, at)?;
-    let end = name_end(classes, text, at);
-    if is_there(classes, text, at, end, top) {
-        return Some(end);
-    }
-    same_long(classes, text, at, top)
+    let same = alike_bytes(classes, text, at, top);
+    same_run(classes, text, at + same, top + same)
 }

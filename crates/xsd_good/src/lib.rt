@@ -45,7 +45,6 @@ pub fn is_bare_good(rows: &[u32], names: &[u8]) -> bool
     // 1,056 bytes of stack otherwise, where the header says 1,024 (docs/DECISIONS.md, 192).
     let apart = tests::row0_form(z)
         & behind::zeros_behind(rows, names, part.end, names_end)
-        & used::names_test::<SchemaRow>(&part, names_end)
         & tests::limits(z)
         & tests::root_test(z)
         & tests::nesting_test(z)
@@ -53,8 +52,10 @@ pub fn is_bare_good(rows: &[u32], names: &[u8]) -> bool
     let Some(s) = scan_sheet::<SchemaRow>(&part, row1, z.names_used) else {
         return false;
     };
+    // The texts are asked behind the pass, where the pairs are known to lie end to end: before it, pairs that overlap would be read again for each row.
     apart
         & (s.end == names_end)
+        & used::names_test::<SchemaRow>(&part, names_end)
         & tests::context_test(z.context, s.head)
         & tests::extension_test(z, s.head)
 }

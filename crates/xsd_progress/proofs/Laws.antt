@@ -7,3 +7,5 @@ pub mod Pairs
 pub mod Bounds
 pub mod States
 pub mod Row0
+pub mod Read
+pub mod Named

@@ -11,7 +11,8 @@ ghost use Rattle.std.specs.Prelude.{true, ◌≡◌, ◌*◌, ◌≤◌, length}
 ghost use Rattle.sheet.specs.Rows.{ten};
 ghost use Rattle.sheet.specs.Form.{rows_used_in, words};
 ghost use Rattle.xsd_good.specs.End.{HeadIs};
-ghost use Rattle.xsd_progress.specs.Progress.{progress_in, used_in, row0_numbers};
+ghost use Rattle.xsd_good.specs.Row0.{as_row0};
+ghost use Rattle.xsd_progress.specs.Progress.{progress_of, progress_in, used_in, row0_numbers};
 
 use rows::numbers::Used;
 use xsd_actions::Mode;
@@ -29,19 +30,11 @@ pub struct Progress {
     pub head: usize,
 }
 
-// Where the reading of a sheet stands. The open type's head is known from the test of the sheet, and not looked for again. That the numbers are u32 is said
-// since the definitions of a good sheet ask for it, and the buffer's type gives it.
-pub fn progress_by(rows: &[u32], known: usize) -> Progress
-    requires { (10 ≤ length rows.now) × (10 * rows_used_in (ten rows.now) ≤ length rows.now) × HeadIs rows.now known }
-    ensures numbers { result ≡ progress_in rows.now }
-    ensures words { words rows.now ≡ true }
+// The numbers of row 0, with the head.
+#[tactic(auto, unfolding(crate::specs::Progress::progress_of))]
+fn progress_at(z: Row0, head: usize) -> Progress
+    ensures { result ≡ progress_of (as_row0 z) head }
 {
-    let z = row0::row0_at(rows);
-    let head = if contexts::SIMPLE_TYPE <= z.context {
-        known
-    } else {
-        scan::open_head(rows, z.rows_used as usize)
-    };
     Progress {
         mode: Mode {
             context: z.context,
@@ -56,14 +49,31 @@ pub fn progress_by(rows: &[u32], known: usize) -> Progress
     }
 }
 
-// The same, where the head is not known.
+// Where the reading of a sheet stands. The open type's head is known from the test of the sheet, and not looked for again. That the numbers are u32 is said
+// since the definitions of a good sheet ask for it, and the buffer's type gives it.
+pub fn progress_by(rows: &[u32], known: usize) -> Progress
+    requires { (10 ≤ length rows.now) × (10 * rows_used_in (ten rows.now) ≤ length rows.now) × HeadIs rows.now known }
+    ensures numbers { result ≡ progress_in rows.now }
+    ensures words { words rows.now ≡ true }
+{
+    let z = row0::row0_at(rows);
+    let head = if contexts::SIMPLE_TYPE <= z.context {
+        known
+    } else {
+        scan::open_head(rows, z.rows_used as usize)
+    };
+    progress_at(z, head)
+}
+
+// The same, where the head is not known: one walk from the end finds it.
 pub fn progress_of(rows: &[u32]) -> Progress
     requires { (10 ≤ length rows.now) × (10 * rows_used_in (ten rows.now) ≤ length rows.now) }
     ensures numbers { result ≡ progress_in rows.now }
     ensures words { words rows.now ≡ true }
 {
     let z = row0::row0_at(rows);
-    progress_by(rows, scan::open_head(rows, z.rows_used as usize))
+    let head = scan::open_head(rows, z.rows_used as usize);
+    progress_at(z, head)
 }
 
 // How much of a sheet is used.

@@ -4,7 +4,7 @@
 -- From a sheet: Shapes and Rows of a row by its tag, Heads with what stands behind them, Parse of rows in order, Open of the tests of row 0,
 -- Parts of a good sheet, Whole the test of its names as a whole, Read its rows, StateOf its state. Places of the rows by their places, Refused of the simple types that
 -- lowering refuses. Choice what order 3 leaves as it was.
--- Counted the count of order 7 by items and rows, Count the sheets that have it, Convert the conversion.
+-- Counted the count of order 7 by items and rows, Count the sheets that have it, Convert the conversion. Named what docs/DESIGN-PASS.md names.
 pub mod Row0
 pub mod Order
 pub mod Groups
@@ -32,3 +32,4 @@ pub mod Counted
 pub mod Count
 pub mod Clear
 pub mod Convert
+pub mod Named

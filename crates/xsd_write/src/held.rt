@@ -48,8 +48,8 @@ fn row_holds(classes: &Classes, clear: usize, row: Row) -> bool
     let t = row.numbers;
     let used = used_pairs(t.tag, t.a);
     pair_holds(classes, row.names, clear, 1 <= used, t.pair(0))
-        & pair_holds(classes, row.names, clear, 2 <= used, t.pair(1))
-        & pair_holds(classes, row.names, clear, 3 <= used, t.pair(2))
+        && pair_holds(classes, row.names, clear, 2 <= used, t.pair(1))
+        && pair_holds(classes, row.names, clear, 3 <= used, t.pair(2))
 }
 
 // The row of the first value that XML cannot hold, from row 1, the namespace, up to the end.

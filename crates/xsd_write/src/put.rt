@@ -5,6 +5,7 @@ ghost use Rattle.xsd_write.specs.Texts.{quoted_value};
 ghost use Rattle.xsd_write.specs.Puts.{Writes};
 
 use crate::decimal::spell;
+use plain_bytes::copy_bytes;
 use text::has_byte;
 
 // A text put together in a lent buffer: `at` is the offset behind it. Where a part has no room, `at` is past the buffer's end and stays there.
@@ -26,7 +27,7 @@ impl Writer<'_> {
             return;
         }
         let end = self.at + part.len();
-        self.out[self.at..end].copy_from_slice(part);
+        copy_bytes(&mut self.out[self.at..end], part);
         self.at = end;
     }
 

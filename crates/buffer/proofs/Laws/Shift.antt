@@ -1,5 +1,4 @@
--- Named in docs/PORT.md. No contract cites them: `replace_names` moves a part by std's copy_within, whose contract says the whole move. These say the move
--- one number a turn: towards the front by a copy whose first number goes first (`moved_down`), towards the end by one whose last number goes first, which has
+-- A part that moves one number a turn: towards the front by a copy whose first number goes first (`moved_down`), towards the end by one whose last number goes first, which has
 -- moved all but the first k (`Moving`). What is still to be read has not been written. Assumes nothing.
 --     Copying    d is d₀ with the first j numbers of s stored from the place `at`
 --     Moving     d is d₀ with all but the first k numbers of s stored from the place `to`

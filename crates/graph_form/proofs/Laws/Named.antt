@@ -1,5 +1,5 @@
 -- Named in docs/PORT.md. No contract cites them. Assumes nothing.
-use Rattle.std.specs.Prelude.{Some}
+use Rattle.std.specs.Prelude.{Some, None}
 use Prim.Native.Nat.{ℕ, ◌+◌, ◌-◌, ◌*◌, ◌≤◌, ◌<◌}
 use native.Mathlib.Omega.{arith}
 use mathlib.Core.Path.{◌≡◌, sym, ◌∙◌}
@@ -20,7 +20,7 @@ use Rattle.rows.specs.Lengths.{parts_fit}
 use Rattle.rows.specs.Scan.{first_passes, first_row, next_row, scanned}
 use Rattle.rows.proofs.Laws.Room.{parts-inside}
 use Rattle.rows.proofs.Laws.Tens.{tens-more}
-use Rattle.rows.proofs.Laws.Scan.{first-passes, first-end, next-end, next-on}
+use Rattle.rows.proofs.Laws.Scan.{first-passes, first-end, next-end, next-on, next-fails}
 use Rattle.graph_form.specs.Tests.{graph_tests, is_root}
 use Rattle.graph_form.proofs.Laws.Form.{too-short}
 
@@ -78,3 +78,8 @@ next_small limit s t next ts e = record { end = next-end graph_tests limit s t n
 pub scan_step : (limit : ℕ) (s : Scan) (left at : ℕ) (rows : List ℕ) (t : Ten) (next : Scan) → 0 < left → t ≡ ten (drop at rows) → Some next ≡ next_row graph_tests limit s t
     → scanned graph_tests limit next (tens (left - 1) (drop (at + 10) rows)) ≡ scanned graph_tests limit s (tens left (drop at rows))
 scan_step limit s left at rows t next h e n = rw (tens-more left at rows h, ← e) (next-on graph_tests limit s t next _ n)
+
+-- a row that fails ends the pass
+pub scan_step-fails : (limit : ℕ) (s : Scan) (left at : ℕ) (rows : List ℕ) (t : Ten) → 0 < left → t ≡ ten (drop at rows) → None ≡ next_row graph_tests limit s t
+    → None ≡ scanned graph_tests limit s (tens left (drop at rows))
+scan_step-fails limit s left at rows t h e n = rw (tens-more left at rows h, ← e) (next-fails graph_tests limit s t _ n)

@@ -21,6 +21,15 @@ pub resolve-named : (name t : Text) → resolve_type_ref name ≡ TypeRef.named 
 unfolding resolve_type_ref
 resolve-named name t e = resolved-named name (map_builtin name) t e
 
+resolved-builtin : (name : Text) (o : Option RustType) (r : RustType) → resolved name o ≡ TypeRef.builtin r → o ≡ some r
+unfolding resolved
+resolved-builtin name none r e = let z : ◌≡◌ {A = ℕ} 0 1 = cc in absurd (omega arith)
+resolved-builtin name (some q) r e = cc
+
+pub resolve-builtin : (name : Text) (r : RustType) → resolve_type_ref name ≡ TypeRef.builtin r → map_builtin name ≡ some r
+unfolding resolve_type_ref
+resolve-builtin name r e = resolved-builtin name (map_builtin name) r e
+
 -- ---- place by place
 
 pub field-reference : (e : SequenceElement) → (lower_field e).type_ref ≡ resolve_type_ref e.type_name
@@ -34,6 +43,19 @@ variant-reference v = refl
 pub attribute-reference : (x : Attribute) → (lower_attribute x).type_ref ≡ resolve_type_ref x.type_name
 unfolding lower_attribute
 attribute-reference x = refl
+
+-- where it is a name; no contract cites these three and `resolve-builtin`, which docs/DESIGN-PASS.md names
+pub field-named : (e : SequenceElement) (t : Text) → (lower_field e).type_ref ≡ TypeRef.named t → t ≡ normalize_type_name e.type_name
+unfolding lower_field
+field-named e t h = (resolve-named e.type_name t h).0
+
+pub variant-named : (v : ChoiceVariant) (t : Text) → (lower_variant v).type_ref ≡ TypeRef.named t → t ≡ normalize_type_name v.type_name
+unfolding lower_variant
+variant-named v t h = (resolve-named v.type_name t h).0
+
+pub attribute-named : (x : Attribute) (t : Text) → (lower_attribute x).type_ref ≡ TypeRef.named t → t ≡ normalize_type_name x.type_name
+unfolding lower_attribute
+attribute-named x t h = (resolve-named x.type_name t h).0
 
 fields-references : (es : List SequenceElement)
     → map (λ (f : FieldDef). f.type_ref) (map lower_field es) ≡ map resolve_type_ref (map (λ (e : SequenceElement). e.type_name) es)

@@ -42,7 +42,7 @@ heads-names row s =
 
 -- ---- none exactly where no name stands twice
 
-none-distinct : (seen : List Text) (hs : List Head) → distinct_texts seen ≡ true → first_repeated seen hs ≡ none → distinct_texts (seen ++ type_head_names hs) ≡ true
+pub none-distinct : (seen : List Text) (hs : List Head) → distinct_texts seen ≡ true → first_repeated seen hs ≡ none → distinct_texts (seen ++ type_head_names hs) ≡ true
 unfolding first_repeated type_head_names
 none-distinct seen [] d e = rw (append-nil seen) d
 none-distinct seen (h ∷ hs) d e =

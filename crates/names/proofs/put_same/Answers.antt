@@ -16,7 +16,7 @@ returns-then-out-s c =
     let m = length a.out.now in
     record {
       counted = rw (lt-leb n m c.if-out-s.true);
-      holds = c.copy_from_slice.ensures.after ∙ rw (drop_of_length-le a.out.now {i = n} (omega (arith, c.if-out-s.true)), append-nil);
+      holds = c.copy_bytes.ensures ∙ rw (drop_of_length-le a.out.now {i = n} (omega (arith, c.if-out-s.true)), append-nil);
     }
 
 pub returns : goal.returns
@@ -27,5 +27,5 @@ returns c =
     let m = length a.out.now in
     record {
       counted = rw (le-leb n m c.if-out-s.false);
-      holds = rw (c.copy_from_slice-2.ensures.after, take_all m a.s.now (omega (arith, c.if-out-s.false)));
+      holds = rw (c.copy_bytes-2.ensures, take_all m a.s.now (omega (arith, c.if-out-s.false)));
     }

@@ -10,13 +10,13 @@ use Rattle.std.proofs.lemmas.List.{get_or-drop}
 use Rattle.std.proofs.lemmas.List.Recursion.{and_from_places, or_from_places}
 use lib.Seq.{take-suc}
 use mathlib.Core.Bool.{and_assoc, and-true, false≢true}
-use borrow.Author.Tests.{ltb-true, ltb-false, lt-leb, le-leb}
+use borrow.Author.Tests.{eqb-false, ltb-true, ltb-false, lt-leb, le-leb}
 use Rattle.text.specs.Text.{Text, between, lower_byte, every, is_plain, is_plain_byte, contains, same, colon, local_name}
 use Rattle.text.specs.Trim.{is_white_space, trim_start, trim_end}
 use Rattle.text.proofs.Laws.Bits.{or-small}
 use Rattle.text.proofs.Laws.Every.{every-head, every-tail}
 use Rattle.text.proofs.Laws.Local.{after_last-at, after_last-none}
-use Rattle.text.proofs.Laws.Tests.{bool_cases}
+use Rattle.text.proofs.Laws.Tests.{bool_cases, or-false-left, or-false-right}
 use Rattle.text.proofs.Laws.Trim.{trim_end-append, trim_end-last}
 use Rattle.std.specs.Prelude.{Option, Some, None, is_some}
 
@@ -57,6 +57,19 @@ unfolding contains
 contains-none c s i h =
     or_from_places (contains c) (λ b. nat_eq b c) refl (λ _ _. refl) (drop i s) 0
     (λ k inside. ap (λ b. nat_eq b c) (get_or-drop i s k 0) ∙ ne_eqb (get_or s (i + k) 0) c (h (i + k) (omega arith) (omega (arith, length-drop i s))))
+
+-- a byte that a text does not hold stands at none of its places
+pub contains-not : (c : ℕ) (s : Text) → contains c s ≡ false → (k : ℕ) → k < length s → get_or s k 0 ≢ c
+unfolding contains
+contains-not c [] e k h = absurd (omega arith)
+contains-not c (b ∷ s) e zero h = eqb-false b c (or-false-left (nat_eq b c) (contains c s) e)
+contains-not c (b ∷ s) e (suc k) h = contains-not c s (or-false-right (nat_eq b c) (contains c s) e) k (omega arith)
+
+-- one that stands at no place up to another one and at none behind stands nowhere
+pub nowhere : (c : ℕ) (s : Text) (from end : ℕ) → ((k : ℕ) → from ≤ k → k < end → get_or s k 0 ≢ c) → ((k : ℕ) → end ≤ k → k < length s → get_or s k 0 ≢ c)
+    → (k : ℕ) → from ≤ k → k < length s → get_or s k 0 ≢ c
+nowhere c s from end front behind k low high =
+    bool_cases (nat_lt k end) (λ t. front k low (ltb-true k end t)) (λ t. behind k (ltb-false k end t) high)
 
 -- the local name by the place of the last colon
 pub local_name-last : (name : Text) (i : ℕ) → i < length name → get_or name i 0 ≡ colon → ((k : ℕ) → i + 1 ≤ k → k < length name → get_or name k 0 ≢ colon) → local_name name ≡ drop (i + 1) name

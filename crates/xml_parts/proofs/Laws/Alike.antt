@@ -1,6 +1,8 @@
 -- Two names at places i and j of a text (specs/Steps.antt of the crate `xml`), byte by byte below 128. Assumes nothing.
-use Prim.Native.Nat.{ℕ, suc, ◌<◌}
-use mathlib.Core.Path.{◌≡◌, sym, ap, ◌∙◌}
+use Prim.Native.Nat.{ℕ, zero, suc, ◌+◌, ◌-◌, ◌≤◌, ◌<◌}
+use native.Mathlib.Omega.{arith}
+use native.Mathlib.Nat.{add-zero, add-suc}
+use mathlib.Core.Path.{◌≡◌, refl, sym, ap, ◌∙◌}
 use mathlib.Core.List.{[], ◌∷◌}
 use mathlib.Core.Bool.{true, false, not, or-false}
 use lib.ListN.{length, drop}
@@ -8,6 +10,7 @@ use Rattle.text.specs.Text.{Text, first, same}
 use Rattle.xml.specs.Classes.{is_name, is_byte_of, is_pair_of, begins}
 use Rattle.xml.specs.Steps.{leading_name}
 use Rattle.xml.proofs.Laws.Names.{name_of-none, name_of-some, name_of-pair, low-no-pair, begins-place, byte-inside-text, pair-inside-text, same-byte, same-nothing, same-ended, zero-no-name}
+use Rattle.xml_parts.specs.Answers.{GoesAlike}
 
 -- the bytes at a place
 abbrev pub byte-at : Text → ℕ → ℕ
@@ -54,3 +57,27 @@ ended-there s i j e l m =
     let c : begins is_name (drop j s) ≡ is_byte_of is_name (byte-at s j) =
     begins-place is_name s j zero-no-name ∙ (rw (low-no-pair is_name (byte-at s j) (byte-at s (suc j)) m, or-false (is_byte_of is_name (byte-at s j)))) in
     sym (same-nothing (drop i s) (drop j s) b ∙ ap not c)
+
+-- ---- two names that begin alike
+
+pub nothing-alike : (s : Text) (a b : ℕ) → GoesAlike s a b 0
+nothing-alike s a b = record { inside = (omega arith, omega arith); alike = rw (add-zero a, add-zero b) refl; ends = rw (add-zero a) (omega arith) }
+
+one-alike : (s : Text) (a b k : ℕ) → GoesAlike s a b k → suc k ≤ length s - a → suc k ≤ length s - b → IsByte s (a + k) → byte-at s (a + k) ≡ byte-at s (b + k) → GoesAlike s a b (suc k)
+one-alike s a b k g l m e q =
+    let ea : a + suc k ≡ suc (a + k) = omega arith in
+    let eb : b + suc k ≡ suc (b + k) = omega arith in
+    record { inside = (l, m); alike = rw (ea, eb) (sym (same-bytes s (a + k) (b + k) e q) ∙ g.alike); ends = rw ea (omega (arith, name-byte s (a + k) e, g.ends)) }
+
+-- n bytes stand alike at two places, all of them name bytes
+abbrev pub BytesAlike : Text → ℕ → ℕ → ℕ → Type 0
+BytesAlike s i j n = (k : ℕ) → k < n → IsByte s (i + k) × (byte-at s (i + k) ≡ byte-at s (j + k))
+
+pub more-alike : (s : Text) (a b k n : ℕ) → GoesAlike s a b k → k + n ≤ length s - a → k + n ≤ length s - b → BytesAlike s (a + k) (b + k) n → GoesAlike s a b (k + n)
+more-alike s a b k zero g l m h = rw (add-zero k) g
+more-alike s a b k (suc n) g l m h =
+    let ea : a + k + n ≡ a + (k + n) = omega arith in
+    let eb : b + k + n ≡ b + (k + n) = omega arith in
+    let here : IsByte s (a + (k + n)) × (byte-at s (a + (k + n)) ≡ byte-at s (b + (k + n))) = rw (ea, eb) at (h n (omega arith)) in
+    let before = more-alike s a b k n g (omega arith) (omega arith) (λ j t. h j (omega arith)) in
+    rw (add-suc k n) (one-alike s a b (k + n) before (omega arith) (omega arith) here.0 here.1)

@@ -1,4 +1,5 @@
--- A name whose bytes stand at another place too, where no name goes on behind them, is the name there. Assumes nothing.
+-- A name whose bytes stand at another place too, where no name goes on behind them, is the name there. No contract cites it: an end tag's name is held against the open tag's while
+-- it is read. Assumes nothing.
 use Prim.Native.Nat.{ℕ, ◌+◌}
 use mathlib.Core.Path.{◌≡◌, refl, sym, ap, ap₂, ◌∙◌}
 use mathlib.Core.List.{◌∷◌, ◌++◌}

@@ -127,7 +127,7 @@ module _ (rows names : List ℕ) where
           → l ≡ limits z → r ≡ root_test z
           → g ≡ nesting_test z → k ≡ context_test z.context s.head → x ≡ extension_test z s.head → v ≡ events_test z.events (tens (z.rows_used - 1) (drop 10 rows))
           → t ≡ ten (drop 10 (bare_rows rows)) → Some s ≡ scanned_sheet schema_tests z.names_used (t ∷ rest rows z)
-          → f && b && n && l && r && g && v && eqb s.end z.names_used && k && x ≡ bare_good (bare (sheet rows names))
+          → f && b && l && r && g && v && eqb s.end z.names_used && n && k && x ≡ bare_good (bare (sheet rows names))
       unfolding bare with_count
       bare-tests s {f} {b} {n} {l} {r} {g} {k} {x} {v} ef eb en el er eg ek ex ev t d =
           let behind = drop-count rows 0 (10 * z.rows_used) (omega (arith, parts-inside z.rows_used z.names_used (length rows) (length names) h)) in

@@ -105,15 +105,14 @@ module _ (rows names : List ℕ) where
 
 -- the tests in the code's order: what asks no row's form, and then what the pass over the rows found
 in-order : (f e b n l r g k x v : Bool)
-    → (f && (b && (n && (l && (r && (g && v)))))) && (e && (k && x)) ≡ f && (e && (b && (n && (l && (r && (g && (k && (x && v))))))))
+    → (f && (b && (l && (r && (g && v))))) && (e && (n && (k && x))) ≡ f && (e && (b && (n && (l && (r && (g && (k && (x && v))))))))
 in-order false _ _ _ _ _ _ _ _ _ = refl
 in-order true e false _ _ _ _ _ _ _ = sym (and-false e)
-in-order true e true false _ _ _ _ _ _ = sym (and-false e)
-in-order true e true true false _ _ _ _ _ = sym (and-false e)
-in-order true e true true true false _ _ _ _ = sym (and-false e)
-in-order true e true true true true false _ _ _ = sym (and-false e)
-in-order true e true true true true true k x false = sym (rw (and-false x, and-false k) (and-false e))
-in-order true e true true true true true k x true = rw (and-true x) refl
+in-order true e true n false _ _ _ _ _ = sym (rw (and-false n) (and-false e))
+in-order true e true n true false _ _ _ _ = sym (rw (and-false n) (and-false e))
+in-order true e true n true true false _ _ _ = sym (rw (and-false n) (and-false e))
+in-order true e true n true true true k x false = sym (rw (and-false x, and-false k, and-false n) (and-false e))
+in-order true e true n true true true k x true = rw (and-true x) refl
 
-pub apart : (f e b n l r g k x v : Bool) → f && b && n && l && r && g && v && e && k && x ≡ f && e && b && n && l && r && g && k && x && v
+pub apart : (f e b n l r g k x v : Bool) → f && b && l && r && g && v && e && n && k && x ≡ f && e && b && n && l && r && g && k && x && v
 apart f e b n l r g k x v = simp and_assoc (simp and_assoc at (in-order f e b n l r g k x v))

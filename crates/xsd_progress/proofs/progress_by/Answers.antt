@@ -8,15 +8,10 @@ use Rattle.xsd_types.specs.Row0.{Row0, row0_from}
 use Rattle.xsd_good.specs.Row0.{as_row0}
 use Rattle.xsd_good.specs.Heads.{head_row}
 use Rattle.xsd_good.specs.End.{HeadIs}
-use Rattle.xsd_progress.specs.Progress.{progress_of, progress_in}
+use Rattle.xsd_progress.proofs.Laws.Read.{progress-read}
 use Rattle.rows.proofs.Laws.Words.{words-each}
 use Rattle.xsd_progress.proofs.progress_by.Goals as goal
 use Rattle.xsd_progress.proofs.progress_by.Goals.{then-z-ge-SIMPLE_TYPE, else-z-ge-SIMPLE_TYPE}
-
--- of row 0 read and the head found
-progress-read : (rows : List ℕ) (z : Row0) (head : ℕ) → z ≡ row0_from (ten rows) → head ≡ head_row rows z.rows_used → progress_of z head ≡ progress_in rows
-unfolding progress_in
-progress-read rows z head e f = ap (progress_of z) f ∙ ap (λ (y : Row0). progress_of y (head_row rows y.rows_used)) e
 
 -- of a head that is known
 known-head : (rows : List ℕ) (z : Row0) (known : ℕ) → z ≡ row0_from (ten rows) → HeadIs rows known → 2 ≤ z.context → known ≡ head_row rows z.rows_used
@@ -26,7 +21,6 @@ pub open_head-head-requires : goal.open_head-head-requires
 open_head-head-requires c = rw (ap (λ (z : Row0). z.rows_used) c.row0_at-z.ensures) c.requires.1
 
 pub returns : goal.returns
-unfolding progress_of
 returns c =
     let rows = c.args.rows.now in
     let z = as_row0 c.row0_at-z.result in
@@ -36,4 +30,4 @@ returns c =
       | then-z-ge-SIMPLE_TYPE w ↦ w.head-is ∙ known-head rows z c.args.known e c.requires.2 w.if-z-ge-SIMPLE_TYPE.true
       | else-z-ge-SIMPLE_TYPE w ↦ w.head-is ∙ w.open_head-head.ensures
     ] in
-    record { numbers = progress-read rows z _ e head; words = words-each rows (λ i. (c.type_inv.rows i).fits) }
+    record { numbers = c.progress_at.ensures ∙ progress-read rows z _ e head; words = words-each rows (λ i. (c.type_inv.rows i).fits) }

@@ -30,10 +30,10 @@ module _ (x : Sheet) where
       (λ l. ConvertTable.lengths l (rw l)) (cases_Bool (sheet_lengths (length x.rows) (length x.names)))
 
   -- the right count is its own state's
-  same_count : good x ≡ true → with_count (count_of (state_of x)) x ≡ x
+  pub same_count : good x ≡ true → with_count (count_of (state_of x)) x ≡ x
   same_count g = ap (λ (c : ℕ). with_count c x) (sym (good-count x g)) ∙ sym (with_count-twice x (count_in x)) ∙ with_count-bare x
 
-  good-convertible : good x ≡ true → convertible x ≡ true
+  pub good-convertible : good x ≡ true → convertible x ≡ true
   unfolding convertible
   good-convertible g = and-true (good-bare x g) (or_right (eqb (count_in x) 0) _ (eq-eqb (count_in x) (count_of (state_of x)) (good-count x g)))
 

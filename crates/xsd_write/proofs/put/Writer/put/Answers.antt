@@ -24,9 +24,9 @@ returns c =
     let out = c.args.self.now.out.now in
     let at = c.args.self.now.at in
     let part = c.args.part.now in
-    let copy = c.copy_from_slice.ensures in
+    let copy = c.copy_bytes.ensures in
     let n = length part in
     let h : at + n ≤ length out = omega arith in
     let long : n ≡ at + n - at = omega arith in
-    let e = put_mid-paste at (at + n - at) out _ part n copy.after long refl ∙ paste-sets out at part h in
-    record { same = refl; puts = record { kept = same_len_mid at (at + n - at) out _ copy.len; fits = λ _. (refl, e); past = λ k. absurd (omega arith) } }
+    let e = put_mid-paste at (at + n - at) out _ part n copy long refl ∙ paste-sets out at part h in
+    record { same = refl; puts = record { kept = same_len_mid at (at + n - at) out _ c.copy_bytes.auto.out; fits = λ _. (refl, e); past = λ k. absurd (omega arith) } }
