@@ -227,8 +227,8 @@ pub fn same_name(classes: &Classes, text: &[u8], a: usize, b: usize) -> bool
     same_run(classes, text, a, b).is_some()
 }
 
-// The bytes from a place up to another one are looked at one by one: what the search for the word comes to, where one of them decides it. Inlined, so that each search has its word
-// at hand: as a call of its own a comment with a hyphen at each second byte took a third more instructions than with `until` alone.
+// The bytes from a place up to another one are looked at one by one: what the search for the word comes to, where one of them decides it. Inlined in any case, so that each search has its
+// word at hand; today's compiler does so without the attribute too.
 #[inline(always)]
 fn look(text: &[u8], from: usize, to: usize, word: &[u8]) -> Option<Option<usize>>
     requires { (from ≤ to) × (to ≤ length text.now) }
@@ -246,19 +246,14 @@ fn look(text: &[u8], from: usize, to: usize, word: &[u8]) -> Option<Option<usize
     None
 }
 
-// Behind the first place of the word, with only characters before it. Not by `look`: its answer in two Options takes two instructions more a byte.
+// Behind the first place of the word, with only characters before it.
 pub fn until(text: &[u8], at: usize, word: &[u8]) -> Option<usize>
     ensures { moved text.now result ≡ until word.now at (drop at text.now) }
 {
-    for i in at..text.len() {
-        if starts(text, i, word) {
-            return Some(i + word.len());
-        }
-        if !is_char(text[i] as u32) {
-            return None;
-        }
+    if text.len() <= at {
+        return None;
     }
-    None
+    look(text, at, text.len(), word)?
 }
 
 // How many bytes are looked at one by one before the next run is tried: twice as many as the last time, up to 1,024, where the run had fewer than ten bytes, and else one.
@@ -363,7 +358,7 @@ fn alike_bytes(classes: &Classes, text: &[u8], a: usize, b: usize) -> usize
     k
 }
 
-// Behind the name at a position, where it is the name at another one. The two are held against each other while they are read, so that nothing behind the first byte that differs is read: eight
+// Behind the name at a position, where it is the name at another one. The two are held against each other while they are read, so that nothing behind the first byte below 128 that differs is read: eight
 // bytes at a time, and then byte by byte: by `same_run` alone the tape of pain.001.001.09 took about 15,000 instructions more, of 574,265 (the bar: the tape is no slower in compare/CALLS.md).
 pub fn matched_name(classes: &Classes, text: &[u8], at: usize, top: usize) -> Option<usize>
     ensures { moved text.now result ≡ matched text.now at top }

@@ -1,29 +1,14 @@
--- `xml_parts::steps::until` meets its contract. The loop's invariant: the search from i on ends where the search from the start on ends. Assumes nothing.
-use native.Mathlib.Omega.{arith}
+-- `xml_parts::steps::until` meets its contract: behind the last byte there is no word. Assumes nothing.
+use native.Mathlib.Nat.{le_refl}
 use mathlib.Core.Path.{sym, ◌∙◌}
-use native.Mathlib.Numerals.{add-one}
-use Rattle.xml.proofs.Laws.Steps.{literal-yes, until-hit, until-wrong, until-on, until_end}
+use lib.ListN.{length}
+use Rattle.xml.proofs.Laws.Steps.{until_end}
 use Rattle.xml_parts.proofs.steps.until.Goals as goal
 
-pub returns-then-starts : goal.returns-then-starts
-returns-then-starts c =
-    let a = c.args in
-    sym (literal-yes a.word.now a.text.now c.loop-i.i (sym c.starts.ensures ∙ c.if-starts.true))
-    ∙ sym (until-hit a.word.now a.text.now c.loop-i.i c.loop-i.i (omega arith) (sym c.starts.ensures ∙ c.if-starts.true)) ∙ c.loop-i.invariant
+pub returns-then-text-at : goal.returns-then-text-at
+returns-then-text-at c = sym (until_end c.args.word.now c.args.text.now c.args.at c.args.at c.if-text-at.true)
 
-pub returns-then-not-is_char : goal.returns-then-not-is_char
-returns-then-not-is_char c =
-    let a = c.args in
-    sym (until-wrong a.word.now a.text.now c.loop-i.i c.loop-i.i (omega arith) (sym c.starts.ensures ∙ c.if-starts.false)
-    (sym c.is_char.ensures ∙ c.if-not-is_char.true)) ∙ c.loop-i.invariant
-
-pub loop-i-preserved : goal.loop-i-preserved
-loop-i-preserved c =
-    let a = c.args in
-    rw (add-one c.loop-i.i) (sym (until-on a.word.now a.text.now c.loop-i.i c.loop-i.i (omega arith) (sym c.starts.ensures ∙ c.if-starts.false)
-    (sym c.is_char.ensures ∙ c.if-not-is_char.false)) ∙ c.loop-i.invariant)
-
-pub returns : goal.returns
-returns c =
-    let a = c.args in
-    sym (until_end a.word.now a.text.now c.loop-i.i c.loop-i.i c.loop-i-test.false) ∙ c.loop-i.invariant
+pub returns-in_err-look : goal.returns-in_err-look
+returns-in_err-look c =
+    let text = c.args.text.now in
+    rw c.from_residual.ensures (sym (until_end c.args.word.now text (length text) (length text) (le_refl (length text))) ∙ c.in_err-look.ensures)

@@ -1,8 +1,0 @@
--- `xml_parts::steps::until` meets its contract. The loop's invariant: the search goes on where it does from the start. Assumes nothing.
-use mathlib.Core.Path.{◌≡◌}
-use lib.ListN.{drop}
-use Rattle.xml.specs.Steps.{until}
-use Rattle.xml_parts.proofs.steps.until.Given as goal
-
-abbrev pub invariant-loop-i : goal.invariant-loop-i
-invariant-loop-i l = until l.word l.i (drop l.i l.text) ≡ until l.word l.at (drop l.at l.text)
